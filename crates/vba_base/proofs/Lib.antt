@@ -1,0 +1,5 @@
+pub mod Causes
+pub mod Entries
+pub mod Folds
+mod Rows
+pub mod Sources

@@ -1,0 +1,9 @@
+pub mod Answer
+pub mod Causes
+pub mod Decode
+pub mod Fold
+pub mod Map
+pub mod Memory
+pub mod Outside
+pub mod System
+pub mod Text
