@@ -1,0 +1,14 @@
+pub mod Types
+pub mod Val
+pub mod View
+pub mod Errors
+pub mod Whole
+pub mod Texts
+pub mod Coerce
+pub mod Operands
+pub mod Arithmetic
+pub mod Comparison
+pub mod Logic
+pub mod Operators
+pub mod StaticTypes
+pub use Rattle.vba_base.specs.Answer
