@@ -1,0 +1,12 @@
+pub mod Rows
+pub mod Splits
+pub mod Pieces
+pub mod Fronts
+pub mod Quotes
+pub mod CharacterLemmas
+pub mod TokenSteps
+pub mod Inside
+pub mod Lexing
+pub mod NumberLemmas
+pub mod ContinuationLemmas
+pub mod Comments

@@ -1,0 +1,17 @@
+pub mod Classes
+pub mod Forms
+pub mod Kinds
+pub mod Characters
+pub mod Numbers
+pub mod Texts
+pub mod Faults
+pub mod Tokens
+pub mod Lines
+pub mod Continuations
+pub mod Lexed
+pub mod Scans
+pub mod FirstLine
+pub mod Inside
+pub mod Simple
+pub use Rattle.vba_base.specs.Answer
+pub use Rattle.vba_base.specs.Text
