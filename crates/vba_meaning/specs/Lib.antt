@@ -1,0 +1,5 @@
+pub mod Values
+pub mod State
+pub mod Meaning
+pub mod Texts
+pub mod Laws
