@@ -1,0 +1,11 @@
+pub mod Words
+pub mod Digits
+pub mod Quotes
+pub mod Parts
+pub mod Trees
+pub mod Laws
+pub mod Running
+pub mod Steps
+pub mod Promise
+pub mod Endings
+pub mod Rows

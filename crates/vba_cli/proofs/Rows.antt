@@ -1,0 +1,78 @@
+-- Worked rows.
+use Rattle.std.specs.Prelude.{◌≡◌, ℕ, List, [], ◌∷◌, ◌++◌, refl, codes, Some, None}
+use Rattle.vba_lexer.specs.declared.token.Token.{Token}
+use Rattle.vba_lexer.specs.declared.token.TokenKind.{TokenKind}
+use Rattle.vba_lexer.specs.declared.token.TokenKind.TheVariants as kind
+use Rattle.vba_tree.specs.declared.expression.Expression.TheVariants.{Whole, Text, Sum}
+use Rattle.vba_cli.specs.Form.{program_of}
+
+-- lines, each with a line feed
+abbrev joined : List (List ℕ) → List ℕ
+joined [] = []
+joined (line ∷ lines) = line ++ 10 ∷ joined lines
+
+-- a token of the second line
+abbrev second_line_token : TokenKind → ℕ → ℕ → ℕ → Token
+second_line_token k start end column =
+    record { kind = k; start = start; end = end; place = record { «module» = 1; line = 2; column = column } }
+
+-- Sub Main(), the line, End Sub
+abbrev main_with : List ℕ → List ℕ
+main_with line = joined (codes "Sub Main()" ∷ line ∷ codes "End Sub" ∷ [])
+
+pub sum_printed : program_of (main_with (codes "Debug.Print 2 + 3"))
+    ≡ Some (record {
+      debug = second_line_token kind.Word 11 16 1;
+      dot = second_line_token kind.Mark 16 17 6;
+      print = second_line_token kind.Word 17 22 7;
+      value = Sum (record {
+        left = record { token = second_line_token kind.Whole 23 24 13; value = 2 };
+        plus = second_line_token kind.Mark 25 26 15;
+        right = record { token = second_line_token kind.Whole 27 28 17; value = 3 };
+      });
+    } ∷ [])
+sum_printed = refl
+
+-- a doubled quote of the source is one quote of the text
+pub quote_printed : program_of (main_with (codes "Debug.Print \"a\"\"b\""))
+    ≡ Some (record {
+      debug = second_line_token kind.Word 11 16 1;
+      dot = second_line_token kind.Mark 16 17 6;
+      print = second_line_token kind.Word 17 22 7;
+      value = Text (record { token = second_line_token kind.Text 23 29 13; text = codes "a\"b" });
+    } ∷ [])
+quote_printed = refl
+
+-- the case of words doesn't count, nor does white space between tokens; a line may end in CR LF, and the last one in nothing
+pub nothing_printed : program_of (codes "sub MAIN ( )" ++ 13 ∷ 10 ∷ codes "END sub") ≡ Some []
+nothing_printed = refl
+
+pub greatest_printed : program_of (main_with (codes "Debug.Print 16383"))
+    ≡ Some (record {
+      debug = second_line_token kind.Word 11 16 1;
+      dot = second_line_token kind.Mark 16 17 6;
+      print = second_line_token kind.Word 17 22 7;
+      value = Whole (record { token = second_line_token kind.Whole 23 28 13; value = 16383 });
+    } ∷ [])
+greatest_printed = refl
+
+pub no_end : program_of (joined (codes "Sub Main()" ∷ codes "Debug.Print 2" ∷ [])) ≡ None
+no_end = refl
+
+pub no_product : program_of (main_with (codes "Debug.Print 2 * 3")) ≡ None
+no_product = refl
+
+pub no_greater : program_of (main_with (codes "Debug.Print 16384")) ≡ None
+no_greater = refl
+
+pub no_suffix : program_of (main_with (codes "Debug.Print 2&")) ≡ None
+no_suffix = refl
+
+pub no_byte_above : program_of (main_with (codes "Debug.Print \"" ++ 128 ∷ 34 ∷ [])) ≡ None
+no_byte_above = refl
+
+pub nothing_behind : program_of (main_with [] ++ codes "End Sub") ≡ None
+nothing_behind = refl
+
+pub no_comment : program_of (main_with (codes "' a comment")) ≡ None
+no_comment = refl

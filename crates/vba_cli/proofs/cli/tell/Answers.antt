@@ -1,0 +1,16 @@
+use Rattle.std.proofs.Common.{refl, sym, subst, inr}
+use Rattle.vba_cli.specs.declared.status.Status.TheVariants.{NoMemory}
+use Rattle.vba_cli.specs.Answer.{err_of}
+use Rattle.vba_cli.specs.Steps.{Puts}
+use Rattle.vba_cli.proofs.Steps.{told_by}
+use Rattle.vba_cli.proofs.cli.tell.Goals as goal
+
+pub returns-in-NoMemory : goal.returns-in-NoMemory
+returns-in-NoMemory g c =
+    let own = subst (λ s. Puts (err_of c.args.path.now s) c.args.status c.put_line.result (g.E.Sink.taken c.args.err.now) (g.E.Sink.taken c.put_line.new.err) (g.E.Sink.faults c.args.err.now) (g.E.Sink.faults c.put_line.new.err))
+    (sym c.in-NoMemory.is) c.put_line.ensures in
+    told_by c.args.path.now c.args.status c.args.status c.put_line.result (g.E.Sink.taken c.args.err.now) (g.E.Sink.taken c.put_line.new.err) (g.E.Sink.faults c.args.err.now) (g.E.Sink.faults c.put_line.new.err) (inr c.in-NoMemory.is) own
+
+pub returns-in-Err : goal.returns-in-Err
+returns-in-Err g c =
+    told_by c.args.path.now c.args.status NoMemory c.put_line-in-Err.result (g.E.Sink.taken c.args.err.now) (g.E.Sink.taken c.put_line-in-Err.new.err) (g.E.Sink.faults c.args.err.now) (g.E.Sink.faults c.put_line-in-Err.new.err) (inr refl) c.put_line-in-Err.ensures

@@ -1,0 +1,6 @@
+use Rattle.std.proofs.Common.{◌≡◌, drop}
+use Rattle.vba_tree.specs.Standing.{matches}
+use Rattle.vba_cli.proofs.literals.matches_word.Given as goal
+
+abbrev pub invariant-loop-index : goal.invariant-loop-index
+invariant-loop-index l = matches (drop l.index l.text) (drop l.index l.word) ≡ matches l.text l.word

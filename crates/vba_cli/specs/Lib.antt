@@ -1,0 +1,14 @@
+pub mod Command
+pub mod Form
+pub mod Messages
+pub mod Reading
+pub mod Answer
+pub mod Contract
+pub mod Report
+pub mod Steps
+pub use Rattle.vba_base.specs.Causes
+pub use Rattle.vba_base.specs.Map
+pub use Rattle.vba_base.specs.Outside
+pub use Rattle.vba_meaning.specs.Meaning
+pub use Rattle.vba_meaning.specs.Texts
+pub use Rattle.vba_tree.specs.Standing

@@ -1,0 +1,74 @@
+-- What the steps of a command do: running a source, performing the command, and telling its status.
+use Rattle.std.specs.Prelude.{◌≡◌, ℕ, List, Option, None, IfSome, IsSomeAnd, ◌⊎◌}
+use Rattle.vba_base.specs.Causes.{up, Rose, Adds, AddsPrefix}
+use Rattle.vba_cli.specs.declared.status.Status.{Status}
+use Rattle.vba_cli.specs.declared.status.Status.TheVariants as status
+use Rattle.vba_cli.specs.Answer.{Shown, shown_of_command, err_of, first_place}
+use Rattle.vba_cli.specs.Contract.{World, TakesSome, ReadsOnly, names_of}
+
+-- a step gave a status; its count of faults rose with WriteFault alone, and a refusal put nothing on `out`
+abbrev pub Leaves : Status → Option (List ℕ) → Option (List ℕ) → ℕ → ℕ → Type 0
+Leaves status.WriteFault old new faults_old faults_new = Rose faults_old faults_new
+Leaves status.Usage old new faults_old faults_new = (faults_new ≡ faults_old) × (new ≡ old)
+Leaves (status.ReadFault number) old new faults_old faults_new = (faults_new ≡ faults_old) × (new ≡ old)
+Leaves (status.TooLong number) old new faults_old faults_new = (faults_new ≡ faults_old) × (new ≡ old)
+Leaves (status.NotBuilt place) old new faults_old faults_new = (faults_new ≡ faults_old) × (new ≡ old)
+Leaves result old new faults_old faults_new = faults_new ≡ faults_old
+
+-- the status is the one to be shown, and `out` took what was to be shown; after a fault or want of memory it took a prefix of that
+abbrev pub Meets : Shown → Status → Option (List ℕ) → Option (List ℕ) → Type 0
+Meets meant (status.ReadFault number) old new = new ≡ old
+Meets meant status.WriteFault old new = AddsPrefix old new meant.out
+Meets meant status.NoMemory old new = AddsPrefix old new meant.out
+Meets meant result old new = (result ≡ meant.status) × Adds old new meant.out
+
+-- the statuses that running a source may give
+abbrev pub IsOfRun : Status → Type 0
+IsOfRun status.Usage = ⊥
+IsOfRun (status.ReadFault number) = ⊥
+IsOfRun (status.TooLong number) = ⊥
+IsOfRun (status.NotBuilt place) = place ≡ first_place
+IsOfRun result = Unit {0}
+
+-- a source, of which this is to be shown, was run
+pub record Ran (meant : Shown) (result : Status) (old new : Option (List ℕ)) (faults_old faults_new : ℕ) : Type 0 where
+  pub leaves : Leaves result old new faults_old faults_new
+  pub meets : Meets meant result old new
+  pub of_run : IsOfRun result
+
+-- how often files were read and how often that failed, where a command that names this file, or none, gave a status
+abbrev pub Reads : Option (List ℕ) → Status → World → World → Type 0
+Reads file status.Usage old new = (file ≡ None) × (new.counts.read_faults ≡ old.counts.read_faults)
+Reads file (status.ReadFault number) old new =
+    (number ≡ 0) × Rose old.counts.read_faults new.counts.read_faults × (new.counts.reads ≡ up old.counts.reads)
+Reads file (status.TooLong number) old new =
+    (number ≡ 0) × Rose old.counts.long_reads new.counts.long_reads × (new.counts.reads ≡ up old.counts.reads)
+    × (new.counts.read_faults ≡ old.counts.read_faults)
+Reads file (status.NotBuilt place) old new = (place ≡ first_place) × (new.counts.read_faults ≡ old.counts.read_faults)
+Reads file result old new = new.counts.read_faults ≡ old.counts.read_faults
+
+-- a command that names this file, or none, was performed, up to the text on `err`
+pub record Performs (file : Option (List ℕ)) (result : Status) (old new : World) : Type 0 where
+  pub leaves : Leaves result old.out new.out old.out_faults new.out_faults
+  pub meets : IfSome old.told (λ told. Meets (shown_of_command told.files file) result old.out new.out)
+  pub reads : Reads file result old new
+  pub usage : file ≡ None → result ≡ status.Usage
+  pub writes : new.counts.writes ≡ old.counts.writes
+  pub write_faults : new.counts.write_faults ≡ old.counts.write_faults
+  pub reads_only : IfSome old.told (λ before. IsSomeAnd new.told (λ after. ReadsOnly (names_of file) before after))
+
+-- a line was put for a status: all of it was taken, the put failed, or memory ran out
+abbrev pub Puts : List ℕ → Status → Status → Option (List ℕ) → Option (List ℕ) → ℕ → ℕ → Type 0
+Puts line performed result old new faults_old faults_new =
+    ((result ≡ performed) × (faults_new ≡ faults_old) × Adds old new line)
+    ⊎ ((result ≡ status.WriteFault) × Rose faults_old faults_new × AddsPrefix old new line)
+    ⊎ ((result ≡ status.NoMemory) × (faults_new ≡ faults_old) × AddsPrefix old new line)
+
+-- the status of a command was told on `err`, which gave this status
+abbrev pub Tells : List ℕ → Status → Status → Option (List ℕ) → Option (List ℕ) → ℕ → ℕ → Type 0
+Tells path performed status.WriteFault old new faults_old faults_new =
+    ((performed ≡ status.WriteFault) × (faults_new ≡ faults_old) × Adds old new (err_of path status.WriteFault))
+    ⊎ (Rose faults_old faults_new × TakesSome path old new)
+Tells path performed status.NoMemory old new faults_old faults_new = (faults_new ≡ faults_old) × TakesSome path old new
+Tells path performed result old new faults_old faults_new =
+    (result ≡ performed) × (faults_new ≡ faults_old) × Adds old new (err_of path result)

@@ -1,0 +1,118 @@
+ghost use Rattle.std.specs.Prelude.{◌≡◌, ◌++◌, ◌∷◌, [], IfOk, string_bytes, codes};
+ghost use Rattle.std.specs.Fmt.{decimal, signed_decimal};
+ghost use Rattle.vba_cli.specs.Messages.{message_of, place_text, fault_text, status_text, error_line};
+
+use crate::status::Status;
+use std::alloc::{AllocError, Global};
+use vba_base::{NoMemory, Place};
+
+// The message of an error's number.
+fn message(number: i32) -> &'static str
+    ensures { result.now ≡ message_of number }
+{
+    match number {
+        3 => "Return without GoSub",
+        5 => "Invalid procedure call or argument",
+        6 => "Overflow",
+        9 => "Subscript out of range",
+        10 => "This array is fixed or temporarily locked",
+        11 => "Division by zero",
+        13 => "Type mismatch",
+        20 => "Resume without error",
+        28 => "Out of stack space",
+        91 => "Object variable or With block variable not set",
+        92 => "For loop not initialized",
+        94 => "Invalid use of Null",
+        424 => "Object required",
+        438 => "Object doesn't support this property or method",
+        449 => "Argument not optional",
+        450 => "Wrong number of arguments or invalid property assignment",
+        457 => "This key is already associated with an element of this collection",
+        _ => "Application-defined or object-defined error",
+    }
+}
+
+// PATH:LINE:COLUMN
+fn place_named(alloc: Global, path: &str, place: Place) -> Result<String, AllocError>
+    ensures { IfOk result (λ text. string_bytes text ≡ place_text path.now place) }
+{
+    let on_line = numbered(alloc, path, place.line)?;
+    numbered(alloc, on_line.as_str(), place.column)
+}
+
+// A text, a colon and a number.
+fn numbered(alloc: Global, text: &str, number: u32) -> Result<String, AllocError>
+    ensures { IfOk result (λ numbered. string_bytes numbered ≡ text.now ++ codes ":" ++ decimal number) }
+{
+    format!(in alloc; "{text}:{number}")
+}
+
+// The text of a run that an error ended.
+fn fault_message(alloc: Global, path: &str, number: i32, place: Place) -> Result<String, AllocError>
+    ensures { IfOk result (λ text. string_bytes text ≡ fault_text path.now number place) }
+{
+    let fault = fault_number(alloc, number)?;
+    let at = place_named(alloc, path, place)?;
+    let fault = joined(alloc, fault.as_str(), " at ", at.as_str())?;
+    joined(alloc, fault.as_str(), ": ", message(number))
+}
+
+// The number of an error, as the text of a run that it ended begins.
+fn fault_number(alloc: Global, number: i32) -> Result<String, AllocError>
+    ensures { IfOk result (λ text. string_bytes text ≡ codes "vbarun: fault " ++ signed_decimal number) }
+{
+    format!(in alloc; "vbarun: fault {number}")
+}
+
+// Two texts with a third between them.
+fn joined(alloc: Global, left: &str, between: &str, right: &str) -> Result<String, AllocError>
+    ensures { IfOk result (λ text. string_bytes text ≡ left.now ++ between.now ++ right.now) }
+{
+    format!(in alloc; "{left}{between}{right}")
+}
+
+/// The text of a status of a run of the file with this path and this bound on its turns.
+pub fn status_message(
+    alloc: Global,
+    path: &str,
+    turns: u64,
+    status: Status,
+) -> Result<String, AllocError>
+    ensures { IfOk result (λ text. string_bytes text ≡ status_text path.now turns status) }
+{
+    match status {
+        Status::Ended => Ok(String::new(alloc)),
+        Status::Faulted(number, place) => fault_message(alloc, path, number, place),
+        Status::Usage => String::from_str(alloc, USAGE),
+        Status::Going => format!(in alloc; "vbarun: going after {turns} turns"),
+        Status::ReadFault(_) => format!(in alloc; "vbarun: cannot read {path}"),
+        Status::WriteFault => String::from_str(alloc, "vbarun: cannot write"),
+        Status::TooLong(_) => format!(in alloc; "vbarun: too long: {path}"),
+        Status::NotBuilt(place) => {
+            let at = place_named(alloc, path, place)?;
+            format!(in alloc; "vbarun: not built at {at}")
+        }
+        Status::NoMemory => String::from_str(alloc, OUT_OF_MEMORY),
+    }
+}
+
+const USAGE: &str =
+    "vbarun: usage: run [--turns N] [--trace] [--save SUFFIX] LIST, check LIST, code LIST, gen N";
+
+const OUT_OF_MEMORY: &str = "vbarun: out of memory";
+
+/// What is written on `err` for a status: its text and a line end, or nothing where it has no text.
+pub fn status_line(
+    alloc: Global,
+    path: &str,
+    turns: u64,
+    status: Status,
+) -> Result<String, NoMemory>
+    ensures { IfOk result (λ line. string_bytes line ≡ error_line (status_text path.now turns status)) }
+{
+    let mut line = status_message(alloc, path, turns, status)?;
+    if !line.is_empty() {
+        line.push('\n')?;
+    }
+    Ok(line)
+}

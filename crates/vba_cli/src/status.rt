@@ -1,0 +1,46 @@
+ghost use Rattle.std.specs.Prelude.{◌≡◌};
+ghost use Rattle.vba_cli.specs.Contract.{code_of};
+
+use vba_base::Place;
+
+/// How a command ended. The numbers in `ReadFault` and `TooLong` tell which file it was, from 0 in the order of reading.
+#[derive(Clone, Copy, Debug, PartialEq, Eq)]
+pub enum Status {
+    /// The command is done.
+    Ended,
+    /// An error with this number, raised at the statement at this place, left the startup macro.
+    Faulted(i32, Place),
+    /// The words are no command.
+    Usage,
+    /// One more turn than the bound was due.
+    Going,
+    /// A file can't be read.
+    ReadFault(u32),
+    /// Something can't be written.
+    WriteFault,
+    /// A file has more bytes than the limit.
+    TooLong(u32),
+    /// The source isn't of a form that is built so far.
+    NotBuilt(Place),
+    /// Memory ran out.
+    NoMemory,
+}
+
+impl Status {
+    /// The number with which the program ends.
+    pub fn code(&self) -> u8
+        ensures { result ≡ code_of self.now }
+    {
+        match self {
+            Status::Ended => 0,
+            Status::Faulted(_, _) => 1,
+            Status::Usage => 2,
+            Status::Going => 5,
+            Status::ReadFault(_) => 6,
+            Status::WriteFault => 7,
+            Status::TooLong(_) => 9,
+            Status::NotBuilt(_) => 69,
+            Status::NoMemory => 70,
+        }
+    }
+}
