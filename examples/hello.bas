@@ -1,0 +1,3 @@
+Sub Main()
+Debug.Print 2 + 3
+End Sub
