@@ -1,0 +1,63 @@
+//! Measures how the cost of calls grows with their input, told as ratios within one run. `bench SUBJECT SIZE` does the
+//! work of a subject at SIZE and at twice SIZE.
+#![tactic(auto)]
+
+mod lexing;
+mod links;
+mod operators;
+
+use lexing::bench_lex;
+use links::bench_links;
+use operators::bench_operators;
+use std::env::Env;
+use std::process::ExitCode;
+use std::time::CpuClock;
+use std::{env, io};
+
+/// The greatest size; twice as much can still be done.
+const MOST: u32 = 33_554_432;
+
+fn main(rt: HostRuntime) -> io::Result<ExitCode> {
+    let mut words = env::args(&rt)?.skip(1);
+    let (Some(subject), Some(size), None) = (words.next(), words.next(), words.next()) else {
+        return usage(&rt);
+    };
+    let size = match size.as_str().parse::<u32>() {
+        Ok(size) if size <= MOST => size,
+        _ => return usage(&rt),
+    };
+    match subject.as_str() {
+        "lex" => bench_lex(&rt, size)?,
+        "operators" => bench_operators(&rt, size)?,
+        "links" => bench_links(&rt, size)?,
+        _ => return usage(&rt),
+    }
+    Ok(ExitCode::SUCCESS)
+}
+
+fn usage(rt: &impl Eprint) -> io::Result<ExitCode> {
+    eprintln!(rt; "bench: usage: lex SIZE, operators SIZE, links SIZE, SIZE at most {MOST}")?;
+    Ok(ExitCode::from(2))
+}
+
+/// The processor time of the thread so far, in microseconds.
+fn micros_now(rt: &impl CpuClock) -> io::Result<u64> {
+    let micros = rt.thread_cpu_time()?.as_micros();
+    Ok(u64::try_from(micros).unwrap_or(u64::MAX))
+}
+
+/// Tells how long work of a size took, and how many times as long work of twice that size.
+fn tell(rt: &impl Print, what: &str, size: u32, once: u64, twice: u64) -> io::Result<()> {
+    if size == 0 {
+        return println!(rt; "{what}: nothing to time");
+    }
+    let tenths = twice.saturating_mul(10) / once.max(1);
+    let times = tenths / 10;
+    let tenth = tenths % 10;
+    println!(rt; "{what}: {size} took {once} us, twice as many {times}.{tenth} times as long")
+}
+
+/// Memory ran out.
+fn out_of_memory() -> io::Error {
+    io::Error::from(io::ErrorKind::OutOfMemory)
+}
