@@ -32,6 +32,14 @@ impl Name {
     {
         self.folded.units()
     }
+
+    /// A copy of the name.
+    pub fn copy(&self, alloc: Global) -> Result<Name, NoMemory>
+        ensures { IfOk result (λ copy. copy ≡ self.now) }
+    {
+        let folded = Units::from_units(alloc, self.units())?;
+        Ok(Name { folded })
+    }
 }
 
 impl PartialEq for Name {

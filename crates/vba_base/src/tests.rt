@@ -197,6 +197,7 @@ fn names(rt: HostRuntime) -> Result<(), Fail> {
     let long = name_of(alloc, &[0x17f, 0x75, 0x62])?;
     assert_eq!(rt; long.units(), [0x73, 0x75, 0x62].as_slice());
     assert!(rt; long != sharp);
+    assert!(rt; sharp.copy(alloc)? == upper);
     // Lone surrogates, and Deseret's capital long I, which is a pair.
     let lone = name_of(alloc, &[0xd801, 0x41, 0xdc00])?;
     assert_eq!(rt; lone.units(), [0xd801, 0x61, 0xdc00].as_slice());
