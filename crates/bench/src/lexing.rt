@@ -18,6 +18,8 @@ enum Pattern {
     OpenText,
     /// Strings that are closed, one behind the other.
     Texts,
+    /// Brackets that aren't closed.
+    OpenBrackets,
 }
 
 impl Pattern {
@@ -27,6 +29,7 @@ impl Pattern {
             Pattern::LineEnds => "lex line ends",
             Pattern::OpenText => "lex an open string",
             Pattern::Texts => "lex strings",
+            Pattern::OpenBrackets => "lex open brackets",
         }
     }
 
@@ -41,6 +44,7 @@ impl Pattern {
             } else {
                 0x20
             },
+            Pattern::OpenBrackets => 0x5b,
         }
     }
 }
@@ -54,6 +58,7 @@ pub fn bench_lex(rt: &(impl Print + CpuClock + AllocGlobal), size: u32) -> io::R
         Pattern::LineEnds,
         Pattern::OpenText,
         Pattern::Texts,
+        Pattern::OpenBrackets,
     ];
     for pattern in patterns {
         let once = time_lex(rt, pattern, size)?;

@@ -20,7 +20,7 @@ units_of-append (character ∷ front) rest =
 width-low : (character : ℕ) → character < 65536 → width character ≡ 1
 width-low character low = let e : nat_le 0x10000 character ≡ false = lt-leb 0x10000 character low in rw e
 
-some_width : (character : ℕ) → 1 ≤ width character
+pub some_width : (character : ℕ) → 1 ≤ width character
 some_width character = at (nat_le 0x10000 character)
   where
     at : (high : Bool) → 1 ≤ (if high then 2 else 1)

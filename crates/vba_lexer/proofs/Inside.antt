@@ -12,6 +12,7 @@ use Rattle.vba_lexer.specs.declared.scan.Standing.TheVariants as standings
 use Rattle.vba_lexer.specs.Characters.{characters_of, units_of, past, AreUnits}
 use Rattle.vba_lexer.specs.Kinds.{is_gap}
 use Rattle.vba_lexer.specs.Tokens.{IsToken, Front, front_of, is_first, front_text, begins_comment, standing_behind, Slice, slices_from, slices_of}
+use Rattle.vba_lexer.specs.Header.{header_size, without_header}
 use Rattle.vba_lexer.specs.Lines.{PhysicalLine, line_units, end_units, joined, lines_of}
 use Rattle.vba_lexer.specs.Lexed.{LexedLine, lines_view, token_of, tokens_of, lexed_line, lexed}
 use Rattle.vba_lexer.specs.Continuations.{LogicalLine, continued_text, if_continued, behind_line, logical_from, source_front, logical_lines}
@@ -19,13 +20,14 @@ use Rattle.vba_lexer.proofs.ContinuationLemmas.{length-continued, are_units-cont
 use Rattle.vba_lexer.specs.Inside.{StandBetween, IsWithin, LiesIn, AllLieIn, token_count, view_count}
 use Rattle.vba_lexer.proofs.Fronts.{IsToken-front_of, IsToken-size}
 use Rattle.vba_lexer.proofs.CharacterLemmas.{past-units, units_of-take, units_of-take-le, units_of-characters_of, length-characters_of, are_units-front, are_units-rest}
+use Rattle.vba_lexer.proofs.Headers.{length-blanked, are_units-blanked}
 use Rattle.vba_lexer.proofs.Splits.{AreLinesOf-lines_of}
 
 StandBetween-from : (low from to : ℕ) (slices : List Slice) → low ≤ from → StandBetween from to slices → StandBetween low to slices
 StandBetween-from low from to [] below stand = omega arith
 StandBetween-from low from to (slice ∷ slices) below stand = (omega arith, stand.1, stand.2)
 
-StandBetween-le : (from to : ℕ) (slices : List Slice) → StandBetween from to slices → from ≤ to
+pub StandBetween-le : (from to : ℕ) (slices : List Slice) → StandBetween from to slices → from ≤ to
 StandBetween-le from to [] stand = stand
 StandBetween-le from to (slice ∷ slices) stand = let below : slice.end ≤ to = StandBetween-le slice.end to slices stand.2 in omega arith
 
@@ -217,24 +219,30 @@ count_view [] = refl
 count_view (line ∷ lines) =
     sum_by-cons (λ (l : Line). length l.tokens.items) line lines ∙ ap (λ (n : ℕ). length line.tokens.items + n) (count_view lines)
 
+-- the lines that are read take as many units as the source
+length-without_header : (source : List ℕ) → length (joined (without_header (lines_of source))) ≡ length source
+length-without_header source =
+    length-blanked (header_size (lines_of source)) (lines_of source) ∙ ap length (AreLinesOf-lines_of source).whole
+
 -- the tokens of what lexing gives lie in the source
 pub lies_in-lexed : (number : ℕ) (source : List ℕ) (lines : List Line) → AreUnits source → lines_view lines ≡ lexed number source → AllLieIn source lines
 lies_in-lexed number source lines units same =
     let whole : joined (lines_of source) ≡ source = (AreLinesOf-lines_of source).whole in
-    let e : length (joined (lines_of source)) ≡ length source = ap length whole in
+    let e : length (joined (without_header (lines_of source))) ≡ length source = length-without_header source in
+    let fit : AreUnits (joined (without_header (lines_of source))) =
+    are_units-blanked (header_size (lines_of source)) (lines_of source) (subst AreUnits (sym whole) units) in
     All-from_recursion (LiesIn source) lines
     (unviewed (length source) lines
     (subst (λ (views : List LexedLine). AllByRecursion (view_within (length source)) views) (sym same)
     (lexed-within (length source) number source (logical_lines source)
-    (logical_from-within (length source) source_front [] source_front (lines_of source) (λ place. omega arith) (subst AreUnits (sym whole) units) refl (omega arith)))))
+    (logical_from-within (length source) source_front [] source_front (without_header (lines_of source)) (λ place. omega arith) fit refl (omega arith)))))
 
 -- and there are no more of them than units
 pub view_count-lexed : (number : ℕ) (source : List ℕ) → view_count (lexed number source) ≤ length source
 view_count-lexed number source =
-    let whole : joined (lines_of source) ≡ source = (AreLinesOf-lines_of source).whole in
-    let e : length (joined (lines_of source)) ≡ length source = ap length whole in
-    let f : view_count (lexed number source) ≤ 0 + length (joined (lines_of source)) =
-    logical_from-count number source source_front [] source_front (lines_of source) in
+    let e : length (joined (without_header (lines_of source))) ≡ length source = length-without_header source in
+    let f : view_count (lexed number source) ≤ 0 + length (joined (without_header (lines_of source))) =
+    logical_from-count number source source_front [] source_front (without_header (lines_of source)) in
     omega arith
 
 pub token_count-lexed : (number : ℕ) (source : List ℕ) (lines : List Line) → lines_view lines ≡ lexed number source → token_count lines ≤ length source

@@ -10,3 +10,8 @@ pub mod Lexing
 pub mod NumberLemmas
 pub mod ContinuationLemmas
 pub mod Comments
+pub mod Headers
+pub mod HeaderRows
+pub mod BracketWords
+pub mod UniqueSlices
+pub mod LeastFaults

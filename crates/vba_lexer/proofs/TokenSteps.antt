@@ -26,7 +26,7 @@ slices_from-skip standing (suc skipped) place (character ∷ line) =
     let e : place + 1 + skipped ≡ place + suc skipped = omega arith in
     slices_from-skip standing skipped (place + 1) line ∙ ap (λ (m : ℕ). slices_from standing 0 m (drop skipped line)) e
 
-front_slice : (standing : Standing) (place character : ℕ) (rest : List ℕ) (kind : TokenKind) (size : ℕ) → is_gap character ≡ false
+pub front_slice : (standing : Standing) (place character : ℕ) (rest : List ℕ) (kind : TokenKind) (size : ℕ) → is_gap character ≡ false
     → begins_comment standing (character ∷ rest) ≡ false → IsToken (is_first standing) (character ∷ rest) kind size
     → slices_from standing 0 place (character ∷ rest)
     ≡ record { kind = kind; start = place; end = place + size }

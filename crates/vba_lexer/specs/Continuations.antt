@@ -5,6 +5,7 @@ use Rattle.vba_lexer.specs.declared.cursor.Cursor.{Cursor}
 use Rattle.vba_lexer.specs.declared.lines.Ending.{Ending}
 use Rattle.vba_lexer.specs.declared.lines.Ending.TheVariants.{Feed, ReturnFeed, Return, LineSeparator, ParagraphSeparator, FileEnd}
 use Rattle.vba_lexer.specs.Classes.{is_white}
+use Rattle.vba_lexer.specs.Header.{without_header}
 use Rattle.vba_lexer.specs.Lines.{PhysicalLine, line_units, is_last, lines_of}
 
 -- the place of a `_` with white space before it and nothing but white space behind it
@@ -63,6 +64,6 @@ logical_from first before cursor (line ∷ lines) =
 abbrev pub source_front : Cursor
 source_front = record { units = 0; line = 1; column = 1 }
 
--- the logical lines of a source
+-- the logical lines of a source: header lines are found before lines are joined
 abbrev pub logical_lines : List ℕ → List LogicalLine
-logical_lines source = logical_from source_front [] source_front (lines_of source)
+logical_lines source = logical_from source_front [] source_front (without_header (lines_of source))

@@ -1,5 +1,5 @@
 -- The rules of tokens, S1 to S6.
-use Rattle.std.specs.Prelude.{ℕ, Bool, false, ◌==◌, List, [], ◌∷◌, length, nat_lt, Option, Some, None, option_map, Result, Ok, Err, if◌then◌else◌}
+use Rattle.std.specs.Prelude.{ℕ, Bool, false, ◌==◌, List, [], ◌∷◌, length, nat_lt, filter_map, Option, Some, None, option_map, Result, Ok, Err, if◌then◌else◌}
 use Rattle.vba_base.specs.declared.place.Refusal.{Refusal}
 use Rattle.vba_lexer.specs.declared.number.Number.{Number}
 use Rattle.vba_lexer.specs.declared.number.NumberFault.{NumberFault}
@@ -49,3 +49,7 @@ or_later None later = later
 abbrev pub first_fault : List ℕ → List Token → Option Refusal
 first_fault source [] = None
 first_fault source (token ∷ tokens) = or_later (fault_of source token) (first_fault source tokens)
+
+-- the rules that tokens of a source break, each at its token's place
+abbrev pub faults_of : List ℕ → List Token → List Refusal
+faults_of source tokens = filter_map (fault_of source) tokens

@@ -4,9 +4,12 @@ pub mod Kinds
 pub mod Characters
 pub mod Numbers
 pub mod Texts
+pub mod Order
 pub mod Faults
 pub mod Tokens
+pub mod Slices
 pub mod Lines
+pub mod Header
 pub mod Continuations
 pub mod Lexed
 pub mod Scans

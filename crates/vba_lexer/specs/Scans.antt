@@ -1,7 +1,8 @@
 -- How the front of a line is told.
-use Rattle.std.specs.Prelude.{◌≡◌, ℕ, ◌+◌, Bool, true, false, List, [], ◌∷◌, drop, Option, Some, None, nat_lt, if◌then◌else◌}
+use Rattle.std.specs.Prelude.{◌≡◌, ℕ, ◌+◌, ◌<◌, ◌≤◌, Bool, true, false, List, [], ◌∷◌, length, drop, slice_index, ◌==◌, ◌&&◌, Option, Some, None, nat_lt, if◌then◌else◌}
 use Rattle.std.specs.List.{prefix_len}
 use Rattle.vba_lexer.specs.declared.token.TokenKind.{TokenKind}
+use Rattle.vba_lexer.specs.declared.classes.Class.TheVariants.{BracketPart}
 use Rattle.vba_lexer.specs.declared.forms.Piece.{Piece}
 use Rattle.vba_lexer.specs.declared.forms.Piece.TheVariants.{Single, Run, Optional, Suffix}
 use Rattle.vba_lexer.specs.declared.scan.Lexeme.{Lexeme}
@@ -55,3 +56,22 @@ pub record IsNextToken (standing : Standing) (line : List ℕ) (lexeme : Lexeme)
 abbrev pub IsLexemeAt : Standing → List ℕ → Option Lexeme → Type 0
 IsLexemeAt standing line None = begins_comment standing line ≡ true
 IsLexemeAt standing line (Some lexeme) = IsNextToken standing line lexeme
+
+-- where what may stand in brackets ends behind a place: at `]`, at a line end, or with the line
+abbrev pub stop_behind : List ℕ → ℕ → ℕ
+stop_behind line place = place + 1 + prefix_len (is_in BracketPart) (drop (place + 1) line)
+
+-- a place is that stop, or does not stand behind the place
+pub record IsStop (line : List ℕ) (place stop : ℕ) : Type 0 where
+  pub within : stop ≤ length line
+  pub exact : place < stop → stop ≡ stop_behind line place
+
+-- so many characters behind a `[` at the front of a line may stand in brackets
+pub record IsBracketRun (line : List ℕ) (run : ℕ) : Type 0 where
+  pub within : run ≤ length line
+  pub exact : slice_index line 0 ≡ 91 → run ≡ prefix_len (is_in BracketPart) (drop 1 line)
+
+-- a line begins with `[`, so many characters, one at least, and `]`
+abbrev pub is_bracketed_by : List ℕ → ℕ → Bool
+is_bracketed_by line run =
+    nat_lt 0 run && nat_lt (run + 1) (length line) && (slice_index line 0 == 91) && (slice_index line (run + 1) == 93)

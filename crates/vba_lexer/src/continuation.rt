@@ -11,7 +11,7 @@ use crate::lines::Ending;
 use vba_base::NoMemory;
 
 /// Are all units white space?
-fn is_all_white(text: &[u16]) -> bool
+pub fn is_all_white(text: &[u16]) -> bool
     ensures { result ≡ list_all classes.is_white text.now }
 {
     text.iter().all(|unit| is_white(u32::from(*unit)))

@@ -24,7 +24,7 @@ pub enum Piece {
 }
 
 /// How many characters of a class a line begins with.
-fn run_size(class: Class, line: &[u32]) -> usize
+pub fn run_size(class: Class, line: &[u32]) -> usize
     ensures size { result ≡ prefix_len (is_in class) line.now }
     ensures within { result ≤ length line.now }
 {
@@ -70,8 +70,9 @@ fn form_size(pieces: &[Piece], line: &[u32]) -> usize
     pieces_size(pieces, line).unwrap_or(0)
 }
 
-/// The size of the word at the front of a line, or 0.
-pub fn word_size(line: &[u32]) -> usize
+/// The size of the word at the front of a line, or 0. So many characters behind a `[` there may stand in brackets.
+pub fn word_size(line: &[u32], bracket_run: usize) -> usize
+    requires { scans.IsBracketRun line.now bracket_run }
     ensures { IsLongest kinds.is_word line.now result }
 {
     let name = form_size(
@@ -82,16 +83,23 @@ pub fn word_size(line: &[u32]) -> usize
         ],
         line,
     );
-    let bracketed = form_size(
-        &[
-            Piece::Single(Class::Exactly(b'[')),
-            Piece::Single(Class::BracketPart),
-            Piece::Run(Class::BracketPart),
-            Piece::Single(Class::Exactly(b']')),
-        ],
-        line,
-    );
-    name.max(bracketed)
+    name.max(bracketed_size(line, bracket_run))
+}
+
+/// The size of the word in brackets at the front of a line, or 0.
+fn bracketed_size(line: &[u32], run: usize) -> usize
+    requires { scans.IsBracketRun line.now run }
+    ensures { IsLongest kinds.is_bracketed line.now result }
+{
+    if is_bracketed(line, run) { run + 2 } else { 0 }
+}
+
+/// Does a line begin with `[`, so many characters, one at least, and `]`?
+fn is_bracketed(line: &[u32], run: usize) -> bool
+    requires { run ≤ length line.now }
+    ensures { result ≡ scans.is_bracketed_by line.now run }
+{
+    0 < run && run + 1 < line.len() && line[0] == '[' as u32 && line[run + 1] == ']' as u32
 }
 
 /// The size of the whole number at the front of a line, or 0.

@@ -1,10 +1,12 @@
 ghost use Rattle.std.specs.Prelude.{◌≡◌, ◌+◌, ◌≤◌, length, IfOk};
+ghost use Rattle.vba_lexer.specs.Header.{text_behind_header};
 ghost use Rattle.vba_lexer.specs.Inside.{AllLieIn, token_count};
 ghost use Rattle.vba_lexer.specs.Lexed.{lexed, lexed_line, line_view, lines_view, text_of};
 
 use crate::continuation::{continued_at, push_continued};
 use crate::cursor::Cursor;
 use crate::fault::first_fault;
+use crate::header::header_size;
 use crate::line::Line;
 use crate::line_tokens::line_tokens;
 use crate::lines::{Ending, first_line};
@@ -12,7 +14,8 @@ use crate::token::Token;
 use std::alloc::Global;
 use vba_base::{NoMemory, Units};
 
-/// The logical lines of a module's source with their tokens and places. The source has at most 67108864 units.
+/// The logical lines of a module's source with their tokens and places. The header lines of an exported class, `VERSION 1.0
+/// CLASS` to `END`, count as empty lines. The source has at most 67108864 units. It takes time in proportion to the source.
 pub fn lex(alloc: Global, source: &Units, module_number: u32) -> Result<Vec<Line>, NoMemory>
     requires { length source.now ≤ 67108864 }
     ensures lines { IfOk result (λ lines. lines_view lines.items ≡ lexed module_number source.now) }
@@ -37,10 +40,11 @@ fn lex_units(alloc: Global, units: &[u16], module_number: u32) -> Result<Vec<Lin
         column: 1,
     };
     let mut first = cursor;
+    let header = header_size(units);
     loop {
         let rest = &units[cursor.units as usize..];
         let (size, ending) = first_line(rest);
-        let line_text = &rest[..size];
+        let line_text = text_behind_header(header, cursor.line, &rest[..size]);
         cursor = behind_line(cursor, size + ending.size());
         if let Some(mark) = continued_at(line_text, ending) {
             push_continued(&mut text, line_text, mark, ending)?;
@@ -54,6 +58,13 @@ fn lex_units(alloc: Global, units: &[u16], module_number: u32) -> Result<Vec<Lin
         text.clear();
         first = cursor;
     }
+}
+
+/// What is read of the text of a line with this number: nothing of a header line.
+fn text_behind_header(header: usize, number: u32, text: &[u16]) -> &[u16]
+    ensures { result.now ≡ text_behind_header header number text.now }
+{
+    if number as usize <= header { &[] } else { text }
 }
 
 /// The place behind a physical line that takes so many units.

@@ -7,6 +7,7 @@ mod continuation;
 mod cursor;
 mod fault;
 mod forms;
+mod header;
 mod laws;
 mod lexer;
 mod line;
@@ -16,10 +17,15 @@ mod number;
 mod scan;
 mod simple;
 #[cfg(test)]
+mod table_tests;
+#[cfg(test)]
 mod tests;
 mod token;
 
-pub use laws::{fronts_are_unique, lines_are_unique, tokens_lie_in_source, tokens_stand_in_order};
+pub use laws::{
+    faults_are_least, fronts_are_unique, lines_are_unique, tokens_are_unique, tokens_lie_in_source,
+    tokens_stand_in_order,
+};
 pub use lexer::{lex, slice_of};
 pub use line::Line;
 pub use number::{

@@ -12,7 +12,7 @@ ghost use Rattle.vba_lexer.specs.declared.cursor.Cursor.{Cursor};
 use crate::characters::characters;
 use crate::classes::{FEED, is_white};
 use crate::cursor::Cursor;
-use crate::scan::{Lexeme, Standing, scan};
+use crate::scan::{Lexeme, Standing, bracket_stop, scan};
 use crate::token::{Token, TokenKind};
 use std::alloc::Global;
 use vba_base::NoMemory;
@@ -49,6 +49,7 @@ fn tokens_among(
     let mut cursor = first;
     let mut standing = Standing::First;
     let mut place = 0;
+    let mut stop = 0;
     while place < line.len() {
         let rest = &line[place..];
         if is_gap(line[place]) {
@@ -56,7 +57,8 @@ fn tokens_among(
             place += 1;
             continue;
         }
-        let Some(lexeme) = lexeme_at(rest, standing) else {
+        stop = bracket_stop(line, place, stop);
+        let Some(lexeme) = lexeme_at(rest, standing, stop.saturating_sub(place + 1)) else {
             return Ok(found);
         };
         let text = &rest[..lexeme.size];
@@ -88,15 +90,17 @@ fn token_from(kind: TokenKind, module_number: u32, start: Cursor, end: Cursor) -
     }
 }
 
-/// The token at the front of a line that begins with no gap; none where a comment begins there.
-pub fn lexeme_at(line: &[u32], standing: Standing) -> Option<Lexeme>
-    requires { IsTrue (scans.begins_with (λ character. not (kinds.is_gap character)) line.now) }
+/// The token at the front of a line that begins with no gap; none where a comment begins there. So many characters behind a
+/// `[` there may stand in brackets.
+pub fn lexeme_at(line: &[u32], standing: Standing, bracket_run: usize) -> Option<Lexeme>
+    requires begins { IsTrue (scans.begins_with (λ character. not (kinds.is_gap character)) line.now) }
+    requires run { scans.IsBracketRun line.now bracket_run }
     ensures { scans.IsLexemeAt standing line.now result }
 {
     if line[0] == '\'' as u32 {
         return None;
     }
-    let lexeme = scan(line, is_first(standing));
+    let lexeme = scan(line, is_first(standing), bracket_run);
     if is_comment_word(standing, &line[..lexeme.size]) {
         None
     } else {

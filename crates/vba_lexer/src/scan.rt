@@ -1,13 +1,13 @@
 //! The token at the front of a line.
 
-ghost use Rattle.std.specs.Prelude.{◌≡◌, ◌≤◌, ◌==◌, not, length, IsTrue};
+ghost use Rattle.std.specs.Prelude.{◌≡◌, ◌<◌, ◌≤◌, ◌==◌, not, length, slice_index, IsTrue};
 ghost use Rattle.vba_lexer.specs.Forms.{IsLongest};
 ghost use Rattle.vba_lexer.specs.Kinds as kinds;
 ghost use Rattle.vba_lexer.specs.Scans as scans;
 ghost use Rattle.vba_lexer.specs.Tokens.{IsToken};
 
-use crate::classes::{FEED, QUOTE};
-use crate::forms::{date_size, fixed_size, mark_size, whole_size, word_size};
+use crate::classes::{Class, FEED, QUOTE};
+use crate::forms::{date_size, fixed_size, mark_size, run_size, whole_size, word_size};
 use crate::token::TokenKind;
 
 /// A token of a line: its kind and how many characters it takes.
@@ -28,9 +28,11 @@ pub enum Standing {
     Within,
 }
 
-/// The token at the front of a line that begins with no white space.
-pub fn scan(line: &[u32], is_first: bool) -> Lexeme
-    requires { IsTrue (scans.begins_with (λ character. not (kinds.is_gap character)) line.now) }
+/// The token at the front of a line that begins with no white space. So many characters behind a `[` there may stand in
+/// brackets.
+pub fn scan(line: &[u32], is_first: bool, bracket_run: usize) -> Lexeme
+    requires begins { IsTrue (scans.begins_with (λ character. not (kinds.is_gap character)) line.now) }
+    requires run { scans.IsBracketRun line.now bracket_run }
     ensures { IsToken is_first line.now result.kind result.size }
 {
     let bad = Lexeme {
@@ -42,7 +44,22 @@ pub fn scan(line: &[u32], is_first: bool) -> Lexeme
     let text = longer(TokenKind::Text, text_size(line), date);
     let fixed = longer(TokenKind::Fixed, fixed_size(line), text);
     let whole = longer(TokenKind::Whole, whole_size(line), fixed);
-    longer(TokenKind::Word, word_size(line), whole)
+    longer(TokenKind::Word, word_size(line, bracket_run), whole)
+}
+
+/// Where what may stand in brackets behind a `[` at a place of a line ends: at `]`, at a line end, or with the line. `stop` is
+/// where it ended behind an earlier `[`: no character is looked at twice.
+pub fn bracket_stop(line: &[u32], place: usize, stop: usize) -> usize
+    requires inside { place < length line.now }
+    requires stop { scans.IsStop line.now place stop }
+    ensures stop { scans.IsStop line.now place result }
+    ensures exact { slice_index line.now place ≡ 91 → result ≡ scans.stop_behind line.now place }
+{
+    if place < stop || line[place] != '[' as u32 {
+        stop
+    } else {
+        place + 1 + run_size(Class::BracketPart, &line[place + 1..])
+    }
 }
 
 /// A form of this kind and size, or a longer token of another kind.

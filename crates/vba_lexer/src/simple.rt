@@ -7,7 +7,7 @@ use crate::characters::characters;
 use crate::continuation::continued_at;
 use crate::line_tokens::{is_gap, lexeme_at, standing_behind};
 use crate::lines::{Ending, first_line};
-use crate::scan::Standing;
+use crate::scan::{Standing, bracket_stop};
 use std::alloc::Global;
 use vba_base::{NoMemory, Units};
 
@@ -63,13 +63,15 @@ fn has_comment(line: &[u32]) -> bool
 {
     let mut standing = Standing::First;
     let mut place = 0;
+    let mut stop = 0;
     while place < line.len() {
         let rest = &line[place..];
         if is_gap(line[place]) {
             place += 1;
             continue;
         }
-        let Some(lexeme) = lexeme_at(rest, standing) else {
+        stop = bracket_stop(line, place, stop);
+        let Some(lexeme) = lexeme_at(rest, standing, stop.saturating_sub(place + 1)) else {
             return true;
         };
         standing = standing_behind(&rest[..lexeme.size]);

@@ -10,9 +10,9 @@ use std::test::Fail;
 use vba_base::{NoMemory, Place, Refusal, Units};
 
 /// The number of the module in these tests.
-const MODULE: u32 = 7;
+pub const MODULE: u32 = 7;
 
-fn units(alloc: Global, text: &[u8]) -> Result<Units, NoMemory>
+pub fn units(alloc: Global, text: &[u8]) -> Result<Units, NoMemory>
     ensures { IfOk result (λ units. length units ≡ length text.now) }
 {
     let units: Vec<u16> = text.iter().map(|byte| u16::from(*byte)).collect(alloc)?;
@@ -211,7 +211,7 @@ fn fault_is(rt: &impl Abort, alloc: Global, text: &[u8], rule: u8, column: u32) 
 }
 
 /// The value of a number literal.
-fn number(alloc: Global, text: &[u8]) -> Result<Result<Number, NumberFault>, NoMemory> {
+pub fn number(alloc: Global, text: &[u8]) -> Result<Result<Number, NumberFault>, NoMemory> {
     let text: Vec<u16> = text.iter().map(|byte| u16::from(*byte)).collect(alloc)?;
     Ok(number_value(text.as_slice()))
 }

@@ -8,7 +8,7 @@ use Rattle.vba_lexer.proofs.line_tokens.lexeme_at.Goals as goal
 
 pub returns-then-line : goal.returns-then-line
 returns-then-line c =
-    begins_comment-quote c.args.standing c.args.line.now (some_there (λ character. not (is_gap character)) c.args.line.now c.requires) c.if-line.true
+    begins_comment-quote c.args.standing c.args.line.now (some_there (λ character. not (is_gap character)) c.args.line.now c.requires.begins) c.if-line.true
 
 pub returns-then-is_comment_word : goal.returns-then-is_comment_word
 returns-then-is_comment_word c =
@@ -17,7 +17,7 @@ returns-then-is_comment_word c =
     let token : IsToken (is_first c.args.standing) c.args.line.now c.scan-lexeme.result.kind c.scan-lexeme.result.size =
     subst (λ (first : Bool). IsToken first c.args.line.now c.scan-lexeme.result.kind c.scan-lexeme.result.size) c.is_first.ensures c.scan-lexeme.ensures in
     begins_comment-word c.args.standing c.args.line.now c.scan-lexeme.result.kind c.scan-lexeme.result.size true
-    (some_there (λ character. not (is_gap character)) c.args.line.now c.requires) c.if-line.false token word
+    (some_there (λ character. not (is_gap character)) c.args.line.now c.requires.begins) c.if-line.false token word
 
 pub returns-else-is_comment_word : goal.returns-else-is_comment_word
 returns-else-is_comment_word c =
@@ -29,5 +29,5 @@ returns-else-is_comment_word c =
       token = token;
       no_comment =
           begins_comment-word c.args.standing c.args.line.now c.scan-lexeme.result.kind c.scan-lexeme.result.size false
-          (some_there (λ character. not (is_gap character)) c.args.line.now c.requires) c.if-line.false token word;
+          (some_there (λ character. not (is_gap character)) c.args.line.now c.requires.begins) c.if-line.false token word;
     }
