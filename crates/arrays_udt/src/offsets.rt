@@ -1,0 +1,99 @@
+ghost use Rattle.std.specs.Prelude.{◌≡◌, ◌≤◌, ◌<◌, ◌-ℤ◌, true, [], ◌∷◌, IfOk};
+ghost use Rattle.arrays_udt.specs.Shapes.{elements, extent, is_place, is_within, layout, natural, offset_of};
+
+use crate::shape::{Shape, extent};
+use vba_values::{Bad, Bound};
+
+/// The offset of the element at a place. The first number of a place runs fastest. Subscript out of range (9) where
+/// there isn't one number for each bound, or one of them is outside of its bound.
+pub fn offset(shape: &Shape, places: &[i64]) -> Result<usize, Bad>
+    ensures value { result ≡ offset_of shape.now places.now }
+    ensures inside { IfOk result (λ offset. offset < elements shape.now) }
+{
+    let bounds = shape.bounds();
+    match (bounds.len(), places.len()) {
+        (1, 1) => offset_in_row(bounds[0], places[0]),
+        (2, 2) => offset_in_grid(bounds[0], bounds[1], places[0], places[1]),
+        _ => offset_in(bounds, places),
+    }
+}
+
+fn offset_in_row(bound: Bound, number: i64) -> Result<usize, Bad>
+    ensures value { result ≡ offset_of (bound ∷ []) (number ∷ []) }
+    ensures inside { IfOk result (λ offset. offset < elements (bound ∷ [])) }
+{
+    if !is_within(bound, number) {
+        return Err(Bad::Raise(9));
+    }
+    Ok(distance(bound, number))
+}
+
+fn offset_in_grid(bound: Bound, last: Bound, number: i64, other: i64) -> Result<usize, Bad>
+    requires { elements (bound ∷ last ∷ []) ≤ 1048576 }
+    ensures value { result ≡ offset_of (bound ∷ last ∷ []) (number ∷ other ∷ []) }
+    ensures inside { IfOk result (λ offset. offset < elements (bound ∷ last ∷ [])) }
+{
+    if !is_within(bound, number) {
+        return Err(Bad::Raise(9));
+    }
+    if !is_within(last, other) {
+        return Err(Bad::Raise(9));
+    }
+    Ok(distance(last, other) * extent(bound) as usize + distance(bound, number))
+}
+
+fn offset_in(bounds: &[Bound], numbers: &[i64]) -> Result<usize, Bad>
+    requires { elements bounds.now ≤ 1048576 }
+    ensures value { result ≡ offset_of bounds.now numbers.now }
+    ensures inside { IfOk result (λ offset. offset < elements bounds.now) }
+{
+    if !is_place(bounds, numbers) {
+        return Err(Bad::Raise(9));
+    }
+    Ok(layout(bounds, numbers))
+}
+
+fn is_place(bounds: &[Bound], numbers: &[i64]) -> bool
+    ensures { result ≡ is_place bounds.now numbers.now }
+{
+    match bounds {
+        [] => numbers.is_empty(),
+        [bound, bounds @ ..] => match numbers {
+            [] => false,
+            [number, numbers @ ..] => is_within(*bound, *number) && is_place(bounds, numbers),
+        },
+    }
+}
+
+fn layout(bounds: &[Bound], numbers: &[i64]) -> usize
+    requires place { is_place bounds.now numbers.now ≡ true }
+    requires few { elements bounds.now ≤ 1048576 }
+    ensures value { result ≡ layout bounds.now numbers.now }
+    ensures inside { result < elements bounds.now }
+{
+    match bounds {
+        [] => 0,
+        [bound, bounds @ ..] => match numbers {
+            [] => 0,
+            [number, numbers @ ..] => {
+                let first = distance(*bound, *number);
+                layout(bounds, numbers) * extent(*bound) as usize + first
+            }
+        },
+    }
+}
+
+fn is_within(bound: Bound, number: i64) -> bool
+    ensures { result ≡ is_within bound number }
+{
+    i64::from(bound.low) <= number && number <= i64::from(bound.high)
+}
+
+/// How far a number is above the low bound.
+fn distance(bound: Bound, number: i64) -> usize
+    requires { is_within bound number ≡ true }
+    ensures value { result ≡ natural (number -ℤ bound.low) }
+    ensures inside { result < extent bound }
+{
+    (number - i64::from(bound.low)) as usize
+}
