@@ -1,0 +1,15 @@
+pub mod AddressLaws
+pub mod Bounds
+pub mod Changes
+pub mod Fields
+pub mod Gathers
+pub mod Kept
+pub mod Loops
+pub mod Places
+pub mod Positions
+pub mod Puts
+pub mod Rows
+pub mod Shelves
+pub mod Texts
+pub mod Units
+pub mod WrittenLaws

@@ -1,0 +1,14 @@
+pub mod Address
+pub mod AddressText
+pub mod Area
+pub mod Books
+pub mod Codes
+pub mod Field
+pub mod Gathered
+pub mod Members
+pub mod Pages
+pub mod Reading
+pub mod Sheets
+pub mod Shelf
+pub mod Size
+pub mod Writing

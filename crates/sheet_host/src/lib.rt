@@ -1,0 +1,35 @@
+//! Sheets of cells, books of sheets, areas and their addresses, and the members of host objects.
+#![tactic(auto)]
+
+mod addresses;
+mod area;
+#[cfg(test)]
+mod area_tests;
+mod book;
+mod cell;
+mod corner;
+mod field;
+mod laws;
+mod members;
+mod moving;
+mod pages;
+mod printing;
+mod reading;
+mod sheet;
+#[cfg(test)]
+mod tests;
+mod used;
+mod writing;
+
+pub use addresses::area_of_text;
+pub use area::{Area, SheetId};
+pub use book::Book;
+pub use cell::CellValue;
+pub use field::{field_of_cell, value_of_field};
+pub use laws::{addresses_read_back, members_have_own_numbers};
+pub use members::{HostMember, member};
+pub use moving::{offset, resize};
+pub use printing::address;
+pub use reading::area_value;
+pub use sheet::Sheet;
+pub use writing::cells_of;
