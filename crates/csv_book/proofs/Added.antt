@@ -1,0 +1,101 @@
+-- Sheets that rows and fields are added to.
+use Rattle.std.proofs.Common.{◌≡◌, ℕ, ◌+◌, ◌-◌, ◌≤◌, Bool, true, false, not, List, [], ◌∷◌, ◌++◌, length, nat_lt, get_or, set, Some, None, Result, Ok, Err, if◌then◌else◌, refl, sym, ap, ap₂, ◌∙◌, arith, append_assoc, length-append}
+use Rattle.std.specs.FinMap.{empty}
+use Rattle.std.specs.List.{list_all}
+use Rattle.std.specs.Str.{is_utf8}
+use Rattle.std.proofs.Math.Seq.{set-append_seam, get_or-append_seam}
+use Rattle.std.proofs.lemmas.List.{append-nil}
+use borrow.Author.Tests.{ltb-false}
+use Rattle.vba_base.specs.Answer.{◌>>=◌}
+use Rattle.sheet_host.specs.Sheets.{SheetContent, fields_of, with_field}
+use Rattle.sheet_host.specs.Size.{sheet_columns, sheet_rows}
+use Rattle.csv_book.specs.declared.fault.BookFault.{BookFault}
+use Rattle.csv_book.specs.declared.fault.BookFault.TheVariants.{NotUtf8, TooManyColumns, TooManyRows}
+use Rattle.csv_book.specs.Reading.{Fields, Rows, fault_of, row_of, rows_from, sheet_of_rows, with_last_row}
+
+-- a sheet to which nothing was written is its rows
+pub its_rows : (sheet : SheetContent) → sheet.cells ≡ empty → sheet ≡ sheet_of_rows sheet.rows
+its_rows sheet none = λ i. record { rows = sheet.rows; cells = none i }
+
+last_place : (rows : Rows) (row : Fields) → length (rows ++ row ∷ []) - 1 ≡ length rows
+last_place rows row = omega (arith, length-append rows (row ∷ []))
+
+pub last_fields : (rows : Rows) (row : Fields) → fields_of (sheet_of_rows (rows ++ row ∷ [])) (length (rows ++ row ∷ [])) ≡ row
+last_fields rows row = ap (λ n. get_or (rows ++ row ∷ []) n []) (last_place rows row) ∙ get_or-append_seam rows row [] []
+
+-- a field more in the last row
+pub field_added : (rows : Rows) (row : Fields) (text : List ℕ) → with_field (sheet_of_rows (rows ++ row ∷ [])) text ≡ sheet_of_rows (rows ++ (row ++ text ∷ []) ∷ [])
+field_added rows row text =
+    ap sheet_of_rows (ap₂ (λ n fields. set (rows ++ row ∷ []) n (fields ++ text ∷ [])) (last_place rows row) (last_fields rows row)
+    ∙ set-append_seam rows row [] (row ++ text ∷ []))
+
+faultless : (number : ℕ) (long utf8 wide : Bool)
+    → (if long then Some TooManyRows else if not utf8 then Some (NotUtf8 number) else if wide then Some (TooManyColumns number) else None) ≡ None
+    → (utf8 ≡ true) × (wide ≡ false)
+faultless number true utf8 wide is = cc is
+faultless number false false wide is = cc is
+faultless number false true true is = cc is
+faultless number false true false is = (refl, refl)
+
+-- a row without a fault
+pub record IsSound (fields : Fields) : Type 0 where
+  pub utf8 : list_all is_utf8 fields ≡ true
+  pub columns : length fields ≤ sheet_columns
+
+pub sound : (number : ℕ) (fields : Fields) → fault_of number fields ≡ None → IsSound fields
+sound number fields is =
+    let (utf8, wide) = faultless number (nat_lt sheet_rows number) (list_all is_utf8 fields) (nat_lt sheet_columns (length fields)) is in
+    record { utf8 = utf8; columns = ltb-false sheet_columns (length fields) wide }
+
+-- the sheet of these rows and the texts of further records
+abbrev pub sheet_after : Rows → Rows → Result SheetContent BookFault
+sheet_after rows records = rows_from (length rows + 1) records >>= λ more. Ok (sheet_of_rows (rows ++ more))
+
+pub after_none : (rows : Rows) → sheet_after rows [] ≡ Ok (sheet_of_rows rows)
+unfolding rows_from
+after_none rows = ap (λ all. Ok (sheet_of_rows all)) (append-nil rows)
+
+-- what goes on behind a row that was added
+goes_on : (rows : Rows) (row : Fields) (later : Result Rows BookFault)
+    → ((later >>= λ more. Ok (row ∷ more)) >>= λ more. Ok (sheet_of_rows (rows ++ more))) ≡ (later >>= λ more. Ok (sheet_of_rows ((rows ++ row ∷ []) ++ more)))
+goes_on rows row (Ok more) = ap (λ all. Ok (sheet_of_rows all)) (sym (append_assoc rows (row ∷ []) more))
+goes_on rows row (Err fault) = refl
+
+one_more : (rows : Rows) (row : Fields) → length rows + 1 ≡ length (rows ++ row ∷ [])
+one_more rows row = omega (arith, length-append rows (row ∷ []))
+
+after_row : (rows more : Rows) (last : Result Fields BookFault) (sheet : SheetContent) → with_last_row rows last ≡ Ok sheet
+    → ((last >>= λ row. rows_from (length rows + 1 + 1) more >>= λ rest. Ok (row ∷ rest)) >>= λ rest. Ok (sheet_of_rows (rows ++ rest))) ≡ sheet_after sheet.rows more
+after_row rows more (Ok row) sheet is =
+    let same : sheet ≡ sheet_of_rows (rows ++ row ∷ []) = cc is in
+    goes_on rows row (rows_from (length rows + 1 + 1) more)
+    ∙ ap (λ n. rows_from (n + 1) more >>= λ rest. Ok (sheet_of_rows ((rows ++ row ∷ []) ++ rest))) (one_more rows row)
+    ∙ ap (λ s. sheet_after s.rows more) (sym same)
+after_row rows more (Err fault) sheet is = cc is
+
+after_fault : (rows more : Rows) (last : Result Fields BookFault) (fault : BookFault) → with_last_row rows last ≡ Err fault
+    → ((last >>= λ row. rows_from (length rows + 1 + 1) more >>= λ rest. Ok (row ∷ rest)) >>= λ rest. Ok (sheet_of_rows (rows ++ rest))) ≡ Err fault
+after_fault rows more (Ok row) fault is = cc is
+after_fault rows more (Err found) fault is = let same : found ≡ fault = cc is in ap Err same
+
+-- a record that is added, or has a fault
+pub after_added : (rows more : Rows) (fields : Fields) (sheet : SheetContent) → with_last_row rows (row_of (length rows + 1) fields) ≡ Ok sheet
+    → sheet_after rows (fields ∷ more) ≡ sheet_after sheet.rows more
+unfolding rows_from
+after_added rows more fields sheet is = after_row rows more (row_of (length rows + 1) fields) sheet is
+
+pub after_refused : (rows more : Rows) (fields : Fields) (fault : BookFault) → with_last_row rows (row_of (length rows + 1) fields) ≡ Err fault
+    → sheet_after rows (fields ∷ more) ≡ Err fault
+unfolding rows_from
+after_refused rows more fields fault is = after_fault rows more (row_of (length rows + 1) fields) fault is
+
+-- a row more
+pub added : (rows : Rows) (last : Result Fields BookFault) (sheet : SheetContent) → with_last_row rows last ≡ Ok sheet → (sheet.cells ≡ empty) × (length sheet.rows ≡ length rows + 1)
+added rows (Ok row) sheet is =
+    let same : sheet_of_rows (rows ++ row ∷ []) ≡ sheet = cc is in
+    rw (← same) (refl, sym (one_more rows row))
+added rows (Err fault) sheet is = cc is
+
+-- the row behind the last place of a sheet
+pub past_last : (rows : Rows) (fields : Fields) → length rows ≡ sheet_rows → with_last_row rows (row_of (length rows + 1) fields) ≡ Err TooManyRows
+past_last rows fields full = rw full refl
