@@ -1,0 +1,12 @@
+pub mod Words
+pub mod Literals
+pub mod Pieces
+pub mod Expressions
+pub mod Reader
+pub mod Evaluation
+pub mod Order
+pub mod Selection
+pub mod Seen
+pub mod Advances
+pub mod Kept
+pub use Rattle.vba_base.specs.Answer

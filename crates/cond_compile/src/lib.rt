@@ -1,0 +1,24 @@
+//! Conditional compilation: `#Const`, `#If`, `#ElseIf`, `#Else` and `#End If`.
+#![tactic(auto)]
+
+mod arm;
+mod directive;
+mod expression;
+mod frame;
+mod laws;
+mod literals;
+mod operand;
+mod operator;
+mod order;
+mod piece;
+mod reader;
+mod select;
+#[cfg(test)]
+mod tests;
+mod words;
+
+pub use arm::Arm;
+pub use directive::DirectiveKind;
+pub use laws::{kept_lines_are_lines, what_is_read_is_spelled, what_is_spelled_is_read};
+pub use operator::{Operator, Prefix};
+pub use select::select_lines;

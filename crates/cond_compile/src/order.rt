@@ -1,0 +1,54 @@
+//! The least refusal: by place, and then by rule.
+
+ghost use Rattle.std.specs.Prelude.{◌≡◌, [], ◌∷◌, Some};
+ghost use Rattle.cond_compile.specs.Order as order;
+ghost use Rattle.cond_compile.specs.Selection.{broken_if, fault_list};
+
+use vba_base::{Place, Refusal};
+
+fn is_before(first: Place, second: Place) -> bool
+    ensures { result ≡ order.is_before first second }
+{
+    first.line < second.line || (first.line == second.line && first.column < second.column)
+}
+
+fn is_same_place(first: Place, second: Place) -> bool
+    ensures { result ≡ order.is_same_place first second }
+{
+    first.line == second.line && first.column == second.column
+}
+
+fn goes_before(first: Refusal, second: Refusal) -> bool
+    ensures { result ≡ order.goes_before first second }
+{
+    is_before(first.place, second.place)
+        || (is_same_place(first.place, second.place) && first.rule < second.rule)
+}
+
+/// Keeps the lesser of what was found and one more.
+pub fn note(least: &mut Option<Refusal>, refusal: Refusal)
+    ensures { least.new ≡ Some (order.lesser least.old refusal) }
+{
+    *least = match *least {
+        Some(found) if !goes_before(refusal, found) => Some(found),
+        _ => Some(refusal),
+    };
+}
+
+/// The same of a rule that is broken at a place, or isn't.
+pub fn note_if(least: &mut Option<Refusal>, broken: bool, rule: u8, place: Place)
+    ensures { least.new ≡ order.least_of least.old (broken_if broken rule place) }
+{
+    if broken {
+        note(least, Refusal { rule, place });
+    }
+}
+
+/// The same of a line's fault.
+pub fn note_fault(least: &mut Option<Refusal>, fault: Option<Refusal>)
+    ensures { least.new ≡ order.least_of least.old (fault_list fault) }
+{
+    if let Some(fault) = fault {
+        note(least, fault);
+    }
+}
