@@ -1,12 +1,20 @@
 -- Every source of the built form has few statements, none of which raises an error: so each of its runs ends.
-use Rattle.std.proofs.Common.{◌≡◌, ℕ, suc, ◌+◌, ◌<◌, ◌≤◌, Bool, true, List, [], ◌∷◌, length, refl, sym, ap, subst, ◌∙◌, arith}
-use Rattle.std.specs.Prelude.{◌&&◌, ◌==◌, Option, Some, None, option_map, option_and_then, nat_le, nat_lt, codes, if◌then◌else◌, false}
-use Rattle.std.specs.List.{list_all}
-use Rattle.std.proofs.lemmas.Bool.{and_parts, leb-true}
+use Rattle.std.proofs.Common.{◌≡◌, ℕ, suc, ◌+◌, ◌-◌, ◌*◌, ◌/◌, ◌%◌, ◌<◌, ◌≤◌, Bool, true, false, List, [], ◌∷◌, length, map, refl, sym, ap, subst, ◌∙◌, arith, cond, drop, length-append, length-drop}
+use Rattle.std.specs.Prelude.{◌&&◌, ◌==◌, flat_map, chars, nat_eq, Option, Some, None, Result, Ok, Err, option_map, option_and_then, nat_le, nat_lt, codes, if◌then◌else◌}
+use Rattle.std.specs.List.{list_all, starts_with}
+use Rattle.std.specs.Str.{is_utf8, IsUtf8}
+use Rattle.std.specs.Char.Escape.{encode_utf16}
+use Rattle.std.proofs.lemmas.Bool.{and_parts, leb-true, ltb-true, ltb-false}
+use Rattle.std.proofs.lemmas.List.{length-map}
+use Rattle.std.proofs.lemmas.Str.{length-le-encodes, IsUtf8-from_is_utf8, is_utf8-from_IsUtf8, encodes-chars}
+use Rattle.std.proofs.str.Utf16.{one_unit, two_units}
+use Rattle.vba_base.specs.Answer.{◌>>=◌}
+use Rattle.vba_base.specs.Decode.{decoded, windows_1252, without_mark, byte_order_mark}
+use Rattle.vba_base.specs.declared.place.Refusal.{Refusal}
+use Rattle.vba_base.proofs.Sources.{decoded-utf8, decoded-windows_1252}
 use Rattle.vba_lexer.specs.declared.token.Token.{Token}
 use Rattle.vba_lexer.specs.Lexed.{LexedLine, lexed}
 use Rattle.vba_lexer.specs.Inside.{view_count}
-use Rattle.vba_lexer.specs.Simple.{is_simple}
 use Rattle.vba_lexer.proofs.Inside.{view_count-lexed}
 use Rattle.vba_tree.specs.declared.expression.Expression.{Expression}
 use Rattle.vba_tree.specs.declared.expression.Expression.TheVariants as expression
@@ -14,12 +22,14 @@ use Rattle.vba_tree.specs.declared.expression.WholeLiteral.{WholeLiteral}
 use Rattle.vba_tree.specs.declared.line.LineTree.{LineTree}
 use Rattle.vba_tree.specs.declared.line.LineTree.TheVariants.{ProcedureHeader, Print, ProcedureEnd}
 use Rattle.vba_tree.specs.Standing.{stands, whole_stands, mark_stands, expression_stands}
+use Rattle.cond_compile.proofs.Kept.{selected_count}
 use Rattle.vba_meaning.specs.Meaning.{Statements, meaning}
 use Rattle.vba_meaning.specs.Laws.{IsSmall, AreSmall}
 use Rattle.vba_meaning.specs.declared.outcome.Outcome.TheVariants.{Ended}
 use Rattle.vba_meaning.proofs.Ends.{run_ends}
 use Rattle.vba_cli.specs.Answer.{default_turns}
-use Rattle.vba_cli.specs.Form.{line_tree, with_line, line_trees, body_of, main_of, is_plain, program_of}
+use Rattle.vba_cli.specs.Form as form
+use Rattle.vba_cli.specs.Form.{line_tree, with_line, line_trees, body_of, main_of, statements_of, longest_built, built_of, program_of}
 use Rattle.vba_cli.proofs.Laws.{read_is_spelled}
 
 -- a whole number that stands is at most 16383
@@ -85,24 +95,68 @@ stand_lines source [] trees is = subst (λ (ts : List LineTree). AllStand source
 stand_lines source (line ∷ lines) trees is =
     stand_line source line.tokens (line_trees source lines) trees (view_count lines) (λ others e. stand_lines source lines others e) is
 
--- the statements of a source of the built form raise no error, and are fewer than the turns
-small_trees : (source : List ℕ) (o : Option (List LineTree)) (statements : Statements) → line_trees source (lexed 1 source) ≡ o → option_and_then main_of o ≡ Some statements →
-    AreSmall statements × (length statements ≤ length source)
-small_trees source None statements e is = absurd cc
-small_trees source (Some trees) statements e is =
-    let read = stand_lines source (lexed 1 source) trees e in
+-- the statements of kept lines raise no error, and are no more than the tokens of the lines
+small_lines : (source : List ℕ) (lines : List LexedLine) (o : Option (List LineTree)) (statements : Statements) → line_trees source lines ≡ o → option_and_then main_of o ≡ Some statements →
+    AreSmall statements × (length statements ≤ view_count lines)
+small_lines source lines None statements e is = absurd cc
+small_lines source lines (Some trees) statements e is =
+    let read = stand_lines source lines trees e in
     let main = small_main source trees statements read.0 is in
-    (main.0, omega (arith, read.1, main.1, view_count-lexed 1 source))
+    (main.0, omega (arith, read.1, main.1))
 
-ends_if : (source : List ℕ) (statements : Statements) (plain : Bool) → (is_plain source && is_simple source) ≡ plain →
-    (if plain then option_and_then main_of (line_trees source (lexed 1 source)) else None) ≡ Some statements → (meaning statements default_turns).outcome ≡ Ended
-ends_if source statements false e is = absurd cc
-ends_if source statements true e is =
-    let small = small_trees source (line_trees source (lexed 1 source)) statements refl is in
-    let plain = (and_parts (is_plain source) (is_simple source) e).0 in
-    let size = leb-true (length source) 1048576 (and_parts (nat_le (length source) 1048576) (list_all (λ byte. nat_lt byte 128) source) plain).0 in
-    run_ends statements default_turns (omega (arith, small.1, size)) small.0
+-- a character has at most two units
+units_few : (c : ℕ) → length (encode_utf16 c) ≤ 2
+units_few c =
+    elim (nat_lt c 0x1_0000) as (λ b. nat_lt c 0x1_0000 ≡ b → length (encode_utf16 c) ≤ 2) [
+      | true ↦ λ e. omega (arith, ap length (one_unit c (ltb-true c 0x1_0000 e)))
+      | false ↦ λ e. omega (arith, ap length (two_units c (ltb-false c 0x1_0000 e)))
+    ] refl
 
--- each run of a source of the built form ends
-pub runs_end : (source : List ℕ) (statements : Statements) → program_of source ≡ Some statements → (meaning statements default_turns).outcome ≡ Ended
-runs_end source statements is = ends_if source statements (is_plain source && is_simple source) refl is
+units_of_characters : (cs : List ℕ) → length (flat_map encode_utf16 cs) ≤ 2 * length cs
+units_of_characters [] = omega arith
+units_of_characters (c ∷ cs) = omega (arith, length-append (encode_utf16 c) (flat_map encode_utf16 cs), units_few c, units_of_characters cs)
+
+length-without_mark : (bytes : List ℕ) → length (without_mark bytes) ≤ length bytes
+length-without_mark bytes =
+    elim (starts_with nat_eq bytes byte_order_mark) as (λ b. length (cond b (drop 3 bytes) bytes) ≤ length bytes) [
+      | true ↦ omega (arith, length-drop 3 bytes)
+      | false ↦ omega arith
+    ]
+
+-- a source has at most two units for each byte
+decoded_short : (bytes : List ℕ) → length (decoded bytes) ≤ 2 * length bytes
+decoded_short bytes =
+    elim (is_utf8 (without_mark bytes)) as (λ b. is_utf8 (without_mark bytes) ≡ b → length (decoded bytes) ≤ 2 * length bytes) [
+      | true ↦ λ e.
+          let are = IsUtf8-from_is_utf8 _ e in
+          omega (
+            arith,
+            ap length (decoded-utf8 bytes are),
+            units_of_characters (chars (without_mark bytes)),
+            length-le-encodes (chars (without_mark bytes)),
+            ap length (encodes-chars (without_mark bytes) are),
+            length-without_mark bytes,
+          )
+      | false ↦ λ e.
+          let not_utf8 : ¬ (IsUtf8 (without_mark bytes)) = λ are. let is = is_utf8-from_IsUtf8 _ are in cc in
+          omega (arith, ap length (decoded-windows_1252 bytes not_utf8), units_of_characters (map windows_1252 bytes), length-map bytes windows_1252)
+    ] refl
+
+short_built : (bytes : List ℕ) (lines : List LexedLine) (statements : Statements) (short : Bool) → nat_le (length bytes) longest_built ≡ short →
+    view_count lines ≤ view_count (lexed 1 (decoded bytes)) → (if short then statements_of (decoded bytes) lines else None) ≡ Some statements → (meaning statements default_turns).outcome ≡ Ended
+short_built bytes lines statements false e fewer is = absurd cc
+short_built bytes lines statements true e fewer is =
+    let small = small_lines (decoded bytes) lines (line_trees (decoded bytes) lines) statements refl is in
+    let size = leb-true (length bytes) longest_built e in
+    run_ends statements default_turns (omega (arith, small.1, size, fewer, view_count-lexed 1 (decoded bytes), decoded_short bytes)) small.0
+
+kept_end : (bytes : List ℕ) (statements : Statements) (kept : Result (List LexedLine) Refusal) → form.kept_lines bytes ≡ kept → (kept >>= λ lines. Ok (built_of bytes lines)) ≡ Ok (Some statements) →
+    (meaning statements default_turns).outcome ≡ Ended
+kept_end bytes statements (Err refusal) e is = absurd cc
+kept_end bytes statements (Ok lines) e is =
+    let built : built_of bytes lines ≡ Some statements = cc in
+    short_built bytes lines statements (nat_le (length bytes) longest_built) refl (selected_count (decoded bytes) (lexed 1 (decoded bytes)) lines e) built
+
+-- each run of a file of the built form ends
+pub runs_end : (bytes : List ℕ) (statements : Statements) → program_of bytes ≡ Ok (Some statements) → (meaning statements default_turns).outcome ≡ Ended
+runs_end bytes statements is = kept_end bytes statements (form.kept_lines bytes) refl is

@@ -16,7 +16,9 @@ use Rattle.vba_tree.specs.declared.expression.Expression.TheVariants.{Whole, Tex
 use Rattle.vba_tree.specs.declared.line.LineTree.{LineTree}
 use Rattle.vba_tree.specs.declared.line.LineTree.TheVariants.{ProcedureHeader, Print, ProcedureEnd}
 use Rattle.vba_tree.specs.Spelling.{spelling, expression_spelling}
-use Rattle.vba_tree.specs.Standing.{Spells, is_word, is_whole, is_text, is_mark, number_of, quoted_text, same_text, word_stands, mark_stands, whole_stands, text_stands, expression_stands, stands}
+use Rattle.vba_tree.specs.Standing.{Spells, is_word, is_whole, is_text, is_mark, number_of, word_stands, mark_stands, whole_stands, text_stands, expression_stands, stands}
+use Rattle.vba_words.specs.Readings.{quoted_text}
+use Rattle.vba_lexer.specs.Tokens.{same_text}
 use Rattle.vba_cli.specs.Form.{whole_literal, literal, where_stands, or_else, line_tree}
 use Rattle.vba_cli.specs.Reading.{header_at, sum_of}
 use Rattle.vba_tree.proofs.SameText.{same_text-true}

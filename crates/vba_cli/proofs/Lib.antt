@@ -1,6 +1,5 @@
 pub mod Words
 pub mod Digits
-pub mod Quotes
 pub mod Parts
 pub mod Trees
 pub mod Laws

@@ -1,13 +1,13 @@
 -- Performing a command and telling its status is what a command promises.
-use Rattle.std.proofs.Common.{◌≡◌, ℕ, Bool, List, [], ◌++◌, Bor, refl, sym, ap, subst, ◌∙◌, inl, inr}
-use Rattle.std.specs.Prelude.{◌⊎◌, Option, Some, None, IfSome, IsSomeAnd, unwrap_or, option_map}
-use Rattle.vba_base.specs.Causes.{up, Rose, Adds, AddsPrefix}
-use Rattle.vba_base.specs.Outside.{Told, Counts}
+use Rattle.std.proofs.Common.{◌≡◌, ℕ, List, [], Bor, refl, sym, ap, subst, ◌∙◌, inl, inr}
+use Rattle.std.specs.Prelude.{Option, Some, None, IfSome, IsSomeAnd, unwrap_or, option_map}
+use Rattle.vba_base.specs.Causes.{Adds, AddsPrefix}
+use Rattle.vba_base.specs.Outside.{Told}
 use Rattle.vba_cli.specs.declared.status.Status.{Status}
-use Rattle.vba_cli.specs.declared.status.Status.TheVariants.{Ended, Faulted, Usage, Going, ReadFault, WriteFault, TooLong, NotBuilt, NoMemory}
+use Rattle.vba_cli.specs.declared.status.Status.TheVariants.{Ended, Faulted, Usage, Refused, Going, ReadFault, WriteFault, TooLong, NotBuilt, NoMemory}
 use Rattle.vba_cli.specs.Command.{file_of}
-use Rattle.vba_cli.specs.Answer.{Shown, shown_of_command, Answer, answer, answer_with, path_of, err_of, first_place}
-use Rattle.vba_cli.specs.Contract.{World, NoneRose, IsAnswer, UnlessFault, UnlessUnwritten, Cause, Unfailed, Noticed, Quiet, names_of, ReadsOnly, TakesSome, Says, Commands}
+use Rattle.vba_cli.specs.Answer.{Shown, shown_of_command, answer, path_of, err_of}
+use Rattle.vba_cli.specs.Contract.{World, NoneRose, IsAnswer, UnlessFault, UnlessUnwritten, Cause, Noticed, Quiet, names_of, ReadsOnly, Says, Commands}
 use Rattle.vba_cli.specs.Steps.{Leaves, Meets, Reads, Performs, Tells}
 use Rattle.vba_base.proofs.Causes.{adds_prefix_whole}
 use Rattle.vba_cli.proofs.Steps.{none_prefix}
@@ -30,6 +30,7 @@ meets_part shown Going old new m = adds_prefix_whole old new shown.out m.1
 meets_part shown (ReadFault number) old new m = none_prefix old new shown.out m
 meets_part shown WriteFault old new m = m
 meets_part shown (TooLong number) old new m = adds_prefix_whole old new shown.out m.1
+meets_part shown (Refused refusal) old new m = adds_prefix_whole old new shown.out m.1
 meets_part shown (NotBuilt place) old new m = adds_prefix_whole old new shown.out m.1
 meets_part shown NoMemory old new m = m
 
@@ -42,6 +43,7 @@ meets_status shown Going old new m = m.0
 meets_status shown (ReadFault number) old new m = tt
 meets_status shown WriteFault old new m = tt
 meets_status shown (TooLong number) old new m = m.0
+meets_status shown (Refused refusal) old new m = m.0
 meets_status shown (NotBuilt place) old new m = m.0
 meets_status shown NoMemory old new m = tt
 
@@ -59,6 +61,7 @@ module _ (words : List (List ℕ)) (performed : Status) (old new : World) (p : P
   unless_of (ReadFault number) meant u t = tt
   unless_of WriteFault meant u t = tt
   unless_of (TooLong number) meant u t = subst (λ s. UnlessFault s meant) (sym t.0) u
+  unless_of (Refused refusal) meant u t = subst (λ s. UnlessFault s meant) (sym t.0) u
   unless_of (NotBuilt place) meant u t = subst (λ s. UnlessFault s meant) (sym t.0) u
   unless_of NoMemory meant u t = tt
 
@@ -70,6 +73,7 @@ module _ (words : List (List ℕ)) (performed : Status) (old new : World) (p : P
   usage_of (ReadFault number) u t = t.0 ∙ u
   usage_of WriteFault u t = tt
   usage_of (TooLong number) u t = t.0 ∙ u
+  usage_of (Refused refusal) u t = t.0 ∙ u
   usage_of (NotBuilt place) u t = t.0 ∙ u
   usage_of NoMemory u t = tt
 
@@ -88,6 +92,7 @@ module _ (words : List (List ℕ)) (performed : Status) (old new : World) (p : P
   cause_of (ReadFault number) t = reads_as (ReadFault number) t.0
   cause_of WriteFault t = elim t [ inl own ↦ inl (leaves_as WriteFault (sym own.0)) | inr failed ↦ inr failed.0 ]
   cause_of (TooLong number) t = let r = reads_as (TooLong number) t.0 in (r.0, r.1, r.2)
+  cause_of (Refused refusal) t = tt
   cause_of (NotBuilt place) t = let r = reads_as (NotBuilt place) t.0 in r.0
   cause_of NoMemory t = tt
 
@@ -102,6 +107,8 @@ module _ (words : List (List ℕ)) (performed : Status) (old new : World) (p : P
   noticed_of WriteFault t = tt
   noticed_of (TooLong number) t =
       let r = reads_as (TooLong number) t.0 in let l = leaves_as (TooLong number) t.0 in record { read_faults = r.3; out_faults = l.0; err_faults = t.1 }
+  noticed_of (Refused refusal) t =
+      let l = leaves_as (Refused refusal) t.0 in record { read_faults = reads_as (Refused refusal) t.0; out_faults = l.0; err_faults = t.1 }
   noticed_of (NotBuilt place) t =
       let r = reads_as (NotBuilt place) t.0 in let l = leaves_as (NotBuilt place) t.0 in record { read_faults = r.1; out_faults = l.0; err_faults = t.1 }
   noticed_of NoMemory t = tt
@@ -114,6 +121,7 @@ module _ (words : List (List ℕ)) (performed : Status) (old new : World) (p : P
   quiet_of (ReadFault number) t = let l = leaves_as (ReadFault number) t.0 in l.1
   quiet_of WriteFault t = tt
   quiet_of (TooLong number) t = let l = leaves_as (TooLong number) t.0 in l.1
+  quiet_of (Refused refusal) t = let l = leaves_as (Refused refusal) t.0 in l.1
   quiet_of (NotBuilt place) t = let l = leaves_as (NotBuilt place) t.0 in l.1
   quiet_of NoMemory t = tt
 
@@ -125,6 +133,7 @@ module _ (words : List (List ℕ)) (performed : Status) (old new : World) (p : P
   says_of (ReadFault number) t = t.2
   says_of WriteFault t = elim t [ inl own ↦ inl own.2 | inr failed ↦ inr failed ]
   says_of (TooLong number) t = t.2
+  says_of (Refused refusal) t = t.2
   says_of (NotBuilt place) t = t.2
   says_of NoMemory t = t.1
 
@@ -153,6 +162,7 @@ module _ (words : List (List ℕ)) (performed : Status) (old new : World) (p : P
   answers_of WriteFault t none memory =
       absurd (elim t [ inl own ↦ none.out_faults (leaves_as WriteFault (sym own.0)) | inr failed ↦ none.err_faults failed.0 ])
   answers_of (TooLong number) t none memory = answers_as (TooLong number) (λ shown m. m) t.0 t.2
+  answers_of (Refused refusal) t none memory = answers_as (Refused refusal) (λ shown m. m) t.0 t.2
   answers_of (NotBuilt place) t none memory = answers_as (NotBuilt place) (λ shown m. m) t.0 t.2
   answers_of NoMemory t none memory = absurd (memory refl)
 
@@ -195,6 +205,7 @@ with_err file performed old new p = record {
     reads_over (ReadFault number) r = r
     reads_over WriteFault r = r
     reads_over (TooLong number) r = r
+    reads_over (Refused refusal) r = r
     reads_over (NotBuilt place) r = r
     reads_over NoMemory r = r
 

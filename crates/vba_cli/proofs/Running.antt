@@ -1,10 +1,9 @@
 -- A run, statement by statement.
-use Rattle.std.proofs.Common.{◌≡◌, ℕ, zero, suc, ◌+◌, ◌<◌, ◌≤◌, Bool, true, false, List, [], ◌∷◌, ◌++◌, length, refl, sym, ap, ◌∙◌, subst, arith, append_assoc}
-use Rattle.std.specs.Prelude.{ℤ, pos, Option, Some, None, Result, Ok, Err, slice_get, nat_lt, if◌then◌else◌}
-use Rattle.std.specs.List.{flat_map}
+use Rattle.std.proofs.Common.{◌≡◌, ℕ, zero, suc, ◌+◌, ◌<◌, ◌≤◌, Bool, true, false, List, [], ◌∷◌, ◌++◌, length, refl, sym, ap, ◌∙◌, arith}
+use Rattle.std.specs.Prelude.{pos, Option, Some, Result, Ok, Err, slice_get, nat_lt, if◌then◌else◌}
 use Rattle.std.proofs.lemmas.List.{append-nil}
 use Rattle.std.proofs.lemmas.List.Concat.{flat_map-append}
-use Rattle.std.proofs.lemmas.Bool.{lt-ltb, le-ltb, ltb-true, ltb-false}
+use Rattle.std.proofs.lemmas.Bool.{ltb-true, ltb-false}
 use Rattle.std.proofs.lemmas.Option.{slice_get_past}
 use Rattle.vba_base.specs.declared.place.Place.{Place}
 use Rattle.vba_tree.specs.declared.expression.Expression.{Expression}
@@ -15,7 +14,7 @@ use Rattle.vba_meaning.specs.declared.event.Event.TheVariants.{Print, Error}
 use Rattle.vba_meaning.specs.declared.outcome.Outcome.{Outcome}
 use Rattle.vba_meaning.specs.declared.outcome.Outcome.TheVariants.{Ended, Faulted, Going}
 use Rattle.vba_meaning.specs.Values.{Val, printed}
-use Rattle.vba_meaning.specs.State.{State, Res, Got, Over, ◌>>=◌, turn, told, raise}
+use Rattle.vba_meaning.specs.State.{State, Res, Got, Over, ◌>>=◌, turn, told}
 use Rattle.vba_meaning.specs.Meaning.{Statements, worked, eval, exec, begin_at, run_from, Run, run_of, opening, meaning}
 use Rattle.vba_meaning.specs.Texts.{event_text, events_text}
 use Rattle.vba_cli.specs.Report.{value_of, IsEvaluated, outcome_of_error}

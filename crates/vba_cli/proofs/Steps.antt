@@ -1,25 +1,20 @@
 -- The steps of a command, put together.
-use Rattle.std.proofs.Common.{◌≡◌, ℕ, ◌+◌, ◌≤◌, Bool, true, false, List, [], ◌∷◌, ◌++◌, length, take, refl, sym, ap, subst, ◌∙◌, arith, inl, inr}
-use Rattle.std.specs.Prelude.{◌⊎◌, Option, Some, None, Result, Ok, IfSome, IsSomeAnd, nat_lt, if◌then◌else◌, ⊤}
-use Rattle.std.proofs.lemmas.List.{append-nil}
+use Rattle.std.proofs.Common.{◌≡◌, ℕ, ◌≤◌, List, length, refl, sym, ap, subst, ◌∙◌, inl, inr}
+use Rattle.std.specs.Prelude.{◌⊎◌, Option, Some, None, Result, Ok, IfSome, IsSomeAnd, if◌then◌else◌}
 use Rattle.std.proofs.lemmas.Bool.{le-ltb}
-use Rattle.std.proofs.Math.Seq.{take-length}
 use Rattle.vba_base.proofs.Causes.{adds_prefix_whole, adds_prefix_none}
-use Rattle.vba_base.specs.Causes.{up, Rose, Adds, AddsPrefix}
-use Rattle.vba_base.specs.Map.{FileMap, bytes_of}
+use Rattle.vba_base.specs.Causes.{Adds, AddsPrefix}
 use Rattle.vba_base.specs.Outside.{Told, Counts, CountsRead, TellsRead}
-use Rattle.vba_base.specs.declared.outside.ReadAnswer.{ReadAnswer}
-use Rattle.vba_base.specs.declared.place.Place.{Place}
+use Rattle.vba_base.specs.declared.place.Refusal.{Refusal}
 use Rattle.vba_cli.specs.declared.status.Status.{Status}
-use Rattle.vba_cli.specs.declared.status.Status.TheVariants.{Ended, Faulted, Usage, Going, ReadFault, WriteFault, TooLong, NotBuilt, NoMemory}
+use Rattle.vba_cli.specs.declared.status.Status.TheVariants.{Ended, Faulted, Usage, Refused, Going, ReadFault, WriteFault, TooLong, NotBuilt, NoMemory}
 use Rattle.vba_meaning.specs.declared.outcome.Outcome.{Outcome}
 use Rattle.vba_meaning.specs.Meaning.{Statements, Run, meaning}
 use Rattle.vba_meaning.specs.Texts.{events_text}
-use Rattle.vba_cli.specs.Command.{file_of}
 use Rattle.vba_cli.specs.Form.{program_of}
-use Rattle.vba_cli.specs.Answer.{Shown, status_of, default_turns, shown_of_run, shown_of_program, shown_of_file, shown_of_command, refused, Answer, answer, answer_with, path_of, err_of, file_limit, first_place}
-use Rattle.vba_cli.specs.Contract.{World, NoneRose, IsAnswer, UnlessFault, UnlessUnwritten, Cause, Unfailed, Noticed, Quiet, names_of, ReadsOnly, TakesSome, Says, Commands}
-use Rattle.vba_cli.specs.Steps.{Leaves, Meets, IsOfRun, Ran, Reads, Performs, Puts, Tells}
+use Rattle.vba_cli.specs.Answer.{Shown, status_of, default_turns, shown_of_run, shown_of_program, shown_of_file, shown_of_command, refused, err_of, file_limit}
+use Rattle.vba_cli.specs.Contract.{World, names_of, ReadsOnly}
+use Rattle.vba_cli.specs.Steps.{Meets, IsOfRun, Ran, Reads, Performs, Puts, Tells}
 
 -- a sink that took nothing took a prefix of any bytes
 pub none_prefix : (old new : Option (List ℕ)) (bytes : List ℕ) → new ≡ old → AddsPrefix old new bytes
@@ -38,6 +33,7 @@ told_whole path performed Going old new fo fn is same added = (is, same, added)
 told_whole path performed (ReadFault number) old new fo fn is same added = (is, same, added)
 told_whole path performed WriteFault old new fo fn is same added = inl (sym is, same, added)
 told_whole path performed (TooLong number) old new fo fn is same added = (is, same, added)
+told_whole path performed (Refused refusal) old new fo fn is same added = (is, same, added)
 told_whole path performed (NotBuilt place) old new fo fn is same added = (is, same, added)
 told_whole path performed NoMemory old new fo fn is same added =
     (same, record { of_status = NoMemory; part = adds_prefix_whole old new (err_of path NoMemory) added })
@@ -86,6 +82,7 @@ reads_of_run name Going old new is same = same
 reads_of_run name (ReadFault number) old new is same = absurd is
 reads_of_run name WriteFault old new is same = same
 reads_of_run name (TooLong number) old new is same = absurd is
+reads_of_run name (Refused refusal) old new is same = same
 reads_of_run name (NotBuilt place) old new is same = (is, same)
 reads_of_run name NoMemory old new is same = same
 
@@ -123,7 +120,7 @@ pub shown_report : (outcome : Outcome) (text shown : List ℕ) (run : Run) → o
 shown_report outcome text shown run ends same is = ap (λ o. shown_from (status_of o) shown) ends ∙ ap (shown_from (status_of run.outcome)) (is ∙ same)
 
 -- a program that is there shows what its run shows
-pub shown_program : (program : Option Statements) (statements items : Statements) → Some items ≡ program → statements ≡ items →
+pub shown_program : (program : Result (Option Statements) Refusal) (statements items : Statements) → Ok (Some items) ≡ program → statements ≡ items →
     shown_of_run (meaning statements default_turns) ≡ shown_of_program program
 shown_program program statements items is same =
     ap (λ ss. shown_of_run (meaning ss default_turns)) same ∙ ap shown_of_program is

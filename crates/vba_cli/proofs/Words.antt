@@ -1,10 +1,11 @@
 -- When a text is a word.
-use Rattle.std.proofs.Common.{◌≡◌, ℕ, ◌+◌, ◌<◌, ◌≤◌, true, false, List, [], ◌∷◌, length, map, drop, get_or, refl, sym, ap, ◌∙◌, arith}
+use Rattle.std.proofs.Common.{◌≡◌, ℕ, ◌+◌, ◌<◌, ◌≤◌, true, false, List, [], ◌∷◌, length, map, drop, get_or, sym, ◌∙◌, arith}
 use Rattle.std.specs.Prelude.{◌==◌, ◌&&◌}
-use Rattle.std.proofs.lemmas.Bool.{eqb-true, eq-eqb, ne_eqb, and_from, and_parts, false_from_ne_true}
+use Rattle.std.proofs.lemmas.Bool.{eq-eqb, ne_eqb}
 use Rattle.std.proofs.lemmas.List.{length-map, drop_more, drop_all}
 use Rattle.vba_tree.proofs.SameText.{same_text_sizes}
-use Rattle.vba_tree.specs.Standing.{lower, same_text, matches}
+use Rattle.vba_tree.specs.Standing.{matches}
+use Rattle.vba_lexer.specs.Tokens.{lower}
 use Rattle.vba_cli.specs.Reading.{is_unit}
 
 pub matches_sizes : (text word : List ℕ) → (length text ≡ length word → ⊥) → matches text word ≡ false

@@ -1,6 +1,7 @@
 -- The answer to a command: a function of its words and of what the files hold, alone.
-use Rattle.std.specs.Prelude.{ℕ, Bool, nat_lt, List, [], length, Option, Some, None, if◌then◌else◌}
+use Rattle.std.specs.Prelude.{ℕ, nat_lt, List, [], length, Option, Some, None, Result, Ok, Err, if◌then◌else◌}
 use Rattle.vba_base.specs.declared.place.Place.{Place}
+use Rattle.vba_base.specs.declared.place.Refusal.{Refusal}
 use Rattle.vba_base.specs.Map.{FileMap, bytes_of}
 use Rattle.vba_meaning.specs.declared.outcome.Outcome.{Outcome}
 use Rattle.vba_meaning.specs.declared.outcome.Outcome.TheVariants as outcome
@@ -54,10 +55,11 @@ refused status = record { status = status; out = [] }
 abbrev pub shown_of_run : Run → Shown
 shown_of_run run = record { status = status_of run.outcome; out = events_text run.state.events }
 
--- a source that is not of the built form is not built, any other is run
-abbrev pub shown_of_program : Option Statements → Shown
-shown_of_program None = refused (status.NotBuilt first_place)
-shown_of_program (Some statements) = shown_of_run (meaning statements default_turns)
+-- a source that breaks a rule is refused, one that has not the built form is not built, any other is run
+abbrev pub shown_of_program : Result (Option Statements) Refusal → Shown
+shown_of_program (Err refusal) = refused (status.Refused refusal)
+shown_of_program (Ok None) = refused (status.NotBuilt first_place)
+shown_of_program (Ok (Some statements)) = shown_of_run (meaning statements default_turns)
 
 -- a name that isn't there can't be read, and a file may be too long
 abbrev pub shown_of_file : Option (List ℕ) → Shown

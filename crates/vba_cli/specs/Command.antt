@@ -1,6 +1,7 @@
 -- The words of a command. Words and names are lists of bytes.
-use Rattle.std.specs.Prelude.{ℕ, ◌-◌, Bool, false, ◌==◌, ◌&&◌, not, List, [], ◌∷◌, map, length, drop, codes, Option, Some, None, if◌then◌else◌}
-use Rattle.vba_tree.specs.Standing.{lower, same_text, matches}
+use Rattle.std.specs.Prelude.{ℕ, ◌-◌, Bool, false, ◌==◌, ◌&&◌, not, List, [], ◌∷◌, length, drop, codes, Option, Some, None, if◌then◌else◌}
+use Rattle.vba_tree.specs.Standing.{matches}
+use Rattle.vba_lexer.specs.Tokens.{same_text}
 
 -- the last four bytes are `.bas`, in any case
 abbrev pub ends_in_bas : List ℕ → Bool

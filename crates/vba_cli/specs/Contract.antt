@@ -12,6 +12,7 @@ abbrev pub code_of : Status → ℕ
 code_of status.Ended = 0
 code_of (status.Faulted number place) = 1
 code_of status.Usage = 2
+code_of (status.Refused refusal) = 3
 code_of status.Going = 5
 code_of (status.ReadFault number) = 6
 code_of status.WriteFault = 7
@@ -83,6 +84,7 @@ Noticed old new result = Unfailed old new
 -- after a refusal `out` has taken nothing
 abbrev pub Quiet : World → World → Status → Type 0
 Quiet old new status.Usage = new.out ≡ old.out
+Quiet old new (status.Refused refusal) = new.out ≡ old.out
 Quiet old new (status.ReadFault number) = new.out ≡ old.out
 Quiet old new (status.TooLong number) = new.out ≡ old.out
 Quiet old new (status.NotBuilt place) = new.out ≡ old.out

@@ -1,15 +1,18 @@
 -- The form of the sources that are built so far.
-use Rattle.std.specs.Prelude.{ℕ, Bool, ◌&&◌, nat_le, nat_lt, List, [], ◌∷◌, length, Option, Some, None, option_map, option_and_then, if◌then◌else◌}
-use Rattle.std.specs.List.{list_all}
+use Rattle.std.specs.Prelude.{ℕ, nat_le, List, [], ◌∷◌, length, Option, Some, None, option_map, option_and_then, Result, Ok, if◌then◌else◌}
+use Rattle.vba_base.specs.Answer.{◌>>=◌}
+use Rattle.vba_base.specs.Decode.{decoded}
+use Rattle.vba_base.specs.declared.place.Refusal.{Refusal}
+use Rattle.cond_compile.specs.Selection.{selected}
 use Rattle.vba_lexer.specs.declared.token.Token.{Token}
 use Rattle.vba_lexer.specs.Lexed.{LexedLine, lexed, text_of}
-use Rattle.vba_lexer.specs.Simple.{is_simple}
 use Rattle.vba_tree.specs.declared.expression.Expression.{Expression}
 use Rattle.vba_tree.specs.declared.expression.Expression.TheVariants.{Whole, Text, Sum}
 use Rattle.vba_tree.specs.declared.expression.WholeLiteral.{WholeLiteral}
 use Rattle.vba_tree.specs.declared.line.LineTree.{LineTree}
 use Rattle.vba_tree.specs.declared.line.LineTree.TheVariants.{ProcedureHeader, Print, ProcedureEnd}
-use Rattle.vba_tree.specs.Standing.{number_of, quoted_text, is_text, stands}
+use Rattle.vba_tree.specs.Standing.{number_of, is_text, stands}
+use Rattle.vba_words.specs.Readings.{quoted_text}
 use Rattle.vba_meaning.specs.Meaning.{Statements}
 
 -- the whole number that a token would be
@@ -72,12 +75,21 @@ main_of (ProcedureHeader header ∷ trees) = body_of trees
 main_of (Print statement ∷ trees) = None
 main_of (ProcedureEnd ending ∷ trees) = None
 
--- at most 1048576 bytes, each at most 127
-abbrev pub is_plain : List ℕ → Bool
-is_plain source = nat_le (length source) 1048576 && list_all (λ byte. nat_lt byte 128) source
+-- the statements of the Main that the kept lines of a source make, where they have this form
+abbrev pub statements_of : List ℕ → List LexedLine → Option Statements
+statements_of source lines = option_and_then main_of (line_trees source lines)
 
--- the statements of the Main that a file of this form has, each line of which is a physical line that ends at LF or CR LF,
--- without a comment; all other files are not built
-abbrev pub program_of : List ℕ → Option Statements
-program_of source =
-    if is_plain source && is_simple source then option_and_then main_of (line_trees source (lexed 1 source)) else None
+-- the lines of a file that conditional compilation keeps, or the first rule that it breaks
+abbrev pub kept_lines : List ℕ → Result (List LexedLine) Refusal
+kept_lines bytes = selected (decoded bytes) (lexed 1 (decoded bytes))
+
+-- a file of more than 1048576 bytes has not the built form
+abbrev pub longest_built : ℕ
+longest_built = 1048576
+
+abbrev pub built_of : List ℕ → List LexedLine → Option Statements
+built_of bytes lines = if nat_le (length bytes) longest_built then statements_of (decoded bytes) lines else None
+
+-- the statements of the Main of a file, none where it has not the built form, or the first rule that the file breaks
+abbrev pub program_of : List ℕ → Result (Option Statements) Refusal
+program_of bytes = kept_lines bytes >>= λ lines. Ok (built_of bytes lines)

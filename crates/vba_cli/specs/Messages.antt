@@ -1,5 +1,5 @@
 -- The texts that are written on `err`.
-use Rattle.std.specs.Prelude.{ℕ, ℤ, pos, negsuc, Bool, ◌==◌, List, [], ◌∷◌, ◌++◌, codes, if◌then◌else◌}
+use Rattle.std.specs.Prelude.{ℕ, ℤ, pos, negsuc, ◌==◌, List, [], ◌∷◌, ◌++◌, codes, if◌then◌else◌}
 use Rattle.std.specs.Fmt.{decimal, signed_decimal}
 use Rattle.vba_base.specs.declared.place.Place.{Place}
 use Rattle.vba_cli.specs.declared.status.Status.{Status}
@@ -37,12 +37,32 @@ abbrev pub fault_text : List ℕ → ℤ → Place → List ℕ
 fault_text path number place =
     codes "vbarun: fault " ++ signed_decimal number ++ codes " at " ++ place_text path place ++ codes ": " ++ message_of number
 
+-- the word of a rule that is built
+unfoldable pub rule_word : ℕ → List ℕ
+rule_word rule =
+    if rule == 1 then codes "bad character"
+    else if rule == 2 then codes "unclosed string"
+    else if rule == 3 then codes "identifier too long"
+    else if rule == 4 then codes "number out of range"
+    else if rule == 5 then codes "Double literal"
+    else if rule == 6 then codes "Date literal"
+    else if rule == 7 then codes "directive form"
+    else if rule == 8 then codes "unmatched directive"
+    else if rule == 9 then codes "bad constant"
+    else []
+
+-- the text of a rule that the source breaks: SR at PATH:LINE:COLUMN: WORD
+abbrev pub refusal_text : List ℕ → ℕ → Place → List ℕ
+refusal_text path rule place =
+    codes "vbarun: refused S" ++ decimal rule ++ codes " at " ++ place_text path place ++ codes ": " ++ rule_word rule
+
 -- the text of a status of a run of the file with this path, with this bound on its turns
 abbrev pub status_text : List ℕ → ℕ → Status → List ℕ
 status_text path turns status.Ended = []
 status_text path turns (status.Faulted number place) = fault_text path number place
 status_text path turns status.Usage =
     codes "vbarun: usage: run [--turns N] [--trace] [--save SUFFIX] LIST, check LIST, code LIST, gen N"
+status_text path turns (status.Refused refusal) = refusal_text path refusal.rule refusal.place
 status_text path turns status.Going = codes "vbarun: going after " ++ decimal turns ++ codes " turns"
 status_text path turns (status.ReadFault number) = codes "vbarun: cannot read " ++ path
 status_text path turns status.WriteFault = codes "vbarun: cannot write"

@@ -1,5 +1,5 @@
 -- What reading a line goes through: where tokens lie, and what each part of a line is read as.
-use Rattle.std.specs.Prelude.{ℕ, Bool, true, false, ◌&&◌, nat_le, List, [], ◌∷◌, Option, Some, None, codes, if◌then◌else◌}
+use Rattle.std.specs.Prelude.{ℕ, Bool, ◌&&◌, nat_le, List, [], ◌∷◌, Option, Some, None, codes, if◌then◌else◌}
 use Rattle.std.specs.List.{AllByRecursion, list_all}
 use Rattle.vba_lexer.specs.declared.token.Token.{Token}
 use Rattle.vba_lexer.specs.Classes.{is_digit}
@@ -9,7 +9,8 @@ use Rattle.vba_tree.specs.declared.expression.Expression.TheVariants.{Sum}
 use Rattle.vba_tree.specs.declared.expression.WholeLiteral.{WholeLiteral}
 use Rattle.vba_tree.specs.declared.line.LineTree.{LineTree}
 use Rattle.vba_tree.specs.declared.line.LineTree.TheVariants.{ProcedureHeader, Print}
-use Rattle.vba_tree.specs.Standing.{number_from, same_text, between_quotes, behind_quote, whole_stands, expression_stands, word_stands, mark_stands}
+use Rattle.vba_tree.specs.Standing.{number_from, whole_stands, expression_stands, word_stands, mark_stands}
+use Rattle.vba_lexer.specs.Tokens.{same_text}
 use Rattle.vba_cli.specs.Form.{whole_literal, literal, where_stands}
 
 -- each token lies within the first so many units of a source
@@ -32,11 +33,6 @@ whole_at source token = if whole_stands source (whole_literal source token) then
 -- the literal at a token, where there is one
 abbrev pub literal_at : List ℕ → Token → Option Expression
 literal_at source token = if expression_stands source (literal source token) then Some (literal source token) else None
-
--- what is kept of a string literal's rest, behind a quote of it or not
-abbrev pub kept_of : Bool → List ℕ → List ℕ
-kept_of true text = behind_quote text
-kept_of false text = between_quotes text
 
 -- `Sub Main()` at these tokens, where it stands there
 abbrev pub header_at : List ℕ → Token → Token → Token → Token → Option LineTree

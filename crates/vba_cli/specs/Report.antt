@@ -1,5 +1,5 @@
 -- What running the statements of Main gives.
-use Rattle.std.specs.Prelude.{◌≡◌, ℕ, nat_lt, ℤ, pos, List, Result, Ok, Err, if◌then◌else◌}
+use Rattle.std.specs.Prelude.{◌≡◌, ℕ, nat_lt, pos, Result, Ok, Err, if◌then◌else◌}
 use Rattle.vba_base.specs.declared.place.Place.{Place}
 use Rattle.vba_tree.specs.declared.expression.Expression.{Expression}
 use Rattle.vba_tree.specs.declared.expression.Expression.TheVariants as expression

@@ -10,6 +10,7 @@ use Rattle.vba_cli.specs.Contract.{World, TakesSome, ReadsOnly, names_of}
 abbrev pub Leaves : Status → Option (List ℕ) → Option (List ℕ) → ℕ → ℕ → Type 0
 Leaves status.WriteFault old new faults_old faults_new = Rose faults_old faults_new
 Leaves status.Usage old new faults_old faults_new = (faults_new ≡ faults_old) × (new ≡ old)
+Leaves (status.Refused refusal) old new faults_old faults_new = (faults_new ≡ faults_old) × (new ≡ old)
 Leaves (status.ReadFault number) old new faults_old faults_new = (faults_new ≡ faults_old) × (new ≡ old)
 Leaves (status.TooLong number) old new faults_old faults_new = (faults_new ≡ faults_old) × (new ≡ old)
 Leaves (status.NotBuilt place) old new faults_old faults_new = (faults_new ≡ faults_old) × (new ≡ old)

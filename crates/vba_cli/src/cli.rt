@@ -13,7 +13,7 @@ use crate::messages::status_line;
 use crate::run::run;
 use crate::status::Status;
 use std::alloc::Global;
-use vba_base::{Files, Place, ReadAnswer, Sink, WriteAnswer};
+use vba_base::{Files, OrMemory, Place, ReadAnswer, Sink, WriteAnswer};
 use vba_meaning::Outcome;
 use vba_tree::PrintStatement;
 
@@ -75,12 +75,14 @@ fn run_file<F: Files, O: Sink>(alloc: Global, name: &str, files: &mut F, out: &m
 
 // Runs the bytes of a file.
 fn run_source<O: Sink>(alloc: Global, source: &[u8], out: &mut O) -> Status
+    requires { length source.now ≤ file_limit }
     ensures { Ran (shown_of_program (program_of source.now)) result (O.taken out.old) (O.taken out.new) (O.faults out.old) (O.faults out.new) }
 {
     match program(alloc, source) {
         Ok(Some(statements)) => run_statements(alloc, &statements, out),
         Ok(None) => Status::NotBuilt(FIRST_PLACE),
-        Err(_) => Status::NoMemory,
+        Err(OrMemory::Fault(refusal)) => Status::Refused(refusal),
+        Err(OrMemory::NoMemory) => Status::NoMemory,
     }
 }
 

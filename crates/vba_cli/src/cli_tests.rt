@@ -4,7 +4,7 @@ use crate::status::Status;
 use std::alloc::{AllocError, Global};
 use std::process::Abort;
 use std::test::Fail;
-use vba_base::{MemFiles, MemSink, NeverFails, Place, Units};
+use vba_base::{MemFiles, MemSink, NeverFails, Place, Refusal, Units};
 use vba_lexer::{Token, TokenKind};
 use vba_meaning::Outcome;
 use vba_tree::{Expression, PrintStatement, Sum, TextLiteral, WholeLiteral};
@@ -91,6 +91,106 @@ fn sources(rt: HostRuntime) -> Result<(), Fail> {
     // An end that is missing.
     let no_end = b"Sub Main()\nDebug.Print 2\n";
     answers(&rt, &run, no_end, (Status::NotBuilt(FIRST), b"", NOT_BUILT))
+}
+
+/// A rule and a place of `m.bas`.
+fn refused(rule: u8, line: u32, column: u32) -> Status {
+    Status::Refused(Refusal {
+        rule,
+        place: Place {
+            module: 1,
+            line,
+            column,
+        },
+    })
+}
+
+#[test]
+fn refusals(rt: HostRuntime) -> Result<(), Fail> {
+    let run = ["run", "m.bas"];
+    answers(
+        &rt,
+        &run,
+        b"Sub Main()\nx = 1.5\nEnd Sub\n",
+        (
+            refused(5, 2, 5),
+            b"",
+            b"vbarun: refused S5 at m.bas:2:5: Double literal\n",
+        ),
+    )?;
+    answers(
+        &rt,
+        &run,
+        b"Sub Main()\nDebug.Print \"abc",
+        (
+            refused(2, 2, 13),
+            b"",
+            b"vbarun: refused S2 at m.bas:2:13: unclosed string\n",
+        ),
+    )?;
+    // The same lines with their end, and without it.
+    answers(
+        &rt,
+        &run,
+        b"#If Mac Then\nx = 1.5\n#Else\nSub Main()\nDebug.Print \"pc\"\nEnd Sub\n#End If\n",
+        (Status::Ended, b"pc\n", b""),
+    )?;
+    answers(
+        &rt,
+        &run,
+        b"#If Mac Then\nx = 1.5\n#Else\nSub Main()\nDebug.Print \"pc\"\nEnd Sub\n",
+        (
+            refused(8, 1, 1),
+            b"",
+            b"vbarun: refused S8 at m.bas:1:1: unmatched directive\n",
+        ),
+    )
+}
+
+#[test]
+fn kept_sources(rt: HostRuntime) -> Result<(), Fail> {
+    let run = ["run", "m.bas"];
+    // A byte that is no UTF-8 is a character of Windows-1252.
+    answers(
+        &rt,
+        &run,
+        b"Sub Main()\nDebug.Print \"caf\xE9\"\nEnd Sub\n",
+        (Status::Ended, &[0x63, 0x61, 0x66, 0xC3, 0xA9, 0x0A], b""),
+    )?;
+    // Comments, a continuation, line ends of every kind, and a header of an exported class.
+    answers(
+        &rt,
+        &run,
+        b"VERSION 1.0 CLASS\rBEGIN\r  MultiUse = -1  'True\rEND\rSub Main() ' begins\rDebug.Print _\r  2 + 3\rRem ends\rEnd Sub",
+        (Status::Ended, b" 5 \n", b""),
+    )?;
+    // A source of one line that isn't built, behind lines that aren't kept.
+    answers(
+        &rt,
+        &run,
+        b"#If Win16 Then\nx = \"\n#End If\nx = 1\n",
+        (Status::NotBuilt(FIRST), b"", NOT_BUILT),
+    )
+}
+
+/// Each `#If` stands on the kept ground of the one before it.
+#[test]
+fn nested_conditions(rt: HostRuntime) -> Result<(), Fail> {
+    let alloc = rt.alloc();
+    let mut source = Vec::new(alloc);
+    for _ in 0..10_000 {
+        source.extend_from_slice(b"#If True Then\n".as_slice())?;
+    }
+    source.extend_from_slice(b"Sub Main()\nDebug.Print 1\nEnd Sub\n".as_slice())?;
+    for _ in 0..10_000 {
+        source.extend_from_slice(b"#End If\n".as_slice())?;
+    }
+    answers(
+        &rt,
+        &["run", "m.bas"],
+        source.as_slice(),
+        (Status::Ended, b" 1 \n", b""),
+    )
 }
 
 #[test]
@@ -264,6 +364,7 @@ fn codes(rt: HostRuntime) {
         (Status::Ended, 0),
         (Status::Faulted(6, FIRST), 1),
         (Status::Usage, 2),
+        (refused(1, 1, 1), 3),
         (Status::Going, 5),
         (Status::ReadFault(0), 6),
         (Status::WriteFault, 7),

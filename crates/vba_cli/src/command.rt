@@ -1,6 +1,6 @@
 ghost use Rattle.std.specs.Prelude.{◌≡◌, List, ℕ, map, string_bytes, option_map, ◌&&◌, not, ◌∷◌, [], codes};
 ghost use Rattle.vba_cli.specs.Command.{file_of, ends_in_bas, begins_with_dash};
-ghost use Rattle.vba_tree.specs.Standing.{lower, same_text};
+ghost use Rattle.vba_lexer.specs.Tokens.{lower, same_text};
 
 /// The file that the words name, where they are `run` and a name that ends in `.bas`, in any case, and doesn't begin
 /// with `-`.

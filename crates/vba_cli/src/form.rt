@@ -1,66 +1,60 @@
 //! The files that are built so far: a Main of print statements.
 
-ghost use Rattle.std.specs.Prelude.{◌≡◌, ℕ, List, nat_lt, Some, IfOk, option_map};
-ghost use Rattle.std.specs.List.{list_all};
+ghost use Rattle.std.specs.Prelude.{◌≡◌, ◌≤◌, ℕ, List, Some, Ok, IfOk, option_map, length};
+ghost use Rattle.vba_base.specs.Answer.{Gives};
+ghost use Rattle.vba_lexer.specs.Inside.{AllLieIn};
+ghost use Rattle.vba_lexer.specs.Lexed.{lines_view};
 ghost use Rattle.vba_lexer.specs.declared.token.Token.{Token};
 ghost use Rattle.vba_tree.specs.declared.line.LineTree.{LineTree};
 ghost use Rattle.vba_tree.specs.Standing.{Spells};
 ghost use Rattle.vba_meaning.specs.declared.outcome.Outcome.TheVariants.{Ended};
 ghost use Rattle.vba_meaning.specs.Meaning.{Statements, meaning};
 ghost use Rattle.vba_cli.specs.Answer.{default_turns};
-ghost use Rattle.vba_cli.specs.Form.{body_of, line_tree, main_of, program_of, is_plain};
+ghost use Rattle.vba_cli.specs.Form.{body_of, line_tree, main_of, program_of, statements_of};
 
 use crate::reading;
+use cond_compile::select_lines;
 use std::alloc::Global;
 use std::collections::VecDeque;
-use vba_base::{NoMemory, Units};
-use vba_lexer::{is_simple, lex};
+use vba_base::{NoMemory, OrMemory, Refusal, Units, decode_source};
+use vba_lexer::{Line, lex};
 use vba_tree::{LineTree, PrintStatement};
 
 /// The longest file that is built so far, in bytes.
-const MAX_BYTES: usize = 1048576;
+const LONGEST_BUILT: usize = 1048576;
 
-/// The statements of the Main of a file, or nothing where the file isn't of the built form.
-pub fn program(alloc: Global, source: &[u8]) -> Result<Option<Vec<PrintStatement>>, NoMemory>
-    ensures { IfOk result (λ program. option_map (λ statements. statements.items) program ≡ program_of source.now) }
+/// The statements of the Main of a file, or nothing where the file has not the built form. The fault is the first rule
+/// that the file breaks. The file has at most 67108864 bytes.
+pub fn program(
+    alloc: Global,
+    bytes: &[u8],
+) -> Result<Option<Vec<PrintStatement>>, OrMemory<Refusal>>
+    requires { length bytes.now ≤ 67108864 }
+    ensures { Gives (λ program. option_map (λ statements. statements.items) program) result (program_of bytes.now) }
 {
-    if !is_plain_source(source) {
-        return Ok(None);
-    }
-    let source = units_of(alloc, source)?;
-    if !is_simple(alloc, &source)? {
-        return Ok(None);
-    }
+    let source = decode_source(alloc, bytes)?;
     let lines = lex(alloc, &source, 1)?;
-    match reading::read_lines(alloc, &source, &lines)? {
+    let kept = select_lines(alloc, &source, &lines)?;
+    if LONGEST_BUILT < bytes.len() {
+        return Ok(None);
+    }
+    let statements = read_statements(alloc, &source, &kept)?;
+    Ok(statements)
+}
+
+// The statements of the Main that kept lines of a source make.
+fn read_statements(
+    alloc: Global,
+    source: &Units,
+    lines: &[Line],
+) -> Result<Option<Vec<PrintStatement>>, NoMemory>
+    requires { AllLieIn source.now lines.now }
+    ensures { IfOk result (λ program. option_map (λ statements. statements.items) program ≡ statements_of source.now (lines_view lines.now)) }
+{
+    match reading::read_lines(alloc, source, lines)? {
         Some(trees) => read_main(alloc, trees),
         None => Ok(None),
     }
-}
-
-// Has the source at most MAX_BYTES bytes, each at most 127?
-fn is_plain_source(source: &[u8]) -> bool
-    ensures { result ≡ is_plain source.now }
-{
-    source.len() <= MAX_BYTES && is_ascii(source)
-}
-
-// Is each byte at most 127?
-fn is_ascii(source: &[u8]) -> bool
-    ensures { result ≡ list_all (λ byte. nat_lt byte 128) source.now }
-{
-    source.iter().all(|byte| *byte < 128)
-}
-
-// The units of a source, each of which is a byte of it.
-fn units_of(alloc: Global, source: &[u8]) -> Result<Units, NoMemory>
-    ensures { IfOk result (λ units. units ≡ source.now) }
-{
-    let mut units = Units::new(alloc);
-    for byte in source {
-        units.push(u16::from(*byte))?;
-    }
-    Ok(units)
 }
 
 // The statements of Main: `Sub Main()`, statements, `End Sub`.
@@ -102,7 +96,7 @@ pub fn reading_law()
         → Spells source tokens tree → line_tree source tokens ≡ Some tree }
 {}
 
-/// Each run of a source of the built form ends: none faults, and none comes near the bound on turns.
+/// Each run of a file of the built form ends: none faults, and none comes near the bound on turns.
 pub fn runs_end()
-    ensures { (source : List ℕ) (statements : Statements) → program_of source ≡ Some statements → (meaning statements default_turns).outcome ≡ Ended }
+    ensures { (bytes : List ℕ) (statements : Statements) → program_of bytes ≡ Ok (Some statements) → (meaning statements default_turns).outcome ≡ Ended }
 {}

@@ -1,12 +1,32 @@
 use crate::form::{program, reading_law};
 use std::process::Abort;
 use std::test::Fail;
+use vba_base::{NoMemory, OrMemory, Place, Refusal};
 use vba_tree::{Expression, PrintStatement};
 
-/// The statements of a Main with this line.
-fn statements(rt: &HostRuntime, line: &str) -> Result<Option<Vec<PrintStatement>>, Fail> {
+/// The statements of a file, or the rule that it breaks.
+fn read(
+    rt: &(impl Abort + AllocGlobal),
+    bytes: &[u8],
+) -> Result<Result<Option<Vec<PrintStatement>>, Refusal>, NoMemory> {
+    assert!(rt; bytes.len() < 1000);
+    match program(rt.alloc(), bytes) {
+        Ok(statements) => Ok(Ok(statements)),
+        Err(OrMemory::Fault(refusal)) => Ok(Err(refusal)),
+        Err(OrMemory::NoMemory) => Err(NoMemory),
+    }
+}
+
+/// The statements of a Main with this line, which breaks no rule.
+fn statements(
+    rt: &(impl Abort + AllocGlobal),
+    line: &str,
+) -> Result<Option<Vec<PrintStatement>>, Fail> {
     let source = format!(in rt.alloc(); "Sub Main()\n{line}\nEnd Sub\n")?;
-    Ok(program(rt.alloc(), source.as_bytes())?)
+    match read(rt, source.as_bytes())? {
+        Ok(statements) => Ok(statements),
+        Err(_) => panic!(rt; "no refusal"),
+    }
 }
 
 #[test]
@@ -43,19 +63,50 @@ fn greatest_whole(rt: HostRuntime) -> Result<(), Fail> {
     };
     assert_eq!(rt; literal.value, 16383);
     assert!(rt; statements(&rt, "Debug.Print 16384")?.is_none());
-    assert!(rt; statements(&rt, "Debug.Print 99999999999999999999")?.is_none());
-    Ok(())
+    // A number above Long is a Double.
+    is_refused(
+        &rt,
+        b"Sub Main()\nDebug.Print 99999999999999999999\nEnd Sub\n".as_slice(),
+        5,
+        2,
+        13,
+    )
 }
 
 #[test]
 fn other_forms(rt: HostRuntime) -> Result<(), Fail> {
-    let alloc = rt.alloc();
-    assert_eq!(rt;
-        program(alloc, b"sub MAIN ( )\r\nEND sub".as_slice())?.map(|all| all.len()),
-        Some(0)
-    );
-    assert!(rt; program(alloc, b"Sub Main()\n".as_slice())?.is_none());
-    assert!(rt; statements(&rt, "' a comment")?.is_none());
-    assert!(rt; statements(&rt, "Debug.Print \"\u{80}\"")?.is_none());
+    let empty = read(&rt, b"sub MAIN ( )\r\nEND sub".as_slice())?;
+    assert_eq!(rt; empty.map(|found| found.map(|all| all.len())), Ok(Some(0)));
+    let no_end = read(&rt, b"Sub Main()\n".as_slice())?;
+    assert!(rt; no_end.is_ok_and(|found| found.is_none()));
+    let commented = statements(&rt, "' a comment")?;
+    assert_eq!(rt; commented.map(|all| all.len()), Some(0));
+    let above = statements(&rt, "Debug.Print \"\u{80}\"")?;
+    assert_eq!(rt; above.map(|all| all.len()), Some(1));
     Ok(())
+}
+
+/// A file is refused by this rule at this line and column.
+fn is_refused(
+    rt: &(impl Abort + AllocGlobal),
+    bytes: &[u8],
+    rule: u8,
+    line: u32,
+    column: u32,
+) -> Result<(), Fail> {
+    let place = Place {
+        module: 1,
+        line,
+        column,
+    };
+    let found = read(rt, bytes)?;
+    assert_eq!(rt; found.err(), Some(Refusal { rule, place }));
+    Ok(())
+}
+
+#[test]
+fn first_rules(rt: HostRuntime) -> Result<(), Fail> {
+    is_refused(&rt, b"Sub Main()\nx = 1.5\nEnd Sub\n".as_slice(), 5, 2, 5)?;
+    is_refused(&rt, b"Sub Main()\nDebug.Print \"abc".as_slice(), 2, 2, 13)?;
+    is_refused(&rt, b"#If Mac Then\nx = 1.5\n".as_slice(), 8, 1, 1)
 }

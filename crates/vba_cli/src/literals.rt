@@ -1,16 +1,12 @@
-//! The texts of single tokens: words, marks, whole numbers and string literals.
+//! The texts of single tokens: words, marks and whole numbers.
 
-ghost use Rattle.std.specs.Prelude.{◌≡◌, [], ◌∷◌, IfOk};
-ghost use Rattle.vba_tree.specs.Standing.{lower, matches, quoted_text, between_quotes};
+ghost use Rattle.std.specs.Prelude.{◌≡◌, [], ◌∷◌};
+ghost use Rattle.vba_tree.specs.Standing.{matches};
+ghost use Rattle.vba_lexer.specs.Tokens.{lower};
 ghost use Rattle.vba_cli.specs.Reading.{small_number, is_unit};
-
-use std::alloc::Global;
-use vba_base::{NoMemory, Units};
 
 /// The greatest whole number that is built so far.
 const MAX_WHOLE: u32 = 16383;
-/// The quote that begins and ends a string literal.
-const QUOTE: u16 = 34;
 /// The first and the last digit.
 const ZERO: u16 = 48;
 
@@ -20,14 +16,16 @@ const FIRST_CAPITAL: u16 = 65;
 
 const LAST_CAPITAL: u16 = 90;
 
-// A letter of ASCII in lower case, any other unit as it is.
+const LONG_S: u16 = 0x17F;
+
+// A letter of ASCII in lower case, and `ſ`, whose case fold is `s`; any other unit as it is.
 fn lower_unit(unit: u16) -> u16
     ensures { result ≡ lower unit }
 {
-    if FIRST_CAPITAL <= unit && unit <= LAST_CAPITAL {
-        unit + 32
-    } else {
-        unit
+    match unit {
+        FIRST_CAPITAL..=LAST_CAPITAL => unit + 32,
+        LONG_S => 's' as u16,
+        other => other,
     }
 }
 
@@ -74,32 +72,4 @@ pub fn number_in(text: &[u16]) -> Option<u16>
         }
     }
     Some(value as u16)
-}
-
-/// The text that a string literal stands for: without its quotes, each doubled quote once.
-pub fn text_in(alloc: Global, literal: &[u16]) -> Result<Units, NoMemory>
-    ensures { IfOk result (λ text. text ≡ quoted_text literal.now) }
-{
-    match literal {
-        [] => Ok(Units::new(alloc)),
-        [_, text @ ..] => without_doubles(alloc, text),
-    }
-}
-
-// What stands behind the opening quote of a string literal, each doubled quote once.
-#[tactic(auto, using(crate::proofs::Quotes::kept_all, crate::proofs::Quotes::kept_quote, crate::proofs::Quotes::kept_double, crate::proofs::Quotes::kept_other))]
-fn without_doubles(alloc: Global, text: &[u16]) -> Result<Units, NoMemory>
-    ensures { IfOk result (λ kept. kept ≡ between_quotes text.now) }
-{
-    let mut kept = Units::new(alloc);
-    let mut behind_quote = false;
-    for unit in text {
-        if *unit == QUOTE && !behind_quote {
-            behind_quote = true;
-        } else {
-            kept.push(*unit)?;
-            behind_quote = false;
-        }
-    }
-    Ok(kept)
 }

@@ -1,6 +1,6 @@
 ghost use Rattle.std.specs.Prelude.{◌≡◌, ◌++◌, ◌∷◌, [], IfOk, string_bytes, codes};
 ghost use Rattle.std.specs.Fmt.{decimal, signed_decimal};
-ghost use Rattle.vba_cli.specs.Messages.{message_of, place_text, fault_text, status_text, error_line};
+ghost use Rattle.vba_cli.specs.Messages.{message_of, place_text, fault_text, rule_word, refusal_text, status_text, error_line};
 
 use crate::status::Status;
 use std::alloc::{AllocError, Global};
@@ -71,6 +71,42 @@ fn joined(alloc: Global, left: &str, between: &str, right: &str) -> Result<Strin
     format!(in alloc; "{left}{between}{right}")
 }
 
+// The word of a rule that is built.
+#[tactic(auto, unfolding(crate::specs::Messages::rule_word))]
+fn rule_word(rule: u8) -> &'static str
+    ensures { result.now ≡ rule_word rule }
+{
+    match rule {
+        1 => "bad character",
+        2 => "unclosed string",
+        3 => "identifier too long",
+        4 => "number out of range",
+        5 => "Double literal",
+        6 => "Date literal",
+        7 => "directive form",
+        8 => "unmatched directive",
+        9 => "bad constant",
+        _ => "",
+    }
+}
+
+// The text of a rule that the source breaks.
+fn refusal_message(alloc: Global, path: &str, rule: u8, place: Place) -> Result<String, AllocError>
+    ensures { IfOk result (λ text. string_bytes text ≡ refusal_text path.now rule place) }
+{
+    let refusal = refusal_rule(alloc, rule)?;
+    let at = place_named(alloc, path, place)?;
+    let refusal = joined(alloc, refusal.as_str(), " at ", at.as_str())?;
+    joined(alloc, refusal.as_str(), ": ", rule_word(rule))
+}
+
+// The number of a rule, as the text of a refusal begins.
+fn refusal_rule(alloc: Global, rule: u8) -> Result<String, AllocError>
+    ensures { IfOk result (λ text. string_bytes text ≡ codes "vbarun: refused S" ++ decimal rule) }
+{
+    format!(in alloc; "vbarun: refused S{rule}")
+}
+
 /// The text of a status of a run of the file with this path and this bound on its turns.
 pub fn status_message(
     alloc: Global,
@@ -84,6 +120,7 @@ pub fn status_message(
         Status::Ended => Ok(String::new(alloc)),
         Status::Faulted(number, place) => fault_message(alloc, path, number, place),
         Status::Usage => String::from_str(alloc, USAGE),
+        Status::Refused(refusal) => refusal_message(alloc, path, refusal.rule, refusal.place),
         Status::Going => format!(in alloc; "vbarun: going after {turns} turns"),
         Status::ReadFault(_) => format!(in alloc; "vbarun: cannot read {path}"),
         Status::WriteFault => String::from_str(alloc, "vbarun: cannot write"),

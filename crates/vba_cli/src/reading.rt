@@ -16,6 +16,7 @@ use vba_tree::{
     Expression, LineTree, PrintStatement, ProcedureEnd, ProcedureHeader, Sum, TextLiteral,
     WholeLiteral,
 };
+use vba_words::quoted_text;
 
 // Is the token this word of the grammar, given in lower case?
 fn is_word(source: &Units, token: &Token, word: &[u8]) -> bool
@@ -61,7 +62,7 @@ fn read_literal(
 {
     match token.kind {
         TokenKind::Text => {
-            let text = literals::text_in(alloc, slice_of(source, token))?;
+            let text = quoted_text(alloc, slice_of(source, token))?;
             Ok(Some(Expression::Text(TextLiteral {
                 token: *token,
                 text,

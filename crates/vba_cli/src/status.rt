@@ -1,7 +1,7 @@
 ghost use Rattle.std.specs.Prelude.{◌≡◌};
 ghost use Rattle.vba_cli.specs.Contract.{code_of};
 
-use vba_base::Place;
+use vba_base::{Place, Refusal};
 
 /// How a command ended. The numbers in `ReadFault` and `TooLong` tell which file it was, from 0 in the order of reading.
 #[derive(Clone, Copy, Debug, PartialEq, Eq)]
@@ -12,6 +12,8 @@ pub enum Status {
     Faulted(i32, Place),
     /// The words are no command.
     Usage,
+    /// The source breaks this rule at this place, and none before it.
+    Refused(Refusal),
     /// One more turn than the bound was due.
     Going,
     /// A file can't be read.
@@ -35,6 +37,7 @@ impl Status {
             Status::Ended => 0,
             Status::Faulted(_, _) => 1,
             Status::Usage => 2,
+            Status::Refused(_) => 3,
             Status::Going => 5,
             Status::ReadFault(_) => 6,
             Status::WriteFault => 7,

@@ -9,7 +9,6 @@ pub mod Inside
 pub mod Lexing
 pub mod NumberLemmas
 pub mod ContinuationLemmas
-pub mod Comments
 pub mod Headers
 pub mod HeaderRows
 pub mod BracketWords

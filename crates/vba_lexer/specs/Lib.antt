@@ -15,6 +15,5 @@ pub mod Lexed
 pub mod Scans
 pub mod FirstLine
 pub mod Inside
-pub mod Simple
 pub use Rattle.vba_base.specs.Answer
 pub use Rattle.vba_base.specs.Text

@@ -15,7 +15,6 @@ mod line_tokens;
 mod lines;
 mod number;
 mod scan;
-mod simple;
 #[cfg(test)]
 mod table_tests;
 #[cfg(test)]
@@ -31,5 +30,4 @@ pub use line::Line;
 pub use number::{
     Number, NumberFault, NumberKind, TypeSuffix, number_value, suffix_of, without_suffix,
 };
-pub use simple::is_simple;
 pub use token::{Token, TokenKind};

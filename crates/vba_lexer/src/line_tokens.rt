@@ -72,7 +72,7 @@ fn tokens_among(
 }
 
 /// White space, or the line end of a continuation.
-pub fn is_gap(character: u32) -> bool
+fn is_gap(character: u32) -> bool
     ensures { result ≡ kinds.is_gap character }
 {
     is_white(character) || character == FEED
@@ -92,7 +92,7 @@ fn token_from(kind: TokenKind, module_number: u32, start: Cursor, end: Cursor) -
 
 /// The token at the front of a line that begins with no gap; none where a comment begins there. So many characters behind a
 /// `[` there may stand in brackets.
-pub fn lexeme_at(line: &[u32], standing: Standing, bracket_run: usize) -> Option<Lexeme>
+fn lexeme_at(line: &[u32], standing: Standing, bracket_run: usize) -> Option<Lexeme>
     requires begins { IsTrue (scans.begins_with (λ character. not (kinds.is_gap character)) line.now) }
     requires run { scans.IsBracketRun line.now bracket_run }
     ensures { scans.IsLexemeAt standing line.now result }
@@ -136,7 +136,7 @@ fn opens(standing: Standing) -> bool
 }
 
 /// What stands behind a token with this text.
-pub fn standing_behind(text: &[u32]) -> Standing
+fn standing_behind(text: &[u32]) -> Standing
     ensures { result ≡ tokens.standing_behind text.now }
 {
     if is_the_word(text, b":") || is_the_word(text, b"then") || is_the_word(text, b"else") {

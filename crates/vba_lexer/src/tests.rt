@@ -1,9 +1,7 @@
 ghost use Rattle.std.specs.Prelude.{◌≡◌, ◌≤◌, length, IfOk};
 ghost use Rattle.vba_lexer.specs.Inside.{LiesIn};
 
-use crate::{
-    Line, Number, NumberFault, NumberKind, Token, TokenKind, is_simple, lex, number_value, slice_of,
-};
+use crate::{Line, Number, NumberFault, NumberKind, Token, TokenKind, lex, number_value, slice_of};
 use std::alloc::Global;
 use std::process::Abort;
 use std::test::Fail;
@@ -475,15 +473,5 @@ fn values(rt: HostRuntime) -> Result<(), Fail> {
         })
     );
     assert_eq!(rt; number(alloc, b"1E2@")?, Err(NumberFault::OutOfRange));
-    Ok(())
-}
-
-#[test]
-fn plain_lines(rt: HostRuntime) -> Result<(), Fail> {
-    let alloc = rt.alloc();
-    assert_eq!(rt; is_simple(alloc, &units(alloc, b"a \"'\"\r\nb\n")?)?, true);
-    assert_eq!(rt; is_simple(alloc, &units(alloc, b"a 'b")?)?, false);
-    assert_eq!(rt; is_simple(alloc, &units(alloc, b"a _\nb")?)?, false);
-    assert_eq!(rt; is_simple(alloc, &units(alloc, b"a\rb")?)?, false);
     Ok(())
 }

@@ -2,7 +2,7 @@
 use Rattle.std.proofs.Common.{◌≡◌, ◌≢◌, List, [], ◌∷◌, ℕ, true, false, length, refl, ap}
 use Rattle.std.specs.Prelude.{◌==◌}
 use Rattle.std.proofs.lemmas.Bool.{eqb-true, eq-eqb, and_from, and_parts, false_from_ne_true}
-use Rattle.vba_tree.specs.Standing.{same_text}
+use Rattle.vba_lexer.specs.Tokens.{same_text}
 
 -- a text is the same as itself
 pub same_text-refl : (text : List ℕ) → same_text text text ≡ true

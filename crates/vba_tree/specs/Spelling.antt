@@ -1,5 +1,5 @@
 -- The tokens of a line tree, in order: the one definition that ties trees to text.
-use Rattle.std.specs.Prelude.{List, [], ◌∷◌, ◌++◌}
+use Rattle.std.specs.Prelude.{List, [], ◌∷◌}
 use Rattle.vba_lexer.specs.declared.token.Token.{Token}
 use Rattle.vba_tree.specs.declared.expression.Expression.{Expression}
 use Rattle.vba_tree.specs.declared.expression.Expression.TheVariants.{Whole, Text, Sum}

@@ -1,11 +1,13 @@
 -- Which tree a line is: its tokens are the line's, and the source has at each of them what the tree keeps there.
-use Rattle.std.specs.Prelude.{◌≡◌, ℕ, ◌+◌, ◌-◌, ◌*◌, Bool, true, false, ◌==◌, ◌&&◌, nat_le, List, [], ◌∷◌, map, codes, if◌then◌else◌}
+use Rattle.std.specs.Prelude.{◌≡◌, ℕ, ◌+◌, ◌-◌, ◌*◌, Bool, true, false, ◌==◌, ◌&&◌, nat_le, List, [], ◌∷◌, codes}
 use Rattle.std.specs.List.{list_all}
 use Rattle.vba_lexer.specs.declared.token.Token.{Token}
 use Rattle.vba_lexer.specs.declared.token.TokenKind.{TokenKind}
 use Rattle.vba_lexer.specs.declared.token.TokenKind.TheVariants as kind
 use Rattle.vba_lexer.specs.Classes.{is_digit}
 use Rattle.vba_lexer.specs.Lexed.{text_of}
+use Rattle.vba_lexer.specs.Tokens.{is_the_word, same_text}
+use Rattle.vba_words.specs.Readings.{quoted_text}
 use Rattle.vba_tree.specs.declared.expression.WholeLiteral.{WholeLiteral}
 use Rattle.vba_tree.specs.declared.expression.TextLiteral.{TextLiteral}
 use Rattle.vba_tree.specs.declared.expression.Expression.{Expression}
@@ -14,20 +16,9 @@ use Rattle.vba_tree.specs.declared.line.LineTree.{LineTree}
 use Rattle.vba_tree.specs.declared.line.LineTree.TheVariants.{ProcedureHeader, Print, ProcedureEnd}
 use Rattle.vba_tree.specs.Spelling.{spelling}
 
--- a letter of ASCII in lower case, any other unit as it is
-abbrev pub lower : ℕ → ℕ
-lower unit = if nat_le 65 unit && nat_le unit 90 then unit + 32 else unit
-
--- two texts are the same units
-abbrev pub same_text : List ℕ → List ℕ → Bool
-same_text [] [] = true
-same_text [] (unit ∷ text) = false
-same_text (unit ∷ text) [] = false
-same_text (left ∷ text) (right ∷ other) = (left == right) && same_text text other
-
 -- a word matches a word of the grammar, given in lower case, without regard to case
 abbrev pub matches : List ℕ → List ℕ → Bool
-matches text word = same_text (map lower text) word
+matches text word = is_the_word word text
 
 abbrev pub is_word : TokenKind → Bool
 is_word kind.Word = true
@@ -86,22 +77,6 @@ abbrev pub whole_stands : List ℕ → WholeLiteral → Bool
 whole_stands source literal =
     is_whole literal.token.kind && list_all is_digit (text_of source literal.token)
     && (number_of (text_of source literal.token) == literal.value) && nat_le literal.value 16383
-
-abbrev mutual
-  -- what stands between the quotes of a string literal, each doubled quote once; from behind the opening quote
-  pub between_quotes : List ℕ → List ℕ
-  between_quotes [] = []
-  between_quotes (unit ∷ text) = if unit == 34 then behind_quote text else unit ∷ between_quotes text
-
-  -- behind a quote: nothing more, or the quote's double and what goes on
-  pub behind_quote : List ℕ → List ℕ
-  behind_quote [] = []
-  behind_quote (unit ∷ text) = unit ∷ between_quotes text
-
--- the text that a string literal stands for
-abbrev pub quoted_text : List ℕ → List ℕ
-quoted_text [] = []
-quoted_text (quote ∷ text) = between_quotes text
 
 -- the token is a string literal, and the tree keeps its text
 abbrev pub text_stands : List ℕ → TextLiteral → Bool

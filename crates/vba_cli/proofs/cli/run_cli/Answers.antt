@@ -1,6 +1,5 @@
 use Rattle.std.proofs.Common.{List, ℕ, Bor, map, refl, ap, ◌∙◌}
 use Rattle.std.specs.Prelude.{option_map, string_bytes}
-use Rattle.vba_cli.specs.Contract.{World}
 use Rattle.vba_cli.proofs.Promise.{commanded, path_is}
 use Rattle.vba_cli.proofs.cli.run_cli.Goals as goal
 

@@ -1,4 +1,4 @@
-use Rattle.std.proofs.Common.{◌≤◌, length, subst, sym, ap, arith}
+use Rattle.std.proofs.Common.{◌≤◌, length, subst}
 use Rattle.vba_cli.specs.Answer.{file_limit, shown_of_program}
 use Rattle.vba_cli.specs.Form.{program_of}
 use Rattle.vba_cli.specs.Steps.{Ran}

@@ -1,7 +1,7 @@
-use Rattle.std.proofs.Common.{◌≡◌, ℕ, ◌-◌, List, length, take, drop, map, sym, arith, length-drop}
+use Rattle.std.proofs.Common.{◌-◌, length, drop, map, sym, arith, length-drop}
 use Rattle.std.specs.Prelude.{codes}
 use Rattle.std.proofs.lemmas.List.{length-map, length-take}
-use Rattle.vba_tree.specs.Standing.{lower}
+use Rattle.vba_lexer.specs.Tokens.{lower}
 use Rattle.vba_tree.proofs.SameText.{same_text_sizes}
 use Rattle.vba_cli.proofs.command.ends_in_bas.Goals as goal
 

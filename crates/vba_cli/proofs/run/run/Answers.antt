@@ -1,13 +1,9 @@
-use Rattle.std.proofs.Common.{◌≡◌, ◌≢◌, ℕ, ◌+◌, ◌<◌, ◌≤◌, List, length, get_or, refl, sym, ap, subst, ◌∙◌, arith}
-use Rattle.std.specs.Prelude.{ℤ, Some, Err, Result, slice_get}
+use Rattle.std.proofs.Common.{◌≡◌, ℕ, ◌+◌, ◌<◌, ◌≤◌, List, length, get_or, refl, sym, subst, ◌∙◌, arith}
+use Rattle.std.specs.Prelude.{Some, slice_get}
 use Rattle.std.proofs.lemmas.Option.{slice_get_read}
 use Rattle.vba_tree.specs.declared.line.PrintStatement.{PrintStatement}
-use Rattle.vba_meaning.specs.declared.outcome.Outcome.{Outcome}
-use Rattle.vba_meaning.specs.Meaning.{Run, meaning}
-use Rattle.vba_cli.specs.declared.run.Evaluated.{Evaluated}
-use Rattle.vba_cli.specs.declared.run.Report.{Report}
-use Rattle.vba_cli.specs.Report.{value_of, IsEvaluated, Reports}
-use Rattle.vba_cli.proofs.Running.{Shows, Running, none_left, opened, ended, going, went_on, raised, printed_value, raised_value}
+use Rattle.vba_cli.specs.Report.{value_of, IsEvaluated}
+use Rattle.vba_cli.proofs.Running.{Running, opened, ended, going, went_on, raised, printed_value, raised_value}
 use Rattle.vba_cli.proofs.run.run.Goals as goal
 
 -- the statement that is read at an index stands there
