@@ -1,12 +1,12 @@
 -- The initial value of a Type has the initial values of its fields, whatever depth is looked at.
-use Rattle.std.proofs.Common.{◌≡◌, ℕ, zero, suc, ◌<◌, ◌-◌, nat_lt, Bool, true, false, ◌&&◌, List, [], ◌∷◌, map, length, if◌then◌else◌, refl, sym, ap, ◌∙◌, arith, rules}
+use Rattle.std.proofs.Common.{◌≡◌, ℕ, zero, suc, ◌<◌, ◌-◌, nat_lt, Bool, true, false, ◌&&◌, List, [], ◌∷◌, map, length, if◌then◌else◌, refl, ap, ◌∙◌, rules}
 use Rattle.std.specs.List.{list_all}
 use Rattle.vba_values.specs.Types.{Declared}
 use Rattle.vba_values.specs.Types as type
 use Rattle.vba_values.specs.Val.{Val, udt, vals_of}
 use Rattle.arrays_udt.proofs.Both.{both_first, both_second}
 use Rattle.arrays_udt.specs.Fields.{Field, AreTypes, element_of, fields_at, has_bounds, is_field, is_known, stored}
-use Rattle.arrays_udt.specs.Fresh.{field_by, field_initial, filled, initial, initial_by, udt_initial, udt_within}
+use Rattle.arrays_udt.specs.Fresh.{field_by, field_initial, filled, initial, initial_by, udt_within}
 use Rattle.arrays_udt.specs.Nesting.{field_nested, nested_by, udt_nested}
 use Rattle.arrays_udt.proofs.Nested.{all_at, known_nested, nested_inside, true_below, udt_inside}
 

@@ -1,12 +1,12 @@
 -- Values in order, seen by their views.
-use Rattle.std.proofs.Common.{◌≡◌, ℕ, zero, suc, ◌<◌, ◌≤◌, List, [], ◌∷◌, length, get_or, Option, Some, None, IsSome, refl, sym, ap, ◌∙◌, arith, rules}
+use Rattle.std.proofs.Common.{◌≡◌, ℕ, zero, suc, ◌<◌, List, [], ◌∷◌, length, get_or, IsSome, refl, ap, arith, rules}
 use Rattle.std.specs.Prelude.{slice_set, Box}
 use Rattle.std.specs.Box.{with_value}
 use Rattle.std.specs.declared.alloc.Global.{Global}
 use Rattle.vba_values.specs.declared.value.Value.{Value, Array, Udt, the_lemmas}
 use Rattle.vba_values.specs.declared.value.ArrayValue.{ArrayValue, ArrayValue-F, roll-ArrayValue, out-ArrayValue}
 use Rattle.vba_values.specs.declared.value.UdtValue.{UdtValue, UdtValue-F, roll-UdtValue}
-use Rattle.vba_values.specs.Val.{Val, Vals, no_vals, val, array, udt}
+use Rattle.vba_values.specs.Val.{Val, val, array, udt}
 use Rattle.vba_values.specs.Types.{declared}
 use Rattle.vba_values.specs.View.{view, views, array_view, udt_view}
 use Rattle.arrays_udt.specs.Paths.{path_value, inner_value, with_path, with_inner}

@@ -1,8 +1,8 @@
 -- What stands at a path after a write at a path.
-use Rattle.std.proofs.Common.{◌≡◌, ℕ, zero, suc, nat_eq, Bool, true, false, ◌⊎◌, inl, inr, List, [], ◌∷◌, ◌++◌, Some, IsSome, if◌then◌else◌, refl, sym, ap, ◌∙◌, arith, rules}
+use Rattle.std.proofs.Common.{◌≡◌, ℕ, zero, suc, nat_eq, true, false, ◌⊎◌, inl, inr, List, [], ◌∷◌, ◌++◌, Some, IsSome, if◌then◌else◌, refl, ap, arith, rules}
 use Rattle.std.proofs.lemmas.Bool.Decides.{nat_tests}
 use Rattle.std.proofs.lemmas.Bool.{eqb-true}
-use Rattle.vba_values.specs.Val.{Val, Vals, empty, null, missing, boolean, whole, currency, text, object, array, udt, no_vals, val}
+use Rattle.vba_values.specs.Val.{Val, Vals, array, udt, no_vals, val}
 use Rattle.arrays_udt.specs.declared.paths.PathStep.{PathStep}
 use Rattle.arrays_udt.specs.declared.paths.PathStep.TheVariants.{Field, Element}
 use Rattle.arrays_udt.specs.Paths.{BeginsWith, are_apart, inner_value, path_value, same_step, with_inner, with_path}

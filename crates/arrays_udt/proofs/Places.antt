@@ -1,5 +1,5 @@
 -- Places and offsets.
-use Rattle.std.proofs.Common.{◌≡◌, ℕ, zero, suc, ◌<◌, ◌≤◌, ◌+◌, ◌*◌, ◌/◌, ◌%◌, nat_lt, nat_le, Bool, true, false, ◌&&◌, ℤ, pos, negsuc, ◌+ℤ◌, ◌-ℤ◌, ◌≤ℤ◌, int_le, List, [], ◌∷◌, length, get_or, Result, Ok, Err, if◌then◌else◌, refl, sym, ap, ◌∙◌, arith, rules}
+use Rattle.std.proofs.Common.{◌≡◌, ℕ, zero, suc, ◌<◌, ◌≤◌, ◌+◌, ◌*◌, ◌/◌, ◌%◌, Bool, true, false, ◌&&◌, ℤ, pos, negsuc, ◌+ℤ◌, ◌-ℤ◌, List, [], ◌∷◌, length, get_or, Ok, Err, if◌then◌else◌, refl, ap, arith, rules}
 use Rattle.std.specs.List.{list_all}
 use Rattle.std.proofs.lemmas.Int.{ints}
 use Rattle.std.proofs.lemmas.Nat.{mul-add-lt, div-mul-add, mod-mul-add, div-add-mod', mod_below, row-Below}
@@ -7,7 +7,7 @@ use Rattle.vba_values.specs.declared.value.Bound.{Bound}
 use Rattle.arrays_udt.proofs.Both.{both, both_first, both_second}
 use Rattle.arrays_udt.specs.Shapes.{natural, extent, elements, is_ordered, is_within, is_place, layout, place_at, offset_of}
 use Rattle.arrays_udt.specs.Errors.{out_of_range}
-use borrow.Author.Differences.{up, down}
+use borrow.Author.Differences.{up}
 
 pub natural_up : (z : ℤ) → natural z ≡ up z
 natural_up (pos n) = refl

@@ -1,18 +1,18 @@
 -- Resizing keeps the front of the items: an offset stands for the same place before and after.
-use Rattle.std.proofs.Common.{◌≡◌, ℕ, zero, suc, ◌<◌, ◌≤◌, ◌+◌, ◌-◌, ◌*◌, ◌/◌, ◌%◌, min, nat_lt, Bool, true, false, ◌&&◌, ℤ, pos, ◌+ℤ◌, ◌-ℤ◌, List, [], ◌∷◌, ◌++◌, map, take, replicate, length, get_or, if◌then◌else◌, refl, sym, ap, ◌∙◌, arith, rules}
-use Rattle.std.specs.List.{range_with_len, list_all}
+use Rattle.std.proofs.Common.{◌≡◌, ℕ, zero, suc, ◌<◌, ◌≤◌, ◌+◌, ◌-◌, ◌*◌, ◌/◌, ◌%◌, true, false, ◌&&◌, ℤ, List, [], ◌∷◌, map, take, replicate, length, get_or, refl, sym, ap, ◌∙◌, arith, rules}
+use Rattle.std.specs.List.{range_with_len}
 use Rattle.std.specs.Ordering.{int_eq}
 use Rattle.std.proofs.Common.{inl, inr, length-append}
 use Rattle.std.proofs.Math.Seq.{get_or-append_right}
 use Rattle.std.proofs.lemmas.Bool.{cases_lt}
-use Rattle.std.proofs.lemmas.Bool.Decides.{nat_tests, Decides-int_eq}
+use Rattle.std.proofs.lemmas.Bool.Decides.{Decides-int_eq}
 use Rattle.std.proofs.lemmas.List.{get_or_append_left, get_or-take, get_or-replicate, length-take, length-replicate, length-map, append-nil, take-map}
 use Rattle.std.proofs.lemmas.Int.{ints}
 use Rattle.std.proofs.lemmas.List.FromFn.{fill_by_all}
-use Rattle.std.proofs.lemmas.Nat.{div-add-mod', mod-mul-add, row-Below}
+use Rattle.std.proofs.lemmas.Nat.{mod-mul-add, row-Below}
 use Rattle.vba_values.specs.declared.value.Bound.{Bound}
 use Rattle.vba_values.specs.Types.{Declared, declared}
-use Rattle.vba_values.specs.Val.{Val, Vals, no_vals, val, empty, array, vals_of}
+use Rattle.vba_values.specs.Val.{Val, empty, array, vals_of}
 use Rattle.vba_values.specs.View.{view, array_view}
 use Rattle.vba_values.specs.declared.value.ArrayValue.{ArrayValue, ArrayValue-F, roll-ArrayValue, out-ArrayValue}
 use Rattle.vba_values.specs.declared.value.UdtValue.{UdtValue}
@@ -21,7 +21,7 @@ use Rattle.arrays_udt.proofs.Inner.{view_array_of, view_array_out}
 use Rattle.vba_values.specs.declared.value.Value.{Value}
 use Rattle.arrays_udt.specs.Fresh.{filled}
 use Rattle.arrays_udt.specs.Resize.{is_resize, IsWhole, can_resize, count, cut_or_filled, item_at, kept, resized}
-use Rattle.arrays_udt.specs.Shapes.{natural, extent, elements, is_within, is_place, layout, place_at}
+use Rattle.arrays_udt.specs.Shapes.{extent, elements, is_place, layout, place_at}
 use Rattle.arrays_udt.proofs.Places.{layout_below, layout-place_at, is_place-place_at}
 
 -- a list that has f n at each offset n

@@ -1,5 +1,5 @@
 -- Worked rows of shapes, places and paths.
-use Rattle.std.specs.Prelude.{◌≡◌, ℕ, ℤ, pos, negsuc, List, [], ◌∷◌, Ok, Err, Some, None, true, false, refl}
+use Rattle.std.specs.Prelude.{◌≡◌, ℕ, ℤ, pos, negsuc, [], ◌∷◌, Ok, Err, None, true, false, refl}
 use Rattle.vba_values.specs.declared.fault.Bad.TheVariants.{Raise, Outside}
 use Rattle.vba_values.specs.declared.fault.OutKind.TheVariants.{Elements}
 use Rattle.vba_values.specs.declared.types.WholeKind.TheVariants as kind
@@ -8,7 +8,7 @@ use Rattle.vba_values.specs.Types as type
 use Rattle.vba_values.specs.Val.{Val, whole, array, vals_of}
 use Rattle.arrays_udt.specs.Paths.{are_apart, path_value, with_path}
 use Rattle.arrays_udt.specs.Resize.{is_resize, resized}
-use Rattle.arrays_udt.specs.Shapes.{layout, offset_of, place_at, shape_of}
+use Rattle.arrays_udt.specs.Shapes.{offset_of, place_at, shape_of}
 use Rattle.arrays_udt.specs.declared.paths.PathStep.TheVariants.{Field, Element}
 
 abbrev to : ℤ → ℤ → Bound

@@ -1,10 +1,9 @@
 -- The Types of the tests: a Point, and a Line that holds one.
-use Rattle.std.proofs.Common.{◌≡◌, ℕ, zero, suc, ◌<◌, nat_eq, Bool, true, false, ◌||◌, ℤ, pos, List, [], ◌∷◌, replicate, Some, refl, sym, arith, rules}
+use Rattle.std.proofs.Common.{◌≡◌, ℕ, zero, suc, ◌<◌, nat_eq, true, false, ◌||◌, pos, [], ◌∷◌, refl, arith, rules}
 use Rattle.std.proofs.lemmas.Bool.Decides.{nat_tests}
 use Rattle.vba_values.specs.declared.types.WholeKind.TheVariants as kind
-use Rattle.vba_values.specs.declared.value.Bound.{Bound}
 use Rattle.vba_values.specs.Types as type
-use Rattle.vba_values.specs.Val.{Val, whole, text, array, udt, no_vals, vals_of}
+use Rattle.vba_values.specs.Val.{whole, text, array, udt, no_vals, vals_of}
 use Rattle.arrays_udt.specs.Fields.{AreTypes, Leads, holds}
 use Rattle.arrays_udt.specs.Fresh.{initial}
 use Rattle.arrays_udt.specs.Lines.{line_types}

@@ -1,5 +1,5 @@
 -- Types and their fields, without where they lie in memory.
-use Rattle.std.specs.Prelude.{◌≡◌, ℕ, zero, suc, nat_lt, nat_eq, Bool, true, false, not, ◌&&◌, ◌||◌, if◌then◌else◌, List, [], ◌∷◌, map, slice_index_or, length, Option, Some, None}
+use Rattle.std.specs.Prelude.{◌≡◌, ℕ, zero, suc, nat_lt, nat_eq, Bool, true, false, not, ◌&&◌, ◌||◌, if◌then◌else◌, List, [], map, slice_index_or, length}
 use Rattle.std.specs.List.{list_any, list_all}
 use Rattle.vba_values.specs.declared.value.Bound.{Bound}
 use Rattle.vba_values.specs.Types.{Declared, declared}

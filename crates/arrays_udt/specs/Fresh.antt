@@ -1,5 +1,5 @@
 -- The values with which variables, fields and elements begin.
-use Rattle.std.specs.Prelude.{ℕ, zero, suc, Bool, false, ℤ, pos, List, [], map, replicate, length, if◌then◌else◌}
+use Rattle.std.specs.Prelude.{ℕ, zero, suc, false, pos, List, [], map, replicate, length, if◌then◌else◌}
 use Rattle.vba_values.specs.declared.object.ObjRef.TheVariants.{Nothing}
 use Rattle.vba_values.specs.declared.types.WholeKind.TheVariants as kind
 use Rattle.vba_values.specs.declared.value.Bound.{Bound}

@@ -1,6 +1,6 @@
 -- Values inside of values.
 use Rattle.std.specs.Prelude.{ℕ, zero, suc, nat_eq, Bool, true, false, List, [], ◌∷◌, ◌++◌, ◌≡◌, Option, Some, None, if◌then◌else◌}
-use Rattle.vba_values.specs.Val.{Val, Vals, empty, null, missing, boolean, whole, currency, text, object, array, udt, no_vals, val}
+use Rattle.vba_values.specs.Val.{Val, Vals, array, udt, no_vals, val}
 use Rattle.arrays_udt.specs.declared.paths.PathStep.{PathStep}
 use Rattle.arrays_udt.specs.declared.paths.PathStep.TheVariants.{Field, Element}
 

@@ -8,7 +8,7 @@ use Rattle.vba_values.specs.declared.fault.Bad.{Bad}
 use Rattle.vba_values.specs.declared.value.Bound.{Bound}
 use Rattle.vba_values.specs.Types.{Declared}
 use Rattle.vba_values.specs.Types as type
-use Rattle.vba_values.specs.Val.{Val, Vals, empty, null, missing, boolean, whole, currency, text, object, array, udt, no_vals, val, vals_of}
+use Rattle.vba_values.specs.Val.{Val, Vals, empty, array, no_vals, val, vals_of}
 use Rattle.arrays_udt.specs.Errors.{out_of_range}
 use Rattle.arrays_udt.specs.Shapes.{elements, is_place, layout, place_at}
 

@@ -1,4 +1,4 @@
-ghost use Rattle.std.specs.Prelude.{◌≡◌, ◌≤◌, ◌<◌, ◌-ℤ◌, true, [], ◌∷◌, IfOk};
+ghost use Rattle.std.specs.Prelude.{◌≡◌, ◌<◌, ◌^◌, ◌-ℤ◌, true, [], ◌∷◌, IfOk};
 ghost use Rattle.arrays_udt.specs.Shapes.{elements, extent, is_place, is_within, layout, natural, offset_of};
 
 use crate::shape::{Shape, extent};
@@ -10,11 +10,20 @@ pub fn offset(shape: &Shape, places: &[i64]) -> Result<usize, Bad>
     ensures value { result ≡ offset_of shape.now places.now }
     ensures inside { IfOk result (λ offset. offset < elements shape.now) }
 {
-    let bounds = shape.bounds();
+    offset_in(shape.bounds(), places)
+}
+
+/// The offset of the element at a place, by the bounds of an array as it holds them: no shape is made of them first, and
+/// nothing is allocated. Errors as of `offset`.
+pub fn offset_in(bounds: &[Bound], places: &[i64]) -> Result<usize, Bad>
+    requires { elements bounds.now < 2 ^ 64 }
+    ensures value { result ≡ offset_of bounds.now places.now }
+    ensures inside { IfOk result (λ offset. offset < elements bounds.now) }
+{
     match (bounds.len(), places.len()) {
         (1, 1) => offset_in_row(bounds[0], places[0]),
         (2, 2) => offset_in_grid(bounds[0], bounds[1], places[0], places[1]),
-        _ => offset_in(bounds, places),
+        _ => offset_in_any(bounds, places),
     }
 }
 
@@ -29,7 +38,7 @@ fn offset_in_row(bound: Bound, number: i64) -> Result<usize, Bad>
 }
 
 fn offset_in_grid(bound: Bound, last: Bound, number: i64, other: i64) -> Result<usize, Bad>
-    requires { elements (bound ∷ last ∷ []) ≤ 1048576 }
+    requires { elements (bound ∷ last ∷ []) < 2 ^ 64 }
     ensures value { result ≡ offset_of (bound ∷ last ∷ []) (number ∷ other ∷ []) }
     ensures inside { IfOk result (λ offset. offset < elements (bound ∷ last ∷ [])) }
 {
@@ -42,8 +51,8 @@ fn offset_in_grid(bound: Bound, last: Bound, number: i64, other: i64) -> Result<
     Ok(distance(last, other) * extent(bound) as usize + distance(bound, number))
 }
 
-fn offset_in(bounds: &[Bound], numbers: &[i64]) -> Result<usize, Bad>
-    requires { elements bounds.now ≤ 1048576 }
+fn offset_in_any(bounds: &[Bound], numbers: &[i64]) -> Result<usize, Bad>
+    requires { elements bounds.now < 2 ^ 64 }
     ensures value { result ≡ offset_of bounds.now numbers.now }
     ensures inside { IfOk result (λ offset. offset < elements bounds.now) }
 {
@@ -67,7 +76,7 @@ fn is_place(bounds: &[Bound], numbers: &[i64]) -> bool
 
 fn layout(bounds: &[Bound], numbers: &[i64]) -> usize
     requires place { is_place bounds.now numbers.now ≡ true }
-    requires few { elements bounds.now ≤ 1048576 }
+    requires few { elements bounds.now < 2 ^ 64 }
     ensures value { result ≡ layout bounds.now numbers.now }
     ensures inside { result < elements bounds.now }
 {

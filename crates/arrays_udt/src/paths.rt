@@ -1,4 +1,4 @@
-ghost use Rattle.std.specs.Prelude.{◌≡◌, ◌∷◌, IsSome, Some};
+ghost use Rattle.std.specs.Prelude.{◌≡◌, ◌↔◌, ◌∷◌, IsSome, IsTrue, Some};
 ghost use Rattle.vba_values.specs.View.{view, views, array_view, udt_view};
 ghost use Rattle.arrays_udt.specs.Paths.{path_value, inner_value, with_path, with_inner};
 
@@ -10,6 +10,32 @@ use vba_values::{ArrayValue, UdtValue, Value};
 pub enum PathStep {
     Field(u32),
     Element(usize),
+}
+
+/// Whether there is a value at a path.
+#[cycle(find)]
+pub fn has_path(root: &Value, path: &[PathStep]) -> bool
+    ensures { IsTrue result ↔ IsSome (path_value (view root.now) path.now) }
+{
+    match path {
+        [] => true,
+        [PathStep::Field(place), rest @ ..] => match root {
+            Value::Udt(udt) => has_inner(&udt.fields, *place as usize, rest),
+            _ => false,
+        },
+        [PathStep::Element(place), rest @ ..] => match root {
+            Value::Array(array) => has_inner(&array.items, *place, rest),
+            _ => false,
+        },
+    }
+}
+
+#[cycle(find)]
+#[tactic(auto, using(crate::proofs::Inner::inner_inside, crate::proofs::Inner::inner_at))]
+fn has_inner(items: &Vec<Value>, place: usize, path: &[PathStep]) -> bool
+    ensures { IsTrue result ↔ IsSome (inner_value (views items.now.items) place path.now) }
+{
+    place < items.len() && has_path(&items[place], path)
 }
 
 /// The value at a path.

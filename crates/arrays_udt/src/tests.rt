@@ -143,6 +143,13 @@ fn places_may_have_three_numbers(rt: HostRuntime) {
     );
 }
 
+#[test]
+fn offsets_are_found_by_bounds_alone(rt: HostRuntime) {
+    let grid = [to(-1, 1), to(1, 4)];
+    assert_eq!(rt; offset_in(&grid, &[1, 4]), Ok(11));
+    assert_eq!(rt; offset_in(&grid, &[1, 5]), Err(OUT_OF_RANGE));
+}
+
 /// A field of a declared type, without bounds.
 fn plain_field(alloc: Global, of: VType) -> UdtField
     ensures { field_of result ≡ record { of = declared of; bounds = [] } }
@@ -279,6 +286,17 @@ fn a_write_changes_one_place(rt: HostRuntime) {
         assert!(rt; is_long(&path_write(&mut line, &X, Value::Long(5)), 0));
         assert!(rt; is_long(path_read(&line, &X), 5));
         assert!(rt; matches!(path_read(&line, &SECOND_Y), Value::Integer(0)));
+    }
+}
+
+#[test]
+fn a_path_may_lead_nowhere(rt: HostRuntime) {
+    let made = a_line(rt.alloc());
+    assert!(rt; made.is_ok());
+    if let Ok(line) = made {
+        assert!(rt; has_path(&line, &SECOND_Y));
+        assert!(rt; !has_path(&line, &[PathStep::Field(3)]));
+        assert!(rt; !has_path(&line, &[PathStep::Element(0)]));
     }
 }
 

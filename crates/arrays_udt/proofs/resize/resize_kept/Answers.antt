@@ -1,5 +1,4 @@
 use Rattle.std.proofs.Common.{◌≡◌, true, map, refl, ap, ◌∙◌, rules}
-use Rattle.vba_values.specs.Types.{declared}
 use Rattle.vba_values.specs.View.{array_view, view}
 use Rattle.vba_values.specs.declared.value.ArrayValue.{out-ArrayValue}
 use Rattle.arrays_udt.specs.Fields.{types_of}
