@@ -1,5 +1,5 @@
 -- The first row with a fault decides.
-use Rattle.std.proofs.Common.{◌≡◌, ℕ, ◌+◌, List, [], ◌∷◌, ◌++◌, map, length, Option, Some, None, Result, Ok, Err, add-zero, refl, sym, ap, ◌∙◌, arith}
+use Rattle.std.proofs.Common.{◌≡◌, ℕ, ◌+◌, [], ◌∷◌, ◌++◌, map, length, Some, Ok, Err, add-zero, refl, sym, ap, ◌∙◌, arith}
 use Rattle.vba_base.specs.Answer.{◌>>=◌}
 use Rattle.csv_book.specs.declared.fault.BookFault.{BookFault}
 use Rattle.csv_book.specs.Faults.{AllFaultless}

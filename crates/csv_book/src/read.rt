@@ -3,7 +3,7 @@ ghost use Rattle.std.specs.List.{list_all};
 ghost use Rattle.std.specs.Str.{is_utf8};
 ghost use Rattle.csv.specs.Records.{fields_of};
 ghost use Rattle.vba_base.specs.Answer.{Gives};
-ghost use Rattle.sheet_host.specs.Sheets.{IsUnwritten};
+ghost use Rattle.sheet_host.specs.Sheets.{IsUnwritten, no_content};
 ghost use Rattle.sheet_host.specs.Size.{sheet_columns, sheet_rows};
 ghost use Rattle.csv_book.specs.Reading.{fault_of, row_of, sheet_of, sheet_of_rows, text_of_bytes, with_last_row};
 
@@ -12,7 +12,7 @@ use crate::record::{read_record, reader_of};
 use csv::ByteRecord;
 use sheet_host::Sheet;
 use std::alloc::Global;
-use vba_base::{NoMemory, OrMemory, Units};
+use vba_base::{NoMemory, OrMemory};
 
 const MOST_ROWS: u32 = 1_048_576;
 
@@ -23,14 +23,14 @@ const MOST_COLUMNS: usize = 16_384;
 pub fn read_sheet(alloc: Global, bytes: &[u8]) -> Result<Sheet, OrMemory<BookFault>>
     ensures { Gives (λ sheet. sheet) result (sheet_of bytes.now) }
 {
-    let mut reader = reader_of(alloc, bytes);
-    let mut record = ByteRecord::new(alloc);
-    let mut sheet = Sheet::new(alloc);
+    let mut reader = reader_of(alloc, bytes)?;
+    let mut record = record_for(alloc, bytes)?;
+    let mut sheet = room_for(alloc, bytes)?;
     for row in 0..MOST_ROWS {
         if !read_record(&mut reader, &mut record)? {
             return Ok(sheet);
         }
-        add_row(alloc, &mut sheet, row + 1, &record)?;
+        add_row(&mut sheet, row + 1, &record)?;
     }
     if read_record(&mut reader, &mut record)? {
         return Err(OrMemory::Fault(BookFault::TooManyRows));
@@ -38,13 +38,30 @@ pub fn read_sheet(alloc: Global, bytes: &[u8]) -> Result<Sheet, OrMemory<BookFau
     Ok(sheet)
 }
 
+/// A sheet without rows that has room for what a file of these bytes has at most: no character has more units than
+/// bytes, and behind each field but the last stands a comma or a line end.
+fn room_for(alloc: Global, bytes: &[u8]) -> Result<Sheet, NoMemory>
+    ensures { IfOk result (λ sheet. sheet ≡ no_content) }
+{
+    let commas = bytes.iter().filter(|byte| **byte == b',').count();
+    let lines = bytes
+        .iter()
+        .filter(|byte| matches!(**byte, b'\n' | b'\r'))
+        .count();
+    let rows = lines.saturating_add(1);
+    Sheet::with_room(alloc, bytes.len(), rows.saturating_add(commas), rows)
+}
+
+/// A record without fields that has room for the bytes of each of the file's records.
+fn record_for(alloc: Global, bytes: &[u8]) -> Result<ByteRecord, NoMemory>
+    ensures { IfOk result (λ made. fields_of made ≡ []) }
+{
+    let record = ByteRecord::with_capacity(alloc, bytes.len(), 0)?;
+    Ok(record)
+}
+
 /// Adds the texts of a record as the row of this number.
-fn add_row(
-    alloc: Global,
-    sheet: &mut Sheet,
-    number: u32,
-    record: &ByteRecord,
-) -> Result<(), OrMemory<BookFault>>
+fn add_row(sheet: &mut Sheet, number: u32, record: &ByteRecord) -> Result<(), OrMemory<BookFault>>
     requires unwritten { IsUnwritten sheet.old }
     requires next { length sheet.old.rows + 1 ≡ number }
     requires room { number ≤ sheet_rows }
@@ -53,7 +70,7 @@ fn add_row(
     if let Some(fault) = fault_of(number, record) {
         return Err(OrMemory::Fault(fault));
     }
-    add_texts(alloc, sheet, record)?;
+    add_texts(sheet, record)?;
     Ok(())
 }
 
@@ -85,7 +102,7 @@ fn is_utf8(record: &ByteRecord) -> bool
 }
 
 /// Adds a row of the texts of a record.
-fn add_texts(alloc: Global, sheet: &mut Sheet, record: &ByteRecord) -> Result<(), NoMemory>
+fn add_texts(sheet: &mut Sheet, record: &ByteRecord) -> Result<(), NoMemory>
     requires unwritten { IsUnwritten sheet.old }
     requires room { length sheet.old.rows < sheet_rows }
     requires columns { length (fields_of record.now) ≤ sheet_columns }
@@ -94,30 +111,18 @@ fn add_texts(alloc: Global, sheet: &mut Sheet, record: &ByteRecord) -> Result<()
 {
     sheet.push_row()?;
     for field in record {
-        sheet.push_field(text_of_field(alloc, field)?)?;
+        sheet.push_text(text_of_field(field))?;
     }
     Ok(())
 }
 
-/// The text of a field.
-fn text_of_field(alloc: Global, field: &[u8]) -> Result<Units, NoMemory>
+/// A field that is UTF-8.
+fn text_of_field(field: &[u8]) -> &str
     requires { is_utf8 field.now ≡ true }
-    ensures { IfOk result (λ text. text ≡ text_of_bytes field.now) }
+    ensures { result.now ≡ field.now }
 {
     match str::from_utf8(field) {
-        Ok(text) => units_of(alloc, text),
+        Ok(text) => text,
         Err(_) => unreachable!(),
     }
-}
-
-fn units_of(alloc: Global, text: &str) -> Result<Units, NoMemory>
-    ensures { IfOk result (λ units. units ≡ text_of_bytes text.now) }
-{
-    // No character has more units than bytes.
-    let mut units = Vec::with_capacity(alloc, text.len())?;
-    let mut buffer = [0; 2];
-    for character in text.chars() {
-        units.extend_from_slice(character.encode_utf16(&mut buffer))?;
-    }
-    Units::from_units(alloc, units.as_slice())
 }

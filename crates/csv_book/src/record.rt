@@ -12,14 +12,18 @@ use csv::{ByteRecord, Reader, ReaderBuilder, Writer, WriterBuilder};
 use std::alloc::Global;
 use vba_base::NoMemory;
 
-/// A reader of the records of these bytes, of any lengths, without a header row.
-pub fn reader_of(alloc: Global, bytes: &[u8]) -> Reader<&[u8]>
-    ensures { StandsBefore (λ rest. Some rest.now) result states.StartRecord (strip_bom bytes.now) }
+/// A reader of the records of these bytes, of any lengths. Its header row is set, and is none of them: csv would keep
+/// copies of the first record otherwise.
+pub fn reader_of(alloc: Global, bytes: &[u8]) -> Result<Reader<&[u8]>, NoMemory>
+    ensures { IfOk result (λ reader. StandsBefore (λ rest. Some rest.now) reader states.StartRecord (strip_bom bytes.now)) }
 {
-    ReaderBuilder::new()
-        .has_headers(false)
+    let mut reader = ReaderBuilder::new()
         .flexible(true)
-        .from_reader(alloc, bytes)
+        .from_reader(alloc, bytes);
+    match reader.set_byte_headers(ByteRecord::new(alloc)) {
+        Ok(()) => Ok(reader),
+        Err(_) => Err(NoMemory),
+    }
 }
 
 /// Reads the next record, and tells whether there was one. Reading from memory fails for want of memory alone.

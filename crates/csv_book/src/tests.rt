@@ -34,7 +34,7 @@ fn shown(rt: &(impl Abort + AllocGlobal), sheet: &Sheet) -> Result<Vec<u8>, NoMe
     let mut text = Vec::new(rt.alloc());
     for row in 0..sheet.row_count() {
         for column in 0..sheet.field_count(row + 1) {
-            let field = encode_text(rt.alloc(), sheet.field_text(row + 1, column + 1).units())?;
+            let field = encode_text(rt.alloc(), sheet.field_text(row + 1, column + 1))?;
             text.extend_from_slice(field.as_slice())?;
             text.push(b'|')?;
         }

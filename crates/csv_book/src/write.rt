@@ -66,7 +66,7 @@ fn field_at(sheet: &Sheet, row: u32, column: u32) -> &[u16]
     ensures { result.now ≡ field_at sheet.now (row, column) }
 {
     if row <= sheet.row_count() && column <= sheet.field_count(row) {
-        sheet.field_text(row, column).units()
+        sheet.field_text(row, column)
     } else {
         &[]
     }

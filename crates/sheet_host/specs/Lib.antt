@@ -11,4 +11,6 @@ pub mod Reading
 pub mod Sheets
 pub mod Shelf
 pub mod Size
+pub mod Smallest
+pub mod Table
 pub mod Writing

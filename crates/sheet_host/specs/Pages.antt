@@ -1,12 +1,11 @@
 -- How written cells are kept: in pages of 256 rows, each with slots by rows and columns.
-use Rattle.std.specs.Prelude.{◌≡◌, ℕ, max, if◌then◌else◌, ◌-◌, ◌/◌, ◌≤◌, length, fold, List, [], ◌∷◌, map, Vec, ◌++◌, Option, Some, None, is_some, IsTrue}
+use Rattle.std.specs.Prelude.{◌≡◌, ℕ, max, if◌then◌else◌, ◌-◌, ◌/◌, ◌≤◌, length, fold, List, [], ◌∷◌, ◌++◌, Option, Some, None, is_some, IsTrue}
 use Rattle.std.specs.List.Sorted.{IsStrictlySortedBy}
 use Rattle.std.specs.Map.{keys_of, lookup, set_value}
 use Rattle.std.specs.FinMap.{from_sorted, len}
 use Rattle.std.specs.Option.{option_and_then}
 use Rattle.std.specs.Ordering.{nat_cmp}
 use Rattle.std.specs.BTreeMap.{BTreeMap, is_at}
-use Rattle.std.specs.declared.alloc.Global.{Global}
 use Rattle.sheet_host.specs.declared.cell.CellValue.{CellValue}
 use Rattle.sheet_host.specs.declared.used.Corners.{Corners}
 use Rattle.sheet_host.specs.Field.{field_of_cell, has_units, is_empty}
@@ -112,10 +111,6 @@ AllPages (page ∷ pages) = IsPage page.0 page.1.entries × AllPages pages
 pub record ArePages (pages : List (ℕ × Page)) : Type 0 where
   pub rising : IsStrictlySortedBy nat_cmp (keys_of pages)
   pub each : AllPages pages
-
--- the rows of texts
-abbrev pub texts : List (Vec (List ℕ) Global) → List (List (List ℕ))
-texts rows = map (λ row. row.items) rows
 
 -- each row has as many columns as a sheet at most
 abbrev pub AllShort : List (List (List ℕ)) → Type 0

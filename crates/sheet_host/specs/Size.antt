@@ -1,6 +1,7 @@
 -- The size of a sheet, and what is in it.
 use Rattle.std.specs.Prelude.{ℕ, ◌+◌, ◌≤◌, nat_le, ◌&&◌, Bool}
 use Rattle.sheet_host.specs.declared.area.Area.{Area}
+use Rattle.sheet_host.specs.declared.area.Span.{Span}
 
 abbrev pub sheet_rows : ℕ
 sheet_rows = 1048576
@@ -18,6 +19,12 @@ pub record IsInside (row column : ℕ) : Type 0 where
   pub last_row : row ≤ sheet_rows
   pub first_column : 1 ≤ column
   pub last_column : column ≤ sheet_columns
+
+-- rows or columns, of which there is at least one, all stand between 1 and the last
+pub record IsSpanWithin (end : ℕ) (span : Span) : Type 0 where
+  pub first : 1 ≤ span.first
+  pub some : 1 ≤ span.count
+  pub last : span.first + span.count ≤ end + 1
 
 -- the area is in the sheet, and has a cell
 pub record IsAreaInside (area : Area) : Type 0 where

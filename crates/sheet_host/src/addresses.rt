@@ -2,7 +2,7 @@ ghost use Rattle.std.specs.Prelude.{◌≡◌, min, max, ◌-◌, ◌+◌, ◌�
 ghost use Rattle.std.specs.Option.{option_map};
 ghost use Rattle.sheet_host.specs.Address.{IsAddress, area_between};
 ghost use Rattle.sheet_host.specs.Area.{host_error};
-ghost use Rattle.sheet_host.specs.Size.{IsInside};
+ghost use Rattle.sheet_host.specs.Size.{IsAreaInside, IsInside};
 ghost use Rattle.sheet_host.specs.AddressText.{area_of_text, last_corner};
 ghost use Rattle.sheet_host.specs.declared.area.Area.{Area};
 
@@ -19,13 +19,15 @@ pub const COLON: u16 = 0x3a;
 pub fn area_of_text(sheet: SheetId, text: &[u16]) -> Result<Area, Bad>
     ensures area { result ≡ area_of_text sheet text.now }
     ensures address { IfOk result (λ area. IsAddress text.now area) }
+    ensures inside { IfOk result (λ area. IsAreaInside area) }
     ensures other { IfErr result (λ bad. (bad ≡ host_error) × ((area : Area) → area.sheet ≡ sheet → ¬ (IsAddress text.now area))) }
 {
     read_area(sheet, text)
 }
 
 fn read_area(sheet: SheetId, text: &[u16]) -> Result<Area, Bad>
-    ensures { result ≡ area_of_text sheet text.now }
+    ensures area { result ≡ area_of_text sheet text.now }
+    ensures inside { IfOk result (λ area. IsAreaInside area) }
 {
     let Some((first, rest)) = read_corner(text) else {
         return Err(HOST_ERROR);
@@ -56,7 +58,8 @@ fn last_corner(first: Corner, rest: &[u16]) -> Option<Corner>
 fn area_between(sheet: SheetId, first: Corner, last: Corner) -> Area
     requires first { IsInside first.row first.column }
     requires last { IsInside last.row last.column }
-    ensures { result ≡ area_between sheet first last }
+    ensures area { result ≡ area_between sheet first last }
+    ensures inside { IsAreaInside result }
 {
     let top = first.row.min(last.row);
     let left = first.column.min(last.column);

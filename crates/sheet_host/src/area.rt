@@ -1,5 +1,6 @@
-ghost use Rattle.std.specs.Prelude.{◌≡◌};
+ghost use Rattle.std.specs.Prelude.{◌≡◌, IfSome};
 ghost use Rattle.sheet_host.specs.Area.{span_of};
+ghost use Rattle.sheet_host.specs.Size.{IsSpanWithin};
 
 /// The number of a sheet in its book, from 1.
 #[derive(Clone, Copy, Debug, PartialEq, Eq)]
@@ -32,7 +33,8 @@ pub struct Span {
 impl Span {
     /// So many rows or columns from the first on, where they all stand between 1 and `last`.
     pub fn within(first: i128, count: i128, last: u32) -> Option<Span>
-        ensures { result ≡ span_of first count last }
+        ensures span { result ≡ span_of first count last }
+        ensures inside { IfSome result (λ span. IsSpanWithin last span) }
     {
         let last = i128::from(last);
         if first < 1 || last < first || count < 1 || last - first + 1 < count {

@@ -3,8 +3,10 @@ ghost use Rattle.vba_base.specs.Answer.{Gives};
 ghost use Rattle.vba_base.specs.declared.fault.OrMemory.TheVariants as answers;
 ghost use Rattle.sheet_host.specs.Books.{IsSheetOf, sheet_at, content_at, sheet_named, IsNewName, value_in, Puts};
 ghost use Rattle.sheet_host.specs.Field.{is_text};
-ghost use Rattle.sheet_host.specs.Sheets.{used_area, value_at};
+ghost use Rattle.sheet_host.specs.Sheets.{Position, used_area, value_at};
 ghost use Rattle.sheet_host.specs.Size.{IsAreaInside};
+ghost use Rattle.sheet_host.specs.Smallest.{HoldsAllFilled, IsFilled, IsPartOf, first_cell};
+ghost use Rattle.sheet_host.specs.declared.area.Area.{Area};
 
 use crate::area::{Area, SHEET_COLUMNS, SHEET_ROWS, SheetId};
 use crate::cell::CellValue;
@@ -148,10 +150,13 @@ impl Book {
         Ok(())
     }
 
-    /// The smallest area of a sheet that holds all its cells that aren't Empty, or A1.
+    /// The smallest area of a sheet that holds all its cells that aren't Empty. Where there are none it is A1.
     pub fn used(&self, sheet: SheetId) -> Area
         requires { IsSheetOf self.now sheet }
         ensures value { result ≡ used_area sheet (content_at self.now sheet) }
+        ensures holds { HoldsAllFilled (content_at self.now sheet) result }
+        ensures smallest { (area : Area) (first : Position) → let content = content_at self.now sheet in IsFilled content first → HoldsAllFilled content area → IsPartOf result area }
+        ensures none { ((p : Position) → ¬ (IsFilled (content_at self.now sheet) p)) → result ≡ first_cell sheet }
         ensures inside { IsAreaInside result }
     {
         area_of_corners(sheet, self.sheet(sheet).used_corners())

@@ -16,6 +16,7 @@ mod pages;
 mod printing;
 mod reading;
 mod sheet;
+mod table;
 #[cfg(test)]
 mod tests;
 mod used;

@@ -1,6 +1,7 @@
 // Areas moved and resized.
-ghost use Rattle.std.specs.Prelude.{◌≡◌, pos, ◌+ℤ◌};
+ghost use Rattle.std.specs.Prelude.{◌≡◌, pos, ◌+ℤ◌, IfSome, IfOk};
 ghost use Rattle.sheet_host.specs.Area.{offset_of, resized, area_of_spans};
+ghost use Rattle.sheet_host.specs.Size.{IsAreaInside, IsSpanWithin, sheet_columns, sheet_rows};
 
 use crate::area::{Area, SHEET_COLUMNS, SHEET_ROWS, SheetId, Span};
 use vba_values::Bad;
@@ -10,7 +11,8 @@ pub const HOST_ERROR: Bad = Bad::Raise(1004);
 
 /// The area moved down by `rows` and to the right by `columns`. 1004 exactly where it would leave the sheet.
 pub fn offset(area: Area, rows: i64, columns: i64) -> Result<Area, Bad>
-    ensures { result ≡ offset_of area rows columns }
+    ensures area { result ≡ offset_of area rows columns }
+    ensures inside { IfOk result (λ area. IsAreaInside area) }
 {
     area_of_spans(
         area.sheet,
@@ -26,7 +28,8 @@ pub fn offset(area: Area, rows: i64, columns: i64) -> Result<Area, Bad>
 /// The area with the same first cell, and so many rows and columns. 1004 exactly where that is less than one row or
 /// column, or leaves the sheet.
 pub fn resize(area: Area, rows: i64, columns: i64) -> Result<Area, Bad>
-    ensures { result ≡ resized area rows columns }
+    ensures area { result ≡ resized area rows columns }
+    ensures inside { IfOk result (λ area. IsAreaInside area) }
 {
     area_of_spans(
         area.sheet,
@@ -42,7 +45,10 @@ fn moved(place: u32, by: i64) -> i128
 }
 
 fn area_of_spans(sheet: SheetId, rows: Option<Span>, columns: Option<Span>) -> Result<Area, Bad>
-    ensures { result ≡ area_of_spans sheet rows columns }
+    requires rows { IfSome rows (λ span. IsSpanWithin sheet_rows span) }
+    requires columns { IfSome columns (λ span. IsSpanWithin sheet_columns span) }
+    ensures area { result ≡ area_of_spans sheet rows columns }
+    ensures inside { IfOk result (λ area. IsAreaInside area) }
 {
     match (rows, columns) {
         (Some(rows), Some(columns)) => Ok(Area {

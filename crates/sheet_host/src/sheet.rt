@@ -1,26 +1,29 @@
-ghost use Rattle.std.specs.Prelude.{◌≡◌, ◌≤◌, ◌<◌, ◌*◌, ◌+◌, ◌^◌, ℕ, ◌-◌, [], None, length, slice_index_or, fold, IfOk, OnOk, OnErr, Some, IsTrue};
+ghost use Rattle.std.specs.Prelude.{◌≡◌, ◌≤◌, ◌<◌, ◌*◌, ◌+◌, ◌^◌, ℕ, ◌-◌, [], None, length, chars, flat_map, slice_index_or, fold, IfOk, OnOk, OnErr, Some, IsTrue};
+ghost use Rattle.std.specs.Char.Escape.{encode_utf16};
 ghost use Rattle.std.specs.FinMap.{get, len};
 ghost use Rattle.std.specs.Option.{option_copied};
 ghost use Rattle.sheet_host.specs.Field.{is_text};
-ghost use Rattle.sheet_host.specs.Pages.{ArePages, kept, HasSlot, AllShort, texts};
+ghost use Rattle.sheet_host.specs.Pages.{ArePages, kept, HasSlot, AllShort};
 ghost use Rattle.sheet_host.specs.Sheets.{no_content, with_row, with_field, IsUnwritten, fields_of, field_at, value_at, saved_rows, saved_fields, AreInside, used_corners, placed_fields, placed_rows, widened_by_field, nth_cell, unwritten, stored, with_values};
 ghost use Rattle.sheet_host.specs.Size.{sheet_rows, sheet_columns, IsInside, IsAreaInside};
+ghost use Rattle.sheet_host.specs.Smallest.{CountFromOne};
 
 use crate::area::Area;
 use crate::cell::CellValue;
 use crate::field::value_of_field;
 use crate::pages::{Pages, fill, last_column, last_row, take_room, widened_by_pages, written};
+use crate::table::FieldTable;
 use crate::used::{Corners, widened};
 use std::alloc::Global;
 use std::collections::BTreeMap;
 use std::marker::Model;
-use vba_base::{NoMemory, Units};
+use vba_base::NoMemory;
 
 /// A sheet: its rows of fields as read, and the cells that were written since. Rows and columns count from 1; a sheet
 /// has 1048576 rows and 16384 columns.
 #[derive(Drop)]
 pub struct Sheet {
-    rows: Vec<Vec<Units>>,
+    rows: FieldTable,
     pages: Pages,
     written: u64,
     alloc: Global,
@@ -29,15 +32,15 @@ pub struct Sheet {
 impl Model for Sheet {
     ghost use Rattle.sheet_host.specs.Codes.{content_code};
     ghost use Rattle.sheet_host.specs.Sheets.{SheetContent};
-    ghost use Rattle.sheet_host.specs.Pages.{IsKept, kept, texts};
+    ghost use Rattle.sheet_host.specs.Pages.{IsKept, kept};
 
     ghost Value = { SheetContent };
 
     ghost coded = { content_code };
 
-    ghost view = { λ s. record { rows = texts s.rows.items; cells = kept s.pages.entries } };
+    ghost view = { λ s. record { rows = s.rows; cells = kept s.pages.entries } };
 
-    ghost invariant = { λ s. IsKept (texts s.rows.items) s.pages.entries s.written };
+    ghost invariant = { λ s. IsKept s.rows s.pages.entries s.written };
 }
 
 impl Sheet {
@@ -46,35 +49,62 @@ impl Sheet {
         ensures { result ≡ no_content }
     {
         Sheet {
-            rows: Vec::new(alloc),
+            rows: FieldTable::new(alloc),
             pages: BTreeMap::new(alloc),
             written: 0,
             alloc,
         }
     }
 
-    /// Adds a row without fields, to a sheet that nothing was written to. Without memory nothing changes.
+    /// A sheet without rows that has room for so many units, fields and rows to be read.
+    pub fn with_room(
+        alloc: Global,
+        units: usize,
+        fields: usize,
+        rows: usize,
+    ) -> Result<Sheet, NoMemory>
+        ensures { IfOk result (λ sheet. sheet ≡ no_content) }
+    {
+        Ok(Sheet {
+            rows: FieldTable::with_room(alloc, units, fields, rows)?,
+            pages: BTreeMap::new(alloc),
+            written: 0,
+            alloc,
+        })
+    }
+
+    /// Adds a row without fields, to a sheet that nothing was written to. Without memory, and where the sheet has more
+    /// than 4294967295 fields, nothing changes.
     pub fn push_row(&mut self) -> Result<(), NoMemory>
         requires unwritten { IsUnwritten self.old }
         requires room { length self.old.rows < sheet_rows }
         ensures ok { OnOk result (self.new ≡ with_row self.old) }
         ensures err { OnErr result (self.new ≡ self.old) }
     {
-        self.rows.push(Vec::new(self.alloc))?;
-        Ok(())
+        self.rows.push_row()
     }
 
-    /// Adds a field to the last row of a sheet that nothing was written to. Without memory nothing changes.
-    pub fn push_field(&mut self, text: Units) -> Result<(), NoMemory>
+    /// Adds a field to the last row of a sheet that nothing was written to. Without memory, and where the fields before
+    /// it have more than 4294967295 units, nothing changes.
+    pub fn push_field(&mut self, text: &[u16]) -> Result<(), NoMemory>
         requires unwritten { IsUnwritten self.old }
         requires row { 0 < length self.old.rows }
         requires room { length (fields_of self.old (length self.old.rows)) < sheet_columns }
-        ensures ok { OnOk result (self.new ≡ with_field self.old text) }
+        ensures ok { OnOk result (self.new ≡ with_field self.old text.now) }
         ensures err { OnErr result (self.new ≡ self.old) }
     {
-        let last = self.rows.len() - 1;
-        self.rows[last].push(text)?;
-        Ok(())
+        self.rows.push_field(text)
+    }
+
+    /// Adds a field with the UTF-16 units of a text, as `push_field` does.
+    pub fn push_text(&mut self, text: &str) -> Result<(), NoMemory>
+        requires unwritten { IsUnwritten self.old }
+        requires row { 0 < length self.old.rows }
+        requires room { length (fields_of self.old (length self.old.rows)) < sheet_columns }
+        ensures ok { OnOk result (self.new ≡ with_field self.old (flat_map encode_utf16 (chars text.now))) }
+        ensures err { OnErr result (self.new ≡ self.old) }
+    {
+        self.rows.push_text(text)
     }
 
     /// How many rows were read.
@@ -82,7 +112,7 @@ impl Sheet {
         ensures rows { result ≡ length self.now.rows }
         ensures inside { result ≤ sheet_rows }
     {
-        self.rows.len() as u32
+        self.rows.row_count() as u32
     }
 
     /// How many fields of a row were read. The row must be one that was read.
@@ -92,18 +122,18 @@ impl Sheet {
         ensures fields { result ≡ length (fields_of self.now row) }
         ensures inside { result ≤ sheet_columns }
     {
-        fields_read(&self.rows, row) as u32
+        self.rows.field_count(row as usize - 1) as u32
     }
 
     /// The text of a field that was read.
-    pub fn field_text(&self, row: u32, column: u32) -> &Units
+    pub fn field_text(&self, row: u32, column: u32) -> &[u16]
         requires first_row { 1 ≤ row }
         requires last_row { row ≤ length self.now.rows }
         requires first_column { 1 ≤ column }
         requires last_column { column ≤ length (fields_of self.now row) }
         ensures { result.now ≡ field_at self.now (row, column) }
     {
-        &self.rows[row as usize - 1][column as usize - 1]
+        self.rows.text(row as usize - 1, column as usize - 1)
     }
 
     /// What was written at a cell of the sheet. None exactly where nothing was.
@@ -119,7 +149,7 @@ impl Sheet {
         ensures rows { result ≡ saved_rows self.now }
         ensures inside { result ≤ sheet_rows }
     {
-        last_row(&self.pages, self.rows.len() as u32)
+        last_row(&self.pages, self.rows.row_count() as u32)
     }
 
     /// How many fields a row of a saved sheet has: up to the last that was read or has a cell with a text.
@@ -129,7 +159,7 @@ impl Sheet {
         ensures fields { result ≡ saved_fields self.now row }
         ensures inside { result ≤ sheet_columns }
     {
-        let read = fields_read(&self.rows, row) as u32;
+        let read = self.rows.field_count(row as usize - 1) as u32;
         last_column(&self.pages, row, read)
     }
 
@@ -142,7 +172,8 @@ impl Sheet {
         if let Some(value) = written(&self.pages, row, column) {
             return value.copy(self.alloc);
         }
-        value_of_field(self.alloc, field_of(&self.rows, row, column))
+        let field = self.rows.text(row as usize - 1, column as usize - 1);
+        value_of_field(self.alloc, field)
     }
 
     /// How many cells of an area nothing was written to.
@@ -182,36 +213,11 @@ impl Sheet {
 
     /// The corners of the smallest area that holds all cells that aren't Empty.
     pub(crate) fn used_corners(&self) -> Option<Corners>
+        ensures places { CountFromOne self.now }
         ensures corners { result ≡ used_corners self.now }
         ensures inside { AreInside result }
     {
         widened_by_pages(&self.pages, widened_by_rows(&self.rows, &self.pages))
-    }
-}
-
-/// How many fields of a row were read.
-fn fields_read(rows: &[Vec<Units>], row: u32) -> usize
-    requires { 1 ≤ row }
-    ensures { result ≡ length (slice_index_or (texts rows.now) (row - 1) []) }
-{
-    match rows.get(row as usize - 1) {
-        Some(fields) => fields.len(),
-        None => 0,
-    }
-}
-
-/// The units of a field; a cell without a field has none.
-fn field_of(rows: &[Vec<Units>], row: u32, column: u32) -> &[u16]
-    requires first_row { 1 ≤ row }
-    requires first_column { 1 ≤ column }
-    ensures { result.now ≡ slice_index_or (slice_index_or (texts rows.now) (row - 1) []) (column - 1) [] }
-{
-    let Some(fields) = rows.get(row as usize - 1) else {
-        return &[];
-    };
-    match fields.get(column as usize - 1) {
-        Some(text) => text.units(),
-        None => &[],
     }
 }
 
@@ -278,47 +284,45 @@ fn fill_area(pages: &mut Pages, area: &Area, values: Vec<CellValue>)
 }
 
 /// The corners of the fields with units over which nothing was written.
-fn widened_by_rows(rows: &[Vec<Units>], pages: &Pages) -> Option<Corners>
+fn widened_by_rows(rows: &FieldTable, pages: &Pages) -> Option<Corners>
     requires pages { ArePages pages.now.entries }
     requires rows { length rows.now ≤ sheet_rows }
-    requires short { AllShort (texts rows.now) }
-    ensures corners { result ≡ fold (widened_by_field (kept pages.now.entries)) None (placed_rows 1 (texts rows.now)) }
+    requires short { AllShort rows.now }
+    ensures corners { result ≡ fold (widened_by_field (kept pages.now.entries)) None (placed_rows 1 rows.now) }
     ensures inside { AreInside result }
 {
     let mut corners = None;
-    let mut row = 1;
-    for fields in rows {
-        corners = widened_by_fields(fields, row, pages, corners);
-        row += 1;
+    for place in 0..rows.row_count() {
+        corners = widened_by_fields(rows, place, pages, corners);
     }
     corners
 }
 
+/// The corners, moved as little as the fields of the row at a place want.
 fn widened_by_fields(
-    fields: &[Units],
-    row: u32,
+    rows: &FieldTable,
+    place: usize,
     pages: &Pages,
     corners: Option<Corners>,
 ) -> Option<Corners>
     requires pages { ArePages pages.now.entries }
-    requires first { 1 ≤ row }
-    requires last { row ≤ sheet_rows }
-    requires short { length fields.now ≤ sheet_columns }
-    ensures corners { result ≡ fold (widened_by_field (kept pages.now.entries)) corners (placed_fields row 1 fields.now) }
+    requires last { place < sheet_rows }
+    requires short { length (slice_index_or rows.now place []) ≤ sheet_columns }
+    ensures corners { result ≡ fold (widened_by_field (kept pages.now.entries)) corners (placed_fields (place + 1) 1 (slice_index_or rows.now place [])) }
     ensures inside { AreInside corners → AreInside result }
 {
     let mut corners = corners;
-    let mut column = 1;
-    for text in fields {
-        corners = widened_by_field(text, row, column, pages, corners);
-        column += 1;
+    let row = place as u32 + 1;
+    for field in 0..rows.field_count(place) {
+        let text = rows.text(place, field);
+        corners = widened_by_field(text, row, field as u32 + 1, pages, corners);
     }
     corners
 }
 
 /// The corners, moved as little as a field wants that has units and over which nothing was written.
 fn widened_by_field(
-    text: &Units,
+    text: &[u16],
     row: u32,
     column: u32,
     pages: &Pages,
@@ -329,7 +333,7 @@ fn widened_by_field(
     ensures corners { result ≡ widened_by_field (kept pages.now.entries) corners ((row, column), text.now) }
     ensures inside { AreInside corners → AreInside result }
 {
-    if !text.units().is_empty() && written(pages, row, column).is_none() {
+    if !text.is_empty() && written(pages, row, column).is_none() {
         widened(corners, row, column)
     } else {
         corners

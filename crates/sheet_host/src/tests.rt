@@ -63,20 +63,32 @@ fn rows_are_read(rt: HostRuntime) -> Result<(), Fail> {
     sheet.push_row()?;
     assert_eq!(rt; sheet.row_count(), 1);
     assert_eq!(rt; sheet.field_count(1), 0);
-    sheet.push_field(units(alloc, "007")?)?;
+    sheet.push_field(units(alloc, "007")?.units())?;
     assert_eq!(rt; sheet.row_count(), 1);
     assert_eq!(rt; sheet.field_count(1), 1);
-    sheet.push_field(Units::new(alloc))?;
+    sheet.push_field(&[])?;
     assert_eq!(rt; sheet.row_count(), 1);
     assert_eq!(rt; sheet.field_count(1), 2);
-    assert_eq!(rt;
-        sheet.field_text(1, 1).units(),
-        [0x30, 0x30, 0x37].as_slice()
-    );
-    assert!(rt; sheet.field_text(1, 2).units().is_empty());
+    assert_eq!(rt; sheet.field_text(1, 1), [0x30, 0x30, 0x37].as_slice());
+    assert!(rt; sheet.field_text(1, 2).is_empty());
     assert!(rt; sheet.written(1, 1).is_none());
     assert_eq!(rt; sheet.saved_rows(), 1);
     assert_eq!(rt; sheet.saved_fields(1), 2);
+    Ok(())
+}
+
+#[test]
+fn texts_have_units(rt: HostRuntime) -> Result<(), Fail> {
+    let mut sheet = Sheet::new(rt.alloc());
+    sheet.push_row()?;
+    sheet.push_text("")?;
+    sheet.push_text("aé€𝄞")?;
+    assert_eq!(rt; sheet.field_count(1), 2);
+    assert!(rt; sheet.field_text(1, 1).is_empty());
+    assert_eq!(rt;
+        sheet.field_text(1, 2),
+        [0x61, 0xE9, 0x20AC, 0xD834, 0xDD1E].as_slice()
+    );
     Ok(())
 }
 
@@ -84,8 +96,8 @@ fn rows_are_read(rt: HostRuntime) -> Result<(), Fail> {
 fn book(alloc: Global) -> Result<Book, NoMemory> {
     let mut sheet = Sheet::new(alloc);
     sheet.push_row()?;
-    sheet.push_field(units(alloc, "007")?)?;
-    sheet.push_field(units(alloc, "1.50")?)?;
+    sheet.push_field(units(alloc, "007")?.units())?;
+    sheet.push_field(units(alloc, "1.50")?.units())?;
     let mut book = Book::new(alloc);
     book.add(units(alloc, "Data")?, sheet)?;
     Ok(book)

@@ -14,8 +14,8 @@ text_of_field-requires c =
     let step = rw c.in-Some.is at c.next.ensures.steps in
     utf8_field (fields_of c.args.record.now) c.loop-field.field-iterator.at c.in-Some.field.now c.requires.utf8 (rw inv.0 at step.1)
 
-pub push_field-requires-clause-room : goal.push_field-requires-clause-room
-push_field-requires-clause-room c =
+pub push_text-requires-clause-room : goal.push_text-requires-clause-room
+push_text-requires-clause-room c =
     let inv = c.loop-field.invariant in
     let step = rw c.in-Some.is at c.next.ensures.steps in
     let fields = fields_of c.args.record.now in
@@ -32,7 +32,7 @@ loop-field-preserved c =
     let taken = take c.loop-field.field-iterator.at fields in
     let more = field_taken fields c.loop-field.field-iterator.at c.in-Some.field.now (rw inv.0 at step.1) in (
       ap (λ row. row.now) step.0 ∙ inv.0,
-      rw step.2 (c.in_ok-push_field.ensures.ok ∙ ap₂ host.with_field inv.1 c.in_ok-text_of_field.ensures
+      rw step.2 (c.in_ok-push_text.ensures.ok ∙ ap₂ host.with_field inv.1 (ap text_of_bytes c.text_of_field.ensures)
           ∙ field_added c.args.sheet.now.rows (map text_of_bytes taken) (text_of_bytes c.in-Some.field.now)
           ∙ ap (λ row. sheet_of_rows (c.args.sheet.now.rows ++ row ∷ [])) (sym (ap (map text_of_bytes) more ∙ map-append text_of_bytes taken (c.in-Some.field.now ∷ [])))),
     )

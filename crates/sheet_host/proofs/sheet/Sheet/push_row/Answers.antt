@@ -3,7 +3,7 @@ use Rattle.sheet_host.specs.Sheets.{SheetContent}
 use Rattle.sheet_host.proofs.Fields.{kept_row}
 use Rattle.sheet_host.proofs.sheet.Sheet.push_row.Goals as goal
 
-pub invariant_of-self-2 : goal.invariant_of-self-2
-invariant_of-self-2 c =
-    kept_row c.self.inside.rows.items c.push.new.self.items c.new.result c.self.inside.pages.entries c.self.inside.written c.self.invariant
-    c.in_ok-push.ensures.items c.new.ensures.items (subst (λ (s : SheetContent). length s.rows < 1048576) (sym c.self.view_is) c.requires.room)
+pub invariant_of-self : goal.invariant_of-self
+invariant_of-self c =
+    kept_row c.push_row.result c.self.inside.rows c.push_row.new.self c.self.inside.pages.entries c.self.inside.written c.self.invariant
+    c.push_row.ensures.ok c.push_row.ensures.err (subst (λ (s : SheetContent). length s.rows < 1048576) (sym c.self.view_is) c.requires.room)
