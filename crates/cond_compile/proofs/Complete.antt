@@ -1,16 +1,15 @@
 -- What a fitting tree spells is read.
-use Rattle.std.proofs.Common.{◌≡◌, ℕ, zero, suc, ◌+◌, ◌<◌, ◌≤◌, Bool, true, false, List, [], ◌∷◌, ◌++◌, Option, Some, None, refl, sym, ap, ◌∙◌, arith, append_assoc}
+use Rattle.std.proofs.Common.{◌≡◌, ℕ, suc, ◌<◌, ◌≤◌, Bool, true, false, List, [], ◌∷◌, ◌++◌, Option, Some, None, refl, ap, ◌∙◌, arith, append_assoc}
 use Rattle.std.specs.Prelude.{nat_lt, if◌then◌else◌}
 use Rattle.std.proofs.lemmas.Bool.{le-ltb, lt-ltb}
-use Rattle.std.proofs.lemmas.List.{append-nil}
 use Rattle.cond_compile.specs.declared.operator.Operator.{Operator}
 use Rattle.cond_compile.specs.declared.operator.Operator.TheVariants as op
 use Rattle.cond_compile.specs.declared.operator.Prefix.{Prefix}
 use Rattle.cond_compile.specs.declared.operator.Prefix.TheVariants as prefixes
-use Rattle.cond_compile.specs.Expressions.{Expression, leaf, with_member, new_object, paren, member, index, type_test, prefixed, binary, missing, named, list, Leaf, literal, name, me, spelling, operator_level, prefix_level, prefix_piece, level, Fits, Spells}
+use Rattle.cond_compile.specs.Expressions.{Expression, leaf, with_member, new_object, paren, member, index, type_test, prefixed, binary, missing, named, list, literal, name, me, spelling, operator_level, prefix_level, prefix_piece, level, Fits, Spells}
 use Rattle.cond_compile.specs.Pieces as piece
 use Rattle.cond_compile.specs.Pieces.{Piece}
-use Rattle.cond_compile.specs.Reader.{Frame, Binary, Prefixed, Paren, Index, TypeTest, Named, Listed, Member, TypeName, State, Want, Name, Have, Wait, room, reduce, opened, operated, closed, step, next, run, whole, finish, with_rest, trees, Reading, ToEnd, BeforeThen, reading_of, expression_at}
+use Rattle.cond_compile.specs.Reader.{Frame, Binary, Prefixed, Paren, Index, TypeTest, Named, Listed, Member, TypeName, State, Want, Name, Have, Wait, room, reduce, opened, operated, closed, step, next, run, whole, finish, with_rest, trees, ToEnd, BeforeThen, reading_of, expression_at}
 
 abbrev pub Frames : Type 0
 Frames = List (Frame Expression)

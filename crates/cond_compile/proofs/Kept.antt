@@ -31,7 +31,7 @@ kept_count source standing (line ∷ lines) =
     if_count (is_kept_line source standing line) line (view_count lines) (kept_lines source (behind source standing line) lines)
     (kept_count source (behind source standing line) lines)
 
-kept_by : (least : Option Refusal) (kept wanted : List LexedLine) → verdict least kept ≡ Ok wanted → kept ≡ wanted
+pub kept_by : (least : Option Refusal) (kept wanted : List LexedLine) → verdict least kept ≡ Ok wanted → kept ≡ wanted
 kept_by None kept wanted e = cc
 kept_by (Some refusal) kept wanted e = absurd cc
 

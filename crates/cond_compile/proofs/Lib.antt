@@ -1,8 +1,15 @@
 pub mod Rows
 pub mod Reading
 pub mod Least
+pub mod LeastRefusals
 pub mod Values
 pub mod Stacks
 pub mod Complete
 pub mod Sound
 pub mod Kept
+pub mod BlockLines
+pub mod BlocksKept
+pub mod BlocksUnique
+pub mod BlocksFound
+pub mod BlocksAnswer
+pub mod LexedFaults

@@ -1,5 +1,5 @@
 -- How a reading goes on and ends.
-use Rattle.std.proofs.Common.{◌≡◌, ℕ, Bool, true, false, ◌+◌, ◌≤◌, length, arith, List, [], ◌∷◌, Option, Some, None, refl, ap, ◌∙◌}
+use Rattle.std.proofs.Common.{◌≡◌, ℕ, true, false, ◌≤◌, length, arith, List, [], ◌∷◌, Option, Some, None, refl, ap, ◌∙◌}
 use Rattle.std.specs.Prelude.{if◌then◌else◌}
 use Rattle.vba_lexer.specs.declared.token.Token.{Token}
 use Rattle.cond_compile.specs.Advances.{read_from}

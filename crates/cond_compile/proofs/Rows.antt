@@ -1,15 +1,12 @@
 -- Worked rows.
-use Rattle.std.specs.Prelude.{◌≡◌, pos, [], ◌∷◌, refl, codes, true, false, Some, None, Ok, Err, map}
-use Rattle.vba_values.specs.Val.{whole, boolean, null}
+use Rattle.std.specs.Prelude.{◌≡◌, pos, [], ◌∷◌, refl, codes, true, false, Some, None}
+use Rattle.vba_values.specs.Val.{whole, null}
 use Rattle.vba_values.specs.declared.types.WholeKind.TheVariants.{Integer, Long}
-use Rattle.vba_lexer.specs.Lexed.{lexed}
 use Rattle.cond_compile.specs.declared.operator.Operator.TheVariants as op
-use Rattle.cond_compile.specs.declared.operator.Prefix.TheVariants as prefixes
 use Rattle.cond_compile.specs.Expressions as tree
 use Rattle.cond_compile.specs.Evaluation.{truth, value_of}
-use Rattle.cond_compile.specs.Pieces.{literal, name, operator, not_, left, right, comma, then_, apart_dot, gets}
+use Rattle.cond_compile.specs.Pieces.{literal, name, operator, not_, left, right, comma, then_, gets}
 use Rattle.cond_compile.specs.Reader.{expression_at}
-use Rattle.cond_compile.specs.Selection.{selected}
 
 -- 1 + 2 * a Then
 pub levels : expression_at (literal None ∷ operator op.Plus ∷ literal None ∷ operator op.Times ∷ name (codes "a") ∷ then_ ∷ [])

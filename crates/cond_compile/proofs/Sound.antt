@@ -1,17 +1,16 @@
 -- What is read is a fitting tree that spells the tokens.
-use Rattle.std.proofs.Common.{◌≡◌, ℕ, zero, suc, ◌+◌, ◌<◌, ◌≤◌, Bool, true, false, List, [], ◌∷◌, ◌++◌, Option, Some, None, refl, sym, ap, ◌∙◌, subst, arith, append_assoc}
+use Rattle.std.proofs.Common.{◌≡◌, ℕ, suc, ◌<◌, ◌≤◌, Bool, true, false, List, [], ◌∷◌, ◌++◌, Option, Some, None, refl, sym, ap, ◌∙◌, subst, arith, append_assoc}
 use Rattle.std.specs.Prelude.{nat_lt, if◌then◌else◌}
 use Rattle.std.proofs.lemmas.Bool.{ltb-true, ltb-false, cond_both}
 use Rattle.std.proofs.lemmas.List.{append-nil}
 use Rattle.cond_compile.specs.declared.operator.Operator.{Operator}
 use Rattle.cond_compile.specs.declared.operator.Operator.TheVariants as op
-use Rattle.cond_compile.specs.declared.operator.Prefix.{Prefix}
 use Rattle.cond_compile.specs.declared.operator.Prefix.TheVariants as prefixes
-use Rattle.cond_compile.specs.Expressions.{Expression, leaf, with_member, new_object, paren, member, index, type_test, prefixed, binary, missing, named, list, Leaf, literal, name, me, spelling, operator_level, prefix_level, prefix_piece, dot_piece, level, Fits, Spells}
+use Rattle.cond_compile.specs.Expressions.{Expression, leaf, prefixed, binary, missing, named, list, name, spelling, operator_level, prefix_level, prefix_piece, dot_piece, level, Fits, Spells}
 use Rattle.cond_compile.specs.Pieces as piece
 use Rattle.cond_compile.specs.Pieces.{Piece, is_then}
-use Rattle.cond_compile.specs.Reader.{Frame, Binary, Prefixed, Paren, Index, TypeTest, Named, Listed, Waiting, WithMember, NewObject, Member, TypeName, State, Want, Name, Have, Wait, room, reduce, opened, tested, operated, closed, if_argument, at_operator, at_comma, at_right, want, have, behind_name, wait, waited, step, next, run, whole, finish, with_rest, trees, Reading, ToEnd, BeforeThen, Other, reading_of, expression_at}
-use Rattle.cond_compile.proofs.Complete.{Frames, Pieces, steps, runs, operator_le, of_operator}
+use Rattle.cond_compile.specs.Reader.{Frame, Binary, Prefixed, Paren, Index, TypeTest, Named, Listed, Waiting, WithMember, NewObject, Member, TypeName, State, Want, Name, Have, Wait, room, reduce, opened, tested, operated, closed, want, have, behind_name, wait, next, run, whole, finish, with_rest, trees, Reading, ToEnd, BeforeThen, Other, reading_of, expression_at}
+use Rattle.cond_compile.proofs.Complete.{Frames, Pieces, steps, runs, of_operator}
 
 -- what was read so far
 abbrev told : Frame Expression → Pieces

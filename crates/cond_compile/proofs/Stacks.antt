@@ -1,5 +1,5 @@
 -- No constants are left.
-use Rattle.std.proofs.Common.{◌≡◌, ℕ, ◌+◌, List, [], ◌∷◌, length, refl, arith}
+use Rattle.std.proofs.Common.{◌≡◌, ℕ, List, [], ◌∷◌, length, refl, arith}
 use Rattle.vba_values.specs.Val.{empty}
 use Rattle.cond_compile.specs.declared.operand.Constant.{Constant}
 use Rattle.cond_compile.specs.Evaluation.{typed, value_of_name}

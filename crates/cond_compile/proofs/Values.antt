@@ -1,6 +1,6 @@
 -- Values are made along with reading as they are of the tree that is read.
-use Rattle.std.proofs.Common.{◌≡◌, ℕ, Bool, true, false, List, [], ◌∷◌, Option, Some, None, refl, sym, ap, ◌∙◌}
-use Rattle.std.specs.Prelude.{map, option_map, nat_lt, suc, if◌then◌else◌}
+use Rattle.std.proofs.Common.{◌≡◌, ℕ, Bool, true, false, List, [], ◌∷◌, Option, Some, None, refl, ap, ◌∙◌}
+use Rattle.std.specs.Prelude.{option_map, nat_lt, suc, if◌then◌else◌}
 use Rattle.cond_compile.specs.declared.operator.Operator.{Operator}
 use Rattle.cond_compile.specs.declared.operator.Operator.TheVariants as op
 use Rattle.cond_compile.specs.Evaluation.{Constant, Operand, of_leaf, value_of, values}
@@ -8,7 +8,7 @@ use Rattle.cond_compile.specs.Expressions as tree
 use Rattle.cond_compile.specs.Expressions.{Expression, operator_level, prefix_level}
 use Rattle.cond_compile.specs.Pieces as piece
 use Rattle.cond_compile.specs.Pieces.{Piece, is_then}
-use Rattle.cond_compile.specs.Reader.{Frame, Binary, Prefixed, Paren, Index, TypeTest, Named, Listed, Waiting, WithMember, NewObject, Member, TypeName, State, Want, Name, Have, Wait, frame_room, room, reduce, opened, tested, operated, closed, at_operator, at_comma, at_right, want, have, behind_name, wait, waited, step, next, run, whole, finish, with_rest, read, trees, Reading, ToEnd, BeforeThen, Other, goes_on, reading_of, expression_at}
+use Rattle.cond_compile.specs.Reader.{Frame, Binary, Prefixed, Paren, Index, TypeTest, Named, Listed, Waiting, WithMember, NewObject, Member, TypeName, State, Want, Name, Have, Wait, room, reduce, opened, tested, operated, closed, at_operator, at_comma, at_right, want, have, behind_name, wait, step, next, run, whole, finish, with_rest, read, trees, Reading, ToEnd, BeforeThen, Other, reading_of, expression_at}
 use Rattle.cond_compile.specs.Seen.{reading_values}
 use Rattle.cond_compile.specs.Selection.{in_condition, in_constant}
 

@@ -8,7 +8,6 @@ use Rattle.cond_compile.specs.declared.reader.Advanced.TheVariants.{On, Ended}
 use Rattle.cond_compile.specs.Evaluation.{of_leaf, values}
 use Rattle.cond_compile.specs.Expressions.{Leaf}
 use Rattle.cond_compile.specs.Pieces.{Piece, pieces_behind}
-use Rattle.cond_compile.specs.Reader as reader
 use Rattle.cond_compile.specs.Reader.{Making, Reading, State, finish, reading_of, run, with_rest}
 use Rattle.cond_compile.specs.Seen.{Outcome, constants_view, reading_view, state}
 

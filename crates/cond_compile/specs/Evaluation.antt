@@ -1,5 +1,5 @@
 -- The values of constant expressions.
-use Rattle.std.specs.Prelude.{ℕ, Bool, true, false, ◌||◌, List, [], ◌∷◌, Option, Some, None, Result, Ok, Err, if◌then◌else◌}
+use Rattle.std.specs.Prelude.{ℕ, Bool, true, false, ◌||◌, List, [], ◌∷◌, Option, Some, None, Result, Ok, if◌then◌else◌, bytes_eq}
 use Rattle.vba_values.specs.declared.fault.Bad.{Bad}
 use Rattle.vba_values.specs.declared.object.ObjRef.TheVariants.{Nothing}
 use Rattle.vba_values.specs.declared.types.Compare.TheVariants.{Binary}
@@ -10,7 +10,7 @@ use Rattle.vba_values.specs.Coerce.{to_boolean}
 use Rattle.vba_values.specs.Operators.{binary_of, unary_of}
 use Rattle.vba_values.specs.Types.{Declared}
 use Rattle.vba_values.specs.Types as type
-use Rattle.vba_values.specs.Val.{Val, empty, null, missing, boolean, whole, currency, text, object, array, udt}
+use Rattle.vba_values.specs.Val.{Val, empty, null, boolean, whole, currency, text, object}
 use Rattle.cond_compile.specs.declared.operator.Operator.{Operator}
 use Rattle.cond_compile.specs.declared.operator.Operator.TheVariants as op
 use Rattle.cond_compile.specs.declared.operator.Prefix.{Prefix}
@@ -19,7 +19,6 @@ use Rattle.cond_compile.specs.Expressions as tree
 use Rattle.cond_compile.specs.Expressions.{Expression, Leaf}
 use Rattle.cond_compile.specs.Literals.{answered}
 use Rattle.cond_compile.specs.Reader.{Making}
-use Rattle.cond_compile.specs.Words.{same_text}
 
 -- a name of a `#Const` line, folded, and its value
 pub record Constant : Type 0 where
@@ -60,7 +59,7 @@ typed value = record { value = value; variant = is_open value }
 abbrev pub value_of_name : List Constant → List ℕ → Operand
 value_of_name [] name = typed empty
 value_of_name (constant ∷ constants) name =
-    if same_text constant.name name then typed constant.value else value_of_name constants name
+    if bytes_eq constant.name name then typed constant.value else value_of_name constants name
 
 -- the operators of tables; `/` and `^` have none, since they give a Double
 abbrev pub kind_of : Operator → Option OpKind

@@ -9,4 +9,5 @@ pub mod Selection
 pub mod Seen
 pub mod Advances
 pub mod Kept
+pub mod Blocks
 pub use Rattle.vba_base.specs.Answer

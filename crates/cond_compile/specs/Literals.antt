@@ -1,10 +1,9 @@
--- The values of literals.
-use Rattle.std.specs.Prelude.{ℕ, ◌==◌, Bool, List, [], ◌∷◌, Option, Some, None, Result, Ok, Err, if◌then◌else◌}
+-- The values of number literals.
+use Rattle.std.specs.Prelude.{Option, Some, None, Result, Ok, Err}
 use Rattle.vba_lexer.specs.declared.number.Number.{Number}
 use Rattle.vba_lexer.specs.declared.number.NumberFault.{NumberFault}
 use Rattle.vba_lexer.specs.declared.number.NumberKind.{NumberKind}
 use Rattle.vba_lexer.specs.declared.number.NumberKind.TheVariants.{Integer, Long, LongLong, Currency}
-use Rattle.vba_lexer.specs.Numbers.{number_of}
 use Rattle.vba_values.specs.declared.types.WholeKind.TheVariants as kind
 use Rattle.vba_values.specs.Coerce.{to_whole}
 use Rattle.vba_values.specs.Val.{Val, whole, currency}
@@ -28,19 +27,3 @@ number_value number = of_kind number.kind
 abbrev pub value_of_number : Result Number NumberFault → Option Val
 value_of_number (Ok number) = number_value number
 value_of_number (Err fault) = None
-
-abbrev mutual
-  -- what stands between the quotes of a string literal, each doubled quote once; from behind the opening quote
-  pub between_quotes : List ℕ → List ℕ
-  between_quotes [] = []
-  between_quotes (unit ∷ text) = if unit == 34 then behind_quote text else unit ∷ between_quotes text
-
-  -- behind a quote: nothing more, or the quote's double and what goes on
-  pub behind_quote : List ℕ → List ℕ
-  behind_quote [] = []
-  behind_quote (unit ∷ text) = unit ∷ between_quotes text
-
--- the text that a string literal stands for
-abbrev pub quoted_text : List ℕ → List ℕ
-quoted_text [] = []
-quoted_text (quote ∷ text) = between_quotes text

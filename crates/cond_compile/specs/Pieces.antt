@@ -1,5 +1,5 @@
 -- The tokens of an expression as the grammar reads them.
-use Rattle.std.specs.Prelude.{ℕ, ◌==◌, ◌<◌, nat_lt, Bool, true, false, ◌&&◌, List, [], ◌∷◌, codes, Option, Some, None, unwrap_or, if◌then◌else◌}
+use Rattle.std.specs.Prelude.{ℕ, ◌==◌, nat_lt, Bool, true, false, ◌&&◌, List, [], ◌∷◌, codes, Option, Some, None, unwrap_or, if◌then◌else◌, bytes_eq}
 use Rattle.vba_base.specs.Fold.{folded}
 use Rattle.vba_lexer.specs.declared.token.Token.{Token}
 use Rattle.vba_lexer.specs.declared.token.TokenKind.{TokenKind}
@@ -10,8 +10,9 @@ use Rattle.vba_values.specs.declared.object.ObjRef.TheVariants.{Nothing}
 use Rattle.vba_values.specs.Val.{Val, empty, null, boolean, text, object}
 use Rattle.cond_compile.specs.declared.operator.Operator.{Operator}
 use Rattle.cond_compile.specs.declared.operator.Operator.TheVariants as op
-use Rattle.cond_compile.specs.Literals.{quoted_text, value_of_number}
-use Rattle.cond_compile.specs.Words.{is_among, kept_words, name_in, same_text}
+use Rattle.vba_words.specs.Readings.{quoted_text}
+use Rattle.cond_compile.specs.Literals.{value_of_number}
+use Rattle.cond_compile.specs.Words.{is_among, kept_words, name_in}
 
 -- a token as the grammar of expressions reads it: a literal keeps its value, where it has one, and a name its fold
 pub data Piece : Type 0 where
@@ -38,33 +39,33 @@ is_then piece = false
 -- a word that is a literal
 abbrev pub literal_word : List ℕ → Option Val
 literal_word word =
-    if same_text word (codes "true") then Some (boolean true)
-    else if same_text word (codes "false") then Some (boolean false)
-    else if same_text word (codes "null") then Some null
-    else if same_text word (codes "empty") then Some empty
-    else if same_text word (codes "nothing") then Some (object Nothing)
+    if bytes_eq word (codes "true") then Some (boolean true)
+    else if bytes_eq word (codes "false") then Some (boolean false)
+    else if bytes_eq word (codes "null") then Some null
+    else if bytes_eq word (codes "empty") then Some empty
+    else if bytes_eq word (codes "nothing") then Some (object Nothing)
     else None
 
 -- a word that is an operator of two operands
 abbrev pub operator_word : List ℕ → Option Operator
 operator_word word =
-    if same_text word (codes "mod") then Some op.Mod
-    else if same_text word (codes "is") then Some op.Is
-    else if same_text word (codes "and") then Some op.And
-    else if same_text word (codes "or") then Some op.Or
-    else if same_text word (codes "xor") then Some op.Xor
-    else if same_text word (codes "eqv") then Some op.Eqv
-    else if same_text word (codes "imp") then Some op.Imp
+    if bytes_eq word (codes "mod") then Some op.Mod
+    else if bytes_eq word (codes "is") then Some op.Is
+    else if bytes_eq word (codes "and") then Some op.And
+    else if bytes_eq word (codes "or") then Some op.Or
+    else if bytes_eq word (codes "xor") then Some op.Xor
+    else if bytes_eq word (codes "eqv") then Some op.Eqv
+    else if bytes_eq word (codes "imp") then Some op.Imp
     else None
 
 -- another word that is no name, with a place in an expression or without
 abbrev pub grammar_word : List ℕ → Option Piece
 grammar_word word =
-    if same_text word (codes "me") then Some me
-    else if same_text word (codes "not") then Some not_
-    else if same_text word (codes "new") then Some new_
-    else if same_text word (codes "typeof") then Some type_of
-    else if same_text word (codes "then") then Some then_
+    if bytes_eq word (codes "me") then Some me
+    else if bytes_eq word (codes "not") then Some not_
+    else if bytes_eq word (codes "new") then Some new_
+    else if bytes_eq word (codes "typeof") then Some type_of
+    else if bytes_eq word (codes "then") then Some then_
     else if is_among kept_words word then Some other
     else None
 
@@ -130,7 +131,7 @@ spaced apart piece = piece
 
 -- a word behind a token: behind a dot every word is a name
 abbrev pub word_behind : List ℕ → List ℕ → Piece
-word_behind previous spelled = if same_text previous (codes ".") then name (name_in spelled) else word_piece spelled
+word_behind previous spelled = if bytes_eq previous (codes ".") then name (name_in spelled) else word_piece spelled
 
 -- a token that stands behind another one
 abbrev pub piece_behind : List ℕ → Token → Token → Piece

@@ -1,6 +1,6 @@
 -- Conditional compilation: which lines are kept, and which rules are broken.
-use Rattle.std.specs.Prelude.{ℕ, ◌==◌, Bool, true, false, ◌&&◌, ◌||◌, not, is_some, is_none, drop, List, [], ◌∷◌, ◌++◌, map, codes, Option, Some, None, option_map, unwrap_or, Result, Ok, Err, if◌then◌else◌}
-use Rattle.std.specs.List.{list_all, list_any}
+use Rattle.std.specs.Prelude.{ℕ, Bool, true, false, ◌&&◌, ◌||◌, not, is_some, is_none, drop, List, [], ◌∷◌, ◌++◌, map, codes, Option, Some, None, option_map, unwrap_or, Result, Ok, Err, if◌then◌else◌, bytes_eq}
+use Rattle.std.specs.List.{list_all}
 use Rattle.vba_base.specs.Fold.{folded}
 use Rattle.vba_base.specs.declared.place.Place.{Place}
 use Rattle.vba_base.specs.declared.place.Refusal.{Refusal}
@@ -19,7 +19,6 @@ use Rattle.cond_compile.specs.Order.{least_of}
 use Rattle.cond_compile.specs.Pieces as piece
 use Rattle.cond_compile.specs.Pieces.{Piece, pieces_behind}
 use Rattle.cond_compile.specs.Reader.{BeforeThen, Other, Reading, ToEnd, expression_at, reading_of}
-use Rattle.cond_compile.specs.Words.{same_text}
 
 -- a line whose first token is `#`: its kind, the last of its first words, and the tokens behind them
 pub record Directive : Type 0 where
@@ -34,24 +33,24 @@ word_at source token = folded (text_of source token)
 -- the kind that one word behind `#` tells
 abbrev pub kind_of_word : List ℕ → Option DirectiveKind
 kind_of_word word =
-    if same_text word (codes "const") then Some Constant
-    else if same_text word (codes "if") then Some If
-    else if same_text word (codes "elseif") then Some ElseIf
-    else if same_text word (codes "else") then Some Else
+    if bytes_eq word (codes "const") then Some Constant
+    else if bytes_eq word (codes "if") then Some If
+    else if bytes_eq word (codes "elseif") then Some ElseIf
+    else if bytes_eq word (codes "else") then Some Else
     else None
 
 -- behind `#` and End: If, or no directive that there is
 abbrev pub ending : List ℕ → Token → List Token → Directive
 ending source last [] = record { kind = Unknown; last = last; rest = [] }
 ending source last (token ∷ tokens) =
-    if same_text (word_at source token) (codes "if") then record { kind = EndIf; last = token; rest = tokens }
+    if bytes_eq (word_at source token) (codes "if") then record { kind = EndIf; last = token; rest = tokens }
     else record { kind = Unknown; last = last; rest = token ∷ tokens }
 
 -- behind `#` and a word that may tell the kind
 abbrev pub other_words : List ℕ → Token → Token → List Token → Option DirectiveKind → Directive
 other_words source hash token tokens (Some kind) = record { kind = kind; last = token; rest = tokens }
 other_words source hash token tokens None =
-    if same_text (word_at source token) (codes "end") then ending source token tokens
+    if bytes_eq (word_at source token) (codes "end") then ending source token tokens
     else record { kind = Unknown; last = hash; rest = token ∷ tokens }
 
 -- the directive behind `#`, by its first words
@@ -63,7 +62,7 @@ by_words source hash (token ∷ tokens) = other_words source hash token tokens (
 abbrev pub directive_in : List ℕ → List Token → Option Directive
 directive_in source [] = None
 directive_in source (token ∷ tokens) =
-    if same_text (text_of source token) (codes "#") then Some (by_words source token tokens) else None
+    if bytes_eq (text_of source token) (codes "#") then Some (by_words source token tokens) else None
 
 -- e Then
 abbrev pub in_condition : {A : Type 0} → Reading A → Option A

@@ -1,12 +1,8 @@
 -- Words: how they match, and which names they are.
-use Rattle.std.specs.Prelude.{ℕ, ◌-◌, ◌==◌, Bool, true, false, List, [], ◌∷◌, length, take, codes, bytes_eq, if◌then◌else◌}
+use Rattle.std.specs.Prelude.{ℕ, ◌-◌, ◌==◌, Bool, List, [], ◌∷◌, length, take, codes, bytes_eq, if◌then◌else◌}
 use Rattle.std.specs.List.{list_any}
 use Rattle.vba_base.specs.Fold.{folded}
 use Rattle.vba_lexer.specs.Numbers.{without_suffix}
-
--- two texts are the same units
-abbrev pub same_text : List ℕ → List ℕ → Bool
-same_text = bytes_eq
 
 -- the words that are no names, but behind a dot and in brackets; in lower case
 abbrev pub kept_words : List (List ℕ)
@@ -22,9 +18,9 @@ kept_words =
     ∷ codes "then" ∷ codes "to" ∷ codes "true" ∷ codes "type" ∷ codes "typeof" ∷ codes "until" ∷ codes "wend" ∷ codes "while"
     ∷ codes "with" ∷ codes "withevents" ∷ codes "xor" ∷ []
 
--- is a folded text one of these words
+-- is a folded text one of these words, unit by unit
 abbrev pub is_among : List (List ℕ) → List ℕ → Bool
-is_among words text = list_any (λ word. same_text text word) words
+is_among words text = list_any (λ word. bytes_eq text word) words
 
 -- a word without its brackets or its suffix
 abbrev pub bare_word : List ℕ → List ℕ

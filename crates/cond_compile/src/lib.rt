@@ -19,6 +19,9 @@ mod words;
 
 pub use arm::Arm;
 pub use directive::DirectiveKind;
-pub use laws::{kept_lines_are_lines, what_is_read_is_spelled, what_is_spelled_is_read};
+pub use laws::{
+    blocks_are_matched, first_true_arms_are_kept, kept_lines_are_lines, refusals_are_least,
+    what_is_read_is_spelled, what_is_spelled_is_read,
+};
 pub use operator::{Operator, Prefix};
 pub use select::select_lines;

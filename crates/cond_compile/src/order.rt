@@ -1,28 +1,29 @@
 //! The least refusal: by place, and then by rule.
 
 ghost use Rattle.std.specs.Prelude.{◌≡◌, [], ◌∷◌, Some};
+ghost use Rattle.vba_lexer.specs.Order.{is_before, is_same_place, not_later};
 ghost use Rattle.cond_compile.specs.Order as order;
 ghost use Rattle.cond_compile.specs.Selection.{broken_if, fault_list};
 
 use vba_base::{Place, Refusal};
 
 fn is_before(first: Place, second: Place) -> bool
-    ensures { result ≡ order.is_before first second }
+    ensures { result ≡ is_before first second }
 {
     first.line < second.line || (first.line == second.line && first.column < second.column)
 }
 
 fn is_same_place(first: Place, second: Place) -> bool
-    ensures { result ≡ order.is_same_place first second }
+    ensures { result ≡ is_same_place first second }
 {
     first.line == second.line && first.column == second.column
 }
 
-fn goes_before(first: Refusal, second: Refusal) -> bool
-    ensures { result ≡ order.goes_before first second }
+fn not_later(first: Refusal, second: Refusal) -> bool
+    ensures { result ≡ not_later first second }
 {
     is_before(first.place, second.place)
-        || (is_same_place(first.place, second.place) && first.rule < second.rule)
+        || (is_same_place(first.place, second.place) && first.rule <= second.rule)
 }
 
 /// Keeps the lesser of what was found and one more.
@@ -30,7 +31,7 @@ pub fn note(least: &mut Option<Refusal>, refusal: Refusal)
     ensures { least.new ≡ Some (order.lesser least.old refusal) }
 {
     *least = match *least {
-        Some(found) if !goes_before(refusal, found) => Some(found),
+        Some(found) if not_later(found, refusal) => Some(found),
         _ => Some(refusal),
     };
 }

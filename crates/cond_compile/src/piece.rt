@@ -9,13 +9,14 @@ ghost use Rattle.cond_compile.specs.Pieces as pieces;
 ghost use Rattle.cond_compile.specs.Pieces.{is_apart, spaced};
 ghost use Rattle.cond_compile.specs.Seen.{piece_view};
 
-use crate::literals::{quoted_text, value_of_number};
+use crate::literals::value_of_number;
 use crate::operator::Operator;
 use crate::words::{is_kept_word, is_word, name_in};
 use std::alloc::Global;
 use vba_base::{Name, NoMemory, Units, name_of};
 use vba_lexer::{Token, TokenKind, slice_of};
 use vba_values::{ObjRef, Value};
+use vba_words::quoted_text;
 
 /// A token of an expression: a literal with its value, where it has one, a name, or a word or mark of the grammar.
 #[derive(Drop)]

@@ -1,6 +1,6 @@
 //! Words of the grammar.
 
-ghost use Rattle.std.specs.Prelude.{◌≡◌, IfOk};
+ghost use Rattle.std.specs.Prelude.{◌≡◌, IfOk, bytes_eq};
 ghost use Rattle.std.specs.List.{list_any};
 ghost use Rattle.vba_base.specs.Fold.{folded};
 ghost use Rattle.cond_compile.specs.Words as words;
@@ -90,7 +90,7 @@ const KEPT_WORDS: [&[u8]; 75] = [
 
 /// Are units these letters?
 pub fn is_word(text: &[u16], word: &[u8]) -> bool
-    ensures { result ≡ words.same_text text.now word.now }
+    ensures { result ≡ bytes_eq text.now word.now }
 {
     let mut left = text;
     let mut wanted = word;
@@ -106,7 +106,7 @@ pub fn is_word(text: &[u16], word: &[u8]) -> bool
 
 /// Is a text one of these words?
 fn is_among(text: &[u16], wanted: &[&[u8]]) -> bool
-    ensures { result ≡ list_any (λ word. words.same_text text.now word.now) wanted.now }
+    ensures { result ≡ list_any (λ word. bytes_eq text.now word.now) wanted.now }
 {
     wanted.iter().any(|word| is_word(text, word))
 }

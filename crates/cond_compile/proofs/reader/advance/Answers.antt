@@ -1,5 +1,5 @@
 -- A Then that is not the last token ends no expression.
-use Rattle.std.proofs.Common.{◌≡◌, ◌∙◌, ap, arith, sym}
+use Rattle.std.proofs.Common.{◌∙◌, ap, arith, sym}
 use Rattle.cond_compile.specs.Evaluation.{of_leaf, values}
 use Rattle.cond_compile.specs.Pieces.{is_then, piece_behind}
 use Rattle.cond_compile.specs.Seen.{constants_view, state}
