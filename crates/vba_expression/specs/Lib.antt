@@ -1,0 +1,9 @@
+pub mod Tree
+pub mod Spelling
+pub mod Fitting
+pub mod View
+pub mod Parts
+pub mod Reader
+pub mod Taking
+pub mod Seen
+pub mod Tokens
