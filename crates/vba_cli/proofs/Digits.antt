@@ -5,7 +5,7 @@ use Rattle.std.specs.List.{list_all}
 use Rattle.std.proofs.lemmas.Bool.{le-leb, lt-leb, and_from, and_left, and_right}
 use Rattle.std.proofs.lemmas.List.{drop_more, drop_all}
 use Rattle.vba_lexer.specs.Classes.{is_digit}
-use Rattle.vba_tree.specs.Standing.{number_from}
+use Rattle.built_form.specs.Standing.{number_from}
 use Rattle.vba_cli.specs.Reading.{small_number}
 
 -- what was read before is at most the whole number

@@ -16,12 +16,12 @@ use Rattle.vba_lexer.specs.declared.token.Token.{Token}
 use Rattle.vba_lexer.specs.Lexed.{LexedLine, lexed}
 use Rattle.vba_lexer.specs.Inside.{view_count}
 use Rattle.vba_lexer.proofs.Inside.{view_count-lexed}
-use Rattle.vba_tree.specs.declared.expression.Expression.{Expression}
-use Rattle.vba_tree.specs.declared.expression.Expression.TheVariants as expression
-use Rattle.vba_tree.specs.declared.expression.WholeLiteral.{WholeLiteral}
-use Rattle.vba_tree.specs.declared.line.LineTree.{LineTree}
-use Rattle.vba_tree.specs.declared.line.LineTree.TheVariants.{ProcedureHeader, Print, ProcedureEnd}
-use Rattle.vba_tree.specs.Standing.{stands, whole_stands, mark_stands, expression_stands}
+use Rattle.built_form.specs.declared.expression.Expression.{Expression}
+use Rattle.built_form.specs.declared.expression.Expression.TheVariants as expression
+use Rattle.built_form.specs.declared.expression.WholeLiteral.{WholeLiteral}
+use Rattle.built_form.specs.declared.line.LineTree.{LineTree}
+use Rattle.built_form.specs.declared.line.LineTree.TheVariants.{ProcedureHeader, Print, ProcedureEnd}
+use Rattle.built_form.specs.Standing.{stands, whole_stands, mark_stands, expression_stands}
 use Rattle.cond_compile.proofs.Kept.{selected_count}
 use Rattle.vba_meaning.specs.Meaning.{Statements, meaning}
 use Rattle.vba_meaning.specs.Laws.{IsSmall, AreSmall}

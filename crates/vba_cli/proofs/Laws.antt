@@ -9,19 +9,19 @@ use Rattle.vba_lexer.specs.declared.token.TokenKind.{TokenKind}
 use Rattle.vba_lexer.specs.declared.token.TokenKind.TheVariants as kind
 use Rattle.vba_lexer.specs.Classes.{is_digit}
 use Rattle.vba_lexer.specs.Lexed.{text_of}
-use Rattle.vba_tree.specs.declared.expression.WholeLiteral.{WholeLiteral}
-use Rattle.vba_tree.specs.declared.expression.TextLiteral.{TextLiteral}
-use Rattle.vba_tree.specs.declared.expression.Expression.{Expression}
-use Rattle.vba_tree.specs.declared.expression.Expression.TheVariants.{Whole, Text, Sum}
-use Rattle.vba_tree.specs.declared.line.LineTree.{LineTree}
-use Rattle.vba_tree.specs.declared.line.LineTree.TheVariants.{ProcedureHeader, Print, ProcedureEnd}
-use Rattle.vba_tree.specs.Spelling.{spelling, expression_spelling}
-use Rattle.vba_tree.specs.Standing.{Spells, is_word, is_whole, is_text, is_mark, number_of, word_stands, mark_stands, whole_stands, text_stands, expression_stands, stands}
+use Rattle.built_form.specs.declared.expression.WholeLiteral.{WholeLiteral}
+use Rattle.built_form.specs.declared.expression.TextLiteral.{TextLiteral}
+use Rattle.built_form.specs.declared.expression.Expression.{Expression}
+use Rattle.built_form.specs.declared.expression.Expression.TheVariants.{Whole, Text, Sum}
+use Rattle.built_form.specs.declared.line.LineTree.{LineTree}
+use Rattle.built_form.specs.declared.line.LineTree.TheVariants.{ProcedureHeader, Print, ProcedureEnd}
+use Rattle.built_form.specs.Spelling.{spelling, expression_spelling}
+use Rattle.built_form.specs.Standing.{Spells, is_word, is_whole, is_text, is_mark, number_of, word_stands, mark_stands, whole_stands, text_stands, expression_stands, stands}
 use Rattle.vba_words.specs.Readings.{quoted_text}
 use Rattle.vba_lexer.specs.Tokens.{same_text}
 use Rattle.vba_cli.specs.Form.{whole_literal, literal, where_stands, or_else, line_tree}
 use Rattle.vba_cli.specs.Reading.{header_at, sum_of}
-use Rattle.vba_tree.proofs.SameText.{same_text-true}
+use Rattle.built_form.proofs.SameText.{same_text-true}
 
 -- a candidate that stands spells its tokens
 where_stands-some : (source : List ℕ) (candidate tree : LineTree) → where_stands source candidate ≡ Some tree → Spells source (spelling candidate) tree

@@ -8,13 +8,13 @@ use Rattle.vba_lexer.specs.declared.token.TokenKind.{TokenKind}
 use Rattle.vba_lexer.specs.declared.token.TokenKind.TheVariants as kind
 use Rattle.vba_lexer.specs.Classes.{is_digit}
 use Rattle.vba_lexer.specs.Lexed.{text_of}
-use Rattle.vba_tree.specs.declared.expression.WholeLiteral.{WholeLiteral}
-use Rattle.vba_tree.specs.declared.expression.Expression.TheVariants.{Whole, Text}
-use Rattle.vba_tree.specs.Standing.{is_whole, is_text, number_of, whole_stands}
+use Rattle.built_form.specs.declared.expression.WholeLiteral.{WholeLiteral}
+use Rattle.built_form.specs.declared.expression.Expression.TheVariants.{Whole, Text}
+use Rattle.built_form.specs.Standing.{is_whole, is_text, number_of, whole_stands}
 use Rattle.vba_words.specs.Readings.{quoted_text}
 use Rattle.vba_cli.specs.Form.{whole_literal}
 use Rattle.vba_cli.specs.Reading.{small_number, whole_at, literal_at}
-use Rattle.vba_tree.proofs.SameText.{same_text-refl}
+use Rattle.built_form.proofs.SameText.{same_text-refl}
 
 is_whole_other : (k : TokenKind) → (k ≡ kind.Whole → ⊥) → is_whole k ≡ false
 is_whole_other kind.Word other = refl

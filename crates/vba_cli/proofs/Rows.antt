@@ -3,7 +3,7 @@ use Rattle.std.specs.Prelude.{◌≡◌, ℕ, List, [], ◌∷◌, ◌++◌, ref
 use Rattle.vba_lexer.specs.declared.token.Token.{Token}
 use Rattle.vba_lexer.specs.declared.token.TokenKind.{TokenKind}
 use Rattle.vba_lexer.specs.declared.token.TokenKind.TheVariants as kind
-use Rattle.vba_tree.specs.declared.expression.Expression.TheVariants.{Whole, Text, Sum}
+use Rattle.built_form.specs.declared.expression.Expression.TheVariants.{Whole, Text, Sum}
 use Rattle.std.specs.Str.{is_utf8, chars}
 use lib.Utf8.{encode}
 use Rattle.vba_base.specs.Decode.{decoded}

@@ -6,9 +6,9 @@ use Rattle.std.proofs.lemmas.List.Concat.{flat_map-append}
 use Rattle.std.proofs.lemmas.Bool.{ltb-true, ltb-false}
 use Rattle.std.proofs.lemmas.Option.{slice_get_past}
 use Rattle.vba_base.specs.declared.place.Place.{Place}
-use Rattle.vba_tree.specs.declared.expression.Expression.{Expression}
-use Rattle.vba_tree.specs.declared.expression.Expression.TheVariants as expression
-use Rattle.vba_tree.specs.declared.line.PrintStatement.{PrintStatement}
+use Rattle.built_form.specs.declared.expression.Expression.{Expression}
+use Rattle.built_form.specs.declared.expression.Expression.TheVariants as expression
+use Rattle.built_form.specs.declared.line.PrintStatement.{PrintStatement}
 use Rattle.vba_meaning.specs.declared.event.Event.{Event}
 use Rattle.vba_meaning.specs.declared.event.Event.TheVariants.{Print, Error}
 use Rattle.vba_meaning.specs.declared.outcome.Outcome.{Outcome}

@@ -9,10 +9,10 @@ use Rattle.vba_lexer.specs.declared.line.Line.{Line}
 use Rattle.vba_lexer.specs.declared.token.Token.{Token}
 use Rattle.vba_lexer.specs.Inside.{IsWithin, LiesIn, AllLieIn}
 use Rattle.vba_lexer.specs.Lexed.{lines_view}
-use Rattle.vba_tree.specs.declared.expression.Expression.{Expression}
-use Rattle.vba_tree.specs.declared.line.LineTree.{LineTree}
-use Rattle.vba_tree.specs.declared.line.LineTree.TheVariants.{Print}
-use Rattle.vba_tree.specs.Standing.{expression_stands}
+use Rattle.built_form.specs.declared.expression.Expression.{Expression}
+use Rattle.built_form.specs.declared.line.LineTree.{LineTree}
+use Rattle.built_form.specs.declared.line.LineTree.TheVariants.{Print}
+use Rattle.built_form.specs.Standing.{expression_stands}
 use Rattle.vba_cli.specs.Form.{literal, line_tree, line_trees, with_line, where_stands}
 use Rattle.vba_cli.specs.Reading.{TokensLie, literal_at, header_at, sum_of, sum_at, print_stands, print_at}
 

@@ -3,8 +3,8 @@ use Rattle.std.proofs.Common.{◌≡◌, ℕ, ◌+◌, ◌<◌, ◌≤◌, true,
 use Rattle.std.specs.Prelude.{◌==◌, ◌&&◌}
 use Rattle.std.proofs.lemmas.Bool.{eq-eqb, ne_eqb}
 use Rattle.std.proofs.lemmas.List.{length-map, drop_more, drop_all}
-use Rattle.vba_tree.proofs.SameText.{same_text_sizes}
-use Rattle.vba_tree.specs.Standing.{matches}
+use Rattle.built_form.proofs.SameText.{same_text_sizes}
+use Rattle.built_form.specs.Standing.{matches}
 use Rattle.vba_lexer.specs.Tokens.{lower}
 use Rattle.vba_cli.specs.Reading.{is_unit}
 

@@ -1,6 +1,6 @@
 -- The words of a command. Words and names are lists of bytes.
 use Rattle.std.specs.Prelude.{ℕ, ◌-◌, Bool, false, ◌==◌, ◌&&◌, not, List, [], ◌∷◌, length, drop, codes, Option, Some, None, if◌then◌else◌}
-use Rattle.vba_tree.specs.Standing.{matches}
+use Rattle.built_form.specs.Standing.{matches}
 use Rattle.vba_lexer.specs.Tokens.{same_text}
 
 -- the last four bytes are `.bas`, in any case

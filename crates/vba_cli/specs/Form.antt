@@ -6,12 +6,12 @@ use Rattle.vba_base.specs.declared.place.Refusal.{Refusal}
 use Rattle.cond_compile.specs.Selection.{selected}
 use Rattle.vba_lexer.specs.declared.token.Token.{Token}
 use Rattle.vba_lexer.specs.Lexed.{LexedLine, lexed, text_of}
-use Rattle.vba_tree.specs.declared.expression.Expression.{Expression}
-use Rattle.vba_tree.specs.declared.expression.Expression.TheVariants.{Whole, Text, Sum}
-use Rattle.vba_tree.specs.declared.expression.WholeLiteral.{WholeLiteral}
-use Rattle.vba_tree.specs.declared.line.LineTree.{LineTree}
-use Rattle.vba_tree.specs.declared.line.LineTree.TheVariants.{ProcedureHeader, Print, ProcedureEnd}
-use Rattle.vba_tree.specs.Standing.{number_of, is_text, stands}
+use Rattle.built_form.specs.declared.expression.Expression.{Expression}
+use Rattle.built_form.specs.declared.expression.Expression.TheVariants.{Whole, Text, Sum}
+use Rattle.built_form.specs.declared.expression.WholeLiteral.{WholeLiteral}
+use Rattle.built_form.specs.declared.line.LineTree.{LineTree}
+use Rattle.built_form.specs.declared.line.LineTree.TheVariants.{ProcedureHeader, Print, ProcedureEnd}
+use Rattle.built_form.specs.Standing.{number_of, is_text, stands}
 use Rattle.vba_words.specs.Readings.{quoted_text}
 use Rattle.vba_meaning.specs.Meaning.{Statements}
 

@@ -11,4 +11,4 @@ pub use Rattle.vba_base.specs.Map
 pub use Rattle.vba_base.specs.Outside
 pub use Rattle.vba_meaning.specs.Meaning
 pub use Rattle.vba_meaning.specs.Texts
-pub use Rattle.vba_tree.specs.Standing
+pub use Rattle.built_form.specs.Standing

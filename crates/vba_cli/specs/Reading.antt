@@ -4,12 +4,12 @@ use Rattle.std.specs.List.{AllByRecursion, list_all}
 use Rattle.vba_lexer.specs.declared.token.Token.{Token}
 use Rattle.vba_lexer.specs.Classes.{is_digit}
 use Rattle.vba_lexer.specs.Inside.{IsWithin}
-use Rattle.vba_tree.specs.declared.expression.Expression.{Expression}
-use Rattle.vba_tree.specs.declared.expression.Expression.TheVariants.{Sum}
-use Rattle.vba_tree.specs.declared.expression.WholeLiteral.{WholeLiteral}
-use Rattle.vba_tree.specs.declared.line.LineTree.{LineTree}
-use Rattle.vba_tree.specs.declared.line.LineTree.TheVariants.{ProcedureHeader, Print}
-use Rattle.vba_tree.specs.Standing.{number_from, whole_stands, expression_stands, word_stands, mark_stands}
+use Rattle.built_form.specs.declared.expression.Expression.{Expression}
+use Rattle.built_form.specs.declared.expression.Expression.TheVariants.{Sum}
+use Rattle.built_form.specs.declared.expression.WholeLiteral.{WholeLiteral}
+use Rattle.built_form.specs.declared.line.LineTree.{LineTree}
+use Rattle.built_form.specs.declared.line.LineTree.TheVariants.{ProcedureHeader, Print}
+use Rattle.built_form.specs.Standing.{number_from, whole_stands, expression_stands, word_stands, mark_stands}
 use Rattle.vba_lexer.specs.Tokens.{same_text}
 use Rattle.vba_cli.specs.Form.{whole_literal, literal, where_stands}
 

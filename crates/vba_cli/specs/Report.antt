@@ -1,8 +1,8 @@
 -- What running the statements of Main gives.
 use Rattle.std.specs.Prelude.{◌≡◌, ℕ, nat_lt, pos, Result, Ok, Err, if◌then◌else◌}
 use Rattle.vba_base.specs.declared.place.Place.{Place}
-use Rattle.vba_tree.specs.declared.expression.Expression.{Expression}
-use Rattle.vba_tree.specs.declared.expression.Expression.TheVariants as expression
+use Rattle.built_form.specs.declared.expression.Expression.{Expression}
+use Rattle.built_form.specs.declared.expression.Expression.TheVariants as expression
 use Rattle.vba_meaning.specs.declared.outcome.Outcome.{Outcome}
 use Rattle.vba_meaning.specs.declared.outcome.Outcome.TheVariants as outcome
 use Rattle.vba_meaning.specs.Values.{Val, integer, text, sum_of, printed}

@@ -12,10 +12,10 @@ use crate::form::program;
 use crate::messages::status_line;
 use crate::run::run;
 use crate::status::Status;
+use built_form::PrintStatement;
 use std::alloc::Global;
 use vba_base::{Files, OrMemory, Place, ReadAnswer, Sink, WriteAnswer};
 use vba_meaning::Outcome;
-use vba_tree::PrintStatement;
 
 /// The bound on turns where the words name none.
 const DEFAULT_TURNS: u64 = 10_000_000;

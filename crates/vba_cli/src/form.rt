@@ -5,20 +5,20 @@ ghost use Rattle.vba_base.specs.Answer.{Gives};
 ghost use Rattle.vba_lexer.specs.Inside.{AllLieIn};
 ghost use Rattle.vba_lexer.specs.Lexed.{lines_view};
 ghost use Rattle.vba_lexer.specs.declared.token.Token.{Token};
-ghost use Rattle.vba_tree.specs.declared.line.LineTree.{LineTree};
-ghost use Rattle.vba_tree.specs.Standing.{Spells};
+ghost use Rattle.built_form.specs.declared.line.LineTree.{LineTree};
+ghost use Rattle.built_form.specs.Standing.{Spells};
 ghost use Rattle.vba_meaning.specs.declared.outcome.Outcome.TheVariants.{Ended};
 ghost use Rattle.vba_meaning.specs.Meaning.{Statements, meaning};
 ghost use Rattle.vba_cli.specs.Answer.{default_turns};
 ghost use Rattle.vba_cli.specs.Form.{body_of, line_tree, main_of, program_of, statements_of};
 
 use crate::reading;
+use built_form::{LineTree, PrintStatement};
 use cond_compile::select_lines;
 use std::alloc::Global;
 use std::collections::VecDeque;
 use vba_base::{NoMemory, OrMemory, Refusal, Units, decode_source};
 use vba_lexer::{Line, lex};
-use vba_tree::{LineTree, PrintStatement};
 
 /// The longest file that is built so far, in bytes.
 const LONGEST_BUILT: usize = 1048576;

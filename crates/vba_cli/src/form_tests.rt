@@ -1,8 +1,8 @@
 use crate::form::{program, reading_law};
+use built_form::{Expression, PrintStatement};
 use std::process::Abort;
 use std::test::Fail;
 use vba_base::{NoMemory, OrMemory, Place, Refusal};
-use vba_tree::{Expression, PrintStatement};
 
 /// The statements of a file, or the rule that it breaks.
 fn read(

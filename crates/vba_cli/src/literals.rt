@@ -1,7 +1,7 @@
 //! The texts of single tokens: words, marks and whole numbers.
 
 ghost use Rattle.std.specs.Prelude.{◌≡◌, [], ◌∷◌};
-ghost use Rattle.vba_tree.specs.Standing.{matches};
+ghost use Rattle.built_form.specs.Standing.{matches};
 ghost use Rattle.vba_lexer.specs.Tokens.{lower};
 ghost use Rattle.vba_cli.specs.Reading.{small_number, is_unit};
 

@@ -3,19 +3,19 @@
 ghost use Rattle.std.specs.Prelude.{◌≡◌, [], ◌∷◌, length, IfOk, option_map};
 ghost use Rattle.vba_lexer.specs.Inside.{AllLieIn, IsWithin};
 ghost use Rattle.vba_lexer.specs.Lexed.{lines_view};
-ghost use Rattle.vba_tree.specs.Standing.{word_stands, mark_stands};
+ghost use Rattle.built_form.specs.Standing.{word_stands, mark_stands};
 ghost use Rattle.vba_cli.specs.Form.{line_tree, line_trees};
 ghost use Rattle.vba_cli.specs.Reading.{TokensLie, whole_at, literal_at, header_at, sum_at, print_at};
 
 use crate::literals;
+use built_form::{
+    Expression, LineTree, PrintStatement, ProcedureEnd, ProcedureHeader, Sum, TextLiteral,
+    WholeLiteral,
+};
 use std::alloc::Global;
 use std::collections::VecDeque;
 use vba_base::{NoMemory, Units};
 use vba_lexer::{Line, Token, TokenKind, slice_of};
-use vba_tree::{
-    Expression, LineTree, PrintStatement, ProcedureEnd, ProcedureHeader, Sum, TextLiteral,
-    WholeLiteral,
-};
 use vba_words::quoted_text;
 
 // Is the token this word of the grammar, given in lower case?

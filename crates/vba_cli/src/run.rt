@@ -7,10 +7,10 @@ ghost use Rattle.vba_cli.specs.Report.{value_of, IsEvaluated, outcome_of_error, 
 ghost use Rattle.vba_meaning.specs.declared.event.Event.TheVariants.{Print};
 ghost use Rattle.std.specs.Prelude.{true, pos};
 
+use built_form::{Expression, PrintStatement};
 use std::alloc::Global;
 use vba_base::{NoMemory, Place, Units, encode_text};
 use vba_meaning::Outcome;
-use vba_tree::{Expression, PrintStatement};
 
 /// How a run ended, and the text of its events.
 #[derive(Debug, Drop)]

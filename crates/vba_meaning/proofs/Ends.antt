@@ -4,9 +4,9 @@ use Rattle.std.specs.Prelude.{ℤ, pos, Option, Some, None, Result, Ok, Err, sli
 use Rattle.std.proofs.lemmas.Bool.{lt-ltb}
 use Rattle.std.proofs.lemmas.Option.{slice_get_past, slice_get_cases}
 use Rattle.vba_base.specs.declared.place.Place.{Place}
-use Rattle.vba_tree.specs.declared.expression.Expression.{Expression}
-use Rattle.vba_tree.specs.declared.expression.Expression.TheVariants as expression
-use Rattle.vba_tree.specs.declared.line.PrintStatement.{PrintStatement}
+use Rattle.built_form.specs.declared.expression.Expression.{Expression}
+use Rattle.built_form.specs.declared.expression.Expression.TheVariants as expression
+use Rattle.built_form.specs.declared.line.PrintStatement.{PrintStatement}
 use Rattle.vba_meaning.specs.declared.event.Event.TheVariants.{Print}
 use Rattle.vba_meaning.specs.declared.outcome.Outcome.{Outcome}
 use Rattle.vba_meaning.specs.declared.outcome.Outcome.TheVariants.{Ended, Going}

@@ -4,9 +4,9 @@ use Rattle.std.specs.Prelude.{ℤ, pos, Option, Some, None, Result, Ok, Err, sli
 use Rattle.std.proofs.lemmas.List.{append-nil}
 use Rattle.std.proofs.lemmas.Bool.{ltb-true, ltb-false, lt-ltb}
 use Rattle.vba_base.specs.declared.place.Place.{Place}
-use Rattle.vba_tree.specs.declared.expression.Expression.{Expression}
-use Rattle.vba_tree.specs.declared.expression.Expression.TheVariants as expression
-use Rattle.vba_tree.specs.declared.line.PrintStatement.{PrintStatement}
+use Rattle.built_form.specs.declared.expression.Expression.{Expression}
+use Rattle.built_form.specs.declared.expression.Expression.TheVariants as expression
+use Rattle.built_form.specs.declared.line.PrintStatement.{PrintStatement}
 use Rattle.vba_meaning.specs.declared.event.Event.{Event}
 use Rattle.vba_meaning.specs.declared.event.Event.TheVariants.{Print, Error}
 use Rattle.vba_meaning.specs.declared.outcome.Outcome.{Outcome}

@@ -1,7 +1,7 @@
 -- Words for laws of the meaning.
 use Rattle.std.specs.Prelude.{◌≡◌, ◌+◌, ◌<◌, ◌^◌, List, [], ◌∷◌, ◌++◌}
-use Rattle.vba_tree.specs.declared.expression.Expression.{Expression}
-use Rattle.vba_tree.specs.declared.expression.Expression.TheVariants.{Whole, Text, Sum}
+use Rattle.built_form.specs.declared.expression.Expression.{Expression}
+use Rattle.built_form.specs.declared.expression.Expression.TheVariants.{Whole, Text, Sum}
 use Rattle.vba_meaning.specs.Meaning.{Statements}
 use Rattle.vba_meaning.specs.declared.event.Event.{Event}
 

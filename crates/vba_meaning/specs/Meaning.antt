@@ -1,9 +1,9 @@
 -- What a macro does: the meaning of expressions, statements and runs.
 use Rattle.std.specs.Prelude.{ℕ, zero, suc, ◌+◌, ℤ, pos, Bool, true, List, [], ◌∷◌, ◌++◌, Option, Some, None, Result, Ok, Err, slice_get}
 use Rattle.vba_base.specs.declared.place.Place.{Place}
-use Rattle.vba_tree.specs.declared.expression.Expression.{Expression}
-use Rattle.vba_tree.specs.declared.expression.Expression.TheVariants.{Whole, Text, Sum}
-use Rattle.vba_tree.specs.declared.line.PrintStatement.{PrintStatement}
+use Rattle.built_form.specs.declared.expression.Expression.{Expression}
+use Rattle.built_form.specs.declared.expression.Expression.TheVariants.{Whole, Text, Sum}
+use Rattle.built_form.specs.declared.line.PrintStatement.{PrintStatement}
 use Rattle.vba_meaning.specs.declared.event.Event.{Event}
 use Rattle.vba_meaning.specs.declared.event.Event.TheVariants.{Print}
 use Rattle.vba_meaning.specs.declared.outcome.Outcome.{Outcome}

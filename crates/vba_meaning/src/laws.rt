@@ -2,7 +2,7 @@ ghost use Rattle.std.specs.Prelude.{◌≤◌};
 ghost use Rattle.vba_meaning.specs.Laws.{Begins};
 ghost use Rattle.vba_meaning.specs.Meaning.{meaning};
 
-use vba_tree::PrintStatement;
+use built_form::PrintStatement;
 
 /// What a run of at most so many turns tells begins what a run of more turns tells. It holds of the meaning alone, and
 /// changes nothing.

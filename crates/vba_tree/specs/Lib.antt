@@ -1,3 +1,6 @@
+pub mod Tree
+pub mod View
 pub mod Spelling
-pub mod Standing
-pub use Rattle.vba_lexer.specs.Lexed
+pub mod Forms
+pub mod Fitting
+pub mod Items

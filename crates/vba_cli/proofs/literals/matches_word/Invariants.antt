@@ -1,5 +1,5 @@
 use Rattle.std.proofs.Common.{◌≡◌, drop}
-use Rattle.vba_tree.specs.Standing.{matches}
+use Rattle.built_form.specs.Standing.{matches}
 use Rattle.vba_cli.proofs.literals.matches_word.Given as goal
 
 abbrev pub invariant-loop-index : goal.invariant-loop-index

@@ -1,7 +1,7 @@
 use Rattle.std.proofs.Common.{◌≡◌, ℕ, ◌+◌, ◌<◌, ◌≤◌, List, length, get_or, refl, sym, subst, ◌∙◌, arith}
 use Rattle.std.specs.Prelude.{Some, slice_get}
 use Rattle.std.proofs.lemmas.Option.{slice_get_read}
-use Rattle.vba_tree.specs.declared.line.PrintStatement.{PrintStatement}
+use Rattle.built_form.specs.declared.line.PrintStatement.{PrintStatement}
 use Rattle.vba_cli.specs.Report.{value_of, IsEvaluated}
 use Rattle.vba_cli.proofs.Running.{Running, opened, ended, going, went_on, raised, printed_value, raised_value}
 use Rattle.vba_cli.proofs.run.run.Goals as goal

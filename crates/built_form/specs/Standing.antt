@@ -8,13 +8,13 @@ use Rattle.vba_lexer.specs.Classes.{is_digit}
 use Rattle.vba_lexer.specs.Lexed.{text_of}
 use Rattle.vba_lexer.specs.Tokens.{is_the_word, same_text}
 use Rattle.vba_words.specs.Readings.{quoted_text}
-use Rattle.vba_tree.specs.declared.expression.WholeLiteral.{WholeLiteral}
-use Rattle.vba_tree.specs.declared.expression.TextLiteral.{TextLiteral}
-use Rattle.vba_tree.specs.declared.expression.Expression.{Expression}
-use Rattle.vba_tree.specs.declared.expression.Expression.TheVariants.{Whole, Text, Sum}
-use Rattle.vba_tree.specs.declared.line.LineTree.{LineTree}
-use Rattle.vba_tree.specs.declared.line.LineTree.TheVariants.{ProcedureHeader, Print, ProcedureEnd}
-use Rattle.vba_tree.specs.Spelling.{spelling}
+use Rattle.built_form.specs.declared.expression.WholeLiteral.{WholeLiteral}
+use Rattle.built_form.specs.declared.expression.TextLiteral.{TextLiteral}
+use Rattle.built_form.specs.declared.expression.Expression.{Expression}
+use Rattle.built_form.specs.declared.expression.Expression.TheVariants.{Whole, Text, Sum}
+use Rattle.built_form.specs.declared.line.LineTree.{LineTree}
+use Rattle.built_form.specs.declared.line.LineTree.TheVariants.{ProcedureHeader, Print, ProcedureEnd}
+use Rattle.built_form.specs.Spelling.{spelling}
 
 -- a word matches a word of the grammar, given in lower case, without regard to case
 abbrev pub matches : List ℕ → List ℕ → Bool
