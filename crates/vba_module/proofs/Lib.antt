@@ -1,0 +1,5 @@
+mod Rows
+pub mod Nearest
+pub mod Bracketed
+pub mod Bracketing
+pub mod OneBracketing
