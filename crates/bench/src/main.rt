@@ -2,13 +2,23 @@
 //! work of a subject at SIZE and at twice SIZE.
 #![tactic(auto)]
 
+mod arrays;
+mod cells;
+mod conditions;
+mod expressions;
 mod lexing;
 mod links;
 mod operators;
+mod sheets;
 
+use arrays::bench_arrays;
+use cells::bench_cells;
+use conditions::bench_conditions;
+use expressions::bench_expressions;
 use lexing::bench_lex;
 use links::bench_links;
 use operators::bench_operators;
+use sheets::bench_sheets;
 use std::env::Env;
 use std::process::ExitCode;
 use std::time::CpuClock;
@@ -16,6 +26,12 @@ use std::{env, io};
 
 /// The greatest size; twice as much can still be done.
 const MOST: u32 = 33_554_432;
+
+/// The greatest count of cells: a book holds twice as many.
+const MOST_CELLS: u32 = 2_000_000;
+
+/// The greatest count of rows: a sheet has twice as many.
+const MOST_ROWS: u32 = 524_288;
 
 fn main(rt: HostRuntime) -> io::Result<ExitCode> {
     let mut words = env::args(&rt)?.skip(1);
@@ -28,15 +44,22 @@ fn main(rt: HostRuntime) -> io::Result<ExitCode> {
     };
     match subject.as_str() {
         "lex" => bench_lex(&rt, size)?,
+        "conditions" => bench_conditions(&rt, size)?,
+        "expressions" => bench_expressions(&rt, size)?,
         "operators" => bench_operators(&rt, size)?,
+        "arrays" => bench_arrays(&rt, size)?,
         "links" => bench_links(&rt, size)?,
+        "cells" if size <= MOST_CELLS => bench_cells(&rt, size)?,
+        "sheets" if size <= MOST_ROWS => bench_sheets(&rt, size)?,
         _ => return usage(&rt),
     }
     Ok(ExitCode::SUCCESS)
 }
 
 fn usage(rt: &impl Eprint) -> io::Result<ExitCode> {
-    eprintln!(rt; "bench: usage: lex SIZE, operators SIZE, links SIZE, SIZE at most {MOST}")?;
+    eprintln!(rt; "bench: usage: SUBJECT SIZE")?;
+    eprintln!(rt; "lex, conditions, expressions, operators, arrays, links: SIZE at most {MOST}")?;
+    eprintln!(rt; "cells: SIZE at most {MOST_CELLS}; sheets: SIZE at most {MOST_ROWS}")?;
     Ok(ExitCode::from(2))
 }
 
