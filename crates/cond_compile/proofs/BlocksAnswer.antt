@@ -6,7 +6,7 @@ use Rattle.vba_base.specs.declared.place.Refusal.{Refusal}
 use Rattle.vba_lexer.specs.Lexed.{LexedLine}
 use Rattle.vba_lexer.specs.Order.{IsLeastOf}
 use Rattle.cond_compile.specs.Blocks.{Block, IsBlock, NoneBy, kept_of, lines_of}
-use Rattle.cond_compile.specs.Order.{least_of}
+use Rattle.refusal_order.specs.Least.{least_of}
 use Rattle.cond_compile.specs.Selection.{kept_lines, opening, selected, violations}
 use Rattle.cond_compile.proofs.BlocksFound.{block_found, Other}
 use Rattle.cond_compile.proofs.BlocksKept.{kept_by_blocks}

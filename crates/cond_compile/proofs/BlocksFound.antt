@@ -11,7 +11,8 @@ use Rattle.cond_compile.specs.declared.arm.Arm.{Arm}
 use Rattle.cond_compile.specs.declared.directive.DirectiveKind.{DirectiveKind}
 use Rattle.cond_compile.specs.declared.directive.DirectiveKind.TheVariants.{Constant, If, ElseIf, Else, EndIf, Unknown}
 use Rattle.cond_compile.specs.Blocks.{Block, no_lines, plain, conditional, Arms, no_arms, arm, lines_of, line_kind, is_of_block, IsBlock, AreArms, NoneBy, NoFaultBy}
-use Rattle.cond_compile.specs.Selection.{Directive, Ground, behind, behind_directive, broken_if, constants_behind, directive_in, directive_violations, enclosing, evaluated, expression_place, fault_list, has_form, holds, is_bad, is_kept, is_unmatched, line_violations, name_defined, next_arm, opening, unclosed, violations}
+use Rattle.refusal_order.specs.Least.{broken_if, fault_list}
+use Rattle.cond_compile.specs.Selection.{Directive, Ground, behind, behind_directive, constants_behind, directive_in, directive_violations, enclosing, evaluated, expression_place, has_form, holds, is_bad, is_kept, is_unmatched, line_violations, name_defined, next_arm, opening, unclosed, violations}
 use Rattle.cond_compile.specs.Pieces.{pieces_behind}
 use Rattle.cond_compile.proofs.BlockLines.{Constants, Lines, ahead, arms_ahead, directed, ground, lines_are, made, next_is, place_of}
 

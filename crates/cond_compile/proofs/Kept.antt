@@ -8,7 +8,7 @@ use Rattle.vba_lexer.specs.declared.line.Line.{Line}
 use Rattle.vba_lexer.specs.Inside.{AllLieIn, IsWithin, LiesIn, view_count}
 use Rattle.vba_lexer.specs.Lexed.{LexedLine, lines_view}
 use Rattle.cond_compile.specs.Kept.{LeavesOut}
-use Rattle.cond_compile.specs.Order.{least_of}
+use Rattle.refusal_order.specs.Least.{least_of}
 use Rattle.cond_compile.specs.Selection.{Ground, behind, is_kept_line, kept_lines, opening, selected, verdict, violations}
 
 if_kept : (b : Bool) (line : LexedLine) (lines kept : List LexedLine) → LeavesOut lines kept → LeavesOut (line ∷ lines) (if b then line ∷ kept else kept)

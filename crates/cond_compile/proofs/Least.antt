@@ -4,11 +4,8 @@ use Rattle.std.specs.Prelude.{if◌then◌else◌}
 use Rattle.vba_lexer.specs.Lexed.{LexedLine}
 use Rattle.cond_compile.specs.Selection.{Ground, behind, is_kept_line, kept_lines, line_violations, violations}
 use Rattle.vba_base.specs.declared.place.Refusal.{Refusal}
-use Rattle.cond_compile.specs.Order.{least_of, lesser}
-
-pub least_of_append : (found : Option Refusal) (first second : List Refusal) → least_of found (first ++ second) ≡ least_of (least_of found first) second
-least_of_append found [] second = refl
-least_of_append found (refusal ∷ first) second = least_of_append (Some (lesser found refusal)) first second
+use Rattle.refusal_order.specs.Least.{least_of}
+use Rattle.refusal_order.proofs.LeastFound.{least_of_append}
 
 -- one line more
 pub more_violations : (found : Option Refusal) (source : List ℕ) (standing : Ground) (line : LexedLine) (lines : List LexedLine)

@@ -4,7 +4,6 @@ pub mod Pieces
 pub mod Expressions
 pub mod Reader
 pub mod Evaluation
-pub mod Order
 pub mod Selection
 pub mod Seen
 pub mod Advances

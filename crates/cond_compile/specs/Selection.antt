@@ -15,7 +15,7 @@ use Rattle.cond_compile.specs.declared.operator.Operator.TheVariants as op
 use Rattle.cond_compile.specs.Evaluation as evaluation
 use Rattle.cond_compile.specs.Evaluation.{Operand, truth, value_of}
 use Rattle.cond_compile.specs.Expressions.{Expression}
-use Rattle.cond_compile.specs.Order.{least_of}
+use Rattle.refusal_order.specs.Least.{least_of, broken_if, fault_list}
 use Rattle.cond_compile.specs.Pieces as piece
 use Rattle.cond_compile.specs.Pieces.{Piece, pieces_behind}
 use Rattle.cond_compile.specs.Reader.{BeforeThen, Other, Reading, ToEnd, expression_at, reading_of}
@@ -226,15 +226,6 @@ behind source standing line = after (directive_in source line.tokens)
     after : Option Directive → Ground
     after None = standing
     after (Some directive) = behind_directive source standing (first_place line.place line.tokens) directive
-
--- a rule is broken at a place, or it isn't
-abbrev pub broken_if : Bool → ℕ → Place → List Refusal
-broken_if true rule place = record { rule = rule; place = place } ∷ []
-broken_if false rule place = []
-
-abbrev pub fault_list : Option Refusal → List Refusal
-fault_list None = []
-fault_list (Some fault) = fault ∷ []
 
 -- S8: an arm or end without `#If`, or an arm behind the `#Else` of its `#If`
 abbrev pub is_unmatched : DirectiveKind → List Arm → Bool

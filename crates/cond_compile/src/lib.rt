@@ -9,7 +9,6 @@ mod laws;
 mod literals;
 mod operand;
 mod operator;
-mod order;
 mod piece;
 mod reader;
 mod select;

@@ -5,7 +5,7 @@ ghost use Rattle.vba_base.specs.Answer.{Gives};
 ghost use Rattle.vba_lexer.specs.Inside.{AllLieIn, IsWithin, LiesIn};
 ghost use Rattle.vba_lexer.specs.Lexed.{line_view, lines_view};
 ghost use Rattle.cond_compile.specs.Evaluation as evaluation;
-ghost use Rattle.cond_compile.specs.Order as order;
+ghost use Rattle.refusal_order.specs.Least as order;
 ghost use Rattle.cond_compile.specs.Pieces.{pieces_behind};
 ghost use Rattle.cond_compile.specs.Seen.{AreTold, DirectiveLiesIn, arms_view, constants_view, directive_view, outcome_view, standing_view};
 ghost use Rattle.cond_compile.specs.Selection as selection;
@@ -14,7 +14,7 @@ use crate::arm::{Enclosing, is_due, is_kept, is_unmatched, pass, stands_on_kept}
 use crate::directive::{Directive, DirectiveKind, directive_in};
 use crate::expression::{name_defined, value_in};
 use crate::operand::{Constant, Operand, truth};
-use crate::order::{note_fault, note_if};
+use refusal_order::{note_fault, note_if};
 use std::alloc::Global;
 use vba_base::{NoMemory, OrMemory, Place, Refusal, Units, name_of};
 use vba_lexer::{Line, Token};
@@ -154,7 +154,7 @@ fn evaluated(
 }
 
 /// Passes a directive line.
-#[tactic(auto, using(crate::proofs::Least::least_of_append))]
+#[tactic(auto, using(refusal_order::proofs::LeastFound::least_of_append))]
 fn pass_directive(
     alloc: Global,
     source: &Units,

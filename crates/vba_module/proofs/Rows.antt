@@ -10,7 +10,7 @@ use Rattle.vba_module.specs.Verdict.{module_violations}
 told : Bool → List ℕ → List (ℕ × ℕ × ℕ)
 told is_class source =
     map (λ r. (r.rule, r.place.line, r.place.column))
-    (module_violations (λ t. false) is_class (map (λ line. read_line source line.tokens) (lexed 1 source)))
+    (module_violations is_class (map (λ line. read_line source line.tokens) (lexed 1 source)))
 
 row_0 : told false (codes "Sub Main()\nIf a Then\nx = 1\nEnd If\nEnd Sub") ≡ []
 unfolding told folded caseless
@@ -71,3 +71,7 @@ row_13 = refl
 row_14 : told false (codes "Property Let p(Optional a, b, c)\nEnd Property") ≡ (14, 1, 28) ∷ []
 unfolding told folded caseless
 row_14 = refl
+
+row_15 : told false (codes "Type T\nn As Long\nEnd Type\nSub a(ByVal x As T, ByVal y As U, ByRef z As t, ByVal v As m.T)\nEnd Sub") ≡ (14, 4, 7) ∷ []
+unfolding told folded caseless
+row_15 = refl

@@ -1,5 +1,6 @@
 -- S14: headers of procedures and events, and bounds, of a form that may not be.
-use Rattle.std.specs.Prelude.{ℕ, Bool, true, false, ◌&&◌, ◌||◌, not, nat_lt, List, [], ◌∷◌, ◌++◌, length, codes, bytes_eq, Option, Some, None}
+use Rattle.std.specs.Prelude.{ℕ, Bool, true, false, ◌&&◌, ◌||◌, not, nat_lt, List, [], ◌∷◌, ◌++◌, length, codes, bytes_eq, Option, Some, None, is_some}
+use Rattle.std.specs.List.{list_any}
 use Rattle.vba_base.specs.declared.place.Place.{Place}
 use Rattle.vba_lexer.specs.declared.token.Token.{Token}
 use Rattle.vba_lexer.specs.declared.number.TypeSuffix.{TypeSuffix}
@@ -12,13 +13,9 @@ use Rattle.vba_tree.specs.declared.procedure.PassingWord.{PassingWord}
 use Rattle.vba_tree.specs.declared.procedure.ProcedureWords.{ProcedureWords}
 use Rattle.vba_tree.specs.declared.procedure.ProcedureWords.TheVariants as words
 use Rattle.vba_tree.specs.Spelling.{spell_parameter, spell_dim}
-use Rattle.vba_tree.specs.Tree.{Listed, DeclaredType, named, fixed_text, TypeClause, Dim, Dims, Variable, DefaultValue, Parameter, Parameters, ReDimArray, variables, re_dim, Stmt, simple, if_then, if_else, Stmts, nothing, one, gap, more, Line, type_member, event_line, procedure_header, statement_line}
-use Rattle.vba_module.specs.Parts.{nowhere, first_place}
+use Rattle.vba_tree.specs.Tree.{Listed, DeclaredType, named, fixed_text, TypeClause, Dim, Dims, Variable, DefaultValue, Parameter, Parameters, ReDimArray, variables, re_dim, Stmt, simple, if_then, if_else, Stmts, nothing, one, gap, more, Line, type_member, event_line, procedure_header, type_header}
+use Rattle.vba_module.specs.Parts.{Part, label, statement, whole_line, nowhere, first_place}
 use Rattle.vba_module.specs.Misplaced.{place_if}
-
-abbrev pub is_some : {A : Type 0} → Option A → Bool
-is_some None = false
-is_some (Some x) = true
 
 abbrev pub items_of : {A : Type 0} → List (Token × A) → List A
 items_of [] = []
@@ -149,12 +146,31 @@ abbrev mutual
   list_faults (gap before colon) = list_faults before
   list_faults (more before colon s) = list_faults before ++ statement_faults s
 
--- the places of S14 in a line
-abbrev pub header_faults : (TypeName → Bool) → Line → List Place
-header_faults is_type (procedure_header access static_word kind identifier parameters result_type) =
+-- the places of S14 in a line that is no statements
+abbrev pub line_faults : (TypeName → Bool) → Line → List Place
+line_faults is_type (procedure_header access static_word kind identifier parameters result_type) =
     value_faults (value_word kind) (parameters_of parameters)
     ++ parameter_faults is_type (is_some (value_word kind)) false (parameters_of parameters)
-header_faults is_type (event_line access event_word identifier parameters) = parameter_faults is_type false false (parameters_of parameters)
-header_faults is_type (type_member identifier dims type_clause) = dims_faults dims
-header_faults is_type (statement_line l ss) = list_faults ss
-header_faults is_type _ = []
+line_faults is_type (event_line access event_word identifier parameters) = parameter_faults is_type false false (parameters_of parameters)
+line_faults is_type (type_member identifier dims type_clause) = dims_faults dims
+line_faults is_type _ = []
+
+-- the places of S14 in a part
+abbrev pub header_faults : (TypeName → Bool) → Part → List Place
+header_faults is_type (label l) = []
+header_faults is_type (statement s) = statement_faults s
+header_faults is_type (whole_line line) = line_faults is_type line
+
+-- the names of the Types that parts declare
+abbrev pub type_names : List Part → List (List ℕ)
+type_names [] = []
+type_names (whole_line (type_header header) ∷ parts) = header.name.name ∷ type_names parts
+type_names (part ∷ parts) = type_names parts
+
+-- a type is one of these, by its name alone
+abbrev pub is_named : List (List ℕ) → TypeName → Bool
+is_named names class = at class.qualifier
+  where
+    at : Option TypeQualifier → Bool
+    at None = list_any (bytes_eq class.name.name) names
+    at (Some qualifier) = false

@@ -32,31 +32,23 @@ inside_of (opened ∷ others) = at opened.kind (inside_of others)
     at type outside = in_type
     at _ outside = outside
 
--- what stood before a part of the module
+-- what stood before a part of the module: an option of each kind, a declaration, a procedure
 pub record Before : Type 0 where
-  pub options : List OptionChoice
+  pub has_explicit : Bool
+  pub has_base : Bool
+  pub has_compare : Bool
+  pub has_private_module : Bool
   pub has_declaration : Bool
   pub has_procedure : Bool
 
--- options of one kind
-abbrev pub same_option : OptionChoice → OptionChoice → Bool
-same_option (choice.Explicit a) (choice.Explicit b) = true
-same_option (choice.PrivateModule a b) (choice.PrivateModule c d) = true
-same_option a b = is_base a && is_base b || is_compare a && is_compare b
-  where
-    is_base : OptionChoice → Bool
-    is_base (choice.BaseZero base_word zero) = true
-    is_base (choice.BaseOne base_word digit) = true
-    is_base _ = false
-
-    is_compare : OptionChoice → Bool
-    is_compare (choice.CompareBinary compare_word binary_word) = true
-    is_compare (choice.CompareText compare_word text_word) = true
-    is_compare _ = false
-
-abbrev pub has_option : List OptionChoice → OptionChoice → Bool
-has_option [] option = false
-has_option (found ∷ others) option = same_option found option || has_option others option
+-- an option of this kind
+abbrev pub has_option : Before → OptionChoice → Bool
+has_option before (choice.Explicit explicit_word) = before.has_explicit
+has_option before (choice.BaseZero base_word zero) = before.has_base
+has_option before (choice.BaseOne base_word digit) = before.has_base
+has_option before (choice.CompareBinary compare_word binary_word) = before.has_compare
+has_option before (choice.CompareText compare_word text_word) = before.has_compare
+has_option before (choice.PrivateModule private_word module_word) = before.has_private_module
 
 -- the place, if something is wrong
 abbrev pub place_if : Bool → Place → List Place
@@ -133,7 +125,7 @@ is_public (Some word) = at word.access
 -- a line that is no statements, outside of procedures, Enums and Types
 abbrev pub line_at_top : Bool → Before → Place → Line → List Place
 line_at_top is_class before place (option_line option) =
-    place_if (before.has_declaration || (before.has_procedure || has_option before.options option.choice)) place
+    place_if (before.has_declaration || (before.has_procedure || has_option before option.choice)) place
 line_at_top is_class before place (enum_header header) = place_if before.has_procedure place
 line_at_top is_class before place (type_header header) = place_if (before.has_procedure || (is_class && is_public header.access)) place
 line_at_top is_class before place (event_line access event_word identifier parameters) =
@@ -168,14 +160,22 @@ misplaced is_class before in_type place (whole_line line) = place_if (not (may_s
 misplaced is_class before in_type place (label l) = place ∷ []
 misplaced is_class before in_type place (statement s) = place ∷ []
 
+-- behind an option
+abbrev pub with_option : Before → OptionChoice → Before
+with_option before (choice.Explicit explicit_word) = record before { has_explicit = true }
+with_option before (choice.BaseZero base_word zero) = record before { has_base = true }
+with_option before (choice.BaseOne base_word digit) = record before { has_base = true }
+with_option before (choice.CompareBinary compare_word binary_word) = record before { has_compare = true }
+with_option before (choice.CompareText compare_word text_word) = record before { has_compare = true }
+with_option before (choice.PrivateModule private_word module_word) = record before { has_private_module = true }
+
 -- what stood before, behind a part
 abbrev pub behind : Before → Inside → Part → Before
-behind before at_module (whole_line (option_line option)) =
-    record { options = option.choice ∷ before.options; has_declaration = before.has_declaration; has_procedure = before.has_procedure }
+behind before at_module (whole_line (option_line option)) = with_option before option.choice
 behind before at_module (whole_line (procedure_header access static_word kind identifier parameters result_type)) =
-    record { options = before.options; has_declaration = before.has_declaration; has_procedure = true }
+    record before { has_procedure = true }
 behind before at_module (whole_line (attribute_line attribute_word names equal values)) = before
-behind before at_module part = record { options = before.options; has_declaration = true; has_procedure = before.has_procedure }
+behind before at_module part = record before { has_declaration = true }
 behind before inside part = before
 
 -- the places of S12 in parts, where these are open and this stood before them
@@ -187,4 +187,11 @@ all_misplaced is_class before opened (part ∷ parts) =
 
 -- at the front of a module
 abbrev pub nothing_before : Before
-nothing_before = record { options = []; has_declaration = false; has_procedure = false }
+nothing_before = record {
+  has_explicit = false;
+  has_base = false;
+  has_compare = false;
+  has_private_module = false;
+  has_declaration = false;
+  has_procedure = false;
+}

@@ -3,14 +3,13 @@ use Rattle.std.specs.Prelude.{ℕ, Bool, List, [], ◌∷◌, ◌++◌, map, fla
 use Rattle.vba_base.specs.declared.place.Place.{Place}
 use Rattle.vba_base.specs.declared.place.Refusal.{Refusal}
 use Rattle.vba_words.specs.declared.reading.ReadToken.{ReadToken}
-use Rattle.vba_expression.specs.declared.tree.TypeName.{TypeName}
 use Rattle.vba_tree.specs.Tree.{Line}
 use Rattle.vba_grammar.specs.Lines.{line_of}
-use Rattle.vba_module.specs.Parts.{parts_of_lines, nowhere, first_place}
+use Rattle.vba_module.specs.Parts.{Part, parts_of_lines, nowhere, first_place}
 use Rattle.vba_module.specs.Outside.{form_of}
 use Rattle.vba_module.specs.Blocks.{block_faults}
 use Rattle.vba_module.specs.Misplaced.{all_misplaced, nothing_before}
-use Rattle.vba_module.specs.Headers.{header_faults}
+use Rattle.vba_module.specs.Headers.{header_faults, type_names, is_named}
 
 -- a rule is broken at these places
 abbrev pub broken : ℕ → List Place → List Refusal
@@ -37,10 +36,13 @@ abbrev pub trees_of : List (List ReadToken) → List Line
 trees_of [] = []
 trees_of (ts ∷ lines) = with_tree (line_of ts) (trees_of lines)
 
--- the rules that the lines of a module break, each line by its tokens; in a class or not, with the names of Types
-abbrev pub module_violations : (TypeName → Bool) → Bool → List (List ReadToken) → List Refusal
-module_violations is_type is_class lines =
-    flat_map unread_line lines
-    ++ (broken 11 (block_faults [] (parts_of_lines (trees_of lines)))
-    ++ (broken 12 (all_misplaced is_class nothing_before [] (parts_of_lines (trees_of lines)))
-    ++ broken 14 (flat_map (header_faults is_type) (trees_of lines))))
+-- the rules S11, S12 and S14 that the parts of a module break, in a class or not
+abbrev pub part_violations : Bool → List Part → List Refusal
+part_violations is_class parts =
+    broken 11 (block_faults [] parts)
+    ++ (broken 12 (all_misplaced is_class nothing_before [] parts)
+    ++ broken 14 (flat_map (header_faults (is_named (type_names parts))) parts))
+
+-- the rules that the lines of a module break, each line by its tokens
+abbrev pub module_violations : Bool → List (List ReadToken) → List Refusal
+module_violations is_class lines = flat_map unread_line lines ++ part_violations is_class (parts_of_lines (trees_of lines))

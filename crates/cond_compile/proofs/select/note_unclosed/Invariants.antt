@@ -1,6 +1,6 @@
 use Rattle.std.proofs.Common.{◌≡◌}
 use Rattle.std.specs.Prelude.{vec_len}
-use Rattle.cond_compile.specs.Order as order
+use Rattle.refusal_order.specs.Least as order
 use Rattle.cond_compile.specs.Seen.{arms_view}
 use Rattle.cond_compile.specs.Selection as selection
 use Rattle.cond_compile.proofs.select.note_unclosed.Given as goal

@@ -1,7 +1,7 @@
 use Rattle.std.proofs.Common.{◌≡◌, ◌++◌, length}
 use Rattle.vba_lexer.specs.Inside.{AllLieIn}
 use Rattle.vba_lexer.specs.Lexed.{lines_view}
-use Rattle.cond_compile.specs.Order as order
+use Rattle.refusal_order.specs.Least as order
 use Rattle.cond_compile.specs.Seen.{AreTold, standing_view}
 use Rattle.cond_compile.specs.Selection as selection
 use Rattle.cond_compile.proofs.select.pass_lines.Given as goal

@@ -1,0 +1,6 @@
+pub mod Words
+pub mod Fronts
+pub mod Arrays
+pub mod Places
+pub mod Prints
+pub mod Simples
