@@ -13,10 +13,6 @@ use Rattle.csv_book.specs.declared.fault.BookFault.{BookFault}
 use Rattle.csv_book.specs.declared.fault.BookFault.TheVariants.{NotUtf8, TooManyColumns, TooManyRows}
 use Rattle.csv_book.specs.Reading.{Fields, Rows, fault_of, row_of, rows_from, sheet_of_rows, with_last_row}
 
--- a sheet to which nothing was written is its rows
-pub its_rows : (sheet : SheetContent) → sheet.cells ≡ empty → sheet ≡ sheet_of_rows sheet.rows
-its_rows sheet none = λ i. record { rows = sheet.rows; cells = none i }
-
 last_place : (rows : Rows) (row : Fields) → length (rows ++ row ∷ []) - 1 ≡ length rows
 last_place rows row = omega (arith, length-append rows (row ∷ []))
 
@@ -28,24 +24,6 @@ pub field_added : (rows : Rows) (row : Fields) (text : List ℕ) → with_field 
 field_added rows row text =
     ap sheet_of_rows (ap₂ (λ n fields. set (rows ++ row ∷ []) n (fields ++ text ∷ [])) (last_place rows row) (last_fields rows row)
     ∙ set-append_seam rows row [] (row ++ text ∷ []))
-
-faultless : (number : ℕ) (long utf8 wide : Bool)
-    → (if long then Some TooManyRows else if not utf8 then Some (NotUtf8 number) else if wide then Some (TooManyColumns number) else None) ≡ None
-    → (utf8 ≡ true) × (wide ≡ false)
-faultless number true utf8 wide is = cc is
-faultless number false false wide is = cc is
-faultless number false true true is = cc is
-faultless number false true false is = (refl, refl)
-
--- a row without a fault
-pub record IsSound (fields : Fields) : Type 0 where
-  pub utf8 : list_all is_utf8 fields ≡ true
-  pub columns : length fields ≤ sheet_columns
-
-pub sound : (number : ℕ) (fields : Fields) → fault_of number fields ≡ None → IsSound fields
-sound number fields is =
-    let (utf8, wide) = faultless number (nat_lt sheet_rows number) (list_all is_utf8 fields) (nat_lt sheet_columns (length fields)) is in
-    record { utf8 = utf8; columns = ltb-false sheet_columns (length fields) wide }
 
 -- the sheet of these rows and the texts of further records
 abbrev pub sheet_after : Rows → Rows → Result SheetContent BookFault
@@ -95,7 +73,3 @@ added rows (Ok row) sheet is =
     let same : sheet_of_rows (rows ++ row ∷ []) ≡ sheet = cc is in
     rw (← same) (refl, sym (one_more rows row))
 added rows (Err fault) sheet is = cc is
-
--- the row behind the last place of a sheet
-pub past_last : (rows : Rows) (fields : Fields) → length rows ≡ sheet_rows → with_last_row rows (row_of (length rows + 1) fields) ≡ Err TooManyRows
-past_last rows fields full = rw full refl

@@ -89,6 +89,11 @@ after_one cfg s text q is =
       | inr gone ↦ rw (gone.0, gone.1) (none_left cfg (length text) ∙ sym (none_left cfg 1))
     ])
 
+-- from two states that read the next record alike the records are the same
+pub same_after : (cfg : Config) (s t : State) (text : List ℕ) → next_record cfg s [] [] text ≡ next_record cfg t [] [] text → records_after cfg s text ≡ records_after cfg t text
+unfolding records_from
+same_after cfg s t text same = rw add-one (ap (records_next (records_from cfg (length text))) same)
+
 pub records_have_fields : (cfg : Config) (n : ℕ) (s : State) (text : List ℕ) → map read_back (records_from cfg n s text) ≡ records_from cfg n s text
 unfolding records_from
 records_have_fields cfg zero s text = refl

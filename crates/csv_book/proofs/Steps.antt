@@ -1,69 +1,86 @@
--- Reading a sheet, record after record.
-use Rattle.std.proofs.Common.{◌≡◌, ℕ, ◌+◌, true, false, List, [], length, Option, Some, None, Result, Ok, Err, refl, sym, ap, ◌∙◌}
+-- Reading a sheet, row after row.
+use Rattle.std.proofs.Common.{◌≡◌, ℕ, ◌+◌, ◌<◌, ◌≤◌, List, [], ◌∷◌, ◌++◌, drop, length, map, Option, Some, None, Result, Ok, Err, refl, sym, ap, ap₂, ◌∙◌, arith}
 use Rattle.std.specs.FinMap.{empty}
+use Rattle.std.proofs.lemmas.Bool.Decides.{nat_tests}
 use Rattle.csv.specs.Machine.{Read, next_record}
 use Rattle.csv.specs.Reading.{default_config}
-use Rattle.csv.specs.declared.parser.State.{State}
-use Rattle.csv.specs.declared.reader.Reader.{Reader}
-use Rattle.vba_base.specs.Answer.{Fails}
-use Rattle.vba_base.specs.declared.fault.OrMemory.{OrMemory}
-use Rattle.vba_base.specs.declared.fault.OrMemory.TheVariants.{Fault, NoMemory}
+use Rattle.csv.specs.Writing.{read_back}
+use Rattle.csv.specs.declared.parser.State.TheVariants as st
 use Rattle.sheet_host.specs.Sheets.{SheetContent}
+use Rattle.csv_book.specs.Reading.{Fields, Rows, fault_by, fault_of, row_of, sheet_of, text_of_bytes, unless, with_last_row}
+use Rattle.csv_book.specs.Row.{HasTexts, ReadsRow}
+use Rattle.csv_book.specs.Scan.{without_return}
 use Rattle.csv_book.specs.declared.fault.BookFault.{BookFault}
-use Rattle.csv_book.specs.Reading.{Fields, row_of, sheet_of, with_last_row}
-use Rattle.csv_book.specs.Records.{ReadsOne, StandsBefore}
-use Rattle.csv_book.proofs.Records.{after_last, after_one, records_after}
-use Rattle.csv_book.proofs.Added.{added, after_added, after_none, after_refused, its_rows, sheet_after}
+use Rattle.csv_book.specs.declared.row.Row.{Row}
+use Rattle.csv_book.proofs.Added.{added, after_added, after_none, after_refused, sheet_after}
+use Rattle.csv_book.proofs.Records.{after_last, after_one, record_has_fields, records_after, same_after}
+use Rattle.csv_book.proofs.RowBytes.{next_return}
+use Rattle.csv_book.proofs.RowRead.{fault_known}
 
--- a fault of a part is that of the whole
-pub fails_so : {A B : Type 0} (e : OrMemory BookFault) (part : Result A BookFault) (whole : Result B BookFault)
-    → ((fault : BookFault) → part ≡ Err fault → whole ≡ Err fault) → Fails e part → Fails e whole
-fails_so (Fault fault) part whole so is = so fault is
-fails_so NoMemory part whole so is = tt
-
--- the sheet has the rows that were read, and the reader stands before the others
-pub record HasRead {R : Type 0} (remaining : R → Option (List ℕ)) (bytes : List ℕ) (reader : Reader R) (sheet : SheetContent) : Type 0 where
-  pub state : State
-  pub text : List ℕ
-  pub stands : StandsBefore remaining reader state text
+-- the sheet has the rows that were read, and these bytes have the others
+pub record HasRead (bytes rest : List ℕ) (sheet : SheetContent) : Type 0 where
   pub unwritten : sheet.cells ≡ empty
-  pub meant : sheet_of bytes ≡ sheet_after sheet.rows (records_after default_config state text)
+  pub meant : sheet_of bytes ≡ sheet_after sheet.rows (records_after default_config st.StartRecord rest)
 
-module _ {R : Type 0} (remaining : R → Option (List ℕ)) (bytes : List ℕ) (reader after : Reader R) (fields : Fields) (sheet : SheetContent) (read : HasRead remaining bytes reader sheet) where
-  found_none : (o : Option Read) → ReadsOne remaining o after false fields → o ≡ None
-  found_none None reads = refl
-  found_none (Some next) reads = cc reads.0
+-- a row without a fault is added
+its_texts : (rows : Rows) (fields : Fields) (sheet : SheetContent) → HasTexts rows fields sheet → read_back fields ≡ fields → fault_of (length rows + 1) fields ≡ None
+    → with_last_row rows (row_of (length rows + 1) fields) ≡ Ok sheet
+its_texts rows [] sheet texts some none = cc some
+its_texts rows (field ∷ fields) sheet texts some none =
+    ap (λ o. with_last_row rows (unless o (map text_of_bytes (field ∷ fields)))) none ∙ ap Ok (sym (texts none))
 
-  found_one : (o : Option Read) → ReadsOne remaining o after true fields → (next : Read) × (o ≡ Some next) × (fields ≡ next.0) × StandsBefore remaining after next.1 next.2
-  found_one None reads = cc reads
-  found_one (Some next) reads = (next, refl, reads.1, reads.2)
+row_fits : (rows : Rows) (fields : Fields) → fault_of (length rows + 1) fields ≡ None → length rows < 1048576
+row_fits rows fields none = grind (arith, nat_tests)
 
-  -- there was no record left
-  pub read_all : ReadsOne remaining (next_record default_config read.state [] [] read.text) after false fields → sheet_of bytes ≡ Ok sheet
-  read_all reads =
-      let none = after_last default_config read.state read.text (found_none _ reads) in
-      read.meant ∙ ap (sheet_after sheet.rows) none ∙ after_none sheet.rows ∙ ap Ok (sym (its_rows sheet read.unwritten))
+module _ (bytes rest : List ℕ) (sheet : SheetContent) (read : HasRead bytes rest sheet) where
+  none_left : (o : Option Read) (row : Row) (after : SheetContent) → next_record default_config st.StartRecord [] [] rest ≡ o → ReadsRow sheet.rows rest o None row after → sheet_of bytes ≡ Ok after
+  none_left None row after is reads =
+      read.meant ∙ ap (sheet_after sheet.rows) (after_last default_config st.StartRecord rest is) ∙ after_none sheet.rows ∙ ap Ok (sym reads.1)
+  none_left (Some next) row after is reads = cc reads.1
 
-  -- the next record has a fault
-  pub read_refused : (fault : BookFault) → ReadsOne remaining (next_record default_config read.state [] [] read.text) after true fields
-      → with_last_row sheet.rows (row_of (length sheet.rows + 1) fields) ≡ Err fault → sheet_of bytes ≡ Err fault
-  read_refused fault reads is =
-      let (next, is_next, same, stands) = found_one _ reads in
-      let one = after_one default_config read.state read.text next is_next in
-      read.meant ∙ ap (sheet_after sheet.rows) one
-      ∙ after_refused sheet.rows (records_after default_config next.1 next.2) next.0 fault (ap (λ fs. with_last_row sheet.rows (row_of (length sheet.rows + 1) fs)) (sym same) ∙ is)
+  -- there was no row left
+  pub read_all : (row : Row) (after : SheetContent) → ReadsRow sheet.rows rest (next_record default_config st.StartRecord [] [] rest) None row after → sheet_of bytes ≡ Ok after
+  read_all row after reads = none_left (next_record default_config st.StartRecord [] [] rest) row after refl reads
 
-  -- the next record was added
-  pub read_added : (more : SheetContent) → ReadsOne remaining (next_record default_config read.state [] [] read.text) after true fields
-      → with_last_row sheet.rows (row_of (length sheet.rows + 1) fields) ≡ Ok more → HasRead remaining bytes after more
-  read_added more reads is =
-      let (next, is_next, same, stands) = found_one _ reads in
-      let one = after_one default_config read.state read.text next is_next in
-      record {
-        state = next.1;
-        text = next.2;
-        stands = stands;
-        unwritten = (added sheet.rows (row_of (length sheet.rows + 1) fields) more is).0;
-        meant = read.meant ∙ ap (sheet_after sheet.rows) one
-            ∙ after_added sheet.rows (records_after default_config next.1 next.2) next.0 more (ap (λ fs. with_last_row sheet.rows (row_of (length sheet.rows + 1) fs)) (sym same) ∙ is);
-      }
+  row_refused : (o : Option Read) (count : ℕ) (row : Row) (after : SheetContent) (fault : BookFault) → next_record default_config st.StartRecord [] [] rest ≡ o
+      → ReadsRow sheet.rows rest o (Some count) row after → fault_by row.number row.is_utf8 row.columns ≡ Some fault → sheet_of bytes ≡ Err fault
+  row_refused None count row after fault is reads found = cc reads.0
+  row_refused (Some next) count row after fault is reads found =
+      let known = sym (fault_known sheet.rows next.0 row reads.5.counted) ∙ found in
+      read.meant ∙ ap (sheet_after sheet.rows) (after_one default_config st.StartRecord rest next is)
+      ∙ after_refused sheet.rows (records_after default_config next.1 next.2) next.0 fault (ap (λ o. with_last_row sheet.rows (unless o (map text_of_bytes next.0))) known)
+
+  -- the next row has a fault
+  pub read_refused : (count : ℕ) (row : Row) (after : SheetContent) (fault : BookFault)
+      → ReadsRow sheet.rows rest (next_record default_config st.StartRecord [] [] rest) (Some count) row after → fault_by row.number row.is_utf8 row.columns ≡ Some fault → sheet_of bytes ≡ Err fault
+  read_refused count row after fault reads found = row_refused (next_record default_config st.StartRecord [] [] rest) count row after fault refl reads found
+
+  row_added : (o : Option Read) (count : ℕ) (row : Row) (after : SheetContent) → next_record default_config st.StartRecord [] [] rest ≡ o
+      → ReadsRow sheet.rows rest o (Some count) row after → fault_by row.number row.is_utf8 row.columns ≡ None
+      → HasRead bytes (drop count rest) after × (length sheet.rows < 1048576) × (length after.rows ≡ length sheet.rows + 1)
+  row_added None count row after is reads none = cc reads.0
+  row_added (Some next) count row after is reads none =
+      let same : count ≡ reads.0 = cc reads.1 in
+      let known = sym (fault_known sheet.rows next.0 row reads.5.counted) ∙ none in
+      let texts = its_texts sheet.rows next.0 after reads.5.texts (record_has_fields default_config st.StartRecord [] [] rest next is) known in
+      let more = added sheet.rows (row_of (length sheet.rows + 1) next.0) after texts in
+      let later = same_after default_config next.1 (without_return next.1) next.2 (next_return next.1 [] [] next.2)
+      ∙ ap₂ (records_after default_config) reads.4 (reads.3 ∙ ap (λ n. drop n rest) (sym same)) in (
+        record {
+          unwritten = more.0;
+          meant = read.meant ∙ ap (sheet_after sheet.rows) (after_one default_config st.StartRecord rest next is)
+              ∙ after_added sheet.rows (records_after default_config next.1 next.2) next.0 after texts ∙ ap (sheet_after after.rows) later;
+        },
+        row_fits sheet.rows next.0 known,
+        more.1,
+      )
+
+  -- the next row was added
+  pub read_added : (count : ℕ) (row : Row) (after : SheetContent) → ReadsRow sheet.rows rest (next_record default_config st.StartRecord [] [] rest) (Some count) row after
+      → fault_by row.number row.is_utf8 row.columns ≡ None → HasRead bytes (drop count rest) after × (length sheet.rows < 1048576) × (length after.rows ≡ length sheet.rows + 1)
+  read_added count row after reads none = row_added (next_record default_config st.StartRecord [] [] rest) count row after refl reads none
+
+-- so many bytes are there
+pub taken_inside : (rows : Rows) (rest : List ℕ) (o : Option Read) (count : ℕ) (row : Row) (after : SheetContent) → ReadsRow rows rest o (Some count) row after → count ≤ length rest
+taken_inside rows rest None count row after reads = cc reads.0
+taken_inside rows rest (Some next) count row after reads = let same : count ≡ reads.0 = cc reads.1 in rw same reads.2

@@ -1,5 +1,5 @@
 -- What a sheet file has: rows of texts, or a first row with a fault.
-use Rattle.std.specs.Prelude.{ℕ, ◌+◌, List, [], ◌∷◌, ◌++◌, map, flat_map, length, chars, nat_lt, not, Option, Some, None, Result, Ok, Err, if◌then◌else◌}
+use Rattle.std.specs.Prelude.{ℕ, ◌+◌, List, [], ◌∷◌, ◌++◌, map, flat_map, length, chars, nat_lt, Bool, not, Option, Some, None, Result, Ok, Err, if◌then◌else◌}
 use Rattle.std.specs.FinMap.{empty}
 use Rattle.std.specs.List.{list_all}
 use Rattle.std.specs.Str.{is_utf8}
@@ -22,13 +22,16 @@ Rows = List Fields
 abbrev pub text_of_bytes : List ℕ → List ℕ
 text_of_bytes bytes = flat_map encode_utf16 (chars bytes)
 
--- the fault of the row of this number, where it has one
-abbrev pub fault_of : ℕ → Fields → Option BookFault
-fault_of number fields =
+-- the fault of the row of this number, where it has one: by whether its fields are UTF-8, and how many they are
+abbrev pub fault_by : ℕ → Bool → ℕ → Option BookFault
+fault_by number utf8 columns =
     if nat_lt sheet_rows number then Some TooManyRows
-    else if not (list_all is_utf8 fields) then Some (NotUtf8 number)
-    else if nat_lt sheet_columns (length fields) then Some (TooManyColumns number)
+    else if not utf8 then Some (NotUtf8 number)
+    else if nat_lt sheet_columns columns then Some (TooManyColumns number)
     else None
+
+abbrev pub fault_of : ℕ → Fields → Option BookFault
+fault_of number fields = fault_by number (list_all is_utf8 fields) (length fields)
 
 -- the value, unless there is a fault
 abbrev pub unless : {X : Type 0} → Option BookFault → X → Result X BookFault

@@ -5,6 +5,9 @@ mod fault;
 mod laws;
 mod read;
 mod record;
+mod row;
+mod scan;
+mod sizes;
 #[cfg(test)]
 mod tests;
 mod write;

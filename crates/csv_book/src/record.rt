@@ -1,41 +1,12 @@
-// Reading and writing one record.
+// Writing one record.
 ghost use Rattle.std.specs.Prelude.{◌≡◌, ◌++◌, ℕ, List, [], Some, IfOk, OnOk};
-ghost use Rattle.csv.specs.Machine.{next_record};
-ghost use Rattle.csv.specs.Reading.{default_config, strip_bom};
 ghost use Rattle.csv.specs.Records.{fields_of};
 ghost use Rattle.csv.specs.Writing.{default_writer, row_text};
-ghost use Rattle.csv.specs.declared.parser.State.{State};
-ghost use Rattle.csv.specs.declared.parser.State.TheVariants as states;
-ghost use Rattle.csv_book.specs.Records.{HasWritten, ReadsOne, StandsBefore};
+ghost use Rattle.csv_book.specs.Records.{HasWritten};
 
-use csv::{ByteRecord, Reader, ReaderBuilder, Writer, WriterBuilder};
+use csv::{ByteRecord, Writer, WriterBuilder};
 use std::alloc::Global;
 use vba_base::NoMemory;
-
-/// A reader of the records of these bytes, of any lengths. Its header row is set, and is none of them: csv would keep
-/// copies of the first record otherwise.
-pub fn reader_of(alloc: Global, bytes: &[u8]) -> Result<Reader<&[u8]>, NoMemory>
-    ensures { IfOk result (λ reader. StandsBefore (λ rest. Some rest.now) reader states.StartRecord (strip_bom bytes.now)) }
-{
-    let mut reader = ReaderBuilder::new()
-        .flexible(true)
-        .from_reader(alloc, bytes);
-    match reader.set_byte_headers(ByteRecord::new(alloc)) {
-        Ok(()) => Ok(reader),
-        Err(_) => Err(NoMemory),
-    }
-}
-
-/// Reads the next record, and tells whether there was one. Reading from memory fails for want of memory alone.
-pub fn read_record(reader: &mut Reader<&[u8]>, record: &mut ByteRecord) -> Result<bool, NoMemory>
-    ensures { (state : State) (text : List ℕ) → StandsBefore (λ rest. Some rest.now) reader.old state text
-        → IfOk result (λ found. ReadsOne (λ rest. Some rest.now) (next_record default_config state [] [] text) reader.new found (fields_of record.new)) }
-{
-    match reader.read_byte_record(record) {
-        Ok(found) => Ok(found),
-        Err(_) => Err(NoMemory),
-    }
-}
 
 /// A writer of records of any lengths, with LF behind each.
 pub fn writer_of(alloc: Global) -> Writer<Vec<u8>>

@@ -1,6 +1,6 @@
 use super::*;
 use sheet_host::{Area, Book, CellValue, Sheet, SheetId};
-use std::alloc::Global;
+use std::alloc::{AllocError, Global};
 use std::process::Abort;
 use std::test::Fail;
 use vba_base::{NoMemory, OrMemory, Units, encode_text};
@@ -44,7 +44,7 @@ fn shown(rt: &(impl Abort + AllocGlobal), sheet: &Sheet) -> Result<Vec<u8>, NoMe
 }
 
 /// A file, and the rows that it has.
-const READ: [(&[u8], &[u8]); 15] = [
+const READ: [(&[u8], &[u8]); 17] = [
     (b"id,price\n007,1.50\n", b"id|price|/007|1.50|/"),
     (b"", b""),
     (b"\n\r\n\r", b""),
@@ -66,6 +66,8 @@ const READ: [(&[u8], &[u8]); 15] = [
     ),
     (b"\"say \"\"\"\"\",b", b"say \"\"|b|/"),
     (b"a\"b,\"c\" d", b"a\"b|c d|/"),
+    (b"\"a\"\"b\"\"\",\"\"\"\"\r\r\"c", b"a\"b\"|\"|/c|/"),
+    (b"a,\r\n,b\r,", b"a||/|b|/||/"),
     (b"\xEF\xBB\xBFa,b\n", b"a|b|/"),
     (b"\xEF\xBB\xBF\xEF\xBB\xBFa\n", b"\xEF\xBB\xBFa|/"),
 ];
@@ -238,5 +240,51 @@ fn rows_of_any_lengths_read_back(rt: HostRuntime) -> Result<(), Fail> {
     let first = shown(&rt, &sheet).expect(&rt, "memory");
     let second = shown(&rt, &again).expect(&rt, "memory");
     assert_eq!(rt; first.as_slice(), second.as_slice());
+    Ok(())
+}
+
+/// So many times the same bytes.
+fn repeated(alloc: Global, bytes: &[u8], times: u32) -> Result<Vec<u8>, AllocError> {
+    let mut all = Vec::new(alloc);
+    for _ in 0..times {
+        all.extend_from_slice(bytes)?;
+    }
+    Ok(all)
+}
+
+#[test]
+fn a_field_may_have_10_megabytes(rt: HostRuntime) -> Result<(), Fail> {
+    let mut file = Vec::new(rt.alloc());
+    file.extend_from_slice(b"a,\"")?;
+    let lines = repeated(rt.alloc(), b"x\"\"y\n", 2_097_152)?;
+    file.extend_from_slice(lines.as_slice())?;
+    file.extend_from_slice(b"\"\n")?;
+    let sheet = sheet_of(&rt, file.as_slice());
+    assert_eq!(rt; sheet.row_count(), 1);
+    assert_eq!(rt; sheet.field_count(1), 2);
+    assert_eq!(rt; sheet.field_text(1, 2).len(), 8_388_608);
+    let written = write_sheet(rt.alloc(), &sheet).expect(&rt, "memory");
+    assert!(rt; written.as_slice() == file.as_slice());
+    Ok(())
+}
+
+#[test]
+fn a_file_may_have_64_megabytes(rt: HostRuntime) -> Result<(), Fail> {
+    let row = b"0123456789012345678901234567890,0123456789012345678901234567890\n".as_slice();
+    let file = repeated(rt.alloc(), row, 1_048_576)?;
+    let sheet = sheet_of(&rt, file.as_slice());
+    assert_eq!(rt; sheet.row_count(), 1_048_576);
+    let written = write_sheet(rt.alloc(), &sheet).expect(&rt, "memory");
+    assert!(rt; written.as_slice() == file.as_slice());
+    Ok(())
+}
+
+#[test]
+fn a_long_row_may_have_too_many_columns(rt: HostRuntime) -> Result<(), Fail> {
+    let row = repeated(rt.alloc(), b",", 67_108_864)?;
+    assert_eq!(rt;
+        fault_of(&rt, row.as_slice()),
+        Some(BookFault::TooManyColumns(1))
+    );
     Ok(())
 }

@@ -11,7 +11,6 @@ pub mod Puts
 pub mod Rows
 pub mod Shelves
 pub mod Smallest
-pub mod Tables
 pub mod Texts
 pub mod Units
 pub mod WrittenLaws

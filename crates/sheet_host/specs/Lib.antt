@@ -12,5 +12,4 @@ pub mod Sheets
 pub mod Shelf
 pub mod Size
 pub mod Smallest
-pub mod Table
 pub mod Writing

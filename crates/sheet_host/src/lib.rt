@@ -16,7 +16,6 @@ mod pages;
 mod printing;
 mod reading;
 mod sheet;
-mod table;
 #[cfg(test)]
 mod tests;
 mod used;

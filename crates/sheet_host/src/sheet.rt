@@ -12,8 +12,8 @@ use crate::area::Area;
 use crate::cell::CellValue;
 use crate::field::value_of_field;
 use crate::pages::{Pages, fill, last_column, last_row, take_room, widened_by_pages, written};
-use crate::table::FieldTable;
 use crate::used::{Corners, widened};
+use field_table::FieldTable;
 use std::alloc::Global;
 use std::collections::BTreeMap;
 use std::marker::Model;
@@ -73,8 +73,7 @@ impl Sheet {
         })
     }
 
-    /// Adds a row without fields, to a sheet that nothing was written to. Without memory, and where the sheet has more
-    /// than 4294967295 fields, nothing changes.
+    /// Adds a row without fields, to a sheet that nothing was written to. Without memory nothing changes.
     pub fn push_row(&mut self) -> Result<(), NoMemory>
         requires unwritten { IsUnwritten self.old }
         requires room { length self.old.rows < sheet_rows }
@@ -84,8 +83,8 @@ impl Sheet {
         self.rows.push_row()
     }
 
-    /// Adds a field to the last row of a sheet that nothing was written to. Without memory, and where the fields before
-    /// it have more than 4294967295 units, nothing changes.
+    /// Adds a field to the last row of a sheet that nothing was written to. Without memory, and where the fields would
+    /// have more than 4294967295 units, with one or three for the length of each, nothing changes.
     pub fn push_field(&mut self, text: &[u16]) -> Result<(), NoMemory>
         requires unwritten { IsUnwritten self.old }
         requires row { 0 < length self.old.rows }

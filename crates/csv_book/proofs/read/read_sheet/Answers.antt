@@ -1,56 +1,33 @@
--- Each turn reads one record: the last is none, one too many, or one with a fault.
-use Rattle.std.proofs.Common.{◌≡◌, ◌+◌, true, false, length, Err, ap, ◌∙◌, arith, rules}
-use Rattle.csv.specs.Records.{fields_of}
-use Rattle.sheet_host.specs.Size.{sheet_rows}
-use Rattle.csv_book.specs.declared.fault.BookFault.TheVariants.{TooManyRows}
-use Rattle.csv_book.specs.Reading.{row_of, sheet_of, with_last_row}
-use Rattle.csv_book.proofs.Added.{added, past_last}
-use Rattle.csv_book.proofs.Steps.{fails_so, read_added, read_all, read_refused}
+-- Each turn reads one row: it has a fault, or is added; at last there is none.
+use Rattle.std.proofs.Common.{◌≡◌, ◌∙◌, ◌<◌, ◌-◌, length, drop, None, Some, sym, ap, subst, arith}
+use Rattle.csv.specs.Machine.{next_record}
+use Rattle.csv.specs.Reading.{default_config}
+use Rattle.csv.specs.declared.parser.State.TheVariants as st
+use Rattle.csv_book.specs.Row.{ReadsRow}
+use Rattle.csv_book.proofs.Steps.{read_added, read_all, read_refused}
 use Rattle.csv_book.proofs.read.read_sheet.Goals as goal
 
-pub returns-then-not-branch : goal.returns-then-not-branch
-returns-then-not-branch c =
-    let read = c.loop-row.invariant.0 in
-    let reads = c.in_ok-read_record.ensures read.state read.text read.stands in
-    let none : c.in_ok-read_record.field-0 ≡ false = search rules in
-    read_all _ c.args.bytes.now c.loop-row.reader c.read_record.new.reader (fields_of c.read_record.new.record) c.loop-row.sheet read (rw none at reads)
+pub returns-in-Some-fault : goal.returns-in-Some-fault
+returns-in-Some-fault c =
+    let reads = rw c.in-Some.is at c.in_ok-taken.ensures in
+    read_refused c.args.bytes.now c.loop-sheet.rest.now c.loop-sheet.sheet c.loop-sheet.invariant c.in-Some.taken c.read_row.new.row c.read_row.new.sheet c.in-Some-fault.fault
+    reads (sym c.fault.ensures ∙ c.in-Some-fault.is)
 
-pub returns-in_err-add_row : goal.returns-in_err-add_row
-returns-in_err-add_row c =
-    let read = c.loop-row.invariant.0 in
-    let fields = fields_of c.read_record.new.record in
-    let reads = c.in_ok-read_record.ensures read.state read.text read.stands in
-    let one : c.in_ok-read_record.field-0 ≡ true = search rules in
-    let passed : c.from_residual-in_err-add_row.result ≡ Err c.in_err-add_row.field-0.0 = search rules in
-    let refused = fails_so c.in_err-add_row.field-0.0 (with_last_row c.loop-row.sheet.rows (row_of (c.loop-row.row + 1) fields)) (sheet_of c.args.bytes.now)
-    (λ fault is. read_refused _ c.args.bytes.now c.loop-row.reader c.read_record.new.reader fields c.loop-row.sheet read fault (rw one at reads)
-    (ap (λ n. with_last_row c.loop-row.sheet.rows (row_of (n + 1) fields)) c.loop-row.invariant.1 ∙ is))
-    c.in_err-add_row.ensures in
-    rw passed refused
+pub loop-sheet-preserved : goal.loop-sheet-preserved
+loop-sheet-preserved c =
+    let reads = rw c.in-Some.is at c.in_ok-taken.ensures in
+    let more = read_added c.args.bytes.now c.loop-sheet.rest.now c.loop-sheet.sheet c.loop-sheet.invariant c.in-Some.taken c.read_row.new.row c.read_row.new.sheet
+    reads (sym c.fault.ensures ∙ c.in_default-fault.is) in
+    rw c.behind-rest.ensures more.0
 
-pub loop-row-preserved : goal.loop-row-preserved
-loop-row-preserved c =
-    let read = c.loop-row.invariant.0 in
-    let fields = fields_of c.read_record.new.record in
-    let reads = c.in_ok-read_record.ensures read.state read.text read.stands in
-    let one : c.in_ok-read_record.field-0 ≡ true = search rules in
-    let here = ap (λ n. with_last_row c.loop-row.sheet.rows (row_of (n + 1) fields)) c.loop-row.invariant.1 ∙ c.in_ok-add_row.ensures in (
-      read_added _ c.args.bytes.now c.loop-row.reader c.read_record.new.reader fields c.loop-row.sheet read c.add_row.new.sheet (rw one at reads) here,
-      (added c.loop-row.sheet.rows (row_of (c.loop-row.row + 1) fields) c.add_row.new.sheet c.in_ok-add_row.ensures).1 ∙ ap (λ n. n + 1) c.loop-row.invariant.1,
-    )
-
-pub returns-then-branch : goal.returns-then-branch
-returns-then-branch c =
-    let read = c.loop-row.invariant.0 in
-    let fields = fields_of c.read_record-2.new.record in
-    let reads = c.in_ok-read_record-2.ensures read.state read.text read.stands in
-    let one : c.in_ok-read_record-2.field-0 ≡ true = search rules in
-    let full : length c.loop-row.sheet.rows ≡ sheet_rows = omega (arith, c.loop-row.invariant.1) in
-    read_refused _ c.args.bytes.now c.loop-row.reader c.read_record-2.new.reader fields c.loop-row.sheet read TooManyRows (rw one at reads) (past_last c.loop-row.sheet.rows fields full)
+pub loop-sheet-smaller : goal.loop-sheet-smaller
+loop-sheet-smaller c =
+    let reads = rw c.in-Some.is at c.in_ok-taken.ensures in
+    let more = read_added c.args.bytes.now c.loop-sheet.rest.now c.loop-sheet.sheet c.loop-sheet.invariant c.in-Some.taken c.read_row.new.row c.read_row.new.sheet
+    reads (sym c.fault.ensures ∙ c.in_default-fault.is) in
+    omega (arith, more.1, more.2)
 
 pub returns : goal.returns
 returns c =
-    let read = c.loop-row.invariant.0 in
-    let reads = c.in_ok-read_record-2.ensures read.state read.text read.stands in
-    let none : c.in_ok-read_record-2.field-0 ≡ false = search rules in
-    read_all _ c.args.bytes.now c.loop-row.reader c.read_record-2.new.reader (fields_of c.read_record-2.new.record) c.loop-row.sheet read (rw none at reads)
+    let reads = rw c.in_default.is at c.in_ok-taken.ensures in
+    read_all c.args.bytes.now c.loop-sheet.rest.now c.loop-sheet.sheet c.loop-sheet.invariant c.read_row.new.row c.read_row.new.sheet reads
