@@ -153,7 +153,8 @@ pub begin_of_all : (n : ℕ) (units : List ℕ) → AreWhole n units → behind 
 begin_of_all n units whole all = omega (arith, begin_behind n units whole, ap length all)
 
 -- the marks there were, and the new one
-mark_before : (marked : Bool) (begin : ℕ) (marks : List ℕ) (k : ℕ) → k < length marks → slice_index (if marked then marks ++ begin ∷ [] else marks) k ≡ slice_index marks k
+mark_before : (marked : Bool) (begin : ℕ) (marks : List ℕ) (k : ℕ) → k < length marks
+    → slice_index (if marked then marks ++ begin ∷ [] else marks) k ≡ slice_index marks k
 mark_before true begin marks k lt = get_or_append_left marks (begin ∷ []) 0 k lt
 mark_before false begin marks k lt = refl
 
@@ -162,7 +163,8 @@ mark_last : (marked : Bool) (begin : ℕ) (marks : List ℕ) (k : ℕ) → lengt
 mark_last true begin marks k past lt = get_or_push marks begin 0 k (omega (arith, lt, length-append marks (begin ∷ [])))
 mark_last false begin marks k past lt = absurd (omega arith)
 
-mark_due : (n begin : ℕ) (marks : List ℕ) (k : ℕ) → n ≤ 64 * length marks → 64 * length marks < n + 64 → length marks ≤ k → k < length (with_mark n begin marks) → 64 * k ≡ n
+mark_due : (n begin : ℕ) (marks : List ℕ) (k : ℕ) → n ≤ 64 * length marks → 64 * length marks < n + 64 → length marks ≤ k
+    → k < length (with_mark n begin marks) → 64 * k ≡ n
 mark_due n begin marks k enough needed past lt = grind (arith, nat_tests, length-append marks (begin ∷ []))
 
 mark_places : (n : ℕ) (units more marks : List ℕ) → AreFrames n units marks
@@ -171,13 +173,14 @@ mark_places n units more marks are k lt =
     let begin = length units in
     let marked = nat_eq (n % 64) 0 in
     elim (cases_lt k (length marks)) [
-      | inl old ↦ mark_before marked begin marks k old ∙ are.places k old ∙ sym (begin_before (64 * k) units more (whole_first (64 * k) n units are.whole (omega (arith, are.needed, old))))
+      | inl old ↦ mark_before marked begin marks k old ∙ are.places k old
+          ∙ sym (begin_before (64 * k) units more (whole_first (64 * k) n units are.whole (omega (arith, are.needed, old))))
       | inr past ↦ mark_last marked begin marks k past lt ∙ sym (begin_of_all n units are.whole are.all) ∙ sym (begin_before n units more are.whole)
           ∙ ap (λ m. begin_of m (units ++ more)) (sym (mark_due n begin marks k are.enough are.needed past lt))
     ]
 
-pub frame_added : (n begin : ℕ) (units units' marks marks' text : List ℕ) → AreFrames n units marks → units' ≡ units ++ frame text → length units' < 2 ^ 32 → begin ≡ length units
-    → marks' ≡ with_mark n begin marks → AreFrames (n + 1) units' marks'
+pub frame_added : (n begin : ℕ) (units units' marks marks' text : List ℕ) → AreFrames n units marks → units' ≡ units ++ frame text → length units' < 2 ^ 32
+    → begin ≡ length units → marks' ≡ with_mark n begin marks → AreFrames (n + 1) units' marks'
 frame_added n begin units units' marks marks' text are longer fit at more =
     let now : marks' ≡ with_mark n (length units) marks = more ∙ ap (λ b. with_mark n b marks) at in
     let counts = marks_count n (length units) marks are.enough are.needed in
@@ -194,7 +197,8 @@ frame_added n begin units units' marks marks' text are longer fit at more =
 pub mark_inside : (n place : ℕ) (units marks : List ℕ) → AreFrames n units marks → place < n → place / 64 < length marks
 mark_inside n place units marks are lt = omega (arith, are.enough)
 
-mark_place : (n place : ℕ) (units marks : List ℕ) → AreFrames n units marks → place < n → drop (slice_index marks (place / 64)) units ≡ behind (64 * (place / 64)) units
+mark_place : (n place : ℕ) (units marks : List ℕ) → AreFrames n units marks → place < n
+    → drop (slice_index marks (place / 64)) units ≡ behind (64 * (place / 64)) units
 mark_place n place units marks are lt =
     ap (λ begin. drop begin units) (are.places (place / 64) (mark_inside n place units marks are lt)) ∙ behind_begin (64 * (place / 64)) units
 
@@ -209,16 +213,28 @@ mark_below n place units marks are lt =
       begin_behind (64 * (place / 64)) units (whole_first (64 * (place / 64)) n units are.whole (omega (arith, place_parts place, lt))),
     )
 
-pub whole_from_mark : (n place : ℕ) (units marks : List ℕ) → AreFrames n units marks → place < n → AreWhole (place % 64) (drop (slice_index marks (place / 64)) units)
+pub whole_from_mark : (n place : ℕ) (units marks : List ℕ) → AreFrames n units marks → place < n
+    → AreWhole (place % 64) (drop (slice_index marks (place / 64)) units)
 whole_from_mark n place units marks are lt =
     subst (AreWhole (place % 64)) (sym (mark_place n place units marks are lt))
-    (whole_behind (64 * (place / 64)) (place % 64) units (subst (λ k. AreWhole k units) (sym (place_parts place)) (whole_first place n units are.whole (omega (arith, lt)))))
+    (whole_behind (64 * (place / 64)) (place % 64) units
+    (subst (λ k. AreWhole k units) (sym (place_parts place)) (whole_first place n units are.whole (omega (arith, lt)))))
 
-pub behind_mark : (n place : ℕ) (units marks : List ℕ) → AreFrames n units marks → place < n → behind (place % 64) (drop (slice_index marks (place / 64)) units) ≡ behind place units
+pub behind_mark : (n place : ℕ) (units marks : List ℕ) → AreFrames n units marks → place < n
+    → behind (place % 64) (drop (slice_index marks (place / 64)) units) ≡ behind place units
 behind_mark n place units marks are lt =
-    ap (behind (place % 64)) (mark_place n place units marks are lt) ∙ sym (behind_behind (64 * (place / 64)) (place % 64) units) ∙ ap (λ k. behind k units) (place_parts place)
+    ap (behind (place % 64)) (mark_place n place units marks are lt) ∙ sym (behind_behind (64 * (place / 64)) (place % 64) units)
+    ∙ ap (λ k. behind k units) (place_parts place)
 
 -- no more frames than units
 pub frames_fit : (n : ℕ) (units units' marks text : List ℕ) → AreFrames n units marks → units' ≡ units ++ frame text → length units' < 2 ^ 32 → n + 1 < 2 ^ 32
 frames_fit n units units' marks text are longer fit =
-    omega (arith, count_below n units, begin_of_all n units are.whole are.all, ap length longer, length-append units (frame text), frame_end text, end_positive (frame text))
+    omega (
+      arith,
+      count_below n units,
+      begin_of_all n units are.whole are.all,
+      ap length longer,
+      length-append units (frame text),
+      frame_end text,
+      end_positive (frame text),
+    )

@@ -1,7 +1,7 @@
 -- Lists in pieces.
 use Rattle.std.proofs.Common.{◌≡◌, ℕ, zero, suc, ◌+◌, ◌-◌, ◌<◌, ◌≤◌, List, [], ◌∷◌, ◌++◌, length, take, drop, refl, sym, ap, ◌∙◌, arith, add-one}
 use Rattle.std.specs.Prelude.{slice_range, slice_index_or, slice_set}
-use Rattle.std.proofs.lemmas.List.{length-append, length-drop, drop-append-le, take-append-le, take_rest, drop_at, drop_all, get_or-take, get_or-drop, get_or_past}
+use Rattle.std.proofs.lemmas.List.{length-append, length-drop, drop-append-le, take-append-le, take_rest, drop_all, get_or-take, get_or-drop, get_or_past}
 use Rattle.field_table.specs.Table.{next_start, pieces, RiseTo}
 
 pub length_pieces : {A : Type 0} (items : List A) (starts : List ℕ) → length (pieces items starts) ≡ length starts
@@ -25,7 +25,8 @@ rise_more end (start ∷ []) rise = (rise.0, (omega arith, tt))
 rise_more end (start ∷ next ∷ starts) rise = (rise.0, rise_more end (next ∷ starts) rise.1)
 
 -- a range behind which something is added
-pub range_before : {A : Type 0} (items more : List A) (start end : ℕ) → start ≤ end → end ≤ length items → slice_range (items ++ more) start end ≡ slice_range items start end
+pub range_before : {A : Type 0} (items more : List A) (start end : ℕ) → start ≤ end → end ≤ length items
+    → slice_range (items ++ more) start end ≡ slice_range items start end
 range_before items more start end le inside =
     ap (take (end - start)) (drop-append-le start items more (omega arith))
     ∙ take-append-le (end - start) (drop start items) more (omega (arith, length-drop start items))
@@ -34,7 +35,8 @@ range_to_end : {A : Type 0} (items : List A) (start : ℕ) → slice_range items
 range_to_end items start = take_rest items start
 
 -- a piece more, which is empty
-pub piece_opened : {A : Type 0} (items : List A) (starts : List ℕ) → RiseTo (length items) starts → pieces items (starts ++ length items ∷ []) ≡ pieces items starts ++ [] ∷ []
+pub piece_opened : {A : Type 0} (items : List A) (starts : List ℕ) → RiseTo (length items) starts
+    → pieces items (starts ++ length items ∷ []) ≡ pieces items starts ++ [] ∷ []
 piece_opened items [] rise = ap (λ piece. piece ∷ []) (range_to_end items (length items) ∙ drop_all (length items) items (omega arith))
 piece_opened items (start ∷ []) rise = ap (λ rest. slice_range items start (length items) ∷ rest) (piece_opened items [] tt)
 piece_opened items (start ∷ next ∷ starts) rise = ap (λ rest. slice_range items start next ∷ rest) (piece_opened items (next ∷ starts) rise.1)
@@ -44,24 +46,14 @@ pub piece_grown : {A : Type 0} (items more : List A) (starts : List ℕ) (i : �
     → pieces (items ++ more) starts ≡ slice_set (pieces items starts) i (slice_index_or (pieces items starts) i [] ++ more)
 piece_grown items more [] i rise is = absurd (omega (arith, is))
 piece_grown items more (start ∷ []) zero rise is =
-    ap (λ piece. piece ∷ []) (range_to_end (items ++ more) start ∙ drop-append-le start items more rise.0 ∙ ap (λ piece. piece ++ more) (sym (range_to_end items start)))
+    ap (λ piece. piece ∷ []) (range_to_end (items ++ more) start ∙ drop-append-le start items more rise.0
+    ∙ ap (λ piece. piece ++ more) (sym (range_to_end items start)))
 piece_grown items more (start ∷ []) (suc i) rise is = absurd (omega (arith, is))
 piece_grown items more (start ∷ next ∷ starts) zero rise is = absurd (omega (arith, is))
 piece_grown items more (start ∷ next ∷ starts) (suc i) rise is =
     let inside = next_below (length items) (next ∷ starts) rise.1 in
     ap (λ piece. piece ∷ pieces (items ++ more) (next ∷ starts)) (range_before items more start next rise.0 inside)
     ∙ ap (λ rest. slice_range items start next ∷ rest) (piece_grown items more (next ∷ starts) i rise.1 (omega (arith, is)))
-
--- a piece more
-pub piece_added : {A : Type 0} (items more : List A) (starts : List ℕ) → RiseTo (length items) starts → pieces (items ++ more) (starts ++ length items ∷ []) ≡ pieces items starts ++ more ∷ []
-piece_added items more [] rise = ap (λ piece. piece ∷ []) (range_to_end (items ++ more) (length items) ∙ drop_at items more (length items) refl)
-piece_added items more (start ∷ []) rise =
-    ap (λ piece. piece ∷ pieces (items ++ more) (length items ∷ [])) (range_before items more start (length items) rise.0 (omega arith))
-    ∙ ap (λ rest. slice_range items start (length items) ∷ rest) (piece_added items more [] tt)
-piece_added items more (start ∷ next ∷ starts) rise =
-    let inside = next_below (length items) (next ∷ starts) rise.1 in
-    ap (λ piece. piece ∷ pieces (items ++ more) ((next ∷ starts) ++ length items ∷ [])) (range_before items more start next rise.0 inside)
-    ∙ ap (λ rest. slice_range items start next ∷ rest) (piece_added items more (next ∷ starts) rise.1)
 
 -- a piece at its place
 pub piece_at : {A : Type 0} (items : List A) (starts : List ℕ) (i : ℕ) → i < length starts
@@ -86,7 +78,8 @@ place_below end (start ∷ starts) zero rise = next_below end (start ∷ starts)
 place_below end (start ∷ starts) (suc i) rise = place_below end starts i rise.1
 
 -- an item of a range
-pub range_item : {A : Type 0} (items : List A) (start end i : ℕ) (d : A) → i < end - start → slice_index_or (slice_range items start end) i d ≡ slice_index_or items (start + i) d
+pub range_item : {A : Type 0} (items : List A) (start end i : ℕ) (d : A) → i < end - start
+    → slice_index_or (slice_range items start end) i d ≡ slice_index_or items (start + i) d
 range_item items start end i d lt = get_or-take (end - start) (drop start items) i d lt ∙ get_or-drop start items i d
 
 pub range_length : {A : Type 0} (items : List A) (start end : ℕ) → end ≤ length items → length (slice_range items start end) ≡ end - start

@@ -9,13 +9,15 @@ length_units n = if nat_lt n 65535 then n ∷ [] else 65535 ∷ n / 65536 ∷ n 
 abbrev pub frame : List ℕ → List ℕ
 frame text = length_units (length text) ++ text
 
--- where the text of the first frame begins, and where it ends
+-- where the text of the first frame begins
 abbrev pub text_begin : List ℕ → ℕ
 text_begin units = if nat_eq (slice_index units 0) 65535 then 3 else 1
 
+-- where the text of the first frame ends
 abbrev pub text_end : List ℕ → ℕ
 text_end units = if nat_eq (slice_index units 0) 65535 then 3 + 65536 * slice_index units 1 + slice_index units 2 else 1 + slice_index units 0
 
+-- the text of the first frame
 abbrev pub first_text : List ℕ → List ℕ
 first_text units = slice_range units (text_begin units) (text_end units)
 

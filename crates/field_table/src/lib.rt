@@ -1,4 +1,4 @@
-//! Rows of field texts, in two bytes for each field beside its units.
+//! Rows of field texts. All units stand in one list, each text behind its length.
 #![tactic(auto)]
 
 mod frame;

@@ -7,5 +7,6 @@ use Rattle.field_table.proofs.frame.push_units.Goals as goal
 
 pub returns-clause-ok : goal.returns-clause-ok
 returns-clause-ok c =
-    let end = YieldsList-end (YieldsList-from_chars c.args.text.now c.utf8.text cc) c.loop-character.yielded _ c.loop-character.yielded_by _ _ c.in-None.is c.next.ensures.steps in
+    let end = YieldsList-end (YieldsList-from_chars c.args.text.now c.utf8.text cc) c.loop-character.yielded _ c.loop-character.yielded_by _ _ c.in-None.is
+    c.next.ensures.steps in
     c.loop-character.invariant ∙ ap (λ cs. c.args.units.now.items ++ flat_map encode_utf16 cs) (sym (map-id c.loop-character.yielded) ∙ end.0)

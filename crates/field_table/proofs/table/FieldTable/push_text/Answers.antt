@@ -10,11 +10,13 @@ use Rattle.field_table.proofs.table.FieldTable.push_text.Goals as goal
 pub invariant_of-self-2 : goal.invariant_of-self-2
 invariant_of-self-2 c =
     subst (λ n. RiseTo n c.self.inside.rows.items) (sym (ap length c.in_ok-push_text.ensures.ok))
-    (rise_later (length c.self.inside.fields) (length (c.self.inside.fields ++ (flat_map encode_utf16 (chars c.args.text.now)) ∷ [])) c.self.inside.rows.items (omega (arith, length-append c.self.inside.fields ((flat_map encode_utf16 (chars c.args.text.now)) ∷ []))) c.self.invariant)
+    (rise_later (length c.self.inside.fields) (length (c.self.inside.fields ++ (flat_map encode_utf16 (chars c.args.text.now)) ∷ [])) c.self.inside.rows.items
+    (omega (arith, length-append c.self.inside.fields ((flat_map encode_utf16 (chars c.args.text.now)) ∷ []))) c.self.invariant)
 
 pub returns-clause-ok : goal.returns-clause-ok
 returns-clause-ok c =
     let last = length c.args.self.now - 1 in
     ap (λ fields. pieces fields c.self.inside.rows.items) c.in_ok-push_text.ensures.ok
-    ∙ piece_grown c.self.inside.fields ((flat_map encode_utf16 (chars c.args.text.now)) ∷ []) c.self.inside.rows.items last c.self.invariant (omega (arith, length_pieces c.self.inside.fields c.self.inside.rows.items, ap length c.self.view_is, c.requires))
+    ∙ piece_grown c.self.inside.fields ((flat_map encode_utf16 (chars c.args.text.now)) ∷ []) c.self.inside.rows.items last c.self.invariant
+    (omega (arith, length_pieces c.self.inside.fields c.self.inside.rows.items, ap length c.self.view_is, c.requires))
     ∙ ap (λ old. slice_set old last (slice_index_or old last [] ++ (flat_map encode_utf16 (chars c.args.text.now)) ∷ [])) c.self.view_is

@@ -17,7 +17,8 @@ returns-then-column-end c =
     let n : c.piece-first.result.1 - c.piece-first.result.0 ≡ length (slice_index_or c.args.self.now c.args.row []) =
     piece_length c.self.inside.fields c.self.inside.rows.items c.args.row c.piece-first.result.0 c.piece-first.result.1 c.self.invariant inside
     (c.piece-first.ensures.start ∙ ap (λ starts. slice_index_or starts c.args.row 0) c.deref.ensures.value)
-    (c.piece-first.ensures.end ∙ ap (λ starts. slice_index_or starts (c.args.row + 1) c.len-2.result) c.deref.ensures.value ∙ ap (slice_index_or c.self.inside.rows.items (c.args.row + 1)) c.len-2.ensures)
+    (c.piece-first.ensures.end ∙ ap (λ starts. slice_index_or starts (c.args.row + 1) c.len-2.result) c.deref.ensures.value
+    ∙ ap (slice_index_or c.self.inside.rows.items (c.args.row + 1)) c.len-2.ensures)
     ∙ ap (λ rows. length (slice_index_or rows c.args.row [])) c.self.view_is in
     let past : c.piece-first.result.1 - c.piece-first.result.0 ≤ c.args.column = search rules in
     sym (get_or_past (slice_index_or c.args.self.now c.args.row []) c.args.column [] (omega (arith, n, past)))
@@ -29,6 +30,7 @@ returns c =
     c.text.ensures
     ∙ piece_item c.self.inside.fields c.self.inside.rows.items c.args.row c.args.column c.piece-first.result.0 c.piece-first.result.1 [] inside
     (c.piece-first.ensures.start ∙ ap (λ starts. slice_index_or starts c.args.row 0) c.deref.ensures.value)
-    (c.piece-first.ensures.end ∙ ap (λ starts. slice_index_or starts (c.args.row + 1) c.len-2.result) c.deref.ensures.value ∙ ap (slice_index_or c.self.inside.rows.items (c.args.row + 1)) c.len-2.ensures)
+    (c.piece-first.ensures.end ∙ ap (λ starts. slice_index_or starts (c.args.row + 1) c.len-2.result) c.deref.ensures.value
+    ∙ ap (slice_index_or c.self.inside.rows.items (c.args.row + 1)) c.len-2.ensures)
     within
     ∙ ap (λ rows. slice_index_or (slice_index_or rows c.args.row []) c.args.column []) c.self.view_is
