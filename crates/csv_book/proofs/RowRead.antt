@@ -31,7 +31,8 @@ fault_capped : (number n : ℕ) (utf8 : Bool) → fault_by number utf8 (min n 16
 fault_capped number n utf8 = grind (arith, nat_tests)
 
 -- the fault that is known of the row is that of its fields
-pub fault_known : (rows : Rows) (fields : Fields) (row : Row) → IsCounted rows fields row → fault_by row.number row.is_utf8 row.columns ≡ fault_of (length rows + 1) fields
+pub fault_known : (rows : Rows) (fields : Fields) (row : Row) → IsCounted rows fields row
+    → fault_by row.number row.is_utf8 row.columns ≡ fault_of (length rows + 1) fields
 fault_known rows fields row is =
     ap (λ n. fault_by n row.is_utf8 row.columns) is.number
     ∙ ap (λ u. fault_by (length rows + 1) u row.columns) is.utf8
@@ -49,12 +50,15 @@ texts_refused rows [] field row sheet is found = λ none. cc (found, fault_known
 texts_refused rows (first ∷ fields) field row sheet is found = λ none. cc (found, fault_known rows ((first ∷ fields) ++ field ∷ []) row is, none)
 
 -- where there is none, it has the text of the field: in a new row, if it is the first
-pub texts_added : (rows : Rows) (fields : Fields) (field : List ℕ) (row : Row) (sheet last after : SheetContent) → HasTexts rows fields sheet → IsCounted rows (fields ++ field ∷ []) row
-    → ((row.columns ≡ 1) × (last ≡ with_row sheet)) ⊎ ((row.columns ≢ 1) × (last ≡ sheet)) → after ≡ with_field last (text_of_bytes field) → HasTexts rows (fields ++ field ∷ []) after
+pub texts_added : (rows : Rows) (fields : Fields) (field : List ℕ) (row : Row) (sheet last after : SheetContent) → HasTexts rows fields sheet
+    → IsCounted rows (fields ++ field ∷ []) row → ((row.columns ≡ 1) × (last ≡ with_row sheet)) ⊎ ((row.columns ≢ 1) × (last ≡ sheet))
+    → after ≡ with_field last (text_of_bytes field)
+    → HasTexts rows (fields ++ field ∷ []) after
 texts_added rows [] field row sheet last after before is (inl first) added = λ none.
     added ∙ ap (λ s. with_field s (text_of_bytes field)) (first.1 ∙ ap with_row before) ∙ field_added rows [] (text_of_bytes field)
 texts_added rows [] field row sheet last after before is (inr later) added = absurd (later.0 is.columns)
-texts_added rows (one ∷ fields) field row sheet last after before is (inl first) added = absurd (omega (arith, first.0, is.columns, length-append fields (field ∷ [])))
+texts_added rows (one ∷ fields) field row sheet last after before is (inl first) added =
+    absurd (omega (arith, first.0, is.columns, length-append fields (field ∷ [])))
 texts_added rows (one ∷ fields) field row sheet last after before is (inr later) added = λ none.
     added ∙ ap (λ s. with_field s (text_of_bytes field)) (later.1 ∙ before (none_before (length rows + 1) (one ∷ fields) field none))
     ∙ field_added rows (map text_of_bytes (one ∷ fields)) (text_of_bytes field)
@@ -62,7 +66,8 @@ texts_added rows (one ∷ fields) field row sheet last after before is (inr late
 
 -- one field more is counted
 pub counted : (rows : Rows) (fields : Fields) (field : List ℕ) (row after : Row) → IsCounted rows fields row
-    → after.number ≡ row.number → after.columns ≡ min (row.columns + 1) 16385 → after.is_utf8 ≡ (row.is_utf8 && is_utf8 field) → IsCounted rows (fields ++ field ∷ []) after
+    → after.number ≡ row.number → after.columns ≡ min (row.columns + 1) 16385 → after.is_utf8 ≡ (row.is_utf8 && is_utf8 field)
+    → IsCounted rows (fields ++ field ∷ []) after
 counted rows fields field row after is number columns utf8 = record {
   number = number ∙ is.number;
   columns = omega (arith, columns, is.columns, length-append fields (field ∷ []));

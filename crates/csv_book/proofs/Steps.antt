@@ -23,7 +23,8 @@ pub record HasRead (bytes rest : List ℕ) (sheet : SheetContent) : Type 0 where
   pub meant : sheet_of bytes ≡ sheet_after sheet.rows (records_after default_config st.StartRecord rest)
 
 -- a row without a fault is added
-its_texts : (rows : Rows) (fields : Fields) (sheet : SheetContent) → HasTexts rows fields sheet → read_back fields ≡ fields → fault_of (length rows + 1) fields ≡ None
+its_texts : (rows : Rows) (fields : Fields) (sheet : SheetContent) → HasTexts rows fields sheet → read_back fields ≡ fields
+    → fault_of (length rows + 1) fields ≡ None
     → with_last_row rows (row_of (length rows + 1) fields) ≡ Ok sheet
 its_texts rows [] sheet texts some none = cc some
 its_texts rows (field ∷ fields) sheet texts some none =
@@ -33,13 +34,15 @@ row_fits : (rows : Rows) (fields : Fields) → fault_of (length rows + 1) fields
 row_fits rows fields none = grind (arith, nat_tests)
 
 module _ (bytes rest : List ℕ) (sheet : SheetContent) (read : HasRead bytes rest sheet) where
-  none_left : (o : Option Read) (row : Row) (after : SheetContent) → next_record default_config st.StartRecord [] [] rest ≡ o → ReadsRow sheet.rows rest o None row after → sheet_of bytes ≡ Ok after
+  none_left : (o : Option Read) (row : Row) (after : SheetContent) → next_record default_config st.StartRecord [] [] rest ≡ o
+      → ReadsRow sheet.rows rest o None row after → sheet_of bytes ≡ Ok after
   none_left None row after is reads =
       read.meant ∙ ap (sheet_after sheet.rows) (after_last default_config st.StartRecord rest is) ∙ after_none sheet.rows ∙ ap Ok (sym reads.1)
   none_left (Some next) row after is reads = cc reads.1
 
   -- there was no row left
-  pub read_all : (row : Row) (after : SheetContent) → ReadsRow sheet.rows rest (next_record default_config st.StartRecord [] [] rest) None row after → sheet_of bytes ≡ Ok after
+  pub read_all : (row : Row) (after : SheetContent) → ReadsRow sheet.rows rest (next_record default_config st.StartRecord [] [] rest) None row after
+      → sheet_of bytes ≡ Ok after
   read_all row after reads = none_left (next_record default_config st.StartRecord [] [] rest) row after refl reads
 
   row_refused : (o : Option Read) (count : ℕ) (row : Row) (after : SheetContent) (fault : BookFault) → next_record default_config st.StartRecord [] [] rest ≡ o
@@ -48,11 +51,13 @@ module _ (bytes rest : List ℕ) (sheet : SheetContent) (read : HasRead bytes re
   row_refused (Some next) count row after fault is reads found =
       let known = sym (fault_known sheet.rows next.0 row reads.5.counted) ∙ found in
       read.meant ∙ ap (sheet_after sheet.rows) (after_one default_config st.StartRecord rest next is)
-      ∙ after_refused sheet.rows (records_after default_config next.1 next.2) next.0 fault (ap (λ o. with_last_row sheet.rows (unless o (map text_of_bytes next.0))) known)
+      ∙ after_refused sheet.rows (records_after default_config next.1 next.2) next.0 fault
+      (ap (λ o. with_last_row sheet.rows (unless o (map text_of_bytes next.0))) known)
 
   -- the next row has a fault
   pub read_refused : (count : ℕ) (row : Row) (after : SheetContent) (fault : BookFault)
-      → ReadsRow sheet.rows rest (next_record default_config st.StartRecord [] [] rest) (Some count) row after → fault_by row.number row.is_utf8 row.columns ≡ Some fault → sheet_of bytes ≡ Err fault
+      → ReadsRow sheet.rows rest (next_record default_config st.StartRecord [] [] rest) (Some count) row after
+      → fault_by row.number row.is_utf8 row.columns ≡ Some fault → sheet_of bytes ≡ Err fault
   read_refused count row after fault reads found = row_refused (next_record default_config st.StartRecord [] [] rest) count row after fault refl reads found
 
   row_added : (o : Option Read) (count : ℕ) (row : Row) (after : SheetContent) → next_record default_config st.StartRecord [] [] rest ≡ o
@@ -76,11 +81,14 @@ module _ (bytes rest : List ℕ) (sheet : SheetContent) (read : HasRead bytes re
       )
 
   -- the next row was added
-  pub read_added : (count : ℕ) (row : Row) (after : SheetContent) → ReadsRow sheet.rows rest (next_record default_config st.StartRecord [] [] rest) (Some count) row after
-      → fault_by row.number row.is_utf8 row.columns ≡ None → HasRead bytes (drop count rest) after × (length sheet.rows < 1048576) × (length after.rows ≡ length sheet.rows + 1)
+  pub read_added : (count : ℕ) (row : Row) (after : SheetContent)
+      → ReadsRow sheet.rows rest (next_record default_config st.StartRecord [] [] rest) (Some count) row after
+      → fault_by row.number row.is_utf8 row.columns ≡ None → HasRead bytes (drop count rest) after × (length sheet.rows < 1048576)
+      × (length after.rows ≡ length sheet.rows + 1)
   read_added count row after reads none = row_added (next_record default_config st.StartRecord [] [] rest) count row after refl reads none
 
 -- so many bytes are there
-pub taken_inside : (rows : Rows) (rest : List ℕ) (o : Option Read) (count : ℕ) (row : Row) (after : SheetContent) → ReadsRow rows rest o (Some count) row after → count ≤ length rest
+pub taken_inside : (rows : Rows) (rest : List ℕ) (o : Option Read) (count : ℕ) (row : Row) (after : SheetContent) → ReadsRow rows rest o (Some count) row after
+    → count ≤ length rest
 taken_inside rows rest None count row after reads = cc reads.0
 taken_inside rows rest (Some next) count row after reads = let same : count ≡ reads.0 = cc reads.1 in rw same reads.2

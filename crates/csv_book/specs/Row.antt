@@ -38,4 +38,5 @@ pub record IsReading (rows : Rows) (fields : Fields) (row : Row) (sheet : SheetC
 abbrev pub ReadsRow : Rows → List ℕ → Option Read → Option ℕ → Row → SheetContent → Type 0
 ReadsRow rows bytes None taken row sheet = (taken ≡ None) × (sheet ≡ sheet_of_rows rows)
 ReadsRow rows bytes (Some next) taken row sheet =
-    (count : ℕ) × (taken ≡ Some count) × (count ≤ length bytes) × (next.2 ≡ drop count bytes) × (without_return next.1 ≡ st.StartRecord) × IsReading rows next.0 row sheet
+    (count : ℕ) × (taken ≡ Some count) × (count ≤ length bytes) × (next.2 ≡ drop count bytes)
+    × (without_return next.1 ≡ st.StartRecord) × IsReading rows next.0 row sheet

@@ -27,16 +27,19 @@ loop-place-preserved c =
       reading = c.in_ok-take.ensures.fields c.args.sheet.now.rows at.fields at.reading;
       over = sym c.if-branch.false ∙ c.in_ok-take.ensures.ended;
     } in
-    goes_on c.args.sheet.now.rows c.args.bytes.now c.loop-place.place byte c.loop-place.row c.take.new.row c.loop-place.sheet c.take.new.sheet at inside refl taken
+    goes_on c.args.sheet.now.rows c.args.bytes.now c.loop-place.place byte c.loop-place.row c.take.new.row c.loop-place.sheet
+    c.take.new.sheet at inside refl taken
 
 pub returns-then-not-has_begun : goal.returns-then-not-has_begun
 returns-then-not-has_begun c =
     let past : length c.args.bytes.now ≤ c.loop-place.place = search rules in
-    no_row c.args.sheet.now.rows c.args.bytes.now c.loop-place.place c.loop-place.row c.loop-place.sheet c.loop-place.invariant past c.loop-place.row (sym c.has_begun.ensures ∙ c.if-not-has_begun.true)
+    no_row c.args.sheet.now.rows c.args.bytes.now c.loop-place.place c.loop-place.row c.loop-place.sheet c.loop-place.invariant past c.loop-place.row
+    (sym c.has_begun.ensures ∙ c.if-not-has_begun.true)
 
 pub returns : goal.returns
 returns c =
     let at = c.loop-place.invariant in
     let past : length c.args.bytes.now ≤ c.loop-place.place = search rules in
-    last_row c.args.sheet.now.rows c.args.bytes.now c.loop-place.place c.loop-place.row c.loop-place.sheet at past c.end_field.new.row c.end_field.new.sheet (sym c.has_begun.ensures ∙ c.if-not-has_begun.false)
+    last_row c.args.sheet.now.rows c.args.bytes.now c.loop-place.place c.loop-place.row c.loop-place.sheet at past c.end_field.new.row c.end_field.new.sheet
+    (sym c.has_begun.ensures ∙ c.if-not-has_begun.false)
     (c.in_ok-end_field.ensures.fields c.args.sheet.now.rows at.fields at.reading)
