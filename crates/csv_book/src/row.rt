@@ -1,5 +1,5 @@
 // Reading one row of a file into a sheet.
-ghost use Rattle.std.specs.Prelude.{◌≡◌, ◌+◌, ◌++◌, ◌∷◌, ◌&&◌, [], min, IfOk, OnOk};
+ghost use Rattle.std.specs.Prelude.{◌≡◌, ◌+◌, ◌++◌, ◌∷◌, ◌&&◌, [], min, true, IfOk, OnOk};
 ghost use Rattle.std.specs.Str.{is_utf8};
 ghost use Rattle.csv.specs.Machine.{ends_at_end, field_after, fields_after, is_end, next_record, step};
 ghost use Rattle.csv.specs.Reading.{default_config};
