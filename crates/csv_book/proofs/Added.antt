@@ -1,17 +1,12 @@
 -- Sheets that rows and fields are added to.
-use Rattle.std.proofs.Common.{◌≡◌, ℕ, ◌+◌, ◌-◌, ◌≤◌, Bool, true, false, not, List, [], ◌∷◌, ◌++◌, length, nat_lt, get_or, set, Some, None, Result, Ok, Err, if◌then◌else◌, refl, sym, ap, ap₂, ◌∙◌, arith, append_assoc, length-append}
+use Rattle.std.proofs.Common.{◌≡◌, ℕ, ◌+◌, ◌-◌, List, [], ◌∷◌, ◌++◌, length, get_or, set, Result, Ok, Err, refl, sym, ap, ap₂, ◌∙◌, arith, append_assoc, length-append}
 use Rattle.std.specs.FinMap.{empty}
-use Rattle.std.specs.List.{list_all}
-use Rattle.std.specs.Str.{is_utf8}
 use Rattle.std.proofs.Math.Seq.{set-append_seam, get_or-append_seam}
 use Rattle.std.proofs.lemmas.List.{append-nil}
-use borrow.Author.Tests.{ltb-false}
 use Rattle.vba_base.specs.Answer.{◌>>=◌}
 use Rattle.sheet_host.specs.Sheets.{SheetContent, fields_of, with_field}
-use Rattle.sheet_host.specs.Size.{sheet_columns, sheet_rows}
 use Rattle.csv_book.specs.declared.fault.BookFault.{BookFault}
-use Rattle.csv_book.specs.declared.fault.BookFault.TheVariants.{NotUtf8, TooManyColumns, TooManyRows}
-use Rattle.csv_book.specs.Reading.{Fields, Rows, fault_of, row_of, rows_from, sheet_of_rows, with_last_row}
+use Rattle.csv_book.specs.Reading.{Fields, Rows, row_of, rows_from, sheet_of_rows, with_last_row}
 
 last_place : (rows : Rows) (row : Fields) → length (rows ++ row ∷ []) - 1 ≡ length rows
 last_place rows row = omega (arith, length-append rows (row ∷ []))

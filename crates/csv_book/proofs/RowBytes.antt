@@ -1,8 +1,8 @@
 -- A row that is being read, one byte further.
-use Rattle.std.proofs.Common.{◌≡◌, ◌≢◌, ℕ, Bool, true, false, ◌++◌, ◌+◌, ◌<◌, ◌≤◌, List, [], ◌∷◌, length, drop, get_or, Option, Some, None, refl, sym, subst, ap, ap₂, ◌∙◌, arith, if◌then◌else◌}
+use Rattle.std.proofs.Common.{◌≡◌, ℕ, Bool, true, false, ◌++◌, ◌+◌, ◌<◌, ◌≤◌, List, [], ◌∷◌, length, drop, get_or, Some, None, refl, sym, subst, ap, ap₂, ◌∙◌, arith, if◌then◌else◌}
 use Rattle.std.proofs.lemmas.Bool.Decides.{nat_tests}
 use Rattle.std.proofs.lemmas.List.{drop_all, drop_more}
-use Rattle.csv.specs.Machine.{Read, ends_at_end, field_after, fields_after, is_end, next_record, step}
+use Rattle.csv.specs.Machine.{ends_at_end, field_after, fields_after, is_end, next_record, step}
 use Rattle.csv.specs.Reading.{default_config}
 use Rattle.csv.specs.declared.parser.Action.{Action}
 use Rattle.csv.specs.declared.parser.Action.TheVariants as act
@@ -14,7 +14,6 @@ use Rattle.csv_book.specs.Row.{HasTexts, IsReading, ReadsRow}
 use Rattle.csv_book.specs.declared.row.Row.{Row}
 use Rattle.csv_book.specs.Scan.{csv_state, without_return}
 use Rattle.csv_book.specs.declared.scan.State as own
-use Rattle.csv_book.specs.declared.scan.State.TheVariants.{BeforeRow, BeforeField, InField, InQuotes, AfterQuote}
 
 -- behind CR a row is read as behind LF
 step_return : (c : ℕ) → step default_config st.AfterCr c ≡ step default_config st.StartRecord c

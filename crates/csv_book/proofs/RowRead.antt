@@ -1,15 +1,13 @@
 -- A row that is being read, one field more of it.
-use Rattle.std.proofs.Common.{◌≡◌, ℕ, suc, ◌+◌, ◌≤◌, ◌<◌, min, Bool, true, false, not, ◌&&◌, List, [], ◌∷◌, ◌++◌, length, map, nat_lt, Option, Some, None, ◌⊎◌, ◌≢◌, inl, inr, if◌then◌else◌, refl, sym, ap, ap₂, ◌∙◌, arith, length-append}
+use Rattle.std.proofs.Common.{◌≡◌, ℕ, ◌+◌, min, Bool, true, false, ◌&&◌, List, [], ◌∷◌, ◌++◌, length, map, None, ◌⊎◌, ◌≢◌, inl, inr, refl, sym, ap, ◌∙◌, arith, length-append}
 use Rattle.std.specs.List.{list_all}
 use Rattle.std.specs.Option.{is_some}
 use Rattle.std.specs.Str.{is_utf8}
 use Rattle.std.proofs.lemmas.Bool.Decides.{nat_tests}
 use Rattle.std.proofs.lemmas.List.{map-append}
 use Rattle.sheet_host.specs.Sheets.{SheetContent, with_field, with_row}
-use Rattle.sheet_host.specs.Size.{sheet_columns, sheet_rows}
 use Rattle.csv_book.specs.Reading.{Fields, Rows, fault_by, fault_of, sheet_of_rows, text_of_bytes}
 use Rattle.csv_book.specs.Row.{HasTexts, IsCounted}
-use Rattle.csv_book.specs.declared.fault.BookFault.{BookFault}
 use Rattle.csv_book.specs.declared.row.Row.{Row}
 use Rattle.csv_book.proofs.Added.{field_added}
 

@@ -1,5 +1,5 @@
 -- Reading a sheet, row after row.
-use Rattle.std.proofs.Common.{◌≡◌, ℕ, ◌+◌, ◌<◌, ◌≤◌, List, [], ◌∷◌, ◌++◌, drop, length, map, Option, Some, None, Result, Ok, Err, refl, sym, ap, ap₂, ◌∙◌, arith}
+use Rattle.std.proofs.Common.{◌≡◌, ℕ, ◌+◌, ◌<◌, List, [], ◌∷◌, drop, length, map, Option, Some, None, Ok, Err, refl, sym, ap, ap₂, ◌∙◌, arith}
 use Rattle.std.specs.FinMap.{empty}
 use Rattle.std.proofs.lemmas.Bool.Decides.{nat_tests}
 use Rattle.csv.specs.Machine.{Read, next_record}
@@ -86,9 +86,3 @@ module _ (bytes rest : List ℕ) (sheet : SheetContent) (read : HasRead bytes re
       → fault_by row.number row.is_utf8 row.columns ≡ None → HasRead bytes (drop count rest) after × (length sheet.rows < 1048576)
       × (length after.rows ≡ length sheet.rows + 1)
   read_added count row after reads none = row_added (next_record default_config st.StartRecord [] [] rest) count row after refl reads none
-
--- so many bytes are there
-pub taken_inside : (rows : Rows) (rest : List ℕ) (o : Option Read) (count : ℕ) (row : Row) (after : SheetContent) → ReadsRow rows rest o (Some count) row after
-    → count ≤ length rest
-taken_inside rows rest None count row after reads = cc reads.0
-taken_inside rows rest (Some next) count row after reads = let same : count ≡ reads.0 = cc reads.1 in rw same reads.2

@@ -1,9 +1,5 @@
 -- Each turn reads one row: it has a fault, or is added; at last there is none.
-use Rattle.std.proofs.Common.{◌≡◌, ◌∙◌, ◌<◌, ◌-◌, length, drop, None, Some, sym, ap, subst, arith}
-use Rattle.csv.specs.Machine.{next_record}
-use Rattle.csv.specs.Reading.{default_config}
-use Rattle.csv.specs.declared.parser.State.TheVariants as st
-use Rattle.csv_book.specs.Row.{ReadsRow}
+use Rattle.std.proofs.Common.{◌∙◌, sym, arith}
 use Rattle.csv_book.proofs.Steps.{read_added, read_all, read_refused}
 use Rattle.csv_book.proofs.read.read_sheet.Goals as goal
 

@@ -1,5 +1,5 @@
 -- The field is counted, and its text is added unless the row has a fault.
-use Rattle.std.proofs.Common.{rules, ◌≡◌, ◌∙◌, true, false, not, inl, inr, ap, sym}
+use Rattle.std.proofs.Common.{◌∙◌, not, inl, inr, ap, sym}
 use Rattle.std.specs.Option.{is_some}
 use Rattle.sheet_host.specs.Sheets.{with_field}
 use Rattle.csv_book.specs.Reading.{text_of_bytes}

@@ -1,5 +1,5 @@
 -- The row goes on behind a byte, or ends with it or with the file.
-use Rattle.std.proofs.Common.{rules, ◌≡◌, ◌<◌, ◌≤◌, ◌+◌, true, false, not, length, get_or, refl, sym, ap, ◌∙◌, arith}
+use Rattle.std.proofs.Common.{rules, ◌<◌, ◌≤◌, true, false, length, get_or, refl, sym, ◌∙◌}
 use Rattle.csv_book.proofs.RowBytes.{IsTaken, ends, goes_on, last_row, no_row}
 use Rattle.csv_book.proofs.row.read_row.Goals as goal
 
