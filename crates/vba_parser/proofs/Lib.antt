@@ -1,0 +1,6 @@
+pub mod Begun
+pub mod Chains
+pub mod Closing
+pub mod Cuts
+pub mod Pushed
+pub mod Turning

@@ -1,0 +1,14 @@
+-- What is answered of a line by its tokens.
+use Rattle.std.specs.Prelude.{◌≡◌, List, None}
+use Rattle.vba_base.specs.declared.fault.OrMemory.{OrMemory}
+use Rattle.vba_base.specs.declared.fault.OrMemory.TheVariants.{Fault, NoMemory}
+use Rattle.vba_base.specs.declared.place.Refusal.{Refusal}
+use Rattle.vba_words.specs.declared.reading.ReadToken.{ReadToken}
+use Rattle.vba_grammar.specs.Lines.{line_of}
+use Rattle.vba_module.specs.Outside.{form_of}
+use Rattle.vba_module.specs.Verdict.{unread}
+
+-- a line without a tree is refused by S13 or S10; want of memory says nothing of it
+abbrev pub IsRefused : List ReadToken → OrMemory Refusal → Type 0
+IsRefused tokens (Fault refusal) = (line_of tokens ≡ None) × (refusal ≡ unread tokens (form_of tokens))
+IsRefused tokens NoMemory = Unit {0}
