@@ -1,0 +1,4 @@
+pub mod Pushed
+pub mod Seeing
+pub mod Grown
+pub mod Taken
