@@ -1,7 +1,7 @@
 -- Every source of the built form has few statements, none of which raises an error: so each of its runs ends.
-use Rattle.std.proofs.Common.{◌≡◌, ℕ, suc, ◌+◌, ◌-◌, ◌*◌, ◌/◌, ◌%◌, ◌<◌, ◌≤◌, Bool, true, false, List, [], ◌∷◌, length, map, refl, sym, ap, subst, ◌∙◌, arith, cond, drop, length-append, length-drop}
-use Rattle.std.specs.Prelude.{◌&&◌, ◌==◌, flat_map, chars, nat_eq, Option, Some, None, Result, Ok, Err, option_map, option_and_then, nat_le, nat_lt, codes, if◌then◌else◌}
-use Rattle.std.specs.List.{list_all, starts_with}
+use Rattle.std.proofs.Common.{◌≡◌, ℕ, suc, ◌+◌, ◌*◌, ◌≤◌, Bool, true, false, List, [], ◌∷◌, length, map, refl, ap, subst, arith, cond, drop, length-append, length-drop}
+use Rattle.std.specs.Prelude.{◌&&◌, flat_map, chars, nat_eq, Option, Some, None, Result, Ok, Err, option_map, option_and_then, nat_le, nat_lt, codes, if◌then◌else◌}
+use Rattle.std.specs.List.{starts_with}
 use Rattle.std.specs.Str.{is_utf8, IsUtf8}
 use Rattle.std.specs.Char.Escape.{encode_utf16}
 use Rattle.std.proofs.lemmas.Bool.{and_parts, leb-true, ltb-true, ltb-false}
@@ -29,7 +29,8 @@ use Rattle.vba_meaning.specs.declared.outcome.Outcome.TheVariants.{Ended}
 use Rattle.vba_meaning.proofs.Ends.{run_ends}
 use Rattle.vba_cli.specs.Answer.{default_turns}
 use Rattle.vba_cli.specs.Form as form
-use Rattle.vba_cli.specs.Form.{line_tree, with_line, line_trees, body_of, main_of, statements_of, longest_built, built_of, program_of}
+use Rattle.vba_cli.specs.Form.{line_tree, with_line, line_trees, body_of, main_of, statements_of, longest_built, built_of, whole_lines, program_of}
+use Rattle.module_parser.specs.Parsed.{verdict, read_lexed}
 use Rattle.vba_cli.proofs.Laws.{read_is_spelled}
 
 -- a whole number that stands is at most 16383
@@ -150,11 +151,19 @@ short_built bytes lines statements true e fewer is =
     let size = leb-true (length bytes) longest_built e in
     run_ends statements default_turns (omega (arith, small.1, size, fewer, view_count-lexed 1 (decoded bytes), decoded_short bytes)) small.0
 
-kept_end : (bytes : List ℕ) (statements : Statements) (kept : Result (List LexedLine) Refusal) → form.kept_lines bytes ≡ kept → (kept >>= λ lines. Ok (built_of bytes lines)) ≡ Ok (Some statements) →
+-- kept lines that are whole are these lines
+whole_end : (bytes : List ℕ) (lines : List LexedLine) (statements : Statements) (broken : Option Refusal) → verdict false (read_lexed (decoded bytes) lines) ≡ broken →
+    (whole_lines (decoded bytes) lines >>= λ whole. Ok (built_of bytes whole)) ≡ Ok (Some statements) → built_of bytes lines ≡ Some statements
+unfolding whole_lines
+whole_end bytes lines statements None e is = let same : Ok (built_of bytes lines) ≡ Ok (Some statements) = rw e at is in cc
+whole_end bytes lines statements (Some refusal) e is = let same : Err refusal ≡ Ok (Some statements) = rw e at is in absurd cc
+
+kept_end : (bytes : List ℕ) (statements : Statements) (kept : Result (List LexedLine) Refusal) → form.kept_lines bytes ≡ kept →
+    (kept >>= λ lines. whole_lines (decoded bytes) lines >>= λ whole. Ok (built_of bytes whole)) ≡ Ok (Some statements) →
     (meaning statements default_turns).outcome ≡ Ended
 kept_end bytes statements (Err refusal) e is = absurd cc
 kept_end bytes statements (Ok lines) e is =
-    let built : built_of bytes lines ≡ Some statements = cc in
+    let built = whole_end bytes lines statements (verdict false (read_lexed (decoded bytes) lines)) refl is in
     short_built bytes lines statements (nat_le (length bytes) longest_built) refl (selected_count (decoded bytes) (lexed 1 (decoded bytes)) lines e) built
 
 -- each run of a file of the built form ends

@@ -6,5 +6,6 @@ pub mod Laws
 pub mod Running
 pub mod Steps
 pub mod Promise
+pub mod Whole
 pub mod Endings
 pub mod Rows

@@ -1,5 +1,5 @@
 -- The form of the sources that are built so far.
-use Rattle.std.specs.Prelude.{ℕ, nat_le, List, [], ◌∷◌, length, Option, Some, None, option_map, option_and_then, Result, Ok, if◌then◌else◌}
+use Rattle.std.specs.Prelude.{ℕ, nat_le, List, [], ◌∷◌, length, Option, Some, None, option_map, option_and_then, Result, Ok, Err, false, if◌then◌else◌}
 use Rattle.vba_base.specs.Answer.{◌>>=◌}
 use Rattle.vba_base.specs.Decode.{decoded}
 use Rattle.vba_base.specs.declared.place.Refusal.{Refusal}
@@ -14,6 +14,7 @@ use Rattle.built_form.specs.declared.line.LineTree.TheVariants.{ProcedureHeader,
 use Rattle.built_form.specs.Standing.{number_of, is_text, stands}
 use Rattle.vba_words.specs.Readings.{quoted_text}
 use Rattle.vba_meaning.specs.Meaning.{Statements}
+use Rattle.module_parser.specs.Parsed.{verdict, read_lexed}
 
 -- the whole number that a token would be
 abbrev pub whole_literal : List ℕ → Token → WholeLiteral
@@ -90,6 +91,14 @@ longest_built = 1048576
 abbrev pub built_of : List ℕ → List LexedLine → Option Statements
 built_of bytes lines = if nat_le (length bytes) longest_built then statements_of (decoded bytes) lines else None
 
+-- kept lines of a standard module that break no rule of the grammar and of modules, or the first one that they break
+unfoldable pub whole_lines : List ℕ → List LexedLine → Result (List LexedLine) Refusal
+whole_lines source lines = at (verdict false (read_lexed source lines))
+  where
+    at : Option Refusal → Result (List LexedLine) Refusal
+    at None = Ok lines
+    at (Some refusal) = Err refusal
+
 -- the statements of the Main of a file, none where it has not the built form, or the first rule that the file breaks
 abbrev pub program_of : List ℕ → Result (Option Statements) Refusal
-program_of bytes = kept_lines bytes >>= λ lines. Ok (built_of bytes lines)
+program_of bytes = kept_lines bytes >>= λ lines. whole_lines (decoded bytes) lines >>= λ whole. Ok (built_of bytes whole)

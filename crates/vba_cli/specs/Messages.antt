@@ -49,6 +49,11 @@ rule_word rule =
     else if rule == 7 then codes "directive form"
     else if rule == 8 then codes "unmatched directive"
     else if rule == 9 then codes "bad constant"
+    else if rule == 10 then codes "no line tree"
+    else if rule == 11 then codes "unmatched block"
+    else if rule == 12 then codes "misplaced declaration"
+    else if rule == 13 then codes "form outside the profile"
+    else if rule == 14 then codes "header form"
     else []
 
 -- the text of a rule that the source breaks: SR at PATH:LINE:COLUMN: WORD

@@ -88,9 +88,9 @@ fn sources(rt: HostRuntime) -> Result<(), Fail> {
         product,
         (Status::NotBuilt(FIRST), b"", NOT_BUILT),
     )?;
-    // An end that is missing.
-    let no_end = b"Sub Main()\nDebug.Print 2\n";
-    answers(&rt, &run, no_end, (Status::NotBuilt(FIRST), b"", NOT_BUILT))
+    // A second procedure isn't built yet.
+    let second = b"Sub Main()\nEnd Sub\nSub Other()\nEnd Sub\n";
+    answers(&rt, &run, second, (Status::NotBuilt(FIRST), b"", NOT_BUILT))
 }
 
 /// A rule and a place of `m.bas`.
@@ -147,6 +147,42 @@ fn refusals(rt: HostRuntime) -> Result<(), Fail> {
     )
 }
 
+/// One source for each of the rules S10 to S14. The first one by place is named.
+#[test]
+fn refusals_of_modules(rt: HostRuntime) -> Result<(), Fail> {
+    let run = ["run", "m.bas"];
+    for (source, broken, text) in [
+        (
+            b"Sub Main()\nx = = 1\nEnd Sub\n".as_slice(),
+            refused(10, 2, 1),
+            b"vbarun: refused S10 at m.bas:2:1: no line tree\n".as_slice(),
+        ),
+        (
+            b"Sub Main()\nIf True Then\nEnd Sub\n".as_slice(),
+            refused(11, 2, 1),
+            b"vbarun: refused S11 at m.bas:2:1: unmatched block\n".as_slice(),
+        ),
+        (
+            b"Debug.Print 1\nSub Main()\nEnd Sub\n".as_slice(),
+            refused(12, 1, 1),
+            b"vbarun: refused S12 at m.bas:1:1: misplaced declaration\n".as_slice(),
+        ),
+        (
+            b"Sub Main()\nOpen f For Input As 1\nx = = 1\nEnd Sub\n".as_slice(),
+            refused(13, 2, 1),
+            b"vbarun: refused S13 at m.bas:2:1: form outside the profile\n".as_slice(),
+        ),
+        (
+            b"Sub Main(x = 1)\nEnd Sub\n".as_slice(),
+            refused(14, 1, 14),
+            b"vbarun: refused S14 at m.bas:1:14: header form\n".as_slice(),
+        ),
+    ] {
+        answers(&rt, &run, source, (broken, b"", text))?;
+    }
+    Ok(())
+}
+
 #[test]
 fn kept_sources(rt: HostRuntime) -> Result<(), Fail> {
     let run = ["run", "m.bas"];
@@ -168,7 +204,7 @@ fn kept_sources(rt: HostRuntime) -> Result<(), Fail> {
     answers(
         &rt,
         &run,
-        b"#If Win16 Then\nx = \"\n#End If\nx = 1\n",
+        b"#If Win16 Then\nx = \"\n#End If\nDim x\n",
         (Status::NotBuilt(FIRST), b"", NOT_BUILT),
     )
 }

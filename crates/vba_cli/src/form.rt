@@ -10,11 +10,12 @@ ghost use Rattle.built_form.specs.Standing.{Spells};
 ghost use Rattle.vba_meaning.specs.declared.outcome.Outcome.TheVariants.{Ended};
 ghost use Rattle.vba_meaning.specs.Meaning.{Statements, meaning};
 ghost use Rattle.vba_cli.specs.Answer.{default_turns};
-ghost use Rattle.vba_cli.specs.Form.{body_of, line_tree, main_of, program_of, statements_of};
+ghost use Rattle.vba_cli.specs.Form.{body_of, line_tree, main_of, program_of, statements_of, whole_lines};
 
 use crate::reading;
 use built_form::{LineTree, PrintStatement};
 use cond_compile::select_lines;
+use module_parser::parse_module;
 use std::alloc::Global;
 use std::collections::VecDeque;
 use vba_base::{NoMemory, OrMemory, Refusal, Units, decode_source};
@@ -23,8 +24,9 @@ use vba_lexer::{Line, lex};
 /// The longest file that is built so far, in bytes.
 const LONGEST_BUILT: usize = 1048576;
 
-/// The statements of the Main of a file, or nothing where the file has not the built form. The fault is the first rule
-/// that the file breaks. The file has at most 67108864 bytes.
+/// The statements of the Main of a file, a standard module, or nothing where the file has not the built form. The fault is the
+/// first rule that the file breaks: the first of the rules of tokens and directives, else the first of those of lines and
+/// modules. The file has at most 67108864 bytes.
 pub fn program(
     alloc: Global,
     bytes: &[u8],
@@ -35,11 +37,24 @@ pub fn program(
     let source = decode_source(alloc, bytes)?;
     let lines = lex(alloc, &source, 1)?;
     let kept = select_lines(alloc, &source, &lines)?;
+    refuse_broken(alloc, &source, &kept)?;
     if LONGEST_BUILT < bytes.len() {
         return Ok(None);
     }
     let statements = read_statements(alloc, &source, &kept)?;
     Ok(statements)
+}
+
+// Refuses the kept lines of a standard module where they break a rule of lines and modules.
+#[tactic(auto, using(crate::proofs::Whole::whole_read, crate::proofs::Whole::whole_broken))]
+fn refuse_broken(alloc: Global, source: &Units, lines: &[Line]) -> Result<(), OrMemory<Refusal>>
+    requires { AllLieIn source.now lines.now }
+    ensures { Gives (λ done. lines_view lines.now) result (whole_lines source.now (lines_view lines.now)) }
+{
+    match parse_module(alloc, source, lines, false) {
+        Ok(_) => Ok(()),
+        Err(fault) => Err(fault),
+    }
 }
 
 // The statements of the Main that kept lines of a source make.

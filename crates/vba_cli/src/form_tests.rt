@@ -77,8 +77,11 @@ fn greatest_whole(rt: HostRuntime) -> Result<(), Fail> {
 fn other_forms(rt: HostRuntime) -> Result<(), Fail> {
     let empty = read(&rt, b"sub MAIN ( )\r\nEND sub".as_slice())?;
     assert_eq!(rt; empty.map(|found| found.map(|all| all.len())), Ok(Some(0)));
-    let no_end = read(&rt, b"Sub Main()\n".as_slice())?;
-    assert!(rt; no_end.is_ok_and(|found| found.is_none()));
+    let two = read(
+        &rt,
+        b"Sub Main()\nEnd Sub\nSub Other()\nEnd Sub\n".as_slice(),
+    )?;
+    assert!(rt; two.is_ok_and(|found| found.is_none()));
     let commented = statements(&rt, "' a comment")?;
     assert_eq!(rt; commented.map(|all| all.len()), Some(0));
     let above = statements(&rt, "Debug.Print \"\u{80}\"")?;
@@ -107,6 +110,7 @@ fn is_refused(
 #[test]
 fn first_rules(rt: HostRuntime) -> Result<(), Fail> {
     is_refused(&rt, b"Sub Main()\nx = 1.5\nEnd Sub\n".as_slice(), 5, 2, 5)?;
+    // A rule of tokens comes before those of modules, wherever it is broken.
     is_refused(&rt, b"Sub Main()\nDebug.Print \"abc".as_slice(), 2, 2, 13)?;
     is_refused(&rt, b"#If Mac Then\nx = 1.5\n".as_slice(), 8, 1, 1)
 }

@@ -86,6 +86,11 @@ fn rule_word(rule: u8) -> &'static str
         7 => "directive form",
         8 => "unmatched directive",
         9 => "bad constant",
+        10 => "no line tree",
+        11 => "unmatched block",
+        12 => "misplaced declaration",
+        13 => "form outside the profile",
+        14 => "header form",
         _ => "",
     }
 }
