@@ -1,3 +1,4 @@
+use crate::source::{LONGEST, push_text};
 use crate::{micros_now, out_of_memory, tell};
 use cond_compile::select_lines;
 use std::alloc::Global;
@@ -5,9 +6,6 @@ use std::io;
 use std::time::CpuClock;
 use vba_base::{NoMemory, Units};
 use vba_lexer::lex;
-
-/// The longest source that can be lexed, in units.
-const LONGEST: usize = 67_108_864;
 
 /// The sources whose lines are selected.
 #[derive(Clone, Copy)]
@@ -98,13 +96,6 @@ fn push_name(units: &mut Units, number: u32) -> Result<(), NoMemory> {
     for _ in 0..8 {
         units.push(u16::from(letters[(left % 16) as usize]))?;
         left /= 16;
-    }
-    Ok(())
-}
-
-fn push_text(units: &mut Units, text: &[u8]) -> Result<(), NoMemory> {
-    for byte in text {
-        units.push(u16::from(*byte))?;
     }
     Ok(())
 }

@@ -8,8 +8,10 @@ mod conditions;
 mod expressions;
 mod lexing;
 mod links;
+mod modules;
 mod operators;
 mod sheets;
+mod source;
 
 use arrays::bench_arrays;
 use cells::bench_cells;
@@ -17,6 +19,7 @@ use conditions::bench_conditions;
 use expressions::bench_expressions;
 use lexing::bench_lex;
 use links::bench_links;
+use modules::{bench_modules, bench_places};
 use operators::bench_operators;
 use sheets::bench_sheets;
 use std::env::Env;
@@ -29,6 +32,9 @@ const MOST: u32 = 33_554_432;
 
 /// The greatest count of cells: a book holds twice as many.
 const MOST_CELLS: u32 = 2_000_000;
+
+/// The greatest count of members of a place: a tree twice as deep can still be dropped.
+const MOST_PLACES: u32 = 5_000;
 
 /// The greatest count of rows: a sheet has twice as many.
 const MOST_ROWS: u32 = 524_288;
@@ -49,6 +55,8 @@ fn main(rt: HostRuntime) -> io::Result<ExitCode> {
         "operators" => bench_operators(&rt, size)?,
         "arrays" => bench_arrays(&rt, size)?,
         "links" => bench_links(&rt, size)?,
+        "modules" => bench_modules(&rt, size)?,
+        "places" if size <= MOST_PLACES => bench_places(&rt, size)?,
         "cells" if size <= MOST_CELLS => bench_cells(&rt, size)?,
         "sheets" if size <= MOST_ROWS => bench_sheets(&rt, size)?,
         _ => return usage(&rt),
@@ -58,8 +66,11 @@ fn main(rt: HostRuntime) -> io::Result<ExitCode> {
 
 fn usage(rt: &impl Eprint) -> io::Result<ExitCode> {
     eprintln!(rt; "bench: usage: SUBJECT SIZE")?;
-    eprintln!(rt; "lex, conditions, expressions, operators, arrays, links: SIZE at most {MOST}")?;
+    eprintln!(rt;
+        "lex, conditions, expressions, operators, arrays, links, modules: SIZE at most {MOST}"
+    )?;
     eprintln!(rt; "cells: SIZE at most {MOST_CELLS}; sheets: SIZE at most {MOST_ROWS}")?;
+    eprintln!(rt; "places: SIZE at most {MOST_PLACES}")?;
     Ok(ExitCode::from(2))
 }
 
