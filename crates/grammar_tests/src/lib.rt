@@ -3,20 +3,8 @@
 #![tactic(auto)]
 
 #[cfg(test)]
-mod beginnings;
-#[cfg(test)]
 mod clauses;
-#[cfg(test)]
-mod lines;
-#[cfg(test)]
-mod parts;
-#[cfg(test)]
-mod rules;
-#[cfg(test)]
-mod shapes;
 #[cfg(test)]
 mod statements;
 #[cfg(test)]
 mod tokens;
-#[cfg(test)]
-mod trees;
