@@ -5,6 +5,8 @@
 #[cfg(test)]
 mod clauses;
 #[cfg(test)]
+mod first_places;
+#[cfg(test)]
 mod statements;
 #[cfg(test)]
 mod tokens;

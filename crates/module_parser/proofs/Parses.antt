@@ -19,17 +19,32 @@ use Rattle.vba_module.specs.Verdict.{broken, trees_of, with_tree, unread, unread
 use Rattle.vba_module.proofs.OneBracketing.{one_bracketing}
 use Rattle.module_parser.specs.Parsed.{verdict, IsModule}
 
+-- what is behind the last part is nothing
+parts_alone : (ps : List Part) → ps ++ parts_of_lines [] ≡ ps
+parts_alone [] = refl
+parts_alone (p ∷ ps) = ap (λ qs. p ∷ qs) (parts_alone ps)
+
 -- a line that has a tree
-pub parts_more : (ts : List ReadToken) (lines : List (List ReadToken)) (line : Line) (before : List Part) → line_of ts ≡ Some line
-    → (before ++ parts_of line) ++ parts_of_lines (trees_of lines) ≡ before ++ parts_of_lines (trees_of (ts ∷ lines))
-parts_more ts lines line before e =
-    append_assoc before (parts_of line) (parts_of_lines (trees_of lines))
-    ∙ sym (ap (λ tree. before ++ parts_of_lines (with_tree tree (trees_of lines))) e)
+pub parts_more : (ts : List ReadToken) (line : Line) (before : List Part) → line_of ts ≡ Some line
+    → before ++ parts_of line ≡ before ++ parts_of_lines (trees_of (ts ∷ []))
+parts_more ts line before e = ap (λ ps. before ++ ps) (sym (ap (λ tree. parts_of_lines (with_tree tree [])) e ∙ parts_alone (parts_of line)))
 
 -- a line that has none
-pub parts_none : (ts : List ReadToken) (lines : List (List ReadToken)) (before : List Part) → line_of ts ≡ None
-    → before ++ parts_of_lines (trees_of lines) ≡ before ++ parts_of_lines (trees_of (ts ∷ lines))
-parts_none ts lines before e = sym (ap (λ tree. before ++ parts_of_lines (with_tree tree (trees_of lines))) e)
+pub parts_none : (ts : List ReadToken) (before : List Part) → line_of ts ≡ None → before ≡ before ++ parts_of_lines (trees_of (ts ∷ []))
+parts_none ts before e = sym (ap (λ tree. before ++ parts_of_lines (with_tree tree [])) e ∙ parts_alone before)
+
+-- the parts of a line before those of others
+parts_cons : (tree : Option Line) (trees : List Line) → parts_of_lines (with_tree tree trees) ≡ parts_of_lines (with_tree tree []) ++ parts_of_lines trees
+parts_cons None trees = refl
+parts_cons (Some line) trees = ap (λ ps. ps ++ parts_of_lines trees) (sym (parts_alone (parts_of line)))
+
+pub parts_step : (ts : List ReadToken) (lines : List (List ReadToken)) (before more all : List Part) → more ≡ before ++ parts_of_lines (trees_of (ts ∷ []))
+    → before ++ parts_of_lines (trees_of (ts ∷ lines)) ≡ all → more ++ parts_of_lines (trees_of lines) ≡ all
+parts_step ts lines before more all e h =
+    ap (λ ps. ps ++ parts_of_lines (trees_of lines)) e
+    ∙ append_assoc before (parts_of_lines (trees_of (ts ∷ []))) (parts_of_lines (trees_of lines))
+    ∙ sym (ap (λ ps. before ++ ps) (parts_cons (line_of ts) (trees_of lines)))
+    ∙ h
 
 -- what a line breaks, by its tree
 read_unbroken : (ts : List ReadToken) (line : Line) → line_of ts ≡ Some line → unread_line ts ≡ []
@@ -38,13 +53,22 @@ read_unbroken ts line e = rw e refl
 unread_broken : (ts : List ReadToken) → line_of ts ≡ None → unread_line ts ≡ unread ts (form_of ts) ∷ []
 unread_broken ts e = rw e refl
 
-pub unread_more : (ts : List ReadToken) (lines : List (List ReadToken)) (line : Line) (found : Option Refusal) → line_of ts ≡ Some line
-    → least_of found (flat_map unread_line lines) ≡ least_of found (flat_map unread_line (ts ∷ lines))
-unread_more ts lines line found e = sym (ap (λ rs. least_of found (rs ++ flat_map unread_line lines)) (read_unbroken ts line e))
+pub unread_more : (ts : List ReadToken) (line : Line) (found : Option Refusal) → line_of ts ≡ Some line → found ≡ least_of found (unread_line ts)
+unread_more ts line found e = sym (ap (least_of found) (read_unbroken ts line e))
 
-pub unread_none : (ts : List ReadToken) (lines : List (List ReadToken)) (found : Option Refusal) → line_of ts ≡ None
-    → least_of (Some (lesser found (unread ts (form_of ts)))) (flat_map unread_line lines) ≡ least_of found (flat_map unread_line (ts ∷ lines))
-unread_none ts lines found e = sym (ap (λ rs. least_of found (rs ++ flat_map unread_line lines)) (unread_broken ts e))
+pub unread_none : (ts : List ReadToken) (found : Option Refusal) → line_of ts ≡ None
+    → Some (lesser found (unread ts (form_of ts))) ≡ least_of found (unread_line ts)
+unread_none ts found e = sym (ap (least_of found) (unread_broken ts e))
+
+-- what a line breaks before what others do
+least_behind : (found : Option Refusal) (refusals others : List Refusal) → least_of (least_of found refusals) others ≡ least_of found (refusals ++ others)
+least_behind found [] others = refl
+least_behind found (refusal ∷ refusals) others = least_behind (Some (lesser found refusal)) refusals others
+
+pub unread_step : (ts : List ReadToken) (lines : List (List ReadToken)) (found more all : Option Refusal) → more ≡ least_of found (unread_line ts)
+    → least_of found (flat_map unread_line (ts ∷ lines)) ≡ all → least_of more (flat_map unread_line lines) ≡ all
+unread_step ts lines found more all e h =
+    ap (λ least. least_of least (flat_map unread_line lines)) e ∙ least_behind found (unread_line ts) (flat_map unread_line lines) ∙ h
 
 -- the least of lines without a tree and of what their parts break
 pub verdict_both : (is_class : Bool) (lines : List (List ReadToken))

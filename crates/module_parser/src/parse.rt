@@ -5,11 +5,12 @@ ghost use Rattle.vba_lexer.specs.Inside.{LiesIn, AllLieIn};
 ghost use Rattle.vba_lexer.specs.Lexed.{lines_view};
 ghost use Rattle.vba_words.specs.Readings as readings;
 ghost use Rattle.refusal_order.specs.Least.{least_of, least_of_both};
+ghost use Rattle.vba_module.specs.Blocks.{block_faults};
 ghost use Rattle.vba_module.specs.Parts.{parts_of_lines};
 ghost use Rattle.vba_module.specs.Verdict.{trees_of, unread_line};
 ghost use Rattle.module_parts.specs.View.{part_view, parts_view};
 ghost use Rattle.module_tree.specs.View.{tree_view};
-ghost use Rattle.module_parser.specs.Parsed.{read_lexed, IsModule, IsRefused};
+ghost use Rattle.module_parser.specs.Parsed.{read_lexed, verdict, IsModule, IsRefused};
 
 use module_parts::{Part, push_parts};
 use module_rules::part_refusal;
@@ -35,11 +36,44 @@ pub fn parse_module(
     ensures tree { IfOk result (λ tree. IsModule is_class (read_lexed source.now (lines_view lines.now)) (tree_view part_view tree)) }
     ensures refused { IfErr result (IsRefused is_class (read_lexed source.now (lines_view lines.now))) }
 {
+    let parts = read_unbroken(alloc, source, lines, is_class)?;
+    Ok(bracket(alloc, parts)?)
+}
+
+/// Whether the module with these lines breaks one of the rules S10 to S14, in a class or not: what `parse_module` refuses, with the same
+/// refusal, without the tree. The tokens of the lines have to lie in the source.
+pub fn check_module(
+    alloc: Global,
+    source: &Units,
+    lines: &[Line],
+    is_class: bool,
+) -> Result<(), OrMemory<Refusal>>
+    requires { AllLieIn source.now lines.now }
+    ensures unbroken { IfOk result (λ done. verdict is_class (read_lexed source.now (lines_view lines.now)) ≡ None) }
+    ensures refused { IfErr result (IsRefused is_class (read_lexed source.now (lines_view lines.now))) }
+{
+    read_unbroken(alloc, source, lines, is_class)?;
+    Ok(())
+}
+
+/// The parts of the lines of a module that breaks none of the rules.
+fn read_unbroken(
+    alloc: Global,
+    source: &Units,
+    lines: &[Line],
+    is_class: bool,
+) -> Result<Vec<Part>, OrMemory<Refusal>>
+    requires { AllLieIn source.now lines.now }
+    ensures unbroken { IfOk result (λ parts. verdict is_class (read_lexed source.now (lines_view lines.now)) ≡ None) }
+    ensures parts { IfOk result (λ parts. parts_view parts.items ≡ parts_of_lines (trees_of (read_lexed source.now (lines_view lines.now)))) }
+    ensures matched { IfOk result (λ parts. block_faults [] (parts_view parts.items) ≡ []) }
+    ensures refused { IfErr result (IsRefused is_class (read_lexed source.now (lines_view lines.now))) }
+{
     let (parts, unread) = read_parts(alloc, source, lines)?;
     let broken = part_refusal(alloc, parts.as_slice(), is_class)?;
     match lesser_of(unread, broken) {
         Some(refusal) => Err(OrMemory::Fault(refusal)),
-        None => Ok(bracket(alloc, parts)?),
+        None => Ok(parts),
     }
 }
 
@@ -53,6 +87,7 @@ fn lesser_of(first: Option<Refusal>, second: Option<Refusal>) -> Option<Refusal>
 }
 
 /// The parts of the lines that have a tree, and the least refusal of the others.
+#[tactic(auto, using(crate::proofs::Parses::parts_step, crate::proofs::Parses::unread_step))]
 fn read_parts(
     alloc: Global,
     source: &Units,
@@ -66,27 +101,24 @@ fn read_parts(
     let mut least = None;
     let mut left = lines;
     while let [line, rest @ ..] = left {
-        add_line(alloc, source, line, rest, &mut parts, &mut least)?;
+        add_line(alloc, source, line, &mut parts, &mut least)?;
         left = rest;
     }
     Ok((parts, least))
 }
 
-/// Adds the parts of a line before others, or notes its refusal.
+/// Adds the parts of a line, or notes its refusal.
 #[tactic(auto, using(crate::proofs::Parses::parts_more, crate::proofs::Parses::parts_none, crate::proofs::Parses::unread_more, crate::proofs::Parses::unread_none))]
 fn add_line(
     alloc: Global,
     source: &Units,
     line: &Line,
-    _rest: &[Line],
     parts: &mut Vec<Part>,
     least: &mut Option<Refusal>,
 ) -> Result<(), NoMemory>
     requires { LiesIn source.now line.now }
-    ensures parts { OnOk result (parts_view parts.new.items ++ parts_of_lines (trees_of (read_lexed source.now (lines_view _rest.now)))
-        ≡ parts_view parts.old.items ++ parts_of_lines (trees_of (readings.read_line source.now line.now.tokens.items ∷ read_lexed source.now (lines_view _rest.now)))) }
-    ensures least { OnOk result (least_of least.new (flat_map unread_line (read_lexed source.now (lines_view _rest.now)))
-        ≡ least_of least.old (flat_map unread_line (readings.read_line source.now line.now.tokens.items ∷ read_lexed source.now (lines_view _rest.now)))) }
+    ensures parts { OnOk result (parts_view parts.new.items ≡ parts_view parts.old.items ++ parts_of_lines (trees_of (readings.read_line source.now line.now.tokens.items ∷ []))) }
+    ensures least { OnOk result (least.new ≡ least_of least.old (unread_line (readings.read_line source.now line.now.tokens.items))) }
 {
     match parse_line(alloc, source, line) {
         Ok(tree) => push_parts(parts, tree),

@@ -1,10 +1,8 @@
 -- The Exits of statements, and the faults of more of them.
 use Rattle.std.proofs.Common.{◌≡◌, List, [], ◌∷◌, ◌++◌, refl, sym, ap, ◌∙◌, append_assoc}
-use Rattle.std.specs.Prelude.{flat_map}
-use Rattle.std.proofs.lemmas.List.{append-nil}
 use Rattle.vba_base.specs.declared.place.Place.{Place}
 use Rattle.vba_tree.specs.Tree as tree
-use Rattle.vba_module.specs.Blocks.{Kind, Open, nearest, unless_found, exit_faults, exits_of, exits_of_all, role_of_block, Role, opens, divides, closes, stands, role_of_line, role_of}
+use Rattle.vba_module.specs.Blocks.{Kind, Open, nearest, unless_found, exit_faults, exits_of, role_of_block, role_of_line, role_of}
 use Rattle.vba_module.specs.Parts as parts
 use Rattle.module_rules.specs.Statements.{exits_in}
 

@@ -1,8 +1,7 @@
 -- Where statements break a rule, statement by statement.
-use Rattle.std.proofs.Common.{◌≡◌, ℕ, ◌+◌, ◌<◌, Bool, true, false, List, [], ◌∷◌, ◌++◌, length, take, get_or, map, Option, Some, refl, sym, ap, ◌∙◌, append_assoc, rules}
+use Rattle.std.proofs.Common.{◌≡◌, ℕ, ◌+◌, ◌<◌, List, [], ◌∷◌, ◌++◌, length, take, get_or, map, Option, Some, refl, sym, ap, ◌∙◌, append_assoc, rules}
 use Rattle.std.specs.Prelude.{not}
 use Rattle.std.proofs.lemmas.List.{append-nil, map-append, take_more}
-use Rattle.vba_base.specs.declared.place.Place.{Place}
 use Rattle.vba_base.specs.declared.place.Refusal.{Refusal}
 use Rattle.vba_lexer.specs.declared.token.Token.{Token}
 use Rattle.vba_expression.specs.Tree.{Expr}
@@ -16,7 +15,7 @@ use Rattle.vba_tree.specs.Tree as tree
 use Rattle.vba_tree.specs.View.{Next, written, missing, put, put_all, next_view, statement_view, list_view}
 use Rattle.vba_module.specs.Blocks.{exits_of, exits_of_all}
 use Rattle.vba_module.specs.Headers.{value_faults}
-use Rattle.vba_module.specs.Misplaced.{place_if, in_body, statement_place}
+use Rattle.vba_module.specs.Misplaced.{place_if}
 use Rattle.module_rules.specs.Found.{noted, has_some}
 use Rattle.module_rules.specs.Seen.{stack}
 use Rattle.module_rules.specs.Statements.{rule_of, faults, all_faults, next_faults, all_next_faults}

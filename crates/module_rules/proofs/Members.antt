@@ -1,5 +1,5 @@
 -- Members of Enums, by their names and what stands behind.
-use Rattle.std.proofs.Common.{◌≡◌, Bool, true, false, ◌&&◌, List, [], ◌∷◌, length, map, Option, Some, None, refl, ◌∙◌, ap, arith}
+use Rattle.std.proofs.Common.{◌≡◌, Bool, true, false, ◌&&◌, List, [], ◌∷◌, length, map, Some, None, refl, ◌∙◌, ap, arith}
 use Rattle.vba_lexer.specs.declared.token.Token.{Token}
 use Rattle.vba_expression.specs.declared.tree.Argument.{Argument}
 use Rattle.vba_expression.specs.Tree as expressions

@@ -1,10 +1,9 @@
 -- The nearest of a kind, one open block after another.
 use Rattle.std.proofs.Common.{◌≡◌, Bool, true, false, not, ◌&&◌, List, [], ◌∷◌, Option, Some, None, is_some, refl, sym, ap, ◌∙◌}
-use Rattle.std.specs.Prelude.{ℕ, option_map, if◌then◌else◌}
+use Rattle.std.specs.Prelude.{option_map}
 use Rattle.vba_base.specs.declared.place.Place.{Place}
-use Rattle.vba_base.specs.declared.place.Refusal.{Refusal}
-use Rattle.vba_module.specs.Blocks.{Kind, same_kind, is_outer, Open, Nearest, with_inside, nearest, places_of, closed, divided}
-use Rattle.module_rules.specs.Found.{noted, inside_nearest, outside_nearest}
+use Rattle.vba_module.specs.Blocks.{Kind, same_kind, is_outer, Open, Nearest, with_inside, nearest, closed, divided}
+use Rattle.module_rules.specs.Found.{inside_nearest, outside_nearest}
 
 -- the one that was found
 abbrev pub found_of : Option Nearest → Option Open

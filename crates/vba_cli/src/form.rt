@@ -15,7 +15,7 @@ ghost use Rattle.vba_cli.specs.Form.{body_of, line_tree, main_of, program_of, st
 use crate::reading;
 use built_form::{LineTree, PrintStatement};
 use cond_compile::select_lines;
-use module_parser::parse_module;
+use module_parser::check_module;
 use std::alloc::Global;
 use std::collections::VecDeque;
 use vba_base::{NoMemory, OrMemory, Refusal, Units, decode_source};
@@ -51,10 +51,7 @@ fn refuse_broken(alloc: Global, source: &Units, lines: &[Line]) -> Result<(), Or
     requires { AllLieIn source.now lines.now }
     ensures { Gives (λ done. lines_view lines.now) result (whole_lines source.now (lines_view lines.now)) }
 {
-    match parse_module(alloc, source, lines, false) {
-        Ok(_) => Ok(()),
-        Err(fault) => Err(fault),
-    }
+    check_module(alloc, source, lines, false)
 }
 
 // The statements of the Main that kept lines of a source make.

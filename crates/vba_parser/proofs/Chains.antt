@@ -37,12 +37,6 @@ pub two_missing : {A B C : Type 0} (first : Found A) (second : List ReadToken �
     → first ≡ Some (a, rest) → second rest ≡ None → None ≡ (first >>= λ x ts. whole_line (found_as (make x) (second ts)))
 two_missing first second make a rest e f = rw (e, f) refl
 
--- one part of three without the second
-pub three_no_second : {A B C D : Type 0} (first : Found A) (second : List ReadToken → Found B) (third : List ReadToken → Found C)
-    (make : A → B → C → D) (a : A) (rest : List ReadToken) → first ≡ Some (a, rest) → second rest ≡ None
-    → None ≡ (first >>= λ x ts. second ts >>= λ y us. whole_line (found_as (make x y) (third us)))
-three_no_second first second third make a rest e f = rw (e, f) refl
-
 -- two parts, and tokens behind them
 pub two_left : {A B C : Type 0} (first : Found A) (second : List ReadToken → Found B) (make : A → B → C) (a : A) (rest : List ReadToken)
     (b : B) (behind : List ReadToken) → first ≡ Some (a, rest) → second rest ≡ Some (b, behind) → (length behind == 0) ≡ false

@@ -1,5 +1,5 @@
 -- Statements and one more, and as a list whose first is written.
-use Rattle.std.proofs.Common.{◌≡◌, true, false, List, [], ◌∷◌, ◌++◌, Some, None, refl, ap, ◌∙◌, sym}
+use Rattle.std.proofs.Common.{◌≡◌, true, false, List, [], ◌∷◌, ◌++◌, Some, None, refl, ap, ◌∙◌}
 use Rattle.std.specs.Prelude.{map}
 use Rattle.vba_tree.specs.declared.statement.Statement.{Statement}
 use Rattle.vba_tree.specs.declared.statement.NextStatement.{NextStatement}

@@ -1,9 +1,9 @@
 -- The statements of a line, turn by turn.
-use Rattle.std.proofs.Common.{◌≡◌, ℕ, suc, ◌+◌, ◌-◌, ◌<◌, ◌==◌, false, List, [], ◌∷◌, length, Option, Some, None, refl, ◌∙◌, ap, sym, subst, arith}
+use Rattle.std.proofs.Common.{◌≡◌, ℕ, suc, ◌+◌, ◌-◌, ◌<◌, ◌==◌, false, List, [], ◌∷◌, length, Option, Some, None, ◌∙◌, ap, sym, arith}
 use Rattle.vba_words.specs.declared.reading.ReadToken.{ReadToken}
 use Rattle.vba_tree.specs.Tree.{Stmts}
 use Rattle.vba_grammar.specs.Front.{◌>>=◌}
-use Rattle.vba_grammar.specs.Lists.{at_line, Frame, State, need, turn, finish, run, statements_of}
+use Rattle.vba_grammar.specs.Lists.{at_line, Frame, State, need, turn, run, statements_of}
 use Rattle.vba_parser.specs.Begun.{IsBegun}
 use Rattle.vba_parser.specs.Turns.{cut_at, turn_by}
 use Rattle.vba_parser.specs.Seen.{stack}

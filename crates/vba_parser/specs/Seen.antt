@@ -1,6 +1,5 @@
 -- The states of the reading of a line as contracts see them.
 use Rattle.std.specs.Prelude.{List, map, reverse}
-use Rattle.vba_lexer.specs.declared.token.Token.{Token}
 use Rattle.vba_expression.specs.View.{view as expression_view}
 use Rattle.vba_tree.specs.Tree.{Stmts}
 use Rattle.vba_tree.specs.View.{put_all, front, next_view, list_view}
@@ -9,7 +8,6 @@ use Rattle.vba_grammar.specs.Lines as lines
 use Rattle.vba_parser.specs.declared.frame.Statements.{Statements}
 use Rattle.vba_parser.specs.declared.frame.Where.{Where}
 use Rattle.vba_parser.specs.declared.frame.Where.TheVariants as places
-use Rattle.vba_parser.specs.declared.frame.IfHead.{IfHead}
 use Rattle.vba_parser.specs.declared.frame.Frame.{Frame}
 use Rattle.vba_parser.specs.declared.frame.Frame.TheVariants as frames
 use Rattle.vba_parser.specs.declared.frame.State.{State}

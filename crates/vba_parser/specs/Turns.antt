@@ -1,5 +1,5 @@
 -- Reading the statements of a line by what each token is between statements.
-use Rattle.std.specs.Prelude.{Bool, true, false, not, List, [], ◌∷◌, Some, None, if◌then◌else◌}
+use Rattle.std.specs.Prelude.{Bool, true, List, [], ◌∷◌, Some, None, if◌then◌else◌}
 use Rattle.vba_lexer.specs.declared.token.Token.{Token}
 use Rattle.vba_words.specs.declared.keyword.Keyword.TheVariants as keyword
 use Rattle.vba_words.specs.declared.mark.Mark.TheVariants as mark
@@ -22,12 +22,6 @@ cut_of _ = cuts.Other
 abbrev pub cut_at : List ReadToken → Cut
 cut_at [] = cuts.Other
 cut_at (t ∷ ts) = cut_of t.reading
-
--- an Else before such a token and these tokens is a line of a block
-abbrev pub ends_else : Cut → List ReadToken → Bool
-ends_else cuts.Colon ts = true
-ends_else cuts.Else ts = not (is_else_line ts)
-ends_else _ ts = false
 
 -- an Else at the front is a line of a block
 abbrev pub is_block_else : List ReadToken → Bool

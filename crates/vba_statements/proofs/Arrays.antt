@@ -1,11 +1,11 @@
 -- The array of a ReDim, sought from the last bracket on.
-use Rattle.std.proofs.Common.{◌≡◌, ℕ, zero, suc, ◌+◌, ◌-◌, ◌<◌, ◌≤◌, Bool, true, false, List, [], ◌∷◌, ◌++◌, length, take, drop, Some, None, refl, sym, ap, subst, ◌∙◌, append_assoc, append-nil, take_all, take-append-drop, arith}
+use Rattle.std.proofs.Common.{◌≡◌, ℕ, zero, suc, ◌+◌, ◌-◌, ◌<◌, ◌≤◌, Bool, true, false, List, [], ◌∷◌, ◌++◌, length, take, drop, Some, None, refl, sym, ap, ◌∙◌, append_assoc, append-nil, take-append-drop, arith}
 use Rattle.std.specs.Prelude.{if◌then◌else◌}
 use Rattle.std.proofs.lemmas.List.{drop_all}
 use Rattle.vba_lexer.specs.declared.token.Token.{Token}
 use Rattle.vba_words.specs.declared.reading.ReadToken.{ReadToken}
 use Rattle.vba_tree.specs.Tree.{ReDimArray}
-use Rattle.vba_grammar.specs.Front.{Found, ◌>>=◌, or_else, is_left}
+use Rattle.vba_grammar.specs.Front.{◌>>=◌, or_else, is_left}
 use Rattle.vba_grammar.specs.Statements.{array_here, last_array, array_at}
 use Rattle.vba_statements.specs.Arrays.{array_from}
 

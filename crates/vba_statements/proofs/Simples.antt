@@ -1,6 +1,5 @@
 -- A statement is read by whether it begins with a kept word.
-use Rattle.std.proofs.Common.{◌≡◌, true, false, List, ◌∷◌, Some, None, refl, sym, ap, ◌∙◌, subst}
-use Rattle.vba_lexer.specs.declared.token.Token.{Token}
+use Rattle.std.proofs.Common.{◌≡◌, true, false, List, ◌∷◌, Some, None, refl, sym, ap, ◌∙◌}
 use Rattle.vba_words.specs.declared.keyword.Keyword.{Keyword}
 use Rattle.vba_words.specs.declared.keyword.Keyword.TheVariants as keyword
 use Rattle.vba_words.specs.declared.reading.Reading.{Reading}

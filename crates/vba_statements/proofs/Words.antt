@@ -1,5 +1,5 @@
 -- What single tokens are.
-use Rattle.std.proofs.Common.{◌≡◌, ◌≢◌, ℕ, ◌==◌, true, false, ℤ, pos, negsuc, None, refl, sym, ap, ◌∙◌, eq-eqb, ne_eqb}
+use Rattle.std.proofs.Common.{◌≡◌, ◌≢◌, ℕ, true, false, ℤ, pos, negsuc, None, refl, sym, ap, ◌∙◌, eq-eqb, ne_eqb}
 use Rattle.vba_words.specs.declared.keyword.Keyword.{Keyword}
 use Rattle.vba_words.specs.declared.keyword.Keyword.TheVariants as keyword
 use Rattle.vba_words.specs.declared.reading.Reading.TheVariants as reading
