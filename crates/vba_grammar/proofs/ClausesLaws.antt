@@ -14,7 +14,6 @@ use Rattle.vba_expression.specs.declared.tree.TypeQualifier.{TypeQualifier}
 use Rattle.vba_expression.specs.Spelling.{spell, type_name_tokens}
 use Rattle.vba_expression.specs.Reader.{short_type, long_type}
 use Rattle.vba_expression.specs.Taking.{Stops}
-use Rattle.vba_tree.specs.declared.declaration.Access.{Access}
 use Rattle.vba_tree.specs.declared.declaration.Access.TheVariants as access
 use Rattle.vba_tree.specs.declared.declaration.AccessWord.{AccessWord}
 use Rattle.vba_tree.specs.declared.declaration.Brackets.{Brackets}
@@ -292,15 +291,6 @@ access_word token (reading.Keyword keyword.Friend) a h = let e : record { access
 access_word token (reading.Keyword keyword.Global) a h = let e : record { access = access.Global; token = token } ≡ a = cc in ap (λ (w : AccessWord). word w.token (access_keyword w.access)) e
 access_word token _ a h = absurd cc
 
-pub access_is : (a : AccessWord) → access_of a.token (reading.Keyword (access_keyword a.access)) ≡ Some a
-access_is a = at a.access
-  where
-    at : (x : Access) → access_of a.token (reading.Keyword (access_keyword x)) ≡ Some (record { access = x; token = a.token })
-    at access.Public = refl
-    at access.Private = refl
-    at access.Friend = refl
-    at access.Global = refl
-
 -- no word of access is at the front
 abbrev pub NoAccess : List ReadToken → Type 0
 NoAccess [] = Unit {0}
@@ -316,21 +306,3 @@ access_if_told (t ∷ ts) = at t.token t.reading
     at token (reading.Keyword keyword.Friend) = refl
     at token (reading.Keyword keyword.Global) = refl
     at token _ = refl
-
-pub access_if_is : (o : Option AccessWord) (rest : List ReadToken) → NoAccess rest → access_if (spell_access o ++ rest) ≡ (o, rest)
-access_if_is None [] h = refl
-access_if_is None (t ∷ ts) h = at t.token t.reading h
-  where
-    at : (token : Token) (r : Reading) → access_of token r ≡ None → access_if (read token r ∷ ts) ≡ (None, read token r ∷ ts)
-    at token (reading.Keyword keyword.Public) h = absurd cc
-    at token (reading.Keyword keyword.Private) h = absurd cc
-    at token (reading.Keyword keyword.Friend) h = absurd cc
-    at token (reading.Keyword keyword.Global) h = absurd cc
-    at token _ h = refl
-access_if_is (Some a) rest h = at a.access
-  where
-    at : (x : Access) → access_if (word a.token (access_keyword x) ∷ rest) ≡ (Some (record { access = x; token = a.token }), rest)
-    at access.Public = refl
-    at access.Private = refl
-    at access.Friend = refl
-    at access.Global = refl

@@ -9,8 +9,8 @@ use Rattle.vba_tree.specs.Forms.{Each, FormedConstant}
 use Rattle.vba_tree.specs.Fitting.{ConstantFits}
 use Rattle.vba_grammar.specs.Front.{Found, is_comma, begins, commas_at}
 use Rattle.vba_grammar.specs.Clauses.{item_ends, Valued, before_value, constant_at}
-use Rattle.vba_grammar.specs.Laws.{IsSound, IsComplete, IsFoundBefore}
-use Rattle.vba_grammar.proofs.Binding.{Spelled, sound_of, nothing_told, some_told, then_told, then_is}
+use Rattle.vba_grammar.specs.Laws.{IsComplete, IsFoundBefore}
+use Rattle.vba_grammar.proofs.Binding.{Spelled, nothing_told, some_told, then_told, then_is}
 use Rattle.vba_grammar.proofs.Fronts.{name_told, commas_told, commas_is}
 use Rattle.vba_grammar.proofs.ValuedLaws.{spell_valued, FormedValued, LongestValued, IsThere, HasValue, before_laws, valued_told, valued_found, valued_is}
 use Rattle.vba_grammar.proofs.Founds.{gotten, commas_found}
@@ -85,7 +85,3 @@ constants_are = commas_is spell_constant constant_at (λ token ts. refl) constan
 pub constants_found : (list : Listed Constant) (rest : List ReadToken) → Each FormedConstant list → item_ends rest ≡ true → begins is_comma rest ≡ false
     → IsFoundBefore rest (commas_at constant_at (with_commas spell_constant list ++ rest))
 constants_found list rest good h k = commas_found spell_constant constant_at (λ token ts. refl) constant_found_before list rest good h k
-
--- the same, as the laws are stated
-pub constant_sound : IsSound spell_constant GoodConstant constant_at
-constant_sound = sound_of spell_constant GoodConstant constant_at constant_told

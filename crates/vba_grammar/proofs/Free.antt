@@ -11,7 +11,7 @@ use Rattle.vba_expression.specs.declared.part.Part.TheVariants as part
 use Rattle.vba_expression.specs.Tree.{Expr, me, name, with_member, member, Args}
 use Rattle.vba_expression.specs.Spelling.{spell, spell_args}
 use Rattle.vba_expression.specs.Fitting.{is_place}
-use Rattle.vba_expression.specs.Parts.{part_of, reading_part}
+use Rattle.vba_expression.specs.Parts.{part_of}
 use Rattle.vba_expression.proofs.Reducing.{chosen_true, chosen_false}
 use Rattle.vba_tree.specs.Tree.{Simple, call, debug_print}
 use Rattle.vba_tree.specs.Spelling.{place_word, spell_simple}
@@ -21,7 +21,7 @@ use Rattle.vba_grammar.specs.Front.{or_else, ends}
 use Rattle.vba_grammar.specs.Laws.{is_if_line, FitsSimple, Ends, IsFoundBefore}
 use Rattle.vba_grammar.specs.Places.{assignment_or_call_at}
 use Rattle.vba_grammar.specs.Statements.{print_at, free_at}
-use Rattle.vba_grammar.proofs.Calm.{Quiet, cut_same}
+use Rattle.vba_grammar.proofs.Calm.{cut_same}
 use Rattle.vba_grammar.proofs.Spine.{tail_is, reading_is}
 use Rattle.vba_grammar.proofs.Graft.{no_dot}
 use Rattle.vba_grammar.proofs.PlacesLaws.{is_placed, placed, Read, HeadFirst, head_first, quiet_placed, placed_sound, placed_found, placed_complete}
@@ -41,14 +41,6 @@ free_placed s h = ap (λ z. z || is_print s) h
 free_print : (s : Simple) → is_print s ≡ true → is_free s ≡ true
 free_print (debug_print a b c v items) h = refl
 free_print other h = absurd cc
-
--- no token of them ends a statement
-pub quiet_free : (s : Simple) → is_free s ≡ true → Quiet (spell_simple s)
-quiet_free s k = by_kind (or_is (is_placed s) (is_print s) k)
-  where
-    by_kind : (is_placed s ≡ true) ⊎ (is_print s ≡ true) → Quiet (spell_simple s)
-    by_kind (inl h) = quiet_placed s h
-    by_kind (inr h) = quiet_print s h
 
 print_not_placed : (s : Simple) → is_print s ≡ true → is_placed s ≡ true → ⊥
 print_not_placed (debug_print a b c v items) h k = absurd cc
@@ -128,12 +120,6 @@ free_is ts rest s h = by_origin (origin (begins_print ts) (print_at ts) (assignm
     by_origin (inl p) = from_print ts rest s (subst (PrintGood ts) p.1 (print_good ts p.0))
     by_origin (inr g) = from_placed ts rest s h g
 
-pub free_sound : (ts rest : List ReadToken) (s : Simple) → free_at ts ≡ Some (s, rest) → (ts ≡ spell_simple s ++ rest) × FitsSimple s
-free_sound ts rest s h = let p = free_is ts rest s h in (p.same, p.fits)
-
-pub free_over : (ts rest : List ReadToken) (s : Simple) → free_at ts ≡ Some (s, rest) → Ends rest
-free_over ts rest s h = (free_is ts rest s h).over
-
 -- no call begins with Debug.Print
 print_long : (a us : List ReadToken) → 2 < length a → begins_print (a ++ us) ≡ begins_print a
 print_long [] us h = absurd (omega arith)
@@ -147,12 +133,6 @@ head_length (t ∷ ts) h = omega arith
 
 place_length : (e : Expr) → is_place e ≡ true → 0 < length (spell e)
 place_length e h = head_length (spell e) (subst HeadFirst (append-nil (spell e)) (head_first e [] h))
-
-not_debug : (t : ReadToken) (us : List ReadToken) → begins_print (t ∷ us) ≡ true → part_of t ≡ part.Me ⊎ part_of t ≡ part.WithDot → ⊥
-not_debug t us h (inl m) =
-    let p = printing (t ∷ us) h in let f = ap (λ z. reading_part p.debug_word z) (reading_is t _ us _ p.same) in absurd cc
-not_debug t us h (inr m) =
-    let p = printing (t ∷ us) h in let f = ap (λ z. reading_part p.debug_word z) (reading_is t _ us _ p.same) in absurd cc
 
 target_print : (q : Expr) (us : List ReadToken) → is_target q ≡ true → ((t : ReadToken) (ts : List ReadToken) → us ≡ t ∷ ts → part_of t ≡ part.Dot → ⊥)
     → begins_print (spell q ++ us) ≡ true → begins_print (spell q) ≡ true

@@ -31,7 +31,7 @@ use Rattle.vba_expression.proofs.Complete.{level_small}
 use Rattle.vba_expression.proofs.Inverses.{again, takes}
 use Rattle.vba_tree.specs.Spelling.{optional, optional_word, spell_others, spell_listed, with_commas}
 use Rattle.vba_tree.specs.Forms.{IsPlace, Each, EachOther}
-use Rattle.vba_grammar.specs.Front.{Found, ◌>>=◌, found_as, is_as, is_new, is_to, is_then, is_in, is_equal, is_times, is_left, is_right, is_comma, is_dot, is_colon, is_else, begins, token_at, token_if, reads, name_at, whole_at, kept_place, place_at, part_if, before_right, with_next, others_at, listed_at, commas_at, ends}
+use Rattle.vba_grammar.specs.Front.{Found, ◌>>=◌, found_as, is_as, is_new, is_to, is_then, is_in, is_equal, is_times, is_left, is_right, is_comma, is_dot, is_else, begins, token_at, token_if, reads, name_at, whole_at, kept_place, place_at, part_if, before_right, with_next, others_at, listed_at, commas_at, ends}
 use Rattle.vba_grammar.specs.Laws.{IsComplete, Ends}
 use Rattle.vba_grammar.proofs.Binding.{Told, Spelled, nothing_told, some_told, then_told, as_told, cond_told, then_is, as_is, if_is, if_not}
 
@@ -84,10 +84,6 @@ pub means_dot : (r : Reading) → is_dot r ≡ true → r ≡ reading.Mark mark.
 means_dot (reading.Mark mark.Dot) h = refl
 means_dot _ h = absurd cc
 
-pub means_colon : (r : Reading) → is_colon r ≡ true → r ≡ reading.Mark mark.Colon
-means_colon (reading.Mark mark.Colon) h = refl
-means_colon _ h = absurd cc
-
 -- a word of the grammar that is a name elsewhere
 pub means_reads : (fold : List ℕ) (r : Reading) → reads fold r ≡ true → r ≡ reading.Name fold None false
 means_reads fold (reading.Name x None false) h = ap (λ n. reading.Name n None false) ((bytes_eq-Decides x fold).0 h)
@@ -131,6 +127,15 @@ whole_told ts = record { at = λ e rest h. takes 15 ts rest e (omega arith) h }
 
 pub whole_is : (e : Expr) (rest : List ReadToken) → Fits e → Stops 15 rest → whole_at (spell e ++ rest) ≡ Some (e, rest)
 whole_is e rest w s = again 15 (spell e ++ rest) rest e (record { same = refl; under = level_small e; fits = w; stops = s })
+
+-- what holds of each, and holds of each
+pub others_both : {A : Type 0} (P Q : A → Type 0) (others : List (Token × A)) → EachOther (λ a. P a × Q a) others → EachOther P others × EachOther Q others
+others_both P Q [] h = (tt, tt)
+others_both P Q (other ∷ others) h = let more = others_both P Q others h.1 in ((h.0.0, more.0), (h.0.1, more.1))
+
+pub both_others : {A : Type 0} (P Q : A → Type 0) (others : List (Token × A)) → EachOther P others → EachOther Q others → EachOther (λ a. P a × Q a) others
+both_others P Q [] h k = tt
+both_others P Q (other ∷ others) h k = ((h.0, k.0), both_others P Q others h.1 k.1)
 
 -- a place has no operator outside
 pub place_level : (e : Expr) → is_place e ≡ true → level e ≡ 0

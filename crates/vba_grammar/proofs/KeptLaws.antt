@@ -23,7 +23,7 @@ use Rattle.vba_grammar.specs.Clauses.{constant_at, variable_at, item_ends}
 use Rattle.vba_grammar.specs.Statements.{is_const, constants_at, kept_at, simple_at}
 use Rattle.vba_grammar.specs.Laws.{Ends, is_if_line, FitsSimple, IsFoundBefore}
 use Rattle.vba_grammar.proofs.Binding.{Told, Spelled, nothing_told, weaker_told, then_told, as_told, ending_told, then_is, as_is, ending_is}
-use Rattle.vba_grammar.proofs.Fronts.{token_told, commas_told, commas_is, others_end, ends_not}
+use Rattle.vba_grammar.proofs.Fronts.{token_told, commas_told, commas_is, others_end, ends_not, others_both, both_others}
 use Rattle.vba_grammar.proofs.BlocksLaws as blocks
 use Rattle.vba_grammar.proofs.BlocksLaws.{KeptTold, IsFound}
 use Rattle.vba_grammar.proofs.StatementsLaws as statements
@@ -36,14 +36,6 @@ use Rattle.vba_grammar.proofs.ConstantsLaws.{constant_told, constant_is, constan
 means_const : (r : Reading) → is_const r ≡ true → r ≡ reading.Keyword keyword.Const
 means_const (reading.Keyword keyword.Const) h = refl
 means_const _ h = absurd cc
-
-others_both : {A : Type 0} (P Q : A → Type 0) (others : List (Token × A)) → EachOther (λ a. P a × Q a) others → EachOther P others × EachOther Q others
-others_both P Q [] h = (tt, tt)
-others_both P Q (other ∷ others) h = let more = others_both P Q others h.1 in ((h.0.0, more.0), (h.0.1, more.1))
-
-others_with : {A : Type 0} (P Q : A → Type 0) (others : List (Token × A)) → EachOther P others → EachOther Q others → EachOther (λ a. P a × Q a) others
-others_with P Q [] h g = tt
-others_with P Q (other ∷ others) h g = ((h.0, g.0), others_with P Q others h.1 g.1)
 
 list_told : (ts : List ReadToken) → Spelled (with_commas spell_constant) (λ l. Each FormedConstant l × Each ConstantFits l) ts (commas_at constant_at ts)
 list_told ts = weaker_told (commas_told spell_constant constant_at constant_told ts) (λ l rest p.
@@ -111,7 +103,7 @@ kept_told token _ ts = nothing_told
 list_is : (l : Listed Constant) (rest : List ReadToken) → Each FormedConstant l → Each ConstantFits l → Ends rest
     → commas_at constant_at (with_commas spell_constant l ++ rest) ≡ Some (l, rest)
 list_is l rest f c h = commas_is spell_constant constant_at (λ token ts. refl) constant_is l rest
-    ((f.0, c.0), others_with FormedConstant ConstantFits l.others f.1 c.1) (item_of_ends rest h, ends_not is_comma rest refl refl h)
+    ((f.0, c.0), both_others FormedConstant ConstantFits l.others f.1 c.1) (item_of_ends rest h, ends_not is_comma rest refl refl h)
 
 -- constants are found
 pub constants_are : (a : Option AccessWord) (const_word : Token) (l : Listed Constant) (rest : List ReadToken) → AccessIs before_const a → Each FormedConstant l

@@ -37,39 +37,6 @@ use Rattle.vba_grammar.proofs.Binding.{if_not}
 use Rattle.vba_grammar.proofs.LabelFronts.{and_not}
 use Rattle.vba_grammar.proofs.LineHeads.{same_both}
 
--- no line but one of statements begins so
-abbrev pub is_line_word : Reading → Bool
-is_line_word (reading.Keyword keyword.Option) = false
-is_line_word (reading.Keyword keyword.End) = false
-is_line_word (reading.Keyword keyword.Public) = false
-is_line_word (reading.Keyword keyword.Private) = false
-is_line_word (reading.Keyword keyword.Friend) = false
-is_line_word (reading.Keyword keyword.Global) = false
-is_line_word (reading.Keyword keyword.Static) = false
-is_line_word (reading.Keyword keyword.Enum) = false
-is_line_word (reading.Keyword keyword.Type) = false
-is_line_word (reading.Keyword keyword.Event) = false
-is_line_word (reading.Keyword keyword.Sub) = false
-is_line_word (reading.Keyword keyword.Function) = false
-is_line_word (reading.Name x suffix is_bracketed) = false
-is_line_word _ = true
-
-plain_line : (t : Token) (ts : List ReadToken) (r : Reading) → is_line_word r ≡ true → line_of (read t r ∷ ts) ≡ statements_line (read t r ∷ ts)
-plain_line t ts (reading.Keyword keyword.Option) h = absurd cc
-plain_line t ts (reading.Keyword keyword.End) h = absurd cc
-plain_line t ts (reading.Keyword keyword.Public) h = absurd cc
-plain_line t ts (reading.Keyword keyword.Private) h = absurd cc
-plain_line t ts (reading.Keyword keyword.Friend) h = absurd cc
-plain_line t ts (reading.Keyword keyword.Global) h = absurd cc
-plain_line t ts (reading.Keyword keyword.Static) h = absurd cc
-plain_line t ts (reading.Keyword keyword.Enum) h = absurd cc
-plain_line t ts (reading.Keyword keyword.Type) h = absurd cc
-plain_line t ts (reading.Keyword keyword.Event) h = absurd cc
-plain_line t ts (reading.Keyword keyword.Sub) h = absurd cc
-plain_line t ts (reading.Keyword keyword.Function) h = absurd cc
-plain_line t ts (reading.Name x suffix is_bracketed) h = absurd cc
-plain_line t ts _ h = refl
-
 -- Get, Let or Set could stand here, before a name
 abbrev pub is_kind_word : Reading → Bool
 is_kind_word (reading.Keyword keyword.Let) = true

@@ -16,13 +16,13 @@ use Rattle.vba_tree.specs.declared.procedure.Passing.TheVariants as passing
 use Rattle.vba_tree.specs.declared.procedure.PassingWord.{PassingWord}
 use Rattle.vba_tree.specs.Tree.{Listed, TypeClause, DefaultValue, Parameter, Parameters}
 use Rattle.vba_tree.specs.Spelling.{optional, optional_word, with_commas, spell_others, spell_brackets, passing_keyword, spell_passing, spell_parameter, spell_parameters}
-use Rattle.vba_tree.specs.Forms.{Each, EachOther, FormedParameter, FormedParameters}
+use Rattle.vba_tree.specs.Forms.{Each, FormedParameter, FormedParameters}
 use Rattle.vba_tree.specs.Fitting.{ParameterFits, ParametersFit}
 use Rattle.vba_grammar.specs.Front.{Found, ◌>>=◌, found_as, is_left, is_right, is_comma, begins, token_at, token_if, name_at, part_if, before_right, commas_at}
 use Rattle.vba_grammar.specs.Clauses.{item_ends, Valued, with_or_without_value, valued_at, is_optional, is_param_array, passing_of, passing_if, brackets_at, parameter_at, parameters_at}
 use Rattle.vba_grammar.specs.Laws.{IsSound, IsComplete, IsFoundBefore}
 use Rattle.vba_grammar.proofs.Binding.{Told, Spelled, sound_of, some_told, then_told, as_told, then_is, as_is, if_not}
-use Rattle.vba_grammar.proofs.Fronts.{means_left, means_right, token_told, name_told, token_if_told, token_if_is, part_told, part_is, before_told, before_is, commas_told, commas_is}
+use Rattle.vba_grammar.proofs.Fronts.{means_left, means_right, token_told, name_told, token_if_told, token_if_is, part_told, part_is, before_told, before_is, commas_told, commas_is, others_both, both_others}
 use Rattle.vba_grammar.proofs.ClausesLaws.{brackets_told, brackets_is}
 use Rattle.vba_grammar.proofs.ValuedLaws.{spell_valued, LongestValued, Any, either_laws, valued_told, valued_found, valued_is, value_no}
 use Rattle.vba_grammar.proofs.Founds.{gotten, commas_found}
@@ -258,15 +258,6 @@ pub listed_parameters_found : (list : Listed Parameter) (rest : List ReadToken) 
     → IsFoundBefore rest (commas_at parameter_at (with_commas spell_parameter list ++ rest))
 listed_parameters_found list rest good h k = commas_found spell_parameter parameter_at (λ token ts. refl) parameter_found list rest good h k
 
--- what holds of each, and holds of each
-pub others_both : {A : Type 0} (P Q : A → Type 0) (others : List (Token × A)) → EachOther (λ a. P a × Q a) others → EachOther P others × EachOther Q others
-others_both P Q [] h = (tt, tt)
-others_both P Q (other ∷ others) h = let more = others_both P Q others h.1 in ((h.0.0, more.0), (h.0.1, more.1))
-
-pub both_others : {A : Type 0} (P Q : A → Type 0) (others : List (Token × A)) → EachOther P others → EachOther Q others → EachOther (λ a. P a × Q a) others
-both_others P Q [] h k = tt
-both_others P Q (other ∷ others) h k = ((h.0, k.0), both_others P Q others h.1 k.1)
-
 -- parameters in brackets: each has the grammar's form, and its type is as long as it can be
 abbrev pub GoodParameters : Parameters → Type 0
 GoodParameters p = FormedParameters (Some p) × ParametersFit (Some p)
@@ -323,8 +314,5 @@ parameters_found p rest formed =
         refl
 
 -- the same, as the laws are stated
-pub parameter_sound : IsSound spell_parameter GoodParameter parameter_at
-parameter_sound = sound_of spell_parameter GoodParameter parameter_at parameter_told
-
 pub parameters_sound : IsSound spell_parameters GoodParameters parameters_at
 parameters_sound = sound_of spell_parameters GoodParameters parameters_at parameters_told

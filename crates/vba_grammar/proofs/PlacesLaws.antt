@@ -29,6 +29,7 @@ use Rattle.vba_grammar.specs.Front as front
 use Rattle.vba_grammar.specs.Laws.{IsFoundBefore}
 use Rattle.vba_grammar.specs.Places.{assigned_at, is_no_call, called_at, calls_at, behind_place, assignment_or_call_at}
 use Rattle.vba_grammar.proofs.Calm.{end_stops, end_closes, Quiet, quiet, quiet_args, quiet_append, cut_same}
+use Rattle.vba_grammar.proofs.Fronts.{place_level}
 use Rattle.vba_grammar.proofs.Spine.{Written, dotted, closing, dotted_split, closing_split, head_is, tail_is, Same, On, begins, on_length}
 use Rattle.vba_grammar.proofs.Graft.{longest, none_begin}
 
@@ -196,13 +197,8 @@ calls_beats q s (index p l ys c) r xs rest (inl h) t n a v = absurd (not_target 
 calls_beats q s (index p l ys c) r xs rest (inr o) t n a v = calls_beats q s p (closing l ys c r) xs rest o t n a v
 calls_beats q s other r xs rest h t n a v = absurd (not_target q other h.tree t refl)
 
-pub primary_level : (p : Expr) → is_place p ≡ true → level p ≡ 0
-primary_level (unary u t e) h = absurd cc
-primary_level (binary a o t b) h = absurd cc
-primary_level other h = refl
-
-place_level : (p : Expr) → is_place p ≡ true → level p < 1
-place_level p h = omega (arith, primary_level p h)
+under_one : (p : Expr) → is_place p ≡ true → level p < 1
+under_one p h = omega (arith, place_level p h)
 
 pub target_place : (q : Expr) → is_target q ≡ true → is_place q ≡ true
 target_place (name x) h = refl
@@ -217,7 +213,7 @@ equal_stops g us = omega arith
 -- the whole place, where an assignment stands
 pub place_there : (p : Expr) (r : List ReadToken) → is_place p ≡ true → Fits p → Stops 1 r → place_at (spell p ++ r) ≡ Found p r
 place_there p r h w st =
-    ap (λ o. o >>= kept_place) (again 1 (spell p ++ r) r p (record { same = refl; under = place_level p h; fits = w; stops = st }))
+    ap (λ o. o >>= kept_place) (again 1 (spell p ++ r) r p (record { same = refl; under = under_one p h; fits = w; stops = st }))
     ∙ chosen_true (is_place p) _ _ h
 
 -- an assignment is read wherever one is spelled
@@ -292,7 +288,7 @@ spelled_beats s rest k = placed (λ z. Formed z → ends rest ≡ true → Beats
     (λ p g e w v. subst (Beats (length (spell p))) (sym (assign_read p g e rest w v)) (omega arith))
     (λ q xs w v.
     let e = append_assoc (spell q) (spell_args xs) rest in
-    let l = longest q xs rest (primary_level q (target_place q w.0)) w.1 w.2 v in
+    let l = longest q xs rest (place_level q (target_place q w.0)) w.1 w.2 v in
     call_beats (spell_simple (call q xs) ++ rest) q xs rest l.tree l.rest e w v (ap (expression_at 1) e ∙ l.is))
     s k
 
