@@ -1,6 +1,7 @@
 -- The lines of a module one by one, and the least refusal of them all.
-use Rattle.std.proofs.Common.{◌≡◌, Bool, List, [], ◌∷◌, ◌++◌, Option, Some, None, refl, sym, ap, ◌∙◌, append_assoc}
+use Rattle.std.proofs.Common.{◌≡◌, ◌≤◌, ◌-◌, Bool, List, [], ◌∷◌, ◌++◌, length, take, drop, get_or, Option, Some, None, refl, sym, ap, ◌∙◌, append_assoc, arith}
 use Rattle.std.specs.Prelude.{ℕ, flat_map}
+use Rattle.std.proofs.lemmas.List.{take_rest}
 use Rattle.vba_base.specs.declared.place.Place.{Place}
 use Rattle.vba_base.specs.declared.place.Refusal.{Refusal}
 use Rattle.vba_lexer.specs.Order.{IsLeastOf}
@@ -18,6 +19,11 @@ use Rattle.vba_module.specs.Headers.{header_faults, type_names, is_named}
 use Rattle.vba_module.specs.Verdict.{broken, trees_of, with_tree, unread, unread_line, part_violations, module_violations}
 use Rattle.vba_module.proofs.OneBracketing.{one_bracketing}
 use Rattle.module_parser.specs.Parsed.{verdict, IsModule}
+
+-- the first of some, and those behind it
+pub first_of : {A : Type 0} (xs : List A) (x : A) → 1 ≤ length xs → x ≡ get_or xs 0 x → xs ≡ x ∷ take (length xs - 1) (drop 1 xs)
+first_of [] x some first = absurd (omega arith)
+first_of (y ∷ ys) x some first = ap (λ z. z ∷ ys) (sym first) ∙ ap (λ zs. x ∷ zs) (sym (take_rest (y ∷ ys) 1))
 
 -- what is behind the last part is nothing
 parts_alone : (ps : List Part) → ps ++ parts_of_lines [] ≡ ps

@@ -87,7 +87,6 @@ fn lesser_of(first: Option<Refusal>, second: Option<Refusal>) -> Option<Refusal>
 }
 
 /// The parts of the lines that have a tree, and the least refusal of the others.
-#[tactic(auto, using(crate::proofs::Parses::parts_step, crate::proofs::Parses::unread_step))]
 fn read_parts(
     alloc: Global,
     source: &Units,
