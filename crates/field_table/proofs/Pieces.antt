@@ -1,7 +1,7 @@
 -- Lists in pieces.
 use Rattle.std.proofs.Common.{◌≡◌, ℕ, zero, suc, ◌+◌, ◌-◌, ◌<◌, ◌≤◌, List, [], ◌∷◌, ◌++◌, length, take, drop, refl, sym, ap, ◌∙◌, arith, add-one}
 use Rattle.std.specs.Prelude.{slice_range, slice_index_or, slice_set}
-use Rattle.std.proofs.lemmas.List.{length-append, length-drop, drop-append-le, take-append-le, take_rest, drop_all, get_or-take, get_or-drop, get_or_past}
+use Rattle.std.proofs.lemmas.List.{length-drop, drop-append-le, take-append-le, take_rest, drop_all, get_or-take, get_or-drop, get_or_past}
 use Rattle.field_table.specs.Table.{next_start, pieces, RiseTo}
 
 pub length_pieces : {A : Type 0} (items : List A) (starts : List ℕ) → length (pieces items starts) ≡ length starts
