@@ -1,7 +1,8 @@
 pub mod Added
 pub mod Again
+pub mod Characters
 pub mod Faults
-pub mod Flexible
+pub mod Lines
 pub mod Records
 pub mod RowBytes
 pub mod RowRead

@@ -1,6 +1,6 @@
 pub mod Faults
 pub mod Reading
-pub mod Records
 pub mod Row
+pub mod SavedText
 pub mod Scan
 pub mod Writing

@@ -2,10 +2,12 @@
 #![tactic(auto)]
 
 mod fault;
+mod field;
 mod laws;
 mod read;
-mod record;
+mod room;
 mod row;
+mod saved_text;
 mod scan;
 mod sizes;
 #[cfg(test)]

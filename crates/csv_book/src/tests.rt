@@ -106,6 +106,7 @@ fn sheets_have_files(rt: HostRuntime) -> Result<(), Fail> {
     for (file, wanted) in WRITTEN {
         let written = write_sheet(rt.alloc(), &sheet_of(&rt, file)).expect(&rt, "memory");
         assert_eq!(rt; written.as_slice(), wanted, "of {file:?}");
+        assert_eq!(rt; written.capacity(), written.len(), "of {file:?}");
     }
     Ok(())
 }
@@ -206,6 +207,7 @@ fn written_cells_are_saved(rt: HostRuntime) -> Result<(), Fail> {
         written.as_slice(),
         b"id,price\n7,1.50\n\"\"\n,,x\n".as_slice()
     );
+    assert_eq!(rt; written.capacity(), written.len());
     // A cell without a text beyond what was read isn't saved; within it stands as an empty field.
     put(&rt, &mut book, 4, 3, vec![in rt.alloc(); CellValue::Empty]?);
     put(&rt, &mut book, 2, 2, vec![in rt.alloc(); CellValue::Empty]?);
@@ -227,6 +229,42 @@ fn written_cells_are_saved(rt: HostRuntime) -> Result<(), Fail> {
     assert!(rt; book.sheets() == 1);
     let written = write_sheet(rt.alloc(), book.sheet(SheetId(1))).expect(&rt, "memory");
     assert_eq!(rt; written.as_slice(), b"id,TRUE\n7,\n".as_slice());
+    Ok(())
+}
+
+#[test]
+fn a_long_text_is_saved(rt: HostRuntime) -> Result<(), Fail> {
+    // A quote, characters of two, three and four bytes, and surrogates in no pair, before others and last.
+    let units: [u16; 9] = [
+        0x61, 0x22, 0xE9, 0x20AC, 0xD83D, 0xDE00, 0xDC00, 0xD83D, 0xD83D,
+    ];
+    let bytes = b"a\"\"\xC3\xA9\xE2\x82\xAC\xF0\x9F\x98\x80\xEF\xBF\xBD\xEF\xBF\xBD\xEF\xBF\xBD";
+    let mut long = Units::new(rt.alloc());
+    let mut wanted = Vec::new(rt.alloc());
+    wanted.extend_from_slice(b",\"")?;
+    for _ in 0..100_000 {
+        for unit in units {
+            long.push(unit).expect(&rt, "memory");
+        }
+        wanted.extend_from_slice(bytes.as_slice())?;
+    }
+    wanted.extend_from_slice(b"\"\n")?;
+    let mut book = Book::new(rt.alloc());
+    let name = text(rt.alloc(), b"S").expect(&rt, "memory");
+    if book.add(name, Sheet::new(rt.alloc())).is_err() {
+        panic!(&rt; "memory");
+    }
+    put(
+        &rt,
+        &mut book,
+        1,
+        2,
+        vec![in rt.alloc(); CellValue::Text(long)]?,
+    );
+    assert!(rt; book.sheets() == 1);
+    let written = write_sheet(rt.alloc(), book.sheet(SheetId(1))).expect(&rt, "memory");
+    assert!(rt; written.as_slice() == wanted.as_slice());
+    assert_eq!(rt; written.capacity(), written.len());
     Ok(())
 }
 

@@ -34,10 +34,6 @@ before_slots p (slot ∷ slots) h = by_slot slot.1 (before_slots p slots h.1) wh
   by_slot None later = later
   by_slot (Some value) later = (h.0, later)
 
-rising_cons : {X : Type 0} (e : Position × X) (es : List (Position × X)) → Before e.0 es → Rising es → Rising (e ∷ es)
-unfolding IsStrictlySortedBy
-rising_cons e es h r = (h, r)
-
 rising_slots : (slots : List (Position × Slot)) → Rising slots → Rising (cells_of_slots slots)
 unfolding IsStrictlySortedBy
 rising_slots [] h = tt

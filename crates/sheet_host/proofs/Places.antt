@@ -10,9 +10,6 @@ use Rattle.sheet_host.specs.Size.{sheet_rows, sheet_columns}
 use Rattle.sheet_host.specs.Address.{letter_number, column_of}
 use Rattle.sheet_host.specs.AddressText.{place_up_to}
 
-next_column : ℕ → ℕ → ℕ
-next_column column letter = column * 26 + letter_number letter
-
 letters_grow : (column : ℕ) (letters : List ℕ) → column ≤ fold (λ n letter. n * 26 + letter_number letter) column letters
 letters_grow column [] = omega arith
 letters_grow column (letter ∷ letters) = omega (arith, letters_grow (column * 26 + letter_number letter) letters)
