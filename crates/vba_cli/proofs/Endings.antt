@@ -23,10 +23,10 @@ use Rattle.built_form.specs.declared.line.LineTree.{LineTree}
 use Rattle.built_form.specs.declared.line.LineTree.TheVariants.{ProcedureHeader, Print, ProcedureEnd}
 use Rattle.built_form.specs.Standing.{stands, whole_stands, mark_stands, expression_stands}
 use Rattle.cond_compile.proofs.Kept.{selected_count}
-use Rattle.vba_meaning.specs.Meaning.{Statements, meaning}
-use Rattle.vba_meaning.specs.Laws.{IsSmall, AreSmall}
-use Rattle.vba_meaning.specs.declared.outcome.Outcome.TheVariants.{Ended}
-use Rattle.vba_meaning.proofs.Ends.{run_ends}
+use Rattle.built_meaning.specs.Meaning.{Statements, meaning}
+use Rattle.built_meaning.specs.Laws.{IsSmall, AreSmall}
+use Rattle.built_meaning.specs.declared.outcome.Outcome.TheVariants.{Ended}
+use Rattle.built_meaning.proofs.Ends.{run_ends}
 use Rattle.vba_cli.specs.Answer.{default_turns}
 use Rattle.vba_cli.specs.Form as form
 use Rattle.vba_cli.specs.Form.{line_tree, with_line, line_trees, body_of, main_of, statements_of, longest_built, built_of, whole_lines, program_of}

@@ -9,16 +9,16 @@ use Rattle.vba_base.specs.declared.place.Place.{Place}
 use Rattle.built_form.specs.declared.expression.Expression.{Expression}
 use Rattle.built_form.specs.declared.expression.Expression.TheVariants as expression
 use Rattle.built_form.specs.declared.line.PrintStatement.{PrintStatement}
-use Rattle.vba_meaning.specs.declared.event.Event.{Event}
-use Rattle.vba_meaning.specs.declared.event.Event.TheVariants.{Print, Error}
-use Rattle.vba_meaning.specs.declared.outcome.Outcome.{Outcome}
-use Rattle.vba_meaning.specs.declared.outcome.Outcome.TheVariants.{Ended, Faulted, Going}
-use Rattle.vba_meaning.specs.Values.{Val, printed}
-use Rattle.vba_meaning.specs.State.{State, Res, Got, Over, ◌>>=◌, turn, told}
-use Rattle.vba_meaning.specs.Meaning.{Statements, worked, eval, exec, begin_at, run_from, Run, run_of, opening, meaning}
-use Rattle.vba_meaning.specs.Texts.{event_text, events_text}
+use Rattle.built_meaning.specs.declared.event.Event.{Event}
+use Rattle.built_meaning.specs.declared.event.Event.TheVariants.{Print, Error}
+use Rattle.built_meaning.specs.declared.outcome.Outcome.{Outcome}
+use Rattle.built_meaning.specs.declared.outcome.Outcome.TheVariants.{Ended, Faulted, Going}
+use Rattle.built_meaning.specs.Values.{Val, printed}
+use Rattle.built_meaning.specs.State.{State, Res, Got, Over, ◌>>=◌, turn, told}
+use Rattle.built_meaning.specs.Meaning.{Statements, worked, eval, exec, begin_at, run_from, Run, run_of, opening, meaning}
+use Rattle.built_meaning.specs.Texts.{event_text, events_text}
 use Rattle.vba_cli.specs.Report.{value_of, IsEvaluated, outcome_of_error}
-use Rattle.vba_meaning.proofs.Turns.{turn_left, turn_over}
+use Rattle.built_meaning.proofs.Turns.{turn_left, turn_over}
 use Rattle.vba_cli.specs.declared.run.Evaluated.TheVariants as evaluated
 
 -- the state in which so many turns were begun and these events were given

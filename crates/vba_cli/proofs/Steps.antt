@@ -8,9 +8,9 @@ use Rattle.vba_base.specs.Outside.{Told, Counts, CountsRead, TellsRead}
 use Rattle.vba_base.specs.declared.place.Refusal.{Refusal}
 use Rattle.vba_cli.specs.declared.status.Status.{Status}
 use Rattle.vba_cli.specs.declared.status.Status.TheVariants.{Ended, Faulted, Usage, Refused, Going, ReadFault, WriteFault, TooLong, NotBuilt, NoMemory}
-use Rattle.vba_meaning.specs.declared.outcome.Outcome.{Outcome}
-use Rattle.vba_meaning.specs.Meaning.{Statements, Run, meaning}
-use Rattle.vba_meaning.specs.Texts.{events_text}
+use Rattle.built_meaning.specs.declared.outcome.Outcome.{Outcome}
+use Rattle.built_meaning.specs.Meaning.{Statements, Run, meaning}
+use Rattle.built_meaning.specs.Texts.{events_text}
 use Rattle.vba_cli.specs.Form.{program_of}
 use Rattle.vba_cli.specs.Answer.{Shown, status_of, default_turns, shown_of_run, shown_of_program, shown_of_file, shown_of_command, refused, err_of, file_limit}
 use Rattle.vba_cli.specs.Contract.{World, names_of, ReadsOnly}

@@ -3,10 +3,10 @@ use Rattle.std.specs.Prelude.{ℕ, nat_lt, List, [], length, Option, Some, None,
 use Rattle.vba_base.specs.declared.place.Place.{Place}
 use Rattle.vba_base.specs.declared.place.Refusal.{Refusal}
 use Rattle.vba_base.specs.Map.{FileMap, bytes_of}
-use Rattle.vba_meaning.specs.declared.outcome.Outcome.{Outcome}
-use Rattle.vba_meaning.specs.declared.outcome.Outcome.TheVariants as outcome
-use Rattle.vba_meaning.specs.Meaning.{Statements, Run, meaning}
-use Rattle.vba_meaning.specs.Texts.{events_text}
+use Rattle.built_meaning.specs.declared.outcome.Outcome.{Outcome}
+use Rattle.built_meaning.specs.declared.outcome.Outcome.TheVariants as outcome
+use Rattle.built_meaning.specs.Meaning.{Statements, Run, meaning}
+use Rattle.built_meaning.specs.Texts.{events_text}
 use Rattle.vba_cli.specs.declared.status.Status.{Status}
 use Rattle.vba_cli.specs.declared.status.Status.TheVariants as status
 use Rattle.vba_cli.specs.Command.{file_of}

@@ -13,7 +13,7 @@ use Rattle.built_form.specs.declared.line.LineTree.{LineTree}
 use Rattle.built_form.specs.declared.line.LineTree.TheVariants.{ProcedureHeader, Print, ProcedureEnd}
 use Rattle.built_form.specs.Standing.{number_of, is_text, stands}
 use Rattle.vba_words.specs.Readings.{quoted_text}
-use Rattle.vba_meaning.specs.Meaning.{Statements}
+use Rattle.built_meaning.specs.Meaning.{Statements}
 use Rattle.module_parser.specs.Parsed.{verdict, read_lexed}
 
 -- the whole number that a token would be

@@ -9,6 +9,6 @@ pub mod Steps
 pub use Rattle.vba_base.specs.Causes
 pub use Rattle.vba_base.specs.Map
 pub use Rattle.vba_base.specs.Outside
-pub use Rattle.vba_meaning.specs.Meaning
-pub use Rattle.vba_meaning.specs.Texts
+pub use Rattle.built_meaning.specs.Meaning
+pub use Rattle.built_meaning.specs.Texts
 pub use Rattle.built_form.specs.Standing

@@ -3,11 +3,11 @@ use Rattle.std.specs.Prelude.{◌≡◌, ℕ, nat_lt, pos, Result, Ok, Err, if�
 use Rattle.vba_base.specs.declared.place.Place.{Place}
 use Rattle.built_form.specs.declared.expression.Expression.{Expression}
 use Rattle.built_form.specs.declared.expression.Expression.TheVariants as expression
-use Rattle.vba_meaning.specs.declared.outcome.Outcome.{Outcome}
-use Rattle.vba_meaning.specs.declared.outcome.Outcome.TheVariants as outcome
-use Rattle.vba_meaning.specs.Values.{Val, integer, text, sum_of, printed}
-use Rattle.vba_meaning.specs.Meaning.{Run}
-use Rattle.vba_meaning.specs.Texts.{events_text}
+use Rattle.built_meaning.specs.declared.outcome.Outcome.{Outcome}
+use Rattle.built_meaning.specs.declared.outcome.Outcome.TheVariants as outcome
+use Rattle.built_meaning.specs.Values.{Val, integer, text, sum_of, printed}
+use Rattle.built_meaning.specs.Meaning.{Run}
+use Rattle.built_meaning.specs.Texts.{events_text}
 use Rattle.vba_cli.specs.declared.run.Evaluated.{Evaluated}
 use Rattle.vba_cli.specs.declared.run.Evaluated.TheVariants as evaluated
 use Rattle.vba_cli.specs.declared.run.Report.{Report}

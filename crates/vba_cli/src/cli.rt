@@ -5,7 +5,7 @@ ghost use Rattle.vba_cli.specs.Command.{file_of};
 ghost use Rattle.vba_cli.specs.Contract.{World, Commands, TakesSome};
 ghost use Rattle.vba_cli.specs.Form.{program_of};
 ghost use Rattle.vba_cli.specs.Steps.{Leaves, Meets, Ran, Performs, Puts, Tells};
-ghost use Rattle.vba_meaning.specs.Meaning.{meaning};
+ghost use Rattle.built_meaning.specs.Meaning.{meaning};
 
 use crate::command::file_named;
 use crate::form::program;
@@ -13,9 +13,9 @@ use crate::messages::status_line;
 use crate::run::run;
 use crate::status::Status;
 use built_form::PrintStatement;
+use built_meaning::Outcome;
 use std::alloc::Global;
 use vba_base::{Files, OrMemory, Place, ReadAnswer, Sink, WriteAnswer};
-use vba_meaning::Outcome;
 
 /// The bound on turns where the words name none.
 const DEFAULT_TURNS: u64 = 10_000_000;

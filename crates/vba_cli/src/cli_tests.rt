@@ -2,12 +2,12 @@ use crate::cli::run_cli;
 use crate::run::run;
 use crate::status::Status;
 use built_form::{Expression, PrintStatement, Sum, TextLiteral, WholeLiteral};
+use built_meaning::Outcome;
 use std::alloc::{AllocError, Global};
 use std::process::Abort;
 use std::test::Fail;
 use vba_base::{MemFiles, MemSink, NeverFails, Place, Refusal, Units};
 use vba_lexer::{Token, TokenKind};
-use vba_meaning::Outcome;
 
 /// The words of a command.
 fn words_of(alloc: Global, words: &[&str]) -> Result<Vec<String>, AllocError> {

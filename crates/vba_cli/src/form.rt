@@ -7,8 +7,8 @@ ghost use Rattle.vba_lexer.specs.Lexed.{lines_view};
 ghost use Rattle.vba_lexer.specs.declared.token.Token.{Token};
 ghost use Rattle.built_form.specs.declared.line.LineTree.{LineTree};
 ghost use Rattle.built_form.specs.Standing.{Spells};
-ghost use Rattle.vba_meaning.specs.declared.outcome.Outcome.TheVariants.{Ended};
-ghost use Rattle.vba_meaning.specs.Meaning.{Statements, meaning};
+ghost use Rattle.built_meaning.specs.declared.outcome.Outcome.TheVariants.{Ended};
+ghost use Rattle.built_meaning.specs.Meaning.{Statements, meaning};
 ghost use Rattle.vba_cli.specs.Answer.{default_turns};
 ghost use Rattle.vba_cli.specs.Form.{body_of, line_tree, main_of, program_of, statements_of, whole_lines};
 

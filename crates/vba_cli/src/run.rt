@@ -1,16 +1,16 @@
 ghost use Rattle.std.specs.Prelude.{◌≡◌, ℕ, ◌+◌, ◌++◌, IfOk, OnOk};
 ghost use Rattle.vba_base.specs.Text.{encoded};
-ghost use Rattle.vba_meaning.specs.Values.{integer, printed, sum_of};
-ghost use Rattle.vba_meaning.specs.Meaning.{meaning};
-ghost use Rattle.vba_meaning.specs.Texts.{event_text};
+ghost use Rattle.built_meaning.specs.Values.{integer, printed, sum_of};
+ghost use Rattle.built_meaning.specs.Meaning.{meaning};
+ghost use Rattle.built_meaning.specs.Texts.{event_text};
 ghost use Rattle.vba_cli.specs.Report.{value_of, IsEvaluated, outcome_of_error, Reports};
-ghost use Rattle.vba_meaning.specs.declared.event.Event.TheVariants.{Print};
+ghost use Rattle.built_meaning.specs.declared.event.Event.TheVariants.{Print};
 ghost use Rattle.std.specs.Prelude.{true, pos};
 
 use built_form::{Expression, PrintStatement};
+use built_meaning::Outcome;
 use std::alloc::Global;
 use vba_base::{NoMemory, Place, Units, encode_text};
-use vba_meaning::Outcome;
 
 /// How a run ended, and the text of its events.
 #[derive(Debug, Drop)]

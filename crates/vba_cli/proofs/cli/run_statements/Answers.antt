@@ -1,5 +1,5 @@
 use Rattle.std.proofs.Common.{subst}
-use Rattle.vba_meaning.specs.Meaning.{meaning}
+use Rattle.built_meaning.specs.Meaning.{meaning}
 use Rattle.vba_cli.specs.Answer.{Shown, default_turns}
 use Rattle.vba_cli.specs.Steps.{Ran}
 use Rattle.vba_cli.proofs.Steps.{shown_report}

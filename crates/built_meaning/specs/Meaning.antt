@@ -4,12 +4,12 @@ use Rattle.vba_base.specs.declared.place.Place.{Place}
 use Rattle.built_form.specs.declared.expression.Expression.{Expression}
 use Rattle.built_form.specs.declared.expression.Expression.TheVariants.{Whole, Text, Sum}
 use Rattle.built_form.specs.declared.line.PrintStatement.{PrintStatement}
-use Rattle.vba_meaning.specs.declared.event.Event.{Event}
-use Rattle.vba_meaning.specs.declared.event.Event.TheVariants.{Print}
-use Rattle.vba_meaning.specs.declared.outcome.Outcome.{Outcome}
-use Rattle.vba_meaning.specs.declared.outcome.Outcome.TheVariants.{Ended, Going}
-use Rattle.vba_meaning.specs.Values.{Val, integer, text, sum_of, printed}
-use Rattle.vba_meaning.specs.State.{State, Res, Got, Over, ◌>>=◌, turn, told, raise}
+use Rattle.built_meaning.specs.declared.event.Event.{Event}
+use Rattle.built_meaning.specs.declared.event.Event.TheVariants.{Print}
+use Rattle.built_meaning.specs.declared.outcome.Outcome.{Outcome}
+use Rattle.built_meaning.specs.declared.outcome.Outcome.TheVariants.{Ended, Going}
+use Rattle.built_meaning.specs.Values.{Val, integer, text, sum_of, printed}
+use Rattle.built_meaning.specs.State.{State, Res, Got, Over, ◌>>=◌, turn, told, raise}
 
 -- the statements of a procedure in text order, each with its number, which counts from 0
 abbrev pub Statements : Type 0

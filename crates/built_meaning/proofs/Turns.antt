@@ -2,8 +2,8 @@
 use Rattle.std.proofs.Common.{◌≡◌, ◌+◌, ◌<◌, ◌≤◌, ap}
 use Rattle.std.specs.Prelude.{nat_lt, if◌then◌else◌}
 use Rattle.std.proofs.lemmas.Bool.{lt-ltb, le-ltb}
-use Rattle.vba_meaning.specs.declared.outcome.Outcome.TheVariants.{Going}
-use Rattle.vba_meaning.specs.State.{State, Res, Over, turn}
+use Rattle.built_meaning.specs.declared.outcome.Outcome.TheVariants.{Going}
+use Rattle.built_meaning.specs.State.{State, Res, Over, turn}
 
 -- where a turn is left, it is begun
 pub turn_left : {A : Type 0} (state : State) (rest : State → Res A) → state.begun < state.bound → turn state rest ≡ rest (record state { begun = state.begun + 1 })

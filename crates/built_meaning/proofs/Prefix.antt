@@ -7,14 +7,14 @@ use Rattle.vba_base.specs.declared.place.Place.{Place}
 use Rattle.built_form.specs.declared.expression.Expression.{Expression}
 use Rattle.built_form.specs.declared.expression.Expression.TheVariants as expression
 use Rattle.built_form.specs.declared.line.PrintStatement.{PrintStatement}
-use Rattle.vba_meaning.specs.declared.event.Event.{Event}
-use Rattle.vba_meaning.specs.declared.event.Event.TheVariants.{Print, Error}
-use Rattle.vba_meaning.specs.declared.outcome.Outcome.{Outcome}
-use Rattle.vba_meaning.specs.declared.outcome.Outcome.TheVariants.{Faulted, Going}
-use Rattle.vba_meaning.specs.Values.{Val, integer, text, sum_of, printed}
-use Rattle.vba_meaning.specs.State.{State, Res, Got, Over, ◌>>=◌, turn, told, raise}
-use Rattle.vba_meaning.specs.Meaning.{Statements, worked, eval, exec, begin_at, run_from, Run, run_of, opening, meaning}
-use Rattle.vba_meaning.specs.Laws.{Begins}
+use Rattle.built_meaning.specs.declared.event.Event.{Event}
+use Rattle.built_meaning.specs.declared.event.Event.TheVariants.{Print, Error}
+use Rattle.built_meaning.specs.declared.outcome.Outcome.{Outcome}
+use Rattle.built_meaning.specs.declared.outcome.Outcome.TheVariants.{Faulted, Going}
+use Rattle.built_meaning.specs.Values.{Val, integer, text, sum_of, printed}
+use Rattle.built_meaning.specs.State.{State, Res, Got, Over, ◌>>=◌, turn, told, raise}
+use Rattle.built_meaning.specs.Meaning.{Statements, worked, eval, exec, begin_at, run_from, Run, run_of, opening, meaning}
+use Rattle.built_meaning.specs.Laws.{Begins}
 
 -- the events of how a run went on
 abbrev events_of : Res (Unit {0}) → List Event

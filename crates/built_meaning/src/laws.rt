@@ -1,6 +1,6 @@
 ghost use Rattle.std.specs.Prelude.{◌≤◌};
-ghost use Rattle.vba_meaning.specs.Laws.{Begins};
-ghost use Rattle.vba_meaning.specs.Meaning.{meaning};
+ghost use Rattle.built_meaning.specs.Laws.{Begins};
+ghost use Rattle.built_meaning.specs.Meaning.{meaning};
 
 use built_form::PrintStatement;
 

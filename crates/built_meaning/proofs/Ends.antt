@@ -7,14 +7,14 @@ use Rattle.vba_base.specs.declared.place.Place.{Place}
 use Rattle.built_form.specs.declared.expression.Expression.{Expression}
 use Rattle.built_form.specs.declared.expression.Expression.TheVariants as expression
 use Rattle.built_form.specs.declared.line.PrintStatement.{PrintStatement}
-use Rattle.vba_meaning.specs.declared.event.Event.TheVariants.{Print}
-use Rattle.vba_meaning.specs.declared.outcome.Outcome.{Outcome}
-use Rattle.vba_meaning.specs.declared.outcome.Outcome.TheVariants.{Ended, Going}
-use Rattle.vba_meaning.specs.Values.{Val, integer, text, printed}
-use Rattle.vba_meaning.specs.State.{State, Res, Got, Over, ◌>>=◌, turn, told}
-use Rattle.vba_meaning.specs.Meaning.{Statements, worked, eval, exec, begin_at, run_from, Run, run_of, opening, meaning}
-use Rattle.vba_meaning.specs.Laws.{IsSmall, AreSmall}
-use Rattle.vba_meaning.proofs.Turns.{turn_left}
+use Rattle.built_meaning.specs.declared.event.Event.TheVariants.{Print}
+use Rattle.built_meaning.specs.declared.outcome.Outcome.{Outcome}
+use Rattle.built_meaning.specs.declared.outcome.Outcome.TheVariants.{Ended, Going}
+use Rattle.built_meaning.specs.Values.{Val, integer, text, printed}
+use Rattle.built_meaning.specs.State.{State, Res, Got, Over, ◌>>=◌, turn, told}
+use Rattle.built_meaning.specs.Meaning.{Statements, worked, eval, exec, begin_at, run_from, Run, run_of, opening, meaning}
+use Rattle.built_meaning.specs.Laws.{IsSmall, AreSmall}
+use Rattle.built_meaning.proofs.Turns.{turn_left}
 
 -- the value of an expression that raises no error
 value_of : Expression → Val

@@ -2,8 +2,8 @@
 use Rattle.std.specs.Prelude.{◌≡◌, ◌+◌, ◌<◌, ◌^◌, List, [], ◌∷◌, ◌++◌}
 use Rattle.built_form.specs.declared.expression.Expression.{Expression}
 use Rattle.built_form.specs.declared.expression.Expression.TheVariants.{Whole, Text, Sum}
-use Rattle.vba_meaning.specs.Meaning.{Statements}
-use Rattle.vba_meaning.specs.declared.event.Event.{Event}
+use Rattle.built_meaning.specs.Meaning.{Statements}
+use Rattle.built_meaning.specs.declared.event.Event.{Event}
 
 -- some events, and then others
 pub record Begins (events all : List Event) : Type 0 where

@@ -2,8 +2,8 @@
 use Rattle.std.specs.Prelude.{ℕ, Bool, true, false, List, [], ◌∷◌, ◌++◌}
 use Rattle.std.specs.List.{flat_map}
 use Rattle.vba_base.specs.Text.{encoded}
-use Rattle.vba_meaning.specs.declared.event.Event.{Event}
-use Rattle.vba_meaning.specs.declared.event.Event.TheVariants.{Print, Error}
+use Rattle.built_meaning.specs.declared.event.Event.{Event}
+use Rattle.built_meaning.specs.declared.event.Event.TheVariants.{Print, Error}
 
 -- a printed text is shown in UTF-8, a finished line with its LF; an error shows nothing
 abbrev pub event_text : Event → List ℕ

@@ -1,10 +1,10 @@
 -- The state of a run, its turns, and how a run goes on or is over.
 use Rattle.std.specs.Prelude.{ℕ, ◌+◌, nat_lt, ℤ, Bool, List, [], ◌∷◌, ◌++◌, if◌then◌else◌}
 use Rattle.vba_base.specs.declared.place.Place.{Place}
-use Rattle.vba_meaning.specs.declared.event.Event.{Event}
-use Rattle.vba_meaning.specs.declared.event.Event.TheVariants.{Error}
-use Rattle.vba_meaning.specs.declared.outcome.Outcome.{Outcome}
-use Rattle.vba_meaning.specs.declared.outcome.Outcome.TheVariants.{Faulted, Going}
+use Rattle.built_meaning.specs.declared.event.Event.{Event}
+use Rattle.built_meaning.specs.declared.event.Event.TheVariants.{Error}
+use Rattle.built_meaning.specs.declared.outcome.Outcome.{Outcome}
+use Rattle.built_meaning.specs.declared.outcome.Outcome.TheVariants.{Faulted, Going}
 
 -- how many turns may be begun, how many were, and what happened so far
 pub record State : Type 0 where
