@@ -17,6 +17,13 @@ pub fn differences(alloc: Global, case: &Case) -> Result<Vec<Difference>, AllocE
     let mut found = Vec::new(alloc);
     let held = copy_of(alloc, case.files.as_slice())?;
     if !MemFiles::are_different(held.as_slice()) {
+        note(
+            alloc,
+            &mut found,
+            "files",
+            "different names",
+            "one name twice",
+        )?;
         return Ok(found);
     }
     let mut files = MemFiles::new(alloc, held, Vec::new(alloc));
@@ -24,11 +31,9 @@ pub fn differences(alloc: Global, case: &Case) -> Result<Vec<Difference>, AllocE
     let mut err = NeverFails::new(alloc);
     let status = run_cli(alloc, &case.words, &mut files, &mut out, &mut err).code();
     if status != case.status {
-        found.push(Difference {
-            what: String::from_str(alloc, "status")?,
-            wanted: format!(in alloc; "{}", case.status)?,
-            got: format!(in alloc; "{status}")?,
-        })?;
+        let wanted = format!(in alloc; "{}", case.status)?;
+        let got = format!(in alloc; "{status}")?;
+        note(alloc, &mut found, "status", wanted.as_str(), got.as_str())?;
     }
     compare(alloc, &mut found, "out", case.out.as_slice(), out.taken())?;
     compare(alloc, &mut found, "err", case.err.as_slice(), err.taken())?;
@@ -36,6 +41,23 @@ pub fn differences(alloc: Global, case: &Case) -> Result<Vec<Difference>, AllocE
     Ok(found)
 }
 
+// Adds a difference.
+fn note(
+    alloc: Global,
+    found: &mut Vec<Difference>,
+    what: &str,
+    wanted: &str,
+    got: &str,
+) -> Result<(), AllocError> {
+    found.push(Difference {
+        what: String::from_str(alloc, what)?,
+        wanted: String::from_str(alloc, wanted)?,
+        got: String::from_str(alloc, got)?,
+    })?;
+    Ok(())
+}
+
+// The names and bytes once more.
 fn copy_of(
     alloc: Global,
     files: &[(String, Vec<u8>)],
@@ -57,11 +79,9 @@ fn compare(
     got: &[u8],
 ) -> Result<(), AllocError> {
     if wanted != got {
-        found.push(Difference {
-            what: String::from_str(alloc, what)?,
-            wanted: escaped(alloc, wanted)?,
-            got: escaped(alloc, got)?,
-        })?;
+        let wanted = escaped(alloc, wanted)?;
+        let got = escaped(alloc, got)?;
+        note(alloc, found, what, wanted.as_str(), got.as_str())?;
     }
     Ok(())
 }
@@ -98,13 +118,6 @@ fn compare_file(
 ) -> Result<(), AllocError> {
     match files.held(name) {
         Some(bytes) => compare(alloc, found, name, wanted, bytes.as_slice()),
-        None => {
-            found.push(Difference {
-                what: String::from_str(alloc, name)?,
-                wanted: String::from_str(alloc, "such a file")?,
-                got: String::from_str(alloc, "none")?,
-            })?;
-            Ok(())
-        }
+        None => note(alloc, found, name, "such a file", "none"),
     }
 }

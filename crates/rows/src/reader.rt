@@ -2,7 +2,7 @@ use crate::case::Case;
 use crate::text::{plain_string, push_plain, push_repeated};
 use std::alloc::Global;
 use std::mem;
-use vba_base::{MemFiles, OrMemory};
+use vba_base::OrMemory;
 
 /// What the lines of a text belong to.
 #[derive(Drop)]
@@ -98,11 +98,7 @@ impl CaseReader {
         }
         self.close_text()?;
         self.section = Section::Outside;
-        if MemFiles::are_different(self.case.files.as_slice()) {
-            Ok(true)
-        } else {
-            Err(OrMemory::Fault("two files of one name"))
-        }
+        Ok(true)
     }
 
     // Takes any other line: a word and what stands behind it.
