@@ -9,5 +9,3 @@ pub use expression::{Expression, Sum, TextLiteral, WholeLiteral};
 pub use line::{LineTree, PrintStatement, ProcedureEnd, ProcedureHeader};
 pub use spelling::spell;
 
-#[cfg(test)]
-mod tests;

@@ -12,8 +12,6 @@ mod operator;
 mod piece;
 mod reader;
 mod select;
-#[cfg(test)]
-mod tests;
 mod words;
 
 pub use arm::Arm;

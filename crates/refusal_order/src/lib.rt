@@ -3,8 +3,6 @@
 
 mod laws;
 mod least;
-#[cfg(test)]
-mod tests;
 
 pub use laws::least_refusals_are_found;
 pub use least::{note, note_both, note_fault, note_if};

@@ -2,12 +2,8 @@
 #![tactic(auto)]
 
 mod cli;
-#[cfg(test)]
-mod cli_tests;
 mod command;
 mod form;
-#[cfg(test)]
-mod form_tests;
 mod literals;
 mod messages;
 mod reading;

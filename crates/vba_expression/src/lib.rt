@@ -9,8 +9,6 @@ mod reader;
 mod spelling;
 mod stack;
 mod step;
-#[cfg(test)]
-mod tests;
 mod tree;
 
 pub use laws::{

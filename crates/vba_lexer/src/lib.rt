@@ -15,10 +15,6 @@ mod line_tokens;
 mod lines;
 mod number;
 mod scan;
-#[cfg(test)]
-mod table_tests;
-#[cfg(test)]
-mod tests;
 mod token;
 
 pub use laws::{

@@ -14,8 +14,6 @@ mod simple_tokens;
 mod spelling;
 mod statement;
 mod statement_tokens;
-#[cfg(test)]
-mod tests;
 mod word_tokens;
 
 pub use block::{BlockLine, CaseTest, LoopCondition, LoopWord, StepClause};

@@ -9,8 +9,6 @@ mod quotes;
 mod read;
 mod reading;
 mod table;
-#[cfg(test)]
-mod tests;
 mod words;
 
 pub use identifier::Identifier;
