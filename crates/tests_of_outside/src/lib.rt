@@ -1,0 +1,8 @@
+//! Tests of what no case of rows can say: reads and writes that fail in mid-stream, a file above the limit, and public
+//! calls that may lack memory and that no program reaches yet. What a source and its answer can say is a case of rows.
+#![tactic(auto)]
+
+#[cfg(test)]
+mod commands;
+#[cfg(test)]
+mod trees;
