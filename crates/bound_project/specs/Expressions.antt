@@ -1,0 +1,76 @@
+-- Expressions whose names are replaced by what they stand for. A place in the source is Place; what can be written or lent is an Lvalue.
+use Rattle.std.specs.Prelude.{ℕ, List}
+use Rattle.vba_base.specs.declared.place.Place.{Place}
+use Rattle.vba_values.specs.declared.types.OpKind.{OpKind}
+use Rattle.vba_values.specs.declared.types.Compare.{Compare}
+use Rattle.vba_values.specs.Types.{Declared}
+use Rattle.vba_values.specs.Val.{Val}
+
+-- where a variable is kept: in its procedure's frame (the result first, then its own variables, then its parameters), or among the module
+-- variables and statics of the project, which stand in one list, module by module, each module's statics behind its variables
+pub data Storage : Type 0 where
+  local : ℕ → Storage
+  shared : ℕ → Storage
+
+-- a variable and its declared type
+pub record Variable : Type 0 where
+  pub storage : Storage
+  pub of : Declared
+
+-- what Err tells
+pub data ErrMember : Type 0 where
+  err_number : ErrMember
+  err_source : ErrMember
+  err_description : ErrMember
+
+mutual
+  -- an expression: what it is, the place of its first token, its declared type, and the one that it has as an operand, once an object
+  -- has given way to the value of its default member
+  pub data Expr : Type 0 where
+    expr : Node → Place → (of operand : Declared) → Expr
+
+  pub data Node : Type 0 where
+    -- no expression stands there, as where an argument isn't given
+    not_given : Node
+    constant : Val → Node
+    -- the value of a variable
+    load : Lvalue → Node
+    unary : OpKind → Expr → Node
+    binary : OpKind → Compare → (left right : Expr) → Node
+    -- a procedure or a Property Get of a standard module
+    call : (procedure : ℕ) → Args → Node
+    err_value : ErrMember → Node
+    -- the value itself, but of an object the value of its default member
+    default_of : Expr → Node
+
+  -- what can be written and lent: a variable
+  pub data Lvalue : Type 0 where
+    variable : Variable → Lvalue
+
+  -- arguments, each by the way in which its parameter takes it
+  pub data Args : Type 0 where
+    no_args : Args
+    -- the variable itself: a ByRef parameter
+    by_place : Lvalue → Args → Args
+    -- the value, made one of the parameter's type
+    by_copy : Expr → Declared → Args → Args
+    -- none is given: what the parameter then has
+    by_default : Val → Args → Args
+    -- the arguments of a ParamArray
+    by_list : Exprs → Args → Args
+    -- arguments that were named: each parameter's, by its number among those that are evaluated
+    in_order : List ℕ → Args → Args
+
+  pub data Exprs : Type 0 where
+    no_exprs : Exprs
+    also : Expr → Exprs → Exprs
+
+-- what Debug.Print shows: values, and commas, which go on to the next zone of 14 units
+pub data Prints : Type 0 where
+  no_prints : Prints
+  shown : Expr → Prints → Prints
+  zone : Prints → Prints
+
+-- the type that an expression has as an operand
+abbrev pub operand_type : Expr → Declared
+operand_type (expr node place of operand) = operand

@@ -1,0 +1,74 @@
+-- Statements, in one flat list of a procedure in the order of the text. Each is named by its number there, from 0; what stands past the last
+-- one is the procedure's end. Labels, declarations, Else, Case Else, End If and End Select are no statements.
+use Rattle.std.specs.Prelude.{ℕ, List, Bool, Option}
+use Rattle.vba_base.specs.declared.place.Place.{Place}
+use Rattle.vba_values.specs.declared.types.OpKind.{OpKind}
+use Rattle.vba_values.specs.declared.types.Compare.{Compare}
+use Rattle.vba_values.specs.Types.{Declared}
+use Rattle.bound_project.specs.Expressions.{Variable, Expr, Lvalue, Args, Prints}
+
+-- the tests of a Case: `Is o e`, of which `e` alone is `Is = e`, and `e To e`
+pub data Tests : Type 0 where
+  no_tests : Tests
+  test_is : OpKind → Expr → Tests → Tests
+  test_range : (low high : Expr) → Tests → Tests
+
+-- On Error GoTo 0, On Error Resume Next, On Error GoTo label
+pub data Handling : Type 0 where
+  passed_on : Handling
+  skipped : Handling
+  handled_at : ℕ → Handling
+
+-- what a statement does. Where a statement can go on in two ways it has the numbers of both
+pub data Action : Type 0 where
+  -- [Let] target = value
+  assign : Lvalue → Expr → Action
+  -- a call whose value isn't used
+  evaluate : Expr → Action
+  -- an assignment to a property of a standard module: its Property Let, that one's other arguments, the value and its parameter's type
+  let_property : (procedure : ℕ) → Args → Expr → Declared → Action
+  -- Debug.Print, and whether the line is finished
+  print : Prints → (ends : Bool) → Action
+  -- Err.Raise and Error: a number, a source and a description
+  raise : Args → Action
+  -- If, ElseIf, Do, Loop, While: to the first number where the condition is as told, else to the other
+  test : Bool → Expr → (to other : ℕ) → Action
+  -- GoTo, Do and Loop without a condition, Wend, Exit Do, Exit For
+  go_to : ℕ → Action
+  -- For: into its block, or behind it
+  for_to : Variable → Compare → (start last step : Expr) → (first behind : ℕ) → Action
+  -- Next of the For with this number: into its block again, or on
+  next : Variable → (header first : ℕ) → Action
+  -- Select Case: to its first Case
+  select : Expr → (first : ℕ) → Action
+  -- Case of the Select Case with this number, whose value has this type as an operand: into its block, or to the next arm
+  case_of : Tests → (header : ℕ) → Declared → Compare → (first other : ℕ) → Action
+  go_sub : ℕ → Action
+  return_sub : Action
+  -- Exit Sub, Exit Function, Exit Property
+  exit_to : (end : ℕ) → Action
+  on_error : Handling → Action
+  -- On Error GoTo -1
+  end_handler : Action
+  -- Err.Clear
+  clear_err : Action
+  -- Resume and Resume 0, Resume Next, Resume label
+  resume_again : Action
+  resume_next : Action
+  resume_at : ℕ → Action
+  stop : Action
+  end_run : Action
+
+-- a statement: what it does, its place, and the number of the statement that is next after it in text order, at which Resume Next goes on. For a header
+-- that is the first statement of its block (for Select Case the one after End Select), for the last statement of an arm the one after the block
+pub record Statement : Type 0 where
+  pub action : Action
+  pub place : Place
+  pub next : ℕ
+
+-- a block by the numbers of its statements: its header, its further arms, its last line where that is a statement, and what stands behind
+pub record Block : Type 0 where
+  pub opening : ℕ
+  pub arms : List ℕ
+  pub closing : Option ℕ
+  pub behind : ℕ

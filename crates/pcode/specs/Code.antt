@@ -1,0 +1,101 @@
+-- The code of expressions and statements.
+use Rattle.std.specs.Prelude.{ℕ, suc, true, List, [], ◌∷◌, ◌++◌, length}
+use Rattle.vba_values.specs.declared.types.Compare.{Compare}
+use Rattle.vba_values.specs.Types.{Declared}
+use Rattle.vba_values.specs.Val.{missing, empty}
+use Rattle.bound_project.specs.Expressions.{Expr, expr, Node, not_given, constant, load, unary, binary, call, err_value, default_of, Lvalue, variable, Args, no_args, by_place, by_copy, by_default, by_list, in_order, Exprs, no_exprs, also, Prints, no_prints, shown, zone, operand_type}
+use Rattle.bound_project.specs.Statements.{Tests, no_tests, test_is, test_range, Action, assign, evaluate, let_property, print, raise, test, go_to, for_to, next, select, case_of, go_sub, return_sub, exit_to, on_error, end_handler, clear_err, resume_again, resume_next, resume_at, stop, end_run, Statement}
+use Rattle.vba_meaning.specs.Effects.{policy_of}
+use Rattle.pcode.specs.Instructions.{Instr, Begin, Push, LoadErr, PathOf, ReadThrough, Operate, OperateAlone, Plain, Fit, Drop, Lend, Pack, Reorder, Lift, Call, Store, ShowText, Show, Throw, LoopOff, LoopOn, NextRound, Keep, Selected, IfFits, IfBetween, PutReturn, TakeReturn, SetPolicy, HandlerOff, ErrOff, Again, Behind, Resumes, Finish, Branch, Halt, StopHere}
+
+-- how many slots arguments are
+abbrev pub count : Args → ℕ
+count no_args = 0
+count (by_place x args) = suc (count args)
+count (by_copy e of args) = suc (count args)
+count (by_default v args) = suc (count args)
+count (by_list es args) = suc (count args)
+count (in_order order args) = length order
+
+abbrev pub list_count : Exprs → ℕ
+list_count no_exprs = 0
+list_count (also e es) = suc (list_count es)
+
+abbrev pub prints_count : Prints → ℕ
+prints_count no_prints = 0
+prints_count (shown e ps) = suc (prints_count ps)
+prints_count (zone ps) = suc (prints_count ps)
+
+abbrev mutual
+  pub expr_code : Expr → List Instr
+  expr_code (expr node place of operand) = node_code node
+
+  pub node_code : Node → List Instr
+  node_code not_given = Push missing ∷ []
+  node_code (constant v) = Push v ∷ []
+  node_code (load x) = place_code x ++ ReadThrough ∷ []
+  node_code (unary o a) = expr_code a ++ OperateAlone o (operand_type a) ∷ []
+  node_code (binary o compare a b) = expr_code a ++ (expr_code b ++ Operate o compare (operand_type a) (operand_type b) ∷ [])
+  node_code (call p args) = args_code args ++ Call p (count args) ∷ []
+  node_code (err_value member) = LoadErr member ∷ []
+  node_code (default_of e) = expr_code e ++ Plain ∷ []
+
+  pub place_code : Lvalue → List Instr
+  place_code (variable x) = PathOf x ∷ []
+
+  pub args_code : Args → List Instr
+  args_code no_args = []
+  args_code (by_place x args) = place_code x ++ Lend ∷ args_code args
+  args_code (by_copy e of args) = expr_code e ++ Fit of ∷ args_code args
+  args_code (by_default v args) = Push v ∷ args_code args
+  args_code (by_list es args) = list_code es ++ Pack (list_count es) ∷ args_code args
+  args_code (in_order order args) = args_code args ++ Reorder order (count args) ∷ []
+
+  pub list_code : Exprs → List Instr
+  list_code no_exprs = []
+  list_code (also e es) = expr_code e ++ list_code es
+
+abbrev pub prints_code : Prints → List Instr
+prints_code no_prints = []
+prints_code (shown e ps) = expr_code e ++ ShowText ∷ prints_code ps
+prints_code (zone ps) = Push empty ∷ prints_code ps
+
+-- the address of each statement of a procedure
+abbrev pub Entry : Type 0
+Entry = ℕ → ℕ
+
+abbrev pub tests_code : Entry → Tests → (header : ℕ) → Declared → Compare → (first other : ℕ) → List Instr
+tests_code entry no_tests header of compare first other = Finish (entry other) ∷ []
+tests_code entry (test_is o e ts) header of compare first other =
+    Selected header ∷ Plain ∷ (expr_code e ++ IfFits o compare of (operand_type e) (entry first) ∷ tests_code entry ts header of compare first other)
+tests_code entry (test_range a b ts) header of compare first other =
+    Selected header ∷ Plain ∷ (expr_code a ++ (expr_code b ++ IfBetween compare of (operand_type a) (operand_type b) (entry first) ∷ tests_code entry ts header of compare first other))
+
+-- the code of a statement: the operands, what is done with them, and where it goes on
+abbrev pub action_code : Entry → (procedure statement following : ℕ) → Action → List Instr
+action_code entry p i k (assign x e) = expr_code e ++ (place_code x ++ (Store ∷ Finish (entry k) ∷ []))
+action_code entry p i k (evaluate e) = expr_code e ++ (Drop ∷ Finish (entry k) ∷ [])
+action_code entry p i k (let_property q args e of) = expr_code e ++ (args_code args ++ (Lift (count args) ∷ Plain ∷ Fit of ∷ Call q (suc (count args)) ∷ Drop ∷ Finish (entry k) ∷ []))
+action_code entry p i k (print ps ends) = prints_code ps ++ (Show ends (prints_count ps) ∷ Finish (entry k) ∷ [])
+action_code entry p i k (raise args) = args_code args ++ Throw (count args) ∷ []
+action_code entry p i k (test sense e to other) = expr_code e ++ Branch sense (entry to) (entry other) ∷ []
+action_code entry p i k (go_to to) = Finish (entry to) ∷ []
+action_code entry p i k (for_to x compare a b c first behind) =
+    LoopOff i ∷ (expr_code a ++ (expr_code b ++ (expr_code c ++ (LoopOn x i compare (operand_type b) (operand_type c) ∷ Branch true (entry first) (entry behind) ∷ []))))
+action_code entry p i k (next x header first) = NextRound x header ∷ Branch true (entry first) (entry k) ∷ []
+action_code entry p i k (select e first) = expr_code e ++ (Keep i ∷ Finish (entry first) ∷ [])
+action_code entry p i k (case_of ts header of compare first other) = tests_code entry ts header of compare first other
+action_code entry p i k (go_sub to) = PutReturn k ∷ Finish (entry to) ∷ []
+action_code entry p i k return_sub = TakeReturn p ∷ []
+action_code entry p i k (exit_to end) = ErrOff ∷ Finish (entry end) ∷ []
+action_code entry p i k (on_error h) = SetPolicy (policy_of h) ∷ Finish (entry k) ∷ []
+action_code entry p i k end_handler = HandlerOff ∷ Finish (entry k) ∷ []
+action_code entry p i k clear_err = ErrOff ∷ Finish (entry k) ∷ []
+action_code entry p i k resume_again = Again p ∷ []
+action_code entry p i k resume_next = Behind p ∷ []
+action_code entry p i k (resume_at to) = Resumes p to ∷ []
+action_code entry p i k stop = StopHere ∷ Finish (entry k) ∷ []
+action_code entry p i k end_run = Halt ∷ []
+
+abbrev pub statement_code : Entry → (procedure statement : ℕ) → Statement → List Instr
+statement_code entry p i l = Begin i ∷ action_code entry p i l.next l.action

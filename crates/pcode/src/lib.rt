@@ -1,0 +1,6 @@
+//! The code of a bound project, and the machine that runs it. The definitions stand in `specs/`.
+#![tactic(auto)]
+
+mod laws;
+
+pub use laws::codes_are_laid_out;

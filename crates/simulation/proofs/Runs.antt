@@ -1,0 +1,606 @@
+-- The machine follows the project: expressions, statements, procedures, the ends of objects, runs.
+use Rattle.std.proofs.Common.{◌≡◌, ℕ, zero, suc, ◌+◌, ◌≤◌, Bool, true, false, List, [], ◌∷◌, ◌++◌, length, Option, Some, None, refl, sym, ap, ◌∙◌, subst, arith}
+use Rattle.std.specs.Prelude.{slice_get, slice_index, slice_index_or, nat_lt, if◌then◌else◌}
+use Rattle.std.proofs.lemmas.List.{append-nil}
+use Rattle.vba_values.specs.declared.object.ObjRef.TheVariants.{Heap}
+use Rattle.vba_values.specs.declared.types.Compare.{Compare}
+use Rattle.vba_values.specs.Types.{Declared}
+use Rattle.vba_values.specs.Val.{Val, boolean, empty, missing, object}
+use Rattle.error_frames.specs.declared.frame.ResumeKind.TheVariants as kind
+use Rattle.error_frames.specs.declared.frame.Taken.{Taken}
+use Rattle.error_frames.specs.declared.frame.Taken.TheVariants as taken
+use Rattle.bound_project.specs.Expressions.{Expr, expr, Node, not_given, constant, load, unary, binary, call, err_value, default_of, Lvalue, variable, Args, no_args, by_place, by_copy, by_default, by_list, in_order, Exprs, no_exprs, also, Prints, no_prints, shown, zone, operand_type}
+use Rattle.bound_project.specs.Statements.{Tests, no_tests, test_is, test_range, Action, assign, evaluate, let_property, print, raise, test, go_to, for_to, next, select, case_of, go_sub, return_sub, exit_to, on_error, end_handler, clear_err, resume_again, resume_next, resume_at, stop, end_run, Statement}
+use Rattle.bound_project.specs.Project.{Project, class_at, statement_at, next_of, first_values}
+use Rattle.vba_meaning.specs.Memory.{Error, Ended, Faulted, Going, opening, Path, Slot, value, path, Memory, Object, top, at_statement, frame_left, path_of, result, entered, error_here, number_or}
+use Rattle.vba_meaning.specs.References.{objects_in, objects_in_values, is_last, hold, next_waiting, taken_off, let_held, held_by, let_frame, object_at, as_told, gone, closed}
+use Rattle.vba_meaning.specs.Effects.{Raised, Term, Effect, operated, operated_alone, fitted, plain, condition, read_path, assigned, lent, unlent, packed, reordered, show_value, printed, loop_off, loop_on, next_round, keep, selected, fits, fits_between, gone_sub, returned_sub, policy_of, err_off, policy_on, handler_off, failed_statement, resumed, taken_by, with_taken, raised_by, err_of, stop_here}
+use Rattle.vba_meaning.specs.Meaning.{State, Res, Got, Failed, Over, Told, Turn, ◌>>=◌, turn, turned, with_memory, raise_error, perform, Callee, eval, eval_node, eval_place, evals, eval_list, eval_prints, tested, cases, exec, Doing, nowhere, enter, called_by, callees, terminate_by, tell, finish, end_of, one, let_go, lets_held, lets_frame, leave, left, pass_on, next_here, decide_by, decide, settle, at_statement_or, level, doing, close, Run, run_of, first_state, meaning}
+use Rattle.pcode.specs.Instructions.{Instr, Begin, Push, LoadErr, PathOf, ReadThrough, Operate, OperateAlone, Plain, Fit, Drop, Lend, Pack, Reorder, Lift, Call, Store, ShowText, Show, Throw, LoopOff, LoopOn, NextRound, Keep, Selected, IfFits, IfBetween, PutReturn, TakeReturn, SetPolicy, HandlerOff, ErrOff, Again, Behind, Resumes, Finish, Branch, Halt, StopHere, Leave, Code}
+use Rattle.pcode.specs.Machine.{After, Goes-on, Decide, Return, Pass, Close, Back, Caller, EndOf, Move, Goes, Ends, Turns, at, failing, letting, lets_all, finishes, raises_then, raised, done_then, then_at, then_test, then_jump, then_branch, take_args, pushed, enters, enter_by, calls, then_statement, looking, act, finished_by, terminates_by, ends_by, lets_one_by, closing, returned_by, passed_on, takes, decides, comes_by, Fin, Done, tells, follow, machine, first_move, run_code}
+use Rattle.pcode.specs.Code.{count, list_count, prints_count, expr_code, node_code, place_code, args_code, list_code, prints_code, Entry, tests_code, action_code}
+use Rattle.pcode.specs.Layout.{HasStatement, Laid}
+use Rattle.pcode.proofs.Stands.{UpTo, up_split, up_to}
+use Rattle.simulation.specs.Meant.{fin_of}
+use Rattle.simulation.proofs.Moves.{Enough, outs, Each, Runs, catches, fails, bind, bind_each, here, over, telling, before, instr, either, in_turn, failed, raises, performs, further, by_turn}
+
+-- ---- operands that are taken off the stack
+
+reordered_length : (order : List ℕ) (xs : List Slot) → length (reordered order xs) ≡ length order
+reordered_length [] xs = refl
+reordered_length (i ∷ order) xs = ap suc (reordered_length order xs)
+
+args_taken : (xs : List Slot) (m : ℕ) (st ys : List Slot) (go : List Slot → List Slot → Move) → take_args (length xs + m) (pushed xs st) ys go ≡ take_args m st (xs ++ ys) go
+args_taken [] m st ys go = let e : 0 + m ≡ m = omega arith in ap (λ k. take_args k st ys go) e
+args_taken (x ∷ xs) m st ys go =
+    let e : length (x ∷ xs) + m ≡ length xs + suc m = omega arith in
+    ap (λ k. take_args k (pushed xs (x ∷ st)) ys go) e ∙ args_taken xs (suc m) (x ∷ st) ys go
+
+all_taken : (xs st : List Slot) (go : List Slot → List Slot → Move) → take_args (length xs) (pushed xs st) [] go ≡ go xs st
+all_taken xs st go =
+    let e : length xs ≡ length xs + 0 = omega arith in
+    let nil : xs ++ [] ≡ xs = simp append-nil in
+    ap (λ k. take_args k (pushed xs st) [] go) e ∙ args_taken xs 0 st [] go ∙ ap (λ ys. go ys st) nil
+
+-- with one more operand above them
+one_more_taken : (xs st : List Slot) (y : Slot) (go : List Slot → List Slot → Move) → take_args (suc (length xs)) (y ∷ pushed xs st) [] go ≡ go (xs ++ y ∷ []) st
+one_more_taken xs st y go =
+    let e : length xs ≡ length xs + 0 = omega arith in
+    ap (λ k. take_args k (pushed xs st) (y ∷ []) go) e ∙ args_taken xs 0 st (y ∷ []) go
+
+-- arguments are as many slots as are counted
+abbrev Counts : ℕ → Res (List Slot) → Type 0
+Counts k r = Each (λ (xs : List Slot). length xs ≡ k) r
+
+skips : {A : Type 0} (k : ℕ) (r : Res A) (f : A → State → Res (List Slot)) → ((v : A) (s : State) → Counts k (f v s)) → Counts k (r >>= f)
+skips k (Got v s) f h = h v s
+skips k (Failed e s) f h = tt
+skips k (Over x s) f h = tt
+skips k (Told es r) f h = skips k r f h
+skips k (Turn s r) f h = skips k r f h
+
+with_one : (x : Slot) (k : ℕ) (r : Res (List Slot)) → Counts k r → Counts (suc k) (r >>= λ xs s. Got (x ∷ xs) s)
+with_one x k (Got xs s) h = ap suc h
+with_one x k (Failed e s) h = tt
+with_one x k (Over y s) h = tt
+with_one x k (Told es r) h = with_one x k r h
+with_one x k (Turn s r) h = with_one x k r h
+
+in_place : (order : List ℕ) (r : Res (List Slot)) → Counts (length order) (r >>= λ xs s. Got (reordered order xs) s)
+in_place order (Got xs s) = reordered_length order xs
+in_place order (Failed e s) = tt
+in_place order (Over y s) = tt
+in_place order (Told es r) = in_place order r
+in_place order (Turn s r) = in_place order r
+
+evals_count : (args : Args) (callee : Callee) (pr : Project) (s : State) → Counts (count args) (evals args callee pr s)
+evals_count no_args callee pr s = refl
+evals_count (by_place x args) callee pr s =
+    let k = suc (count args) in
+    skips k (eval_place x callee pr s) (λ p s1. perform (lent p) s1 >>= λ u s2. evals args callee pr s2 >>= λ xs s3. Got (path p ∷ xs) s3) (λ p s1.
+    skips k (perform (lent p) s1) (λ u s2. evals args callee pr s2 >>= λ xs s3. Got (path p ∷ xs) s3) (λ u s2.
+    with_one (path p) (count args) (evals args callee pr s2) (evals_count args callee pr s2)))
+evals_count (by_copy e of args) callee pr s =
+    let k = suc (count args) in
+    skips k (eval e callee pr s) (λ v s1. perform (fitted of v) s1 >>= λ w s2. evals args callee pr s2 >>= λ xs s3. Got (value w ∷ xs) s3) (λ v s1.
+    skips k (perform (fitted of v) s1) (λ w s2. evals args callee pr s2 >>= λ xs s3. Got (value w ∷ xs) s3) (λ w s2.
+    with_one (value w) (count args) (evals args callee pr s2) (evals_count args callee pr s2)))
+evals_count (by_default v args) callee pr s = with_one (value v) (count args) (evals args callee pr s) (evals_count args callee pr s)
+evals_count (by_list es args) callee pr s =
+    skips (suc (count args)) (eval_list es callee pr s) (λ ys s1. evals args callee pr s1 >>= λ xs s2. Got (value (packed ys) ∷ xs) s2) (λ ys s1.
+    with_one (value (packed ys)) (count args) (evals args callee pr s1) (evals_count args callee pr s1))
+evals_count (in_order order args) callee pr s = in_place order (evals args callee pr s)
+
+list_counts : (es : Exprs) (callee : Callee) (pr : Project) (s : State) → Counts (list_count es) (eval_list es callee pr s)
+list_counts no_exprs callee pr s = refl
+list_counts (also e es) callee pr s =
+    skips (suc (list_count es)) (eval e callee pr s) (λ v s1. eval_list es callee pr s1 >>= λ xs s2. Got (value v ∷ xs) s2) (λ v s1.
+    with_one (value v) (list_count es) (eval_list es callee pr s1) (list_counts es callee pr s1))
+
+prints_counts : (ps : Prints) (callee : Callee) (pr : Project) (s : State) → Counts (prints_count ps) (eval_prints ps callee pr s)
+prints_counts no_prints callee pr s = refl
+prints_counts (shown e ps) callee pr s =
+    let k = suc (prints_count ps) in
+    skips k (eval e callee pr s) (λ v s1. perform (show_value v) s1 >>= λ w s2. eval_prints ps callee pr s2 >>= λ xs s3. Got (value w ∷ xs) s3) (λ v s1.
+    skips k (perform (show_value v) s1) (λ w s2. eval_prints ps callee pr s2 >>= λ xs s3. Got (value w ∷ xs) s3) (λ w s2.
+    with_one (value w) (prints_count ps) (eval_prints ps callee pr s2) (prints_counts ps callee pr s2)))
+prints_counts (zone ps) callee pr s = with_one (value empty) (prints_count ps) (eval_prints ps callee pr s) (prints_counts ps callee pr s)
+
+-- ---- calls and letting go, as what is known of a smaller depth
+
+-- so many waiting references are let go
+abbrev pub Lets : Code → (bound n : ℕ) → (ℕ → State → Res (Unit {0})) → Type 0
+Lets code bound n go = (k j : ℕ) (after : After) (bs : List Back) (s : State) (bad : Error → State → Move) → Enough bound n s
+    → Runs code bound n (Goes (letting (k + j) after bs s)) (λ u s1. Goes (letting j after bs s1)) bad (go k s)
+
+-- all are let go, and what comes then
+all_go : (code : Code) (bound n : ℕ) (go : ℕ → State → Res (Unit {0})) → Lets code bound n go → (k : ℕ) (after : After) (bs : List Back) (s : State) (bad : Error → State → Move) → Enough bound n s
+    → Runs code bound n (Goes (letting k after bs s)) (λ u s1. comes_by looking code after bs s1) bad (go k s)
+all_go code bound n go l k after bs s bad good =
+    let e : k + 0 ≡ k = omega arith in
+    further (go k s)
+    (subst (λ i. Runs code bound n (Goes (letting i after bs s)) (λ u s1. Goes (letting 0 after bs s1)) bad (go k s)) e (l k 0 after bs s bad good))
+    (λ u s1 g1. before (letting 0 after bs s1) (here {got = λ u s1. comes_by looking code after bs s1} u s1 g1))
+
+-- a call does what the callee does, and letting go what it says
+pub record Calls (code : Code) (bound n : ℕ) (callee : Callee) : Type 0 where
+  pub call : (p : ℕ) (self : Val) (xs st : List Slot) (pc : ℕ) (bs : List Back) (s : State) → Enough bound n s
+      → Runs code bound n (calls code p self xs pc st bs s) (λ v s1. Goes (at pc (value v ∷ st) bs s1)) (failed bs) (callee.call p self xs s)
+  pub go : Lets code bound n callee.go
+
+-- what the machine does after an expression, a place and arguments, by the address behind their code
+abbrev pub on_value : List Slot → List Back → ℕ → Val → State → Move
+on_value st bs pc v s = Goes (at pc (value v ∷ st) bs s)
+
+abbrev pub on_path : List Slot → List Back → ℕ → Path → State → Move
+on_path st bs pc q s = Goes (at pc (path q ∷ st) bs s)
+
+abbrev pub on_args : List Slot → List Back → ℕ → List Slot → State → Move
+on_args st bs pc xs s = Goes (at pc (pushed xs st) bs s)
+
+-- ---- expressions
+
+module _ (pr : Project) (code : Code) (bound n : ℕ) (callee : Callee) (known : Calls code bound n callee) (tables : code.declared ≡ pr.declared) where
+  -- the code of a part, and then the rest
+  first : {A B : Type 0} {got : B → State → Move} {bad : Error → State → Move} {f : A → State → Res B} (on : ℕ → A → State → Move) (r : Res A) (part rest : List Instr) (pc to : ℕ) (m : Move)
+      → UpTo code.instrs pc (part ++ rest) to
+      → ((mid : ℕ) → UpTo code.instrs pc part mid → Runs code bound n m (on mid) bad r)
+      → ((v : A) (s : State) → Enough bound n s → (mid : ℕ) → UpTo code.instrs mid rest to → Runs code bound n (on mid v s) got bad (f v s))
+      → Runs code bound n m got bad (r >>= f)
+  first on r part rest pc to m has go k =
+      let p = up_split code.instrs pc part rest to has in
+      bind r (go p.0 p.1) (λ v s g. k v s g p.0 p.2)
+
+  first_each : {A B : Type 0} {P : A → Type 0} {got : B → State → Move} {bad : Error → State → Move} {f : A → State → Res B} (on : ℕ → A → State → Move) (r : Res A) (part rest : List Instr) (pc to : ℕ) (m : Move)
+      → UpTo code.instrs pc (part ++ rest) to → Each P r
+      → ((mid : ℕ) → UpTo code.instrs pc part mid → Runs code bound n m (on mid) bad r)
+      → ((v : A) (s : State) → P v → Enough bound n s → (mid : ℕ) → UpTo code.instrs mid rest to → Runs code bound n (on mid v s) got bad (f v s))
+      → Runs code bound n m got bad (r >>= f)
+  first_each on r part rest pc to m has each go k =
+      let p = up_split code.instrs pc part rest to has in
+      bind_each r each (go p.0 p.1) (λ v s h g. k v s h g p.0 p.2)
+
+  -- the last instruction ends where the code ends
+  ends_at : {A : Type 0} {m : Move} {bad : Error → State → Move} {r : Res A} (on : ℕ → A → State → Move) {pc to : ℕ} → pc ≡ to → Runs code bound n m (on pc) bad r → Runs code bound n m (on to) bad r
+  ends_at {m = m} {bad = bad} {r = r} on h a = subst (λ i. Runs code bound n m (on i) bad r) h a
+
+  mutual
+    pub expr_runs : (e : Expr) (pc to : ℕ) (st : List Slot) (bs : List Back) (s : State) → UpTo code.instrs pc (expr_code e) to → Enough bound n s
+        → Runs code bound n (Goes (at pc st bs s)) (on_value st bs to) (failed bs) (eval e callee pr s)
+    expr_runs (expr node place of operand) pc to st bs s has good = node_runs node pc to st bs s has good
+
+    pub node_runs : (e : Node) (pc to : ℕ) (st : List Slot) (bs : List Back) (s : State) → UpTo code.instrs pc (node_code e) to → Enough bound n s
+        → Runs code bound n (Goes (at pc st bs s)) (on_value st bs to) (failed bs) (eval_node e callee pr s)
+    node_runs not_given pc to st bs s has good = instr (Push missing) pc st bs s has.0 (ends_at (on_value st bs) has.1 (here missing s good))
+    node_runs (constant v) pc to st bs s has good = instr (Push v) pc st bs s has.0 (ends_at (on_value st bs) has.1 (here v s good))
+    node_runs (load x) pc to st bs s has good =
+        first (on_path st bs) (eval_place x callee pr s) (place_code x) _ pc to _ has (λ mid h. place_runs x pc mid st bs s h good) (λ q s1 g1 mid h.
+        instr ReadThrough mid (path q ∷ st) bs s1 h.0 (ends_at (on_value st bs) h.1 (performs (read_path q) bs s1 g1)))
+    node_runs (unary o a) pc to st bs s has good =
+        first (on_value st bs) (eval a callee pr s) (expr_code a) _ pc to _ has (λ mid h. expr_runs a pc mid st bs s h good) (λ v s1 g1 i h.
+        instr (OperateAlone o (operand_type a)) i (value v ∷ st) bs s1 h.0 (ends_at (on_value st bs) h.1 (performs (operated_alone o (operand_type a) v) bs s1 g1)))
+    node_runs (binary o compare a b) pc to st bs s has good =
+        first (on_value st bs) (eval a callee pr s) (expr_code a) _ pc to _ has (λ mid h. expr_runs a pc mid st bs s h good) (λ v s1 g1 i h1.
+        first (on_value (value v ∷ st) bs) (eval b callee pr s1) (expr_code b) _ i to _ h1 (λ mid h. expr_runs b i mid (value v ∷ st) bs s1 h g1) (λ w s2 g2 j h2.
+        instr (Operate o compare (operand_type a) (operand_type b)) j (value w ∷ value v ∷ st) bs s2 h2.0
+        (ends_at (on_value st bs) h2.1 (performs (operated o compare (operand_type a) (operand_type b) v w) bs s2 g2))))
+    node_runs (call p args) pc to st bs s has good =
+        first_each (on_args st bs) (evals args callee pr s) (args_code args) _ pc to _ has (evals_count args callee pr s) (λ mid h. args_runs args pc mid st bs s h good) (λ xs s1 len g1 i h.
+        instr (Call p (length xs)) i (pushed xs st) bs s1 (h.0 ∙ ap (λ m. Some (Call p m)) (sym len))
+        (subst (λ m. Runs code bound n m (on_value st bs to) (failed bs) (callee.call p empty xs s1)) (sym (all_taken xs st _))
+        (ends_at (on_value st bs) h.1 (known.call p empty xs st (i + 1) bs s1 g1))))
+    node_runs (err_value member) pc to st bs s has good =
+        instr (LoadErr member) pc st bs s has.0
+        (subst (λ d. Runs code bound n (Goes (at (pc + 1) (value (err_of d member s.memory.err) ∷ st) bs s)) (on_value st bs to) (failed bs) (Got (err_of pr.declared member s.memory.err) s)) (sym tables)
+        (ends_at (on_value st bs) has.1 (here (err_of pr.declared member s.memory.err) s good)))
+    node_runs (default_of e) pc to st bs s has good =
+        first (on_value st bs) (eval e callee pr s) (expr_code e) _ pc to _ has (λ mid h. expr_runs e pc mid st bs s h good) (λ v s1 g1 i h.
+        instr Plain i (value v ∷ st) bs s1 h.0 (ends_at (on_value st bs) h.1 (performs (plain v) bs s1 g1)))
+
+    pub place_runs : (x : Lvalue) (pc to : ℕ) (st : List Slot) (bs : List Back) (s : State) → UpTo code.instrs pc (place_code x) to → Enough bound n s
+        → Runs code bound n (Goes (at pc st bs s)) (on_path st bs to) (failed bs) (eval_place x callee pr s)
+    place_runs (variable x) pc to st bs s has good = instr (PathOf x) pc st bs s has.0 (ends_at (on_path st bs) has.1 (here (path_of s.memory x) s good))
+
+    pub args_runs : (args : Args) (pc to : ℕ) (st : List Slot) (bs : List Back) (s : State) → UpTo code.instrs pc (args_code args) to → Enough bound n s
+        → Runs code bound n (Goes (at pc st bs s)) (on_args st bs to) (failed bs) (evals args callee pr s)
+    args_runs no_args pc to st bs s has good = ends_at (on_args st bs) has (here [] s good)
+    args_runs (by_place x args) pc to st bs s has good =
+        first (on_path st bs) (eval_place x callee pr s) (place_code x) _ pc to _ has (λ mid h. place_runs x pc mid st bs s h good) (λ q s1 g1 i h.
+        instr Lend i (path q ∷ st) bs s1 h.0
+        (bind (perform (lent q) s1) (performs {got = then_at (i + 1) (path q ∷ st) bs} (lent q) bs s1 g1) (λ u s2 g2.
+        bind (evals args callee pr s2) (args_runs args (i + 1) to (path q ∷ st) bs s2 h.1 g2) (λ xs s3 g3. here {got = on_args st bs to} (path q ∷ xs) s3 g3))))
+    args_runs (by_copy e of args) pc to st bs s has good =
+        first (on_value st bs) (eval e callee pr s) (expr_code e) _ pc to _ has (λ mid h. expr_runs e pc mid st bs s h good) (λ v s1 g1 i h.
+        instr (Fit of) i (value v ∷ st) bs s1 h.0
+        (bind (perform (fitted of v) s1) (performs {got = on_value st bs (i + 1)} (fitted of v) bs s1 g1) (λ w s2 g2.
+        bind (evals args callee pr s2) (args_runs args (i + 1) to (value w ∷ st) bs s2 h.1 g2) (λ xs s3 g3. here {got = on_args st bs to} (value w ∷ xs) s3 g3))))
+    args_runs (by_default v args) pc to st bs s has good =
+        instr (Push v) pc st bs s has.0
+        (bind (evals args callee pr s) (args_runs args (pc + 1) to (value v ∷ st) bs s has.1 good) (λ xs s1 g1. here {got = on_args st bs to} (value v ∷ xs) s1 g1))
+    args_runs (by_list es args) pc to st bs s has good =
+        first_each (on_args st bs) (eval_list es callee pr s) (list_code es) _ pc to _ has (list_counts es callee pr s) (λ mid h. list_runs es pc mid st bs s h good) (λ ys s1 len g1 i h.
+        instr (Pack (length ys)) i (pushed ys st) bs s1 (h.0 ∙ ap (λ m. Some (Pack m)) (sym len))
+        (subst (λ m. Runs code bound n m (on_args st bs to) (failed bs) (evals args callee pr s1 >>= λ xs s2. Got (value (packed ys) ∷ xs) s2)) (sym (all_taken ys st _))
+        (bind (evals args callee pr s1) (args_runs args (i + 1) to (value (packed ys) ∷ st) bs s1 h.1 g1) (λ xs s2 g2. here {got = on_args st bs to} (value (packed ys) ∷ xs) s2 g2))))
+    args_runs (in_order order args) pc to st bs s has good =
+        first_each (on_args st bs) (evals args callee pr s) (args_code args) _ pc to _ has (evals_count args callee pr s) (λ mid h. args_runs args pc mid st bs s h good) (λ xs s1 len g1 i h.
+        instr (Reorder order (length xs)) i (pushed xs st) bs s1 (h.0 ∙ ap (λ m. Some (Reorder order m)) (sym len))
+        (subst (λ m. Runs code bound n m (on_args st bs to) (failed bs) (Got (reordered order xs) s1)) (sym (all_taken xs st _))
+        (ends_at (on_args st bs) h.1 (here (reordered order xs) s1 g1))))
+
+    pub list_runs : (es : Exprs) (pc to : ℕ) (st : List Slot) (bs : List Back) (s : State) → UpTo code.instrs pc (list_code es) to → Enough bound n s
+        → Runs code bound n (Goes (at pc st bs s)) (on_args st bs to) (failed bs) (eval_list es callee pr s)
+    list_runs no_exprs pc to st bs s has good = ends_at (on_args st bs) has (here [] s good)
+    list_runs (also e es) pc to st bs s has good =
+        first (on_value st bs) (eval e callee pr s) (expr_code e) _ pc to _ has (λ mid h. expr_runs e pc mid st bs s h good) (λ v s1 g1 i h.
+        bind (eval_list es callee pr s1) (list_runs es i to (value v ∷ st) bs s1 h g1) (λ xs s2 g2. here {got = on_args st bs to} (value v ∷ xs) s2 g2))
+
+  pub prints_run : (ps : Prints) (pc to : ℕ) (st : List Slot) (bs : List Back) (s : State) → UpTo code.instrs pc (prints_code ps) to → Enough bound n s
+      → Runs code bound n (Goes (at pc st bs s)) (on_args st bs to) (failed bs) (eval_prints ps callee pr s)
+  prints_run no_prints pc to st bs s has good = ends_at (on_args st bs) has (here [] s good)
+  prints_run (shown e ps) pc to st bs s has good =
+      first (on_value st bs) (eval e callee pr s) (expr_code e) _ pc to _ has (λ mid h. expr_runs e pc mid st bs s h good) (λ v s1 g1 i h.
+      instr ShowText i (value v ∷ st) bs s1 h.0
+      (bind (perform (show_value v) s1) (performs {got = on_value st bs (i + 1)} (show_value v) bs s1 g1) (λ w s2 g2.
+      bind (eval_prints ps callee pr s2) (prints_run ps (i + 1) to (value w ∷ st) bs s2 h.1 g2) (λ xs s3 g3. here {got = on_args st bs to} (value w ∷ xs) s3 g3))))
+  prints_run (zone ps) pc to st bs s has good =
+      instr (Push empty) pc st bs s has.0
+      (bind (eval_prints ps callee pr s) (prints_run ps (pc + 1) to (value empty ∷ st) bs s has.1 good) (λ xs s1 g1. here {got = on_args st bs to} (value empty ∷ xs) s1 g1))
+
+  -- the same at the head of a statement, with what follows
+  pub then_value : {A : Type 0} {got : A → State → Move} {f : Val → State → Res A} (e : Expr) (rest : List Instr) (pc to : ℕ) (st : List Slot) (bs : List Back) (s : State)
+      → UpTo code.instrs pc (expr_code e ++ rest) to → Enough bound n s
+      → ((v : Val) (s1 : State) → Enough bound n s1 → (mid : ℕ) → UpTo code.instrs mid rest to → Runs code bound n (on_value st bs mid v s1) got (failed bs) (f v s1))
+      → Runs code bound n (Goes (at pc st bs s)) got (failed bs) (eval e callee pr s >>= f)
+  then_value e rest pc to st bs s has good k = first (on_value st bs) (eval e callee pr s) (expr_code e) rest pc to _ has (λ mid h. expr_runs e pc mid st bs s h good) k
+
+  pub then_place : {A : Type 0} {got : A → State → Move} {f : Path → State → Res A} (x : Lvalue) (rest : List Instr) (pc to : ℕ) (st : List Slot) (bs : List Back) (s : State)
+      → UpTo code.instrs pc (place_code x ++ rest) to → Enough bound n s
+      → ((q : Path) (s1 : State) → Enough bound n s1 → (mid : ℕ) → UpTo code.instrs mid rest to → Runs code bound n (on_path st bs mid q s1) got (failed bs) (f q s1))
+      → Runs code bound n (Goes (at pc st bs s)) got (failed bs) (eval_place x callee pr s >>= f)
+  then_place x rest pc to st bs s has good k = first (on_path st bs) (eval_place x callee pr s) (place_code x) rest pc to _ has (λ mid h. place_runs x pc mid st bs s h good) k
+
+  -- arguments, and the instruction that takes them
+  pub then_args : {A : Type 0} {got : A → State → Move} {f : List Slot → State → Res A} (args : Args) (rest : List Instr) (take : ℕ → Instr) (pc to : ℕ) (st : List Slot) (bs : List Back) (s : State)
+      → UpTo code.instrs pc (args_code args ++ take (count args) ∷ rest) to → Enough bound n s
+      → ((xs : List Slot) (s1 : State) → length xs ≡ count args → Enough bound n s1 → (mid : ℕ) → UpTo code.instrs (mid + 1) rest to
+      → Runs code bound n (act looking code (Some (take (length xs))) mid (pushed xs st) bs s1) got (failed bs) (f xs s1))
+      → Runs code bound n (Goes (at pc st bs s)) got (failed bs) (evals args callee pr s >>= f)
+  then_args args rest take pc to st bs s has good k =
+      first_each (on_args st bs) (evals args callee pr s) (args_code args) _ pc to _ has (evals_count args callee pr s) (λ mid h. args_runs args pc mid st bs s h good) (λ xs s1 len g1 mid h.
+      instr (take (length xs)) mid (pushed xs st) bs s1 (h.0 ∙ ap (λ m. Some (take m)) (sym len)) (k xs s1 len g1 mid h.1))
+
+  pub then_prints : {A : Type 0} {got : A → State → Move} {f : List Slot → State → Res A} (ps : Prints) (rest : List Instr) (take : ℕ → Instr) (pc to : ℕ) (st : List Slot) (bs : List Back) (s : State)
+      → UpTo code.instrs pc (prints_code ps ++ take (prints_count ps) ∷ rest) to → Enough bound n s
+      → ((xs : List Slot) (s1 : State) → Enough bound n s1 → (mid : ℕ) → UpTo code.instrs (mid + 1) rest to
+      → Runs code bound n (act looking code (Some (take (length xs))) mid (pushed xs st) bs s1) got (failed bs) (f xs s1))
+      → Runs code bound n (Goes (at pc st bs s)) got (failed bs) (eval_prints ps callee pr s >>= f)
+  then_prints ps rest take pc to st bs s has good k =
+      first_each (on_args st bs) (eval_prints ps callee pr s) (prints_code ps) _ pc to _ has (prints_counts ps callee pr s) (λ mid h. prints_run ps pc mid st bs s h good) (λ xs s1 len g1 mid h.
+      instr (take (length xs)) mid (pushed xs st) bs s1 (h.0 ∙ ap (λ m. Some (take m)) (sym len)) (k xs s1 g1 mid h.1))
+
+-- ---- statements
+
+abbrev pub with_end : Entry → List Back → ℕ → State → Move
+with_end entry bs to s = finishes (entry to) bs s
+
+module _ (pr : Project) (code : Code) (entry : ℕ → Entry) (laid : Laid pr entry code) (bound n : ℕ) (callee : Callee) (known : Calls code bound n callee) (p : ℕ) where
+  -- a statement that runs from an address on
+  abbrev Ends-well : ℕ → List Slot → List Back → State → Res ℕ → Type 0
+  Ends-well pc st bs s r = Runs code bound n (Goes (at pc st bs s)) (with_end (entry p) bs) (failed bs) r
+
+  ends_here : (to pc : ℕ) (bs : List Back) (s : State) → slice_get code.instrs pc ≡ Some (Finish (entry p to)) → Enough bound n s → Ends-well pc [] bs s (Got to s)
+  ends_here to pc bs s h good = instr (Finish (entry p to)) pc [] bs s h (here {got = with_end (entry p) bs} to s good)
+
+  -- it is done in one go, and the statement ends
+  used : {A : Type 0} (f : Memory → Effect A) (to pc : ℕ) (bs : List Back) (s : State) → slice_get code.instrs pc ≡ Some (Finish (entry p to)) → Enough bound n s
+      → Runs code bound n (done_then (f s.memory) bs s (then_at pc [] bs)) (with_end (entry p) bs) (failed bs) (perform f s >>= λ u s1. Got to s1)
+  used f to pc bs s h good = bind (perform f s) (performs {got = then_at pc [] bs} f bs s good) (λ u s1 g1. ends_here to pc bs s1 h g1)
+
+  taken_way : (b : Bool) (x y : ℕ) (bs : List Back) (s : State) → Enough bound n s
+      → Runs code bound n (then_branch (entry p x) (entry p y) bs b s) (with_end (entry p) bs) (failed bs) (Got (if b then x else y) s)
+  taken_way true x y bs s good = here {got = with_end (entry p) bs} x s good
+  taken_way false x y bs s good = here {got = with_end (entry p) bs} y s good
+
+  -- an answer that decides where the statement ends
+  answered_way : (f : Memory → Effect Bool) (x y : ℕ) (bs : List Back) (s : State) → Enough bound n s
+      → Runs code bound n (done_then (f s.memory) bs s (then_branch (entry p x) (entry p y) bs)) (with_end (entry p) bs) (failed bs) (perform f s >>= λ b s1. Got (if b then x else y) s1)
+  answered_way f x y bs s good = bind (perform f s) (performs {got = then_branch (entry p x) (entry p y) bs} f bs s good) (λ b s1 g1. taken_way b x y bs s1 g1)
+
+  flag : (b : Bool) (x y pc : ℕ) (bs : List Back) (s : State) → slice_get code.instrs pc ≡ Some (Branch true (entry p x) (entry p y)) → Enough bound n s
+      → Runs code bound n (then_test pc [] bs b s) (with_end (entry p) bs) (failed bs) (Got (if b then x else y) s)
+  flag true x y pc bs s h good = instr (Branch true (entry p x) (entry p y)) pc (value (boolean true) ∷ []) bs s h (here {got = with_end (entry p) bs} x s good)
+  flag false x y pc bs s h good = instr (Branch true (entry p x) (entry p y)) pc (value (boolean false) ∷ []) bs s h (here {got = with_end (entry p) bs} y s good)
+
+  decided : (f : Memory → Effect Bool) (x y pc : ℕ) (bs : List Back) (s : State) → slice_get code.instrs pc ≡ Some (Branch true (entry p x) (entry p y)) → Enough bound n s
+      → Runs code bound n (done_then (f s.memory) bs s (then_test pc [] bs)) (with_end (entry p) bs) (failed bs) (perform f s >>= λ on s1. Got (if on then x else y) s1)
+  decided f x y pc bs s h good = bind (perform f s) (performs {got = then_test pc [] bs} f bs s good) (λ b s1 g1. flag b x y pc bs s1 h g1)
+
+  -- it gives the statement at which the run goes on, whose address the machine finds in its table
+  found_statement : (f : Memory → Effect ℕ) (bs : List Back) (s : State) → Enough bound n s
+      → Runs code bound n (done_then (f s.memory) bs s (then_statement code p bs)) (with_end (entry p) bs) (failed bs) (perform f s)
+  found_statement f bs s good =
+      further (perform f s) (performs {got = then_statement code p bs} f bs s good)
+      (λ i s1 g1. rw (laid.address p i) (here {got = with_end (entry p) bs} i s1 g1))
+
+  -- a test of a Case, which jumps where it fits
+  jumps : (f : Memory → Effect Bool) (to pc : ℕ) (bs : List Back) (s : State) (more : State → Res ℕ) → Enough bound n s
+      → ((s1 : State) → Enough bound n s1 → Ends-well pc [] bs s1 (more s1))
+      → Runs code bound n (done_then (f s.memory) bs s (then_jump (entry p to) pc [] bs)) (with_end (entry p) bs) (failed bs) (perform f s >>= λ b s1. if b then Got to s1 else more s1)
+  jumps f to pc bs s more good k =
+      bind (perform f s) (performs {got = then_jump (entry p to) pc [] bs} f bs s good)
+      (λ b s1 g1. either b (here {got = with_end (entry p) bs} to s1 g1) (k s1 g1))
+
+  -- the value that a Case tests
+  then_tested : {f : Val → State → Res ℕ} (header pc : ℕ) (bs : List Back) (s : State) → slice_get code.instrs pc ≡ Some (Selected header) → slice_get code.instrs (pc + 1) ≡ Some Plain → Enough bound n s
+      → ((v : Val) (s1 : State) → Enough bound n s1 → Ends-well (pc + 1 + 1) (value v ∷ []) bs s1 (f v s1))
+      → Ends-well pc [] bs s (tested header s >>= f)
+  then_tested header pc bs s h h1 good k =
+      bind (tested header s)
+      (instr (Selected header) pc [] bs s h
+      (bind (perform (selected header) s) (performs {got = on_value [] bs (pc + 1)} (selected header) bs s good) (λ v s1 g1.
+      instr Plain (pc + 1) (value v ∷ []) bs s1 h1 (performs {got = on_value [] bs (pc + 1 + 1)} (plain v) bs s1 g1))))
+      k
+
+  cases_runs : (ts : Tests) (header : ℕ) (of : Declared) (compare : Compare) (most none pc to : ℕ) (bs : List Back) (s : State) → UpTo code.instrs pc (tests_code (entry p) ts header of compare most none) to → Enough bound n s
+      → Ends-well pc [] bs s (cases ts callee pr header of compare most none s)
+  cases_runs no_tests header of compare most none pc to bs s has good = ends_here none pc bs s has.0 good
+  cases_runs (test_is o e ts) header of compare most none pc to bs s has good =
+      then_tested header pc bs s has.0 has.1.0 good (λ v s1 g1.
+      then_value pr code bound n callee known laid.declared e _ (pc + 1 + 1) to (value v ∷ []) bs s1 has.1.1 g1 (λ w s2 g2 mid h.
+      instr (IfFits o compare of (operand_type e) (entry p most)) mid (value w ∷ value v ∷ []) bs s2 h.0
+      (jumps (fits o compare of (operand_type e) v w) most (mid + 1) bs s2 (λ s3. cases ts callee pr header of compare most none s3) g2 (λ s3 g3. cases_runs ts header of compare most none (mid + 1) to bs s3 h.1 g3))))
+  cases_runs (test_range a b ts) header of compare most none pc to bs s has good =
+      then_tested header pc bs s has.0 has.1.0 good (λ v s1 g1.
+      then_value pr code bound n callee known laid.declared a _ (pc + 1 + 1) to (value v ∷ []) bs s1 has.1.1 g1 (λ x s2 g2 i h1.
+      then_value pr code bound n callee known laid.declared b _ i to (value x ∷ value v ∷ []) bs s2 h1 g2 (λ y s3 g3 mid h.
+      instr (IfBetween compare of (operand_type a) (operand_type b) (entry p most)) mid (value y ∷ value x ∷ value v ∷ []) bs s3 h.0
+      (jumps (fits_between compare of (operand_type a) (operand_type b) v x y) most (mid + 1) bs s3 (λ s4. cases ts callee pr header of compare most none s4) g3 (λ s4 g4. cases_runs ts header of compare most none (mid + 1) to bs s4 h.1 g4)))))
+
+  pub action_runs : (a : Action) (i k pc to : ℕ) (bs : List Back) (s : State) → UpTo code.instrs pc (action_code (entry p) p i k a) to → Enough bound n s
+      → Ends-well pc [] bs s (exec a callee pr p i k s)
+  action_runs (assign x e) i k pc to bs s has good =
+      then_value pr code bound n callee known laid.declared e _ pc to [] bs s has good (λ v s1 g1 mid h.
+      then_place pr code bound n callee known laid.declared x _ mid to (value v ∷ []) bs s1 h g1 (λ q s2 g2 j h2.
+      instr Store j (path q ∷ value v ∷ []) bs s2 h2.0 (used (assigned q v) k (j + 1) bs s2 h2.1.0 g2)))
+  action_runs (evaluate e) i k pc to bs s has good =
+      then_value pr code bound n callee known laid.declared e _ pc to [] bs s has good (λ v s1 g1 mid h.
+      instr Drop mid (value v ∷ []) bs s1 h.0 (ends_here k (mid + 1) bs s1 h.1.0 g1))
+  action_runs (let_property q args e of) i k pc to bs s has good =
+      then_value pr code bound n callee known laid.declared e _ pc to [] bs s has good (λ v s1 g1 mid h.
+      then_args pr code bound n callee known laid.declared args _ Lift mid to (value v ∷ []) bs s1 h g1 (λ xs s2 len g2 j h2.
+      subst (λ m. Runs code bound n m (with_end (entry p) bs) (failed bs) (perform (plain v) s2 >>= λ w s3. perform (fitted of w) s3 >>= λ x s4. callee.call q empty (xs ++ value x ∷ []) s4 >>= λ r s5. Got k s5)) (sym (all_taken xs (value v ∷ []) _))
+      (instr Plain (j + 1) (value v ∷ pushed xs []) bs s2 h2.0
+      (bind (perform (plain v) s2) (performs {got = on_value (pushed xs []) bs (j + 1 + 1)} (plain v) bs s2 g2) (λ w s3 g3.
+      instr (Fit of) (j + 1 + 1) (value w ∷ pushed xs []) bs s3 h2.1.0
+      (bind (perform (fitted of w) s3) (performs {got = on_value (pushed xs []) bs (j + 1 + 1 + 1)} (fitted of w) bs s3 g3) (λ x s4 g4.
+      instr (Call q (suc (length xs))) (j + 1 + 1 + 1) (value x ∷ pushed xs []) bs s4 (h2.1.1.0 ∙ ap (λ m. Some (Call q (suc m))) (sym len))
+      (subst (λ m. Runs code bound n m (with_end (entry p) bs) (failed bs) (callee.call q empty (xs ++ value x ∷ []) s4 >>= λ r s5. Got k s5)) (sym (one_more_taken xs [] (value x) _))
+      (bind (callee.call q empty (xs ++ value x ∷ []) s4) (known.call q empty (xs ++ value x ∷ []) [] (j + 1 + 1 + 1 + 1) bs s4 g4) (λ r s5 g5.
+      instr Drop (j + 1 + 1 + 1 + 1) (value r ∷ []) bs s5 h2.1.1.1.0 (ends_here k (j + 1 + 1 + 1 + 1 + 1) bs s5 h2.1.1.1.1.0 g5)))))))))))
+  action_runs (print ps ends) i k pc to bs s has good =
+      then_prints pr code bound n callee known laid.declared ps _ (Show ends) pc to [] bs s has good (λ xs s1 g1 mid h.
+      subst (λ m. Runs code bound n m (with_end (entry p) bs) (failed bs) (perform (printed ends xs) s1 >>= λ u s2. Got k s2)) (sym (all_taken xs [] _))
+      (used (printed ends xs) k (mid + 1) bs s1 h.0 g1))
+  action_runs (raise args) i k pc to bs s has good =
+      then_args pr code bound n callee known laid.declared args _ Throw pc to [] bs s has good (λ xs s1 len g1 mid h.
+      subst (λ m. Runs code bound n m (with_end (entry p) bs) (failed bs) (raise_error (raised_by xs s1.memory) s1)) (sym (all_taken xs [] _))
+      (raises (raised_by xs s1.memory) bs s1 g1))
+  action_runs (test sense e x y) i k pc to bs s has good =
+      then_value pr code bound n callee known laid.declared e _ pc to [] bs s has good (λ v s1 g1 mid h.
+      instr (Branch sense (entry p x) (entry p y)) mid (value v ∷ []) bs s1 h.0 (answered_way (condition sense v) x y bs s1 g1))
+  action_runs (go_to x) i k pc to bs s has good = ends_here x pc bs s has.0 good
+  action_runs (for_to x compare a b c most none) i k pc to bs s has good =
+      instr (LoopOff i) pc [] bs s has.0
+      (bind (perform (loop_off i) s) (performs {got = then_at (pc + 1) [] bs} (loop_off i) bs s good) (λ u s1 g1.
+      then_value pr code bound n callee known laid.declared a _ (pc + 1) to [] bs s1 has.1 g1 (λ start s2 g2 mid2 h2.
+      then_value pr code bound n callee known laid.declared b _ mid2 to (value start ∷ []) bs s2 h2 g2 (λ end s3 g3 mid3 h3.
+      then_value pr code bound n callee known laid.declared c _ mid3 to (value end ∷ value start ∷ []) bs s3 h3 g3 (λ step s4 g4 mid4 h4.
+      instr (LoopOn x i compare (operand_type b) (operand_type c)) mid4 (value step ∷ value end ∷ value start ∷ []) bs s4 h4.0
+      (decided (loop_on x i compare (operand_type b) (operand_type c) start end step) most none (mid4 + 1) bs s4 h4.1.0 g4))))))
+  action_runs (next x header most) i k pc to bs s has good = instr (NextRound x header) pc [] bs s has.0 (decided (next_round x header) most k (pc + 1) bs s has.1.0 good)
+  action_runs (select e x) i k pc to bs s has good =
+      then_value pr code bound n callee known laid.declared e _ pc to [] bs s has good (λ v s1 g1 mid h.
+      instr (Keep i) mid (value v ∷ []) bs s1 h.0 (used (keep i v) x (mid + 1) bs s1 h.1.0 g1))
+  action_runs (case_of ts header of compare most none) i k pc to bs s has good = cases_runs ts header of compare most none pc to bs s has good
+  action_runs (go_sub x) i k pc to bs s has good = instr (PutReturn k) pc [] bs s has.0 (used (gone_sub k) x (pc + 1) bs s has.1.0 good)
+  action_runs return_sub i k pc to bs s has good = instr (TakeReturn p) pc [] bs s has.0 (found_statement returned_sub bs s good)
+  action_runs (exit_to x) i k pc to bs s has good = instr ErrOff pc [] bs s has.0 (used err_off x (pc + 1) bs s has.1.0 good)
+  action_runs (on_error h) i k pc to bs s has good = instr (SetPolicy (policy_of h)) pc [] bs s has.0 (used (policy_on (policy_of h)) k (pc + 1) bs s has.1.0 good)
+  action_runs end_handler i k pc to bs s has good = instr HandlerOff pc [] bs s has.0 (used handler_off k (pc + 1) bs s has.1.0 good)
+  action_runs clear_err i k pc to bs s has good = instr ErrOff pc [] bs s has.0 (used err_off k (pc + 1) bs s has.1.0 good)
+  action_runs resume_again i k pc to bs s has good = instr (Again p) pc [] bs s has.0 (found_statement (resumed kind.Again 0) bs s good)
+  action_runs resume_next i k pc to bs s has good =
+      instr (Behind p) pc [] bs s has.0
+      (rw (laid.next p (failed_statement s.memory)) (found_statement (resumed kind.Next (next_of pr p (failed_statement s.memory))) bs s good))
+  action_runs (resume_at x) i k pc to bs s has good = instr (Resumes p x) pc [] bs s has.0 (found_statement (resumed (kind.Label (record { 0 = x })) 0) bs s good)
+  action_runs stop i k pc to bs s has good = instr StopHere pc [] bs s has.0 (used stop_here k (pc + 1) bs s has.1.0 good)
+  action_runs end_run i k pc to bs s has good = instr Halt pc [] bs s has.0 (over Ended s)
+
+-- ---- what is known of a smaller depth
+
+pub record Works (code : Code) (entry : ℕ → Entry) (bound n : ℕ) (d : Doing) : Type 0 where
+  pub run : (p i : ℕ) (bs : List Back) (s : State) → Enough bound n s → Runs code bound n (Goes (at (entry p i) [] bs s)) (returned_by looking code bs) (passed_on bs) (d.run p i s)
+  pub go : Lets code bound n d.go
+
+module _ (pr : Project) (code : Code) (entry : ℕ → Entry) (laid : Laid pr entry code) (bound n : ℕ) (d : Doing) (works : Works code entry bound n d) where
+  -- a procedure is entered
+  stands_runs : (c : Bool) (p : ℕ) (self : Val) (xs : List Slot) (bs : List Back) (s : State) → Enough bound n s
+      → Runs code bound n (enters code c p self xs bs s) (returned_by looking code bs) (passed_on bs) (turn (with_memory s (entered pr.declared c p self xs s.memory)) (λ s1. d.run p 0 s1))
+  stands_runs c p self xs bs s good =
+      let s1 : State = with_memory s (entered pr.declared c p self xs s.memory) in
+      subst (λ t. Runs code bound n (let s2 : State = with_memory s (entered t c p self xs s.memory) in Turns s2 (Goes (at (slice_index code.starts p) [] bs (turned s2)))) (returned_by looking code bs) (passed_on bs) (turn s1 (λ s2. d.run p 0 s2))) (sym laid.declared)
+      (rw (laid.start p) (in_turn (λ s2. d.run p 0 s2) s1 (λ lt. works.run p 0 bs (turned s1) (let k : bound ≤ s.begun + n = good in omega arith))))
+
+  enter_runs : (c : Bool) (p : ℕ) (self : Val) (xs : List Slot) (bs : List Back) (s : State) (full : Move) → Enough bound n s
+      → Runs code bound n full (returned_by looking code bs) (passed_on bs) (raise_error (error_here 28 s.memory) s)
+      → Runs code bound n (enter_by code c p self xs bs s full) (returned_by looking code bs) (passed_on bs) (enter pr d c p self xs s)
+  enter_runs c p self xs bs s full good h = either (nat_lt (length s.memory.frames) 2000) (stands_runs c p self xs bs s good) h
+
+  called_runs : (p : ℕ) (self : Val) (xs st : List Slot) (pc : ℕ) (bs : List Back) (s : State) → Enough bound n s
+      → Runs code bound n (calls code p self xs pc st bs s) (on_value st bs pc) (failed bs) (called_by pr d p self xs s)
+  called_runs p self xs st pc bs s good =
+      bind (enter pr d true p self xs s) (enter_runs true p self xs (Caller pc st ∷ bs) s (raised (error_here 28 s.memory) bs s) good (raises {got = returned_by looking code (Caller pc st ∷ bs)} (error_here 28 s.memory) bs s good))
+      (λ v s1 g1. here {got = on_value st bs pc} v (with_memory s1 (hold v s1.memory)) g1)
+
+  calls_of : Calls code bound n (callees pr d)
+  calls_of = record { call = called_runs; go = works.go }
+
+  passes : (e : Error) (bs : List Back) (s : State) → Enough bound n s → Runs code bound n (lets_all (Pass e) bs s) (returned_by looking code bs) (passed_on bs) (pass_on d e s)
+  passes e bs s good =
+      bind (lets_frame d.go s) (all_go code bound n d.go works.go (length (held_by (top s.memory))) (Pass e) bs (with_memory s (let_frame s.memory)) (passed_on bs) good)
+      (λ u s1 g1. fails {bad = passed_on bs} e (with_memory s1 (left s1.memory)) g1)
+
+  taken_runs : (e : Error) (t : Taken) (bs : List Back) (s : State) → Enough bound n s → Runs code bound n (takes code e t bs s) (returned_by looking code bs) (passed_on bs) (decide_by d e t s)
+  taken_runs e (taken.Next to) bs s good =
+      rw (laid.address (top s.memory).procedure to.0) (works.run (top s.memory).procedure to.0 bs (with_memory s (with_taken e (taken.Next to) s.memory)) good)
+  taken_runs e (taken.Handler to) bs s good =
+      rw (laid.address (top s.memory).procedure to.0) (works.run (top s.memory).procedure to.0 bs (with_memory s (with_taken e (taken.Handler to) s.memory)) good)
+  taken_runs e taken.PassOn bs s good = passes e bs s good
+
+  decided_runs : (e : Error) (bs : List Back) (s : State) → Enough bound n s → Runs code bound n (decides code e bs s) (returned_by looking code bs) (passed_on bs) (decide pr d e s)
+  decided_runs e bs s good =
+      rw (laid.next (top s.memory).procedure (number_or (top s.memory).statement)) (taken_runs e (taken_by (next_here pr s.memory) s.memory) bs s good)
+
+  settle_runs : (p : ℕ) (bs : List Back) (m : Move) (r : Res ℕ) → Runs code bound n m (with_end (entry p) bs) (failed bs) r → Runs code bound n m (returned_by looking code bs) (passed_on bs) (settle pr d p r)
+  settle_runs p bs m r a =
+      catches r a
+      (λ to s good.
+      let t : State = with_memory s (unlent s.memory) in
+      bind (lets_held d.go t) (all_go code bound n d.go works.go (length (top t.memory).held) (Goes-on (entry p to)) bs (with_memory t (let_held t.memory)) (passed_on bs) good)
+      (λ u s1 g1. works.run p to bs s1 g1))
+      (λ e s good.
+      let t : State = with_memory s (unlent s.memory) in
+      before (failing e bs s)
+      (bind (lets_held d.go t) (all_go code bound n d.go works.go (length (top t.memory).held) (Decide e) bs (with_memory t (let_held t.memory)) (passed_on bs) good)
+      (λ u s1 g1. decided_runs e bs s1 g1)))
+
+  -- ---- the end of an object
+
+  full_runs : (o k : ℕ) (after : After) (bs : List Back) (s : State) → Enough bound n s
+      → Runs code bound n (raises_then (error_here 28 s.memory) s (λ s1. Ends (Faulted (error_here 28 s.memory)) s1)) (returned_by looking code (EndOf o k after ∷ bs)) (passed_on (EndOf o k after ∷ bs)) (raise_error (error_here 28 s.memory) s)
+  full_runs o k after bs s good =
+      let e : Error = error_here 28 s.memory in
+      in_turn (λ s1. Told (Raised e.number ∷ []) (Failed e s1)) s
+      (λ lt. telling (Raised e.number ∷ []) (fails {bad = passed_on (EndOf o k after ∷ bs)} e (turned s) (let h : bound ≤ s.begun + n = good in omega arith)))
+
+  terminate_runs : (t : Option ℕ) (o k : ℕ) (after : After) (bs : List Back) (s : State) (bad : Error → State → Move) → Enough bound n s
+      → Runs code bound n (terminates_by looking code t o k after bs s) (λ u s1. finished_by looking o k after bs s1) bad (terminate_by pr d t o s)
+  terminate_runs None o k after bs s bad good = here {got = λ u s1. finished_by looking o k after bs s1} tt s good
+  terminate_runs (Some p) o k after bs s bad good =
+      let self : Val = object (Heap (record { 0 = o })) in
+      catches (enter pr d false p self [] s)
+      (enter_runs false p self [] (EndOf o k after ∷ bs) s _ good (full_runs o k after bs s good))
+      (λ v s1 g1. here {got = λ u s1. finished_by looking o k after bs s1} tt s1 g1)
+      (λ e s1 g1. over (Faulted e) s1)
+
+  finish_runs : (o k : ℕ) (after : After) (bs : List Back) (s : State) (bad : Error → State → Move) → Enough bound n s
+      → Runs code bound n (finished_by looking o k after bs s) (λ u s1. Goes (letting k after bs s1)) bad (finish d o s)
+  finish_runs o k after bs s bad good =
+      either (is_last s.memory o) (works.go (length (objects_in_values (object_at s.memory o).fields)) k after bs (with_memory s (gone o s.memory)) bad good)
+      (here {got = λ u s1. Goes (letting k after bs s1)} tt s good)
+
+  told_runs : (b : Object) (o k : ℕ) (after : After) (bs : List Back) (s : State) (bad : Error → State → Move) → Enough bound n s
+      → Runs code bound n (ends_by looking code b o k after bs s) (λ u s1. finished_by looking o k after bs s1) bad (tell pr d b o s)
+  told_runs b o k after bs s bad good =
+      either b.told (here {got = λ u s1. finished_by looking o k after bs s1} tt s good)
+      (telling (Term b.class o ∷ [])
+      (subst (λ t. Runs code bound n (terminates_by looking code (class_at t b.class).terminate o k after bs s) (λ u s1. finished_by looking o k after bs s1) bad (terminate_by pr d (class_at pr.declared b.class).terminate o s)) (sym laid.declared)
+      (terminate_runs (class_at pr.declared b.class).terminate o k after bs s bad good)))
+
+  end_runs : (o k : ℕ) (after : After) (bs : List Back) (s : State) (bad : Error → State → Move) → Enough bound n s
+      → Runs code bound n (ends_by looking code (object_at s.memory o) o k after bs (with_memory s (as_told o s.memory))) (λ u s1. Goes (letting k after bs s1)) bad (end_of pr d o s)
+  end_runs o k after bs s bad good =
+      let t : State = with_memory s (as_told o s.memory) in
+      bind (tell pr d (object_at s.memory o) o t) (told_runs (object_at s.memory o) o k after bs t bad good)
+      (λ u s1 g1. finish_runs o k after bs s1 bad g1)
+
+-- ---- one level
+
+module _ (pr : Project) (code : Code) (entry : ℕ → Entry) (laid : Laid pr entry code) (bound n : ℕ) (d : Doing) (deep : (m : ℕ) → n ≡ suc m → Works code entry bound m d) where
+  one_runs : (o k : ℕ) (after : After) (bs : List Back) (s : State) (bad : Error → State → Move) → Enough bound n s
+      → Runs code bound n (lets_one_by looking code o k after bs s) (λ u s1. Goes (letting k after bs s1)) bad (one pr d o s)
+  one_runs o k after bs s bad good =
+      either (is_last s.memory o)
+      (by_turn n (λ t. end_of pr d o t) s good (λ m e g. end_runs pr code entry laid bound m d (deep m e) o k after bs (turned s) bad g))
+      (here {got = λ u s1. Goes (letting k after bs s1)} tt s good)
+
+  lets_runs : Lets code bound n (let_go pr d)
+  lets_runs zero j after bs s bad good =
+      let e : j ≡ 0 + j = omega arith in
+      subst (λ i. Runs code bound n (Goes (letting i after bs s)) (λ u s1. Goes (letting j after bs s1)) bad (Got tt s)) e
+      (here {got = λ u s1. Goes (letting j after bs s1)} tt s good)
+  lets_runs (suc k) j after bs s bad good =
+      let e : suc (k + j) ≡ suc k + j = omega arith in
+      let t : State = with_memory s (taken_off s.memory) in
+      subst (λ i. Runs code bound n (Goes (letting i after bs s)) (λ u s1. Goes (letting j after bs s1)) bad (let_go pr d (suc k) s)) e
+      (before (letting (suc (k + j)) after bs s)
+      (bind (one pr d (next_waiting s.memory.waiting) t) (one_runs (next_waiting s.memory.waiting) (k + j) after bs t bad good)
+      (λ u s1 g1. lets_runs k j after bs s1 bad g1)))
+
+  statement_runs : (p i : ℕ) (o : Option Statement) (bs : List Back) (s : State) → HasStatement code.instrs (entry p) p i o → Enough bound n s
+      → Runs code bound n (Goes (at (entry p i) [] bs s)) (returned_by looking code bs) (passed_on bs)
+      (at_statement_or o (leave (let_go pr d) s) (λ l. turn s (λ s1. settle pr d p (exec l.action (callees pr d) pr p i l.next (with_memory s1 (at_statement s1.memory i))))))
+  statement_runs p i None bs s has good =
+      instr Leave (entry p i) [] bs s has
+      (bind (lets_frame (let_go pr d) s) (all_go code bound n (let_go pr d) lets_runs (length (held_by (top s.memory))) Return bs (with_memory s (let_frame s.memory)) (passed_on bs) good)
+      (λ u s1 g1. here {got = returned_by looking code bs} (result s1.memory) (with_memory s1 (frame_left s1.memory)) g1))
+  statement_runs p i (Some l) bs s has good =
+      instr (Begin i) (entry p i) [] bs s has.0
+      (by_turn n (λ s1. settle pr d p (exec l.action (callees pr d) pr p i l.next (with_memory s1 (at_statement s1.memory i)))) s good (λ m e g.
+      let s1 : State = with_memory (turned s) (at_statement s.memory i) in
+      let body = up_to code.instrs (entry p i + 1) (action_code (entry p) p i l.next l.action) has.1 in
+      settle_runs pr code entry laid bound m d (deep m e) p bs _ (exec l.action (callees pr d) pr p i l.next s1)
+      (action_runs pr code entry laid bound m (callees pr d) (calls_of pr code entry laid bound m d (deep m e)) p l.action i l.next (entry p i + 1) body.0 bs s1 body.1 g)))
+
+  pub level_works : Works code entry bound n (level pr d)
+  level_works = record {
+    run = λ p i bs s good. statement_runs p i (statement_at pr p i) bs s (laid.statement p i) good;
+    go = lets_runs;
+  }
+
+-- ---- runs
+
+ended : {A : Type 0} (code : Code) (bound k : ℕ) (r : Res A) → outs code bound (λ v s. Ends Ended s) (λ e s. Ends (Faulted e) s) k r ≡ fin_of (run_of bound r)
+ended code bound k (Got v s) = refl
+ended code bound k (Failed e s) = refl
+ended code bound k (Over x s) = refl
+ended code bound k (Told es r) = ap (tells es) (ended code bound k r)
+ended code bound k (Turn s r) = by_turns (nat_lt s.begun bound) (ended code bound k r) where
+  by_turns : {x : Fin} {y : Run} (b : Bool) → x ≡ fin_of y → (if b then x else Done Going s []) ≡ fin_of (if b then y else record { ending = Going; state = s; events = [] })
+  by_turns true h = h
+  by_turns false h = refl
+
+module _ (pr : Project) (code : Code) (entry : ℕ → Entry) (laid : Laid pr entry code) (bound : ℕ) where
+  pub works : (n : ℕ) → Works code entry bound n (doing pr n)
+  works zero = level_works pr code entry laid bound 0 nowhere (λ m e. absurd cc)
+  works (suc n) = level_works pr code entry laid bound (suc n) (doing pr n) (λ m e. let k : n ≡ m = omega arith in subst (λ i. Works code entry bound i (doing pr n)) k (works n))
+
+  close_runs : (n : ℕ) (vs : List Val) (g : ℕ) (s : State) (bad : Error → State → Move) → Enough bound n s → Runs code bound n (closing vs g s) (λ u s1. Ends Ended s1) bad (close (doing pr n) vs g s)
+  close_runs n [] g s bad good = here {got = λ u s1. Ends Ended s1} tt s good
+  close_runs n (v ∷ vs) g s bad good =
+      let t : State = with_memory s (closed g v s.memory) in
+      let os : List ℕ = objects_in (slice_index_or s.memory.shared g empty) in
+      bind ((doing pr n).go (length os) t)
+      (all_go code bound n (doing pr n).go (works n).go (length os) (Close vs (g + 1)) [] t bad good)
+      (λ u s1 g1. close_runs n vs (g + 1) s1 bad g1)
+
+  last : {A : Type 0} (n : ℕ) (m : Move) (r : Res A) → Runs code bound n m (λ u s1. Ends Ended s1) (λ e s1. Ends (Faulted e) s1) r → (j : ℕ) × (follow bound m (machine code bound j) ≡ fin_of (run_of bound r))
+  last n m r a = let p = a.by 0 in (p.0, p.1 ∙ ended code bound 0 r)
+
+  -- the machine's run is the meaning, for every bound on turns
+  pub simulates : (j : ℕ) × (run_code code bound j ≡ fin_of (meaning pr bound))
+  simulates =
+      let s : State = first_state pr in
+      let m : Move = enters code false pr.startup empty [] [] s in
+      let r : Res (Unit {0}) = enter pr (doing pr bound) false pr.startup empty [] s >>= λ v s1. close (doing pr bound) (first_values pr.declared pr.declared.shared) 0 s1 in
+      let runs : Runs code bound bound m (λ u s1. Ends Ended s1) (λ e s1. Ends (Faulted e) s1) r =
+          bind {mid = returned_by looking code []} (enter pr (doing pr bound) false pr.startup empty [] s)
+          (stands_runs pr code entry laid bound bound (doing pr bound) (works bound) false pr.startup empty [] [] s (omega arith))
+          (λ v s1 g1. subst (λ t. Runs code bound bound (closing (first_values t t.shared) 0 s1) (λ u s2. Ends Ended s2) (λ e s2. Ends (Faulted e) s2) (close (doing pr bound) (first_values pr.declared pr.declared.shared) 0 s1)) (sym laid.declared)
+          (close_runs bound (first_values pr.declared pr.declared.shared) 0 s1 (λ e s2. Ends (Faulted e) s2) g1)) in
+      let first : first_move code ≡ m = first_is in
+      let p = last bound m r runs in
+      (p.0, ap (λ x. follow bound x (machine code bound p.0)) first ∙ p.1) where
+    first_is : first_move code ≡ enters code false pr.startup empty [] [] (first_state pr)
+    first_is = ap (λ i. enters code false i empty [] [] (record { memory = opening code.declared; begun = 0 })) laid.startup ∙ ap (λ d. enters code false pr.startup empty [] [] (record { memory = opening d; begun = 0 })) laid.declared

@@ -1,0 +1,120 @@
+-- A whole run of the code of a project is the project's meaning, and fewer turns tell the beginning of what more turns tell.
+use Rattle.std.proofs.Common.{◌≡◌, ℕ, zero, suc, ◌+◌, ◌≤◌, Bool, true, false, List, [], ◌++◌, refl, sym, ap, ◌∙◌, subst, arith, append_assoc}
+use Rattle.std.specs.Prelude.{nat_lt, if◌then◌else◌}
+use Rattle.std.proofs.lemmas.Bool.{ltb-true}
+use Rattle.bound_project.specs.Project.{Project}
+use Rattle.vba_meaning.specs.Memory.{Ending, Going}
+use Rattle.vba_meaning.specs.Effects.{Event}
+use Rattle.vba_meaning.specs.Meaning.{State, meaning}
+use Rattle.pcode.specs.Instructions.{Code}
+use Rattle.pcode.specs.Machine.{Config, Fin, Done, Unfinished, Stuck, tells, Move, Goes, Ends, Sticks, Tells, Turns, step, follow, machine, first_move, run_code}
+use Rattle.pcode.specs.Layout.{entries_of, entry_in, code_of}
+use Rattle.pcode.proofs.Lays.{laid}
+use Rattle.simulation.specs.Meant.{fin_of, Means, Begins}
+use Rattle.simulation.proofs.Runs.{simulates}
+
+-- ---- a run has one end
+
+abbrev Final : Fin → Type 0
+Final (Done e s es) = Unit {0}
+Final Unfinished = ⊥
+Final Stuck = Unit {0}
+
+untold : (es : List Event) (x : Fin) → Final (tells es x) → Final x
+untold es (Done e s more) h = tt
+untold es Unfinished h = h
+untold es Stuck h = tt
+
+same_way : (x y z : Fin) (b : Bool) → (Final x → y ≡ x) → Final (if b then x else z) → (if b then y else z) ≡ (if b then x else z)
+same_way x y z true h final = h final
+same_way x y z false h final = refl
+
+same : (bound : ℕ) (m : Move) (f g : Config → Fin) → ((c : Config) → Final (f c) → g c ≡ f c) → Final (follow bound m f) → follow bound m g ≡ follow bound m f
+same bound (Goes c) f g h final = h c final
+same bound (Ends e s) f g h final = refl
+same bound Sticks f g h final = refl
+same bound (Tells es m) f g h final = ap (tells es) (same bound m f g h (untold es (follow bound m f) final))
+same bound (Turns s m) f g h final = same_way (follow bound m f) (follow bound m g) (Done Going s []) (nat_lt s.begun bound) (λ k. same bound m f g h k) final
+
+more : (code : Code) (bound n k : ℕ) → n ≤ k → (c : Config) → Final (machine code bound n c) → machine code bound k c ≡ machine code bound n c
+more code bound zero k le c final = absurd final
+more code bound (suc n) zero le c final = absurd (omega arith)
+more code bound (suc n) (suc k) le c final = same bound (step code c) (machine code bound n) (machine code bound k) (λ d h. more code bound n k (omega arith) d h) final
+
+more_steps : (code : Code) (bound n k : ℕ) → n ≤ k → Final (run_code code bound n) → run_code code bound k ≡ run_code code bound n
+more_steps code bound n k le final = same bound (first_move code) (machine code bound n) (machine code bound k) (λ c h. more code bound n k le c h) final
+
+one_end : (code : Code) (bound i j : ℕ) → Final (run_code code bound i) → Final (run_code code bound j) → run_code code bound i ≡ run_code code bound j
+one_end code bound i j h k = sym (more_steps code bound i (i + j) (omega arith) h) ∙ more_steps code bound j (i + j) (omega arith) k
+
+is_final : (x y : Fin) → Final y → x ≡ y → Final x
+is_final x y h e = subst Final (sym e) h
+
+pub ends : (pr : Project) (bound : ℕ) → (j : ℕ) × (run_code (code_of pr) bound j ≡ fin_of (meaning pr bound))
+ends pr bound = simulates pr (code_of pr) (entry_in (entries_of 1 pr.bodies)) (laid pr) bound
+
+-- whenever the code's run has ended, it has ended so
+ended_so : (pr : Project) (bound k : ℕ) → Final (run_code (code_of pr) bound k) → run_code (code_of pr) bound k ≡ fin_of (meaning pr bound)
+ended_so pr bound k final =
+    let e = ends pr bound in
+    one_end (code_of pr) bound k e.0 final (is_final (run_code (code_of pr) bound e.0) (fin_of (meaning pr bound)) tt e.1) ∙ e.1
+
+pub means : (pr : Project) (bound : ℕ) → Means pr bound (code_of pr)
+means pr bound = record {
+    ends = ends pr bound;
+    only = λ k e s es h. sym h ∙ ended_so pr bound k (is_final (run_code (code_of pr) bound k) (Done e s es) tt h);
+    never_stuck = λ k h. (let e = sym h ∙ ended_so pr bound k (is_final (run_code (code_of pr) bound k) Stuck tt h) in absurd cc);
+  }
+
+-- ---- fewer turns
+
+-- where both have ended, what the first told begins what the other told
+abbrev Front : Fin → Fin → Type 0
+Front (Done e s es) (Done e' s' es') = Begins es es'
+Front (Done e s es) Unfinished = Unit {0}
+Front (Done e s es) Stuck = Unit {0}
+Front Unfinished y = Unit {0}
+Front Stuck y = Unit {0}
+
+nothing_told : (e : Ending) (s : State) (y : Fin) → Front (Done e s []) y
+nothing_told e s (Done e' s' es') = record { rest = es'; whole = refl }
+nothing_told e s Unfinished = tt
+nothing_told e s Stuck = tt
+
+told_front : (es : List Event) (x y : Fin) → Front x y → Front (tells es x) (tells es y)
+told_front es (Done e s a) (Done e' s' b) h = record { rest = h.rest; whole = ap (λ l. es ++ l) h.whole ∙ sym (append_assoc es a h.rest) }
+told_front es (Done e s a) Unfinished h = tt
+told_front es (Done e s a) Stuck h = tt
+told_front es Unfinished y h = tt
+told_front es Stuck y h = tt
+
+turn_front : (x y : Fin) (s : State) (b b' : Bool) → (b ≡ true → b' ≡ true) → Front x y → Front (if b then x else Done Going s []) (if b' then y else Done Going s [])
+turn_front x y s true true k h = h
+turn_front x y s true false k h = absurd (let e : false ≡ true = k refl in cc)
+turn_front x y s false b' k h = nothing_told Going s (if b' then y else Done Going s [])
+
+still_less : (k n m : ℕ) → n ≤ m → nat_lt k n ≡ true → nat_lt k m ≡ true
+still_less k n m le e = let lt = ltb-true k n e in grind (arith)
+
+front : (n m : ℕ) → n ≤ m → (v : Move) (f g : Config → Fin) → ((c : Config) → Front (f c) (g c)) → Front (follow n v f) (follow m v g)
+front n m le (Goes c) f g h = h c
+front n m le (Ends e s) f g h = nothing_told e s (Done e s [])
+front n m le Sticks f g h = tt
+front n m le (Tells es v) f g h = told_front es (follow n v f) (follow m v g) (front n m le v f g h)
+front n m le (Turns s v) f g h = turn_front (follow n v f) (follow m v g) s (nat_lt s.begun n) (nat_lt s.begun m) (still_less s.begun n m le) (front n m le v f g h)
+
+fronts : (code : Code) (n m : ℕ) → n ≤ m → (k : ℕ) (c : Config) → Front (machine code n k c) (machine code m k c)
+fronts code n m le zero c = tt
+fronts code n m le (suc k) c = front n m le (step code c) (machine code n k) (machine code m k) (λ d. fronts code n m le k d)
+
+pub prefix : (pr : Project) (turns more-turns : ℕ) → turns ≤ more-turns → Begins (meaning pr turns).events (meaning pr more-turns).events
+prefix pr n m le =
+    let code = code_of pr in
+    let a = ends pr n in
+    let b = ends pr m in
+    let k : ℕ = a.0 + b.0 in
+    let final-a = is_final (run_code code n a.0) (fin_of (meaning pr n)) tt a.1 in
+    let final-b = is_final (run_code code m b.0) (fin_of (meaning pr m)) tt b.1 in
+    let x : run_code code n k ≡ fin_of (meaning pr n) = more_steps code n a.0 k (omega arith) final-a ∙ a.1 in
+    let y : run_code code m k ≡ fin_of (meaning pr m) = more_steps code m b.0 k (omega arith) final-b ∙ b.1 in
+    subst (λ u. Front u (fin_of (meaning pr m))) x (subst (λ u. Front (run_code code n k) u) y (front n m le (first_move code) (machine code n k) (machine code m k) (λ c. fronts code n m le k c)))

@@ -1,0 +1,5 @@
+pub mod Memory
+pub mod References
+pub mod Messages
+pub mod Effects
+pub mod Meaning

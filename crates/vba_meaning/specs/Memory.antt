@@ -1,0 +1,227 @@
+-- What a run remembers: frames, variables, objects and Err. Turns and events are counted and told outside of it.
+use Rattle.std.specs.Prelude.{ℕ, ◌==◌, ℤ, pos, List, [], ◌∷◌, ◌++◌, length, map, Bool, true, if◌then◌else◌, Option, Some, None, slice_get, slice_set}
+use Rattle.vba_values.specs.declared.types.Compare.{Compare}
+use Rattle.vba_values.specs.declared.fault.OutKind.{OutKind}
+use Rattle.vba_values.specs.Types.{Declared}
+use Rattle.vba_values.specs.Val.{Val, empty}
+use Rattle.arrays_udt.specs.declared.paths.PathStep.{PathStep}
+use Rattle.arrays_udt.specs.Paths.{path_value, with_path}
+use Rattle.error_frames.specs.declared.frame.FrameErrors.{FrameErrors}
+use Rattle.error_frames.specs.Decision as decision
+use Rattle.bound_project.specs.Expressions.{Storage, local, shared, Variable}
+use Rattle.bound_project.specs.Project.{Declarations, Procedure, procedure_at, first_value, first_values}
+
+-- an error on its way, and what Err keeps of the last one: its number, a source and a description where they were given, and where it was raised
+-- ([MS-VBAL] 5.4.4, 6.1.3.2)
+pub record Error : Type 0 where
+  pub number : ℤ
+  pub source : Option (List ℕ)
+  pub description : Option (List ℕ)
+  pub procedure : ℕ
+  pub statement : Option ℕ
+
+-- why a run stops: Stop, or a value or size that is outside of what there is
+pub data Why : Type 0 where
+  stop_said : Why
+  outside : OutKind → Why
+
+-- how a run ends; a fault has the error, a stop the statement that ran
+pub data Ending : Type 0 where
+  Ended : Ending
+  Faulted : Error → Ending
+  Stopped : Why → (procedure : ℕ) → Option ℕ → Ending
+  Going : Ending
+
+-- the variable where a path begins: of a frame, whose number is that of the frames below it, or of the project
+pub data Root : Type 0 where
+  in_frame : (frame variable : ℕ) → Root
+  in_project : ℕ → Root
+
+-- a path leads to a value: to a variable, then to fields and elements inside it. It has the declared type of what is there
+pub record Path : Type 0 where
+  pub root : Root
+  pub steps : List PathStep
+  pub of : Declared
+
+-- what a variable of a frame contains: its value, or where a ByRef parameter leads
+pub data Slot : Type 0 where
+  value : Val → Slot
+  path : Path → Slot
+
+-- a value with the declared type of the expression that gave it
+pub record Typed : Type 0 where
+  pub value : Val
+  pub of : Declared
+
+-- a For that was begun: its last value and its step
+pub record Loop : Type 0 where
+  pub last : Typed
+  pub step : Typed
+  pub compare : Compare
+
+-- what a block keeps for its statements
+pub data Kept : Type 0 where
+  -- the value of a Select Case
+  only : Val → Kept
+
+-- a counted object
+pub record Object : Type 0 where
+  pub class : ℕ
+  pub told : Bool
+  pub fields : List Val
+
+-- a call that stands. One that code called hands its result on; a Class_Terminate that the end of an object called has none to hand on to
+pub record Frame : Type 0 where
+  pub called : Bool
+  pub procedure : ℕ
+  -- the statement that was begun last
+  pub statement : Option ℕ
+  pub errors : FrameErrors
+  -- the result, the procedure's own variables, its parameters
+  pub slots : List Slot
+  -- where ByRef parameters of calls lead whose arguments are still evaluated, the last one first
+  pub pending : List Path
+  -- the Fors that were begun, and what blocks keep in text order, each by the number of its header
+  pub loops : List (ℕ × Loop)
+  pub keeps : List (ℕ × Kept)
+  -- where Return goes on, the last GoSub first
+  pub returns : List ℕ
+  pub me : Val
+  -- the objects that the running statement holds: first what it displaced, then its temporaries
+  pub held : List ℕ
+
+pub record Memory : Type 0 where
+  -- the running call first
+  pub frames : List Frame
+  -- module variables and statics
+  pub shared : List Val
+  -- the counted objects by number, and the references whose letting go was begun, the next one first
+  pub objects : List (Option Object)
+  pub waiting : List ℕ
+  pub err : Error
+  -- the units on the open line of Debug.Print
+  pub column : ℕ
+
+-- ---- frames
+
+abbrev pub no_frame : Frame
+no_frame = record { called = true; procedure = 0; statement = None; errors = decision.entered; slots = []; pending = []; loops = []; keeps = []; returns = []; me = empty; held = [] }
+
+abbrev pub first_or : List Frame → Frame
+first_or [] = no_frame
+first_or (f ∷ fs) = f
+
+abbrev pub rest : {A : Type 0} → List A → List A
+rest [] = []
+rest (x ∷ xs) = xs
+
+-- the frame that runs
+abbrev pub top : Memory → Frame
+top m = first_or m.frames
+
+abbrev pub with_top : Memory → Frame → Memory
+with_top m f = record m { frames = f ∷ rest m.frames }
+
+abbrev pub frame_left : Memory → Memory
+frame_left m = record m { frames = rest m.frames }
+
+-- a statement begins
+abbrev pub at_statement : Memory → ℕ → Memory
+at_statement m i = with_top m (record (top m) { statement = Some i })
+
+-- the number of the statement that runs
+abbrev pub number_or : Option ℕ → ℕ
+number_or None = 0
+number_or (Some i) = i
+
+-- ---- variables and paths ([MS-VBAL] 2.3)
+
+abbrev pub frame_at : List Frame → ℕ → Frame
+frame_at [] k = no_frame
+frame_at (f ∷ fs) k = if length fs == k then f else frame_at fs k
+
+abbrev pub with_slot : List Frame → (frame variable : ℕ) → Slot → List Frame
+with_slot [] k x v = []
+with_slot (f ∷ fs) k x v = if length fs == k then record f { slots = slice_set f.slots x v } ∷ fs else f ∷ with_slot fs k x v
+
+abbrev pub value_in : Option Slot → Option Val
+value_in None = None
+value_in (Some (value v)) = Some v
+value_in (Some (path p)) = None
+
+abbrev pub root_value : Memory → Root → Option Val
+root_value m (in_frame k x) = value_in (slice_get (frame_at m.frames k).slots x)
+root_value m (in_project x) = slice_get m.shared x
+
+abbrev pub with_root : Memory → Root → Val → Memory
+with_root m (in_frame k x) v = record m { frames = with_slot m.frames k x (value v) }
+with_root m (in_project x) v = record m { shared = slice_set m.shared x v }
+
+abbrev pub inner_or_none : Option Val → List PathStep → Option Val
+inner_or_none None steps = None
+inner_or_none (Some v) steps = path_value v steps
+
+-- the value at a path, where there still is one
+abbrev pub value_at : Memory → Path → Option Val
+value_at m p = inner_or_none (root_value m p.root) p.steps
+
+abbrev pub written : Memory → Path → Option Val → Val → Memory
+written m p None v = m
+written m p (Some old) v = with_root m p.root (with_path old p.steps v)
+
+-- the memory with another value at a path
+abbrev pub with_value : Memory → Path → Val → Memory
+with_value m p v = written m p (root_value m p.root) v
+
+abbrev pub path_or : Option Slot → Path → Path
+path_or None p = p
+path_or (Some (value v)) p = p
+path_or (Some (path q)) p = q
+
+-- where a variable is; a ByRef parameter leads to where its argument is
+abbrev pub path_of : Memory → Variable → Path
+path_of m x = path_by x.storage where
+  path_by : Storage → Path
+  path_by (local i) = path_or (slice_get (top m).slots i) (record { root = in_frame (length (rest m.frames)) i; steps = []; of = x.of })
+  path_by (shared i) = record { root = in_project i; steps = []; of = x.of }
+
+-- the value that a call gives
+abbrev pub value_or_empty : Option Val → Val
+value_or_empty None = empty
+value_or_empty (Some v) = v
+
+abbrev pub result : Memory → Val
+result m = value_or_empty (value_in (slice_get (top m).slots 0))
+
+-- ---- calls ([MS-VBAL] 5.3.1)
+
+-- the paths of a call's ByRef parameters are no longer pending once its frame has them
+abbrev pub without_paths : List Slot → List Path → List Path
+without_paths [] ps = ps
+without_paths (value v ∷ xs) ps = without_paths xs ps
+without_paths (path p ∷ xs) ps = without_paths xs (rest ps)
+
+abbrev pub calling : List Slot → List Frame → List Frame
+calling xs [] = []
+calling xs (f ∷ fs) = record f { pending = without_paths xs f.pending } ∷ fs
+
+abbrev pub own_slots : Declarations → Procedure → List Slot
+own_slots d p = value (first_value d p.result) ∷ map value (first_values d p.locals)
+
+-- a call of a procedure stands
+abbrev pub entered : Declarations → Bool → ℕ → Val → List Slot → Memory → Memory
+entered d called p me xs m = record m { frames = record no_frame { called = called; procedure = p; me = me; slots = own_slots d (procedure_at d p) ++ xs } ∷ calling xs m.frames }
+
+-- ---- Err
+
+abbrev pub no_error : Error
+no_error = record { number = pos 0; source = None; description = None; procedure = 0; statement = None }
+
+-- an error with this number at the running statement
+abbrev pub error_here : ℕ → Memory → Error
+error_here n m = record { number = pos n; source = None; description = None; procedure = (top m).procedure; statement = (top m).statement }
+
+-- ---- the memory with which a run begins
+
+abbrev pub opening : Declarations → Memory
+opening d = record { frames = []; shared = first_values d d.shared; objects = None ∷ []; waiting = []; err = no_error; column = 0 }
