@@ -6,6 +6,7 @@ ghost use Rattle.vba_tree.specs.View.{step_view, loop_condition_view, simple_vie
 ghost use Rattle.vba_grammar.specs.Front.{found_as, begins, reads, name_at, whole_at, part_if};
 ghost use Rattle.vba_grammar.specs.Blocks.{step_at, is_each, for_at, for_each_at, loop_word_of, loop_condition_if, is_name};
 ghost use Rattle.vba_grammar.specs.Statements.{as_block};
+ghost use Rattle.vba_statements.specs.Kept.{for_range_at};
 
 use std::alloc::Global;
 use vba_base::NoMemory;
@@ -13,7 +14,7 @@ use vba_clauses::{Expected, begins_with, read_name, read_token, read_word};
 use vba_expression::read_expression;
 use vba_lexer::Token;
 use vba_tree::{BlockLine, LoopCondition, LoopWord, SimpleStatement, StepClause};
-use vba_words::{Keyword, ReadToken, Reading};
+use vba_words::{Identifier, Keyword, ReadToken, Reading};
 
 /// `Step` and its value, where they are written.
 fn read_step_if(
@@ -46,7 +47,21 @@ fn read_for(
     let Some((equal, behind_equal)) = read_token(behind_counter, Expected::Equal) else {
         return Ok(None);
     };
-    let Some((start, behind_start)) = read_expression(alloc, behind_equal)? else {
+    read_for_range(alloc, for_word, counter, equal, behind_equal)
+}
+
+/// Behind `For counter =`: `start To limit [Step value]`.
+fn read_for_range(
+    alloc: Global,
+    for_word: Token,
+    counter: Identifier,
+    equal: Token,
+    tokens: &[ReadToken],
+) -> Result<Option<(SimpleStatement, &[ReadToken])>, NoMemory>
+    ensures { IfOk result (λ found. option_map (λ f. (simple_view f.0, f.1.now)) found
+        ≡ as_block (for_range_at for_word counter equal tokens.now)) }
+{
+    let Some((start, behind_start)) = read_expression(alloc, tokens)? else {
         return Ok(None);
     };
     let Some((to_word, behind_to)) = read_token(behind_start, Expected::To) else {
