@@ -21,8 +21,8 @@ use Rattle.arrays_udt.proofs.Inner.{view_array_of, view_array_out}
 use Rattle.vba_values.specs.declared.value.Value.{Value}
 use Rattle.arrays_udt.specs.Fresh.{filled}
 use Rattle.arrays_udt.specs.Resize.{is_resize, IsWhole, can_resize, count, cut_or_filled, item_at, kept, resized}
-use Rattle.arrays_udt.specs.Shapes.{extent, elements, is_place, layout, place_at}
-use Rattle.arrays_udt.proofs.Places.{layout_below, layout-place_at, is_place-place_at}
+use Rattle.arrays_udt.specs.Shapes.{extent, elements, places, is_place, layout, place_at}
+use Rattle.arrays_udt.proofs.Places.{layout_below, layout-place_at, is_place-place_at, some_places}
 
 -- a list that has f n at each offset n
 filled_by : {X : Type 0} (f : ℕ → X) (xs : List X) (d : X) (n : ℕ) → length xs ≡ n → ((k : ℕ) → k < n → get_or xs k d ≡ f k) → map f (range_with_len 0 n) ≡ xs
@@ -79,7 +79,7 @@ small_rem n e h =
 place_shared : (old new : Bound) (olds news : List Bound) (n : ℕ) → Shares old new olds news → place_at olds (n / extent old) ≡ place_at news (n / extent old) → place_at (old ∷ olds) n ≡ place_at (new ∷ news) n
 place_shared old new olds news n s e = rw e (rw (s.low, s.high) refl)
 
-place_same : (olds news : List Bound) (n : ℕ) → is_resize olds news ≡ true → n < elements olds → n < elements news → place_at olds n ≡ place_at news n
+place_same : (olds news : List Bound) (n : ℕ) → is_resize olds news ≡ true → n < places olds → n < places news → place_at olds n ≡ place_at news n
 place_same [] news n h a b = absurd (search rules)
 place_same (old ∷ []) [] n h a b = absurd (search rules)
 place_same (old ∷ next ∷ olds) [] n h a b = absurd (search rules)
@@ -89,16 +89,16 @@ place_same (old ∷ []) (new ∷ next ∷ news) n h a b = absurd (let s = shared
 place_same (old ∷ next ∷ olds) (new ∷ news) n h a b =
     let s = shared old new (next ∷ olds) news h in
     let extents : extent old ≡ extent new = rw (s.low, s.high) refl in
-    let c : n < extent old * elements news = rw extents b in
+    let c : n < extent old * places news = rw extents b in
     place_shared old new (next ∷ olds) news n s
     (place_same (next ∷ olds) news (n / extent old) s.rest
-    (row-Below n (extent old) (extent old) (elements (next ∷ olds)) a (omega arith)).1
-    (row-Below n (extent old) (extent old) (elements news) c (omega arith)).1)
+    (row-Below n (extent old) (extent old) (places (next ∷ olds)) a (omega arith)).1
+    (row-Below n (extent old) (extent old) (places news) c (omega arith)).1)
 
 -- what stands at a place after a resize
 kept_old : (olds news : List Bound) (vs : List Val) (item : Val) (n : ℕ) → is_resize olds news ≡ true → n < elements news → n < elements olds → kept olds (vals_of vs) item (place_at news n) ≡ get_or vs n empty
 kept_old olds news vs item n h b a =
-    rw (← place_same olds news n h a b, is_place-place_at olds n a, layout-place_at olds n a) (item_at-vals_of vs n)
+    rw (← place_same olds news n h (some_places olds n a) (some_places news n b), is_place-place_at olds n a, layout-place_at olds n a) (item_at-vals_of vs n)
 
 outside : (olds news : List Bound) (n : ℕ) → is_resize olds news ≡ true → n < elements news → elements olds ≤ n → is_place olds (place_at news n) ≡ false
 outside olds news n h b a = elim (is_place olds (place_at news n)) as (λ w. is_place olds (place_at news n) ≡ w → w ≡ false) [

@@ -45,6 +45,10 @@ last_place = refl
 pub past_the_bound : offset_of (to (pos 0) (pos 3) ∷ []) (pos 4 ∷ []) ≡ Err (Raise 9)
 past_the_bound = refl
 
+-- an array without bounds has no place
+pub no_place : offset_of [] [] ≡ Err (Raise 9)
+no_place = refl
+
 pub one_number_too_few : offset_of (to (pos 0) (pos 3) ∷ to (pos 0) (pos 3) ∷ []) (pos 1 ∷ []) ≡ Err (Raise 9)
 one_number_too_few = refl
 

@@ -14,10 +14,15 @@ natural (negsuc n) = 0
 abbrev pub extent : Bound → ℕ
 extent bound = natural (bound.high -ℤ bound.low +ℤ pos 1)
 
--- how many elements an array with these bounds has
+-- how many places some bounds have: the product of how many each of them has
+abbrev pub places : List Bound → ℕ
+places [] = 1
+places (bound ∷ bounds) = extent bound * places bounds
+
+-- how many elements an array with these bounds has: an array without bounds has none
 abbrev pub elements : List Bound → ℕ
-elements [] = 1
-elements (bound ∷ bounds) = extent bound * elements bounds
+elements [] = 0
+elements (bound ∷ bounds) = places (bound ∷ bounds)
 
 -- a high bound isn't below its low bound
 abbrev pub is_ordered : Bound → Bool
@@ -41,11 +46,16 @@ shape_of bounds =
 abbrev pub is_within : Bound → ℤ → Bool
 is_within bound number = int_le bound.low number && int_le number bound.high
 
--- a place of an array: a number within each bound
+-- a number for each bound, and within it
+abbrev pub are_within : List Bound → List ℤ → Bool
+are_within [] [] = true
+are_within (bound ∷ bounds) (number ∷ numbers) = is_within bound number && are_within bounds numbers
+are_within bounds numbers = false
+
+-- a place of an array: a number within each bound; an array without bounds has no place
 abbrev pub is_place : List Bound → List ℤ → Bool
-is_place [] [] = true
-is_place (bound ∷ bounds) (number ∷ numbers) = is_within bound number && is_place bounds numbers
-is_place bounds numbers = false
+is_place [] numbers = false
+is_place (bound ∷ bounds) numbers = are_within (bound ∷ bounds) numbers
 
 -- the offset of a place: the first number runs fastest
 abbrev pub layout : List Bound → List ℤ → ℕ

@@ -1,5 +1,6 @@
-ghost use Rattle.std.specs.Prelude.{◌≡◌, ◌<◌, ◌^◌, ◌-ℤ◌, true, [], ◌∷◌, IfOk};
-ghost use Rattle.arrays_udt.specs.Shapes.{elements, extent, is_place, is_within, layout, natural, offset_of};
+ghost use Rattle.std.specs.Prelude.{◌≡◌, ◌<◌, ◌^◌, ◌-ℤ◌, true, [], ◌∷◌, IfOk, Ok, Err, if◌then◌else◌};
+ghost use Rattle.arrays_udt.specs.Errors.{out_of_range};
+ghost use Rattle.arrays_udt.specs.Shapes.{are_within, elements, extent, is_within, layout, natural, offset_of, places};
 
 use crate::shape::{Shape, extent};
 use vba_values::{Bad, Bound};
@@ -14,7 +15,7 @@ pub fn offset(shape: &Shape, places: &[i64]) -> Result<usize, Bad>
 }
 
 /// The offset of the element at a place, by the bounds of an array as it holds them: no shape is made of them first, and
-/// nothing is allocated. Errors as of `offset`.
+/// nothing is allocated. Errors as of `offset`; an array without bounds has no place.
 pub fn offset_in(bounds: &[Bound], places: &[i64]) -> Result<usize, Bad>
     requires { elements bounds.now < 2 ^ 64 }
     ensures value { result ≡ offset_of bounds.now places.now }
@@ -56,29 +57,40 @@ fn offset_in_any(bounds: &[Bound], numbers: &[i64]) -> Result<usize, Bad>
     ensures value { result ≡ offset_of bounds.now numbers.now }
     ensures inside { IfOk result (λ offset. offset < elements bounds.now) }
 {
-    if !is_place(bounds, numbers) {
+    match bounds {
+        [] => Err(Bad::Raise(9)),
+        [_, ..] => offset_in_some(bounds, numbers),
+    }
+}
+
+fn offset_in_some(bounds: &[Bound], numbers: &[i64]) -> Result<usize, Bad>
+    requires { places bounds.now < 2 ^ 64 }
+    ensures value { result ≡ (if are_within bounds.now numbers.now then Ok (layout bounds.now numbers.now) else Err out_of_range) }
+    ensures inside { IfOk result (λ offset. offset < places bounds.now) }
+{
+    if !are_within(bounds, numbers) {
         return Err(Bad::Raise(9));
     }
     Ok(layout(bounds, numbers))
 }
 
-fn is_place(bounds: &[Bound], numbers: &[i64]) -> bool
-    ensures { result ≡ is_place bounds.now numbers.now }
+fn are_within(bounds: &[Bound], numbers: &[i64]) -> bool
+    ensures { result ≡ are_within bounds.now numbers.now }
 {
     match bounds {
         [] => numbers.is_empty(),
         [bound, bounds @ ..] => match numbers {
             [] => false,
-            [number, numbers @ ..] => is_within(*bound, *number) && is_place(bounds, numbers),
+            [number, numbers @ ..] => is_within(*bound, *number) && are_within(bounds, numbers),
         },
     }
 }
 
 fn layout(bounds: &[Bound], numbers: &[i64]) -> usize
-    requires place { is_place bounds.now numbers.now ≡ true }
-    requires few { elements bounds.now < 2 ^ 64 }
+    requires within { are_within bounds.now numbers.now ≡ true }
+    requires few { places bounds.now < 2 ^ 64 }
     ensures value { result ≡ layout bounds.now numbers.now }
-    ensures inside { result < elements bounds.now }
+    ensures inside { result < places bounds.now }
 {
     match bounds {
         [] => 0,
