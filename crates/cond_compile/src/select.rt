@@ -175,12 +175,13 @@ fn pass_directive(
     note_if(&mut progress.least, unmatched, 8, place);
     let (value, form) = evaluated(alloc, source, directive, progress)?;
     let told = told_by(alloc, directive.kind, &value)?;
+    let is_bad = line.fault.is_none() && told.is_bad;
     if stands_on_kept(directive.kind, &progress.arms) {
         note_fault(&mut progress.least, line.fault);
         note_if(&mut progress.least, !form, 7, place);
         note_if(
             &mut progress.least,
-            told.is_bad,
+            is_bad,
             9,
             expression_place(directive),
         );

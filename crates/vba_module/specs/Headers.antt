@@ -13,7 +13,7 @@ use Rattle.vba_tree.specs.declared.procedure.PassingWord.{PassingWord}
 use Rattle.vba_tree.specs.declared.procedure.ProcedureWords.{ProcedureWords}
 use Rattle.vba_tree.specs.declared.procedure.ProcedureWords.TheVariants as words
 use Rattle.vba_tree.specs.Spelling.{spell_parameter, spell_dim}
-use Rattle.vba_tree.specs.Tree.{Listed, DeclaredType, named, fixed_text, TypeClause, Dim, Dims, Variable, DefaultValue, Parameter, Parameters, ReDimArray, variables, re_dim, Stmt, simple, if_then, if_else, Stmts, nothing, one, gap, more, Line, type_member, event_line, procedure_header, type_header}
+use Rattle.vba_tree.specs.Tree.{Listed, DeclaredType, named, fixed_text, TypeClause, Dim, Dims, Variable, DefaultValue, Parameter, Parameters, variables, Stmt, simple, if_then, if_else, Stmts, nothing, one, gap, more, Line, type_member, event_line, procedure_header, type_header}
 use Rattle.vba_module.specs.Parts.{Part, label, statement, whole_line, nowhere, first_place}
 use Rattle.vba_module.specs.Misplaced.{place_if}
 
@@ -111,7 +111,7 @@ abbrev pub value_faults : Option Token → List Parameter → List Place
 value_faults (Some word) [] = word.place ∷ []
 value_faults word ps = []
 
--- at most sixty bounds
+-- at most sixty bounds are declared
 abbrev pub many : List Dim → List Place
 many [] = []
 many (dim ∷ dims) = place_if (nat_lt 59 (length dims)) (first_place nowhere (spell_dim dim))
@@ -128,14 +128,10 @@ abbrev pub variables_faults : List Variable → List Place
 variables_faults [] = []
 variables_faults (v ∷ vs) = dims_faults v.dims ++ variables_faults vs
 
-abbrev pub arrays_faults : List ReDimArray → List Place
-arrays_faults [] = []
-arrays_faults (a ∷ others) = many (all_of a.dims) ++ arrays_faults others
-
 abbrev mutual
+  -- bounds of a ReDim may be more: they are told when it runs
   pub statement_faults : Stmt → List Place
   statement_faults (simple (variables word token vs)) = variables_faults (all_of vs)
-  statement_faults (simple (re_dim redim_word preserve_word arrays)) = arrays_faults (all_of arrays)
   statement_faults (simple _) = []
   statement_faults (if_then if_word condition then_word then_list) = list_faults then_list
   statement_faults (if_else if_word condition then_word then_list else_word else_list) = list_faults then_list ++ list_faults else_list
