@@ -139,10 +139,9 @@ fn token_of(kind: TokenKind, reading: Reading) -> ReadToken {
 fn take_apart(expression: Expression, depth: u32) {
     let mut outer = expression;
     for _ in 0..depth {
-        outer = match outer {
-            Expression::Binary { left, .. } => Box::into_inner(left),
-            Expression::Parenthesised { inner, .. } => Box::into_inner(inner),
-            other => other,
+        outer = match outer.into_inner() {
+            Some(inner) => inner,
+            None => return,
         };
     }
 }

@@ -8,7 +8,7 @@ use Rattle.vba_expression.specs.declared.operator.BinaryOperator.{BinaryOperator
 use Rattle.vba_expression.specs.declared.operator.BinaryOperator.TheVariants as op
 use Rattle.vba_expression.specs.Tree.{Expr, unary, binary}
 use Rattle.vba_expression.specs.Fitting.{unary_level, binary_level}
-use Rattle.vba_expression.specs.Reader.{Frame, whole, right_operand, unary_operand, inner, type_of_operand, argument, named_argument, have, reduce, settled, loosest}
+use Rattle.vba_expression.specs.Reader.{Frame, whole, right_operand, unary_operand, inner, type_of_operand, argument, named_argument, have, reduce, stays_open, operation, settled, loosest}
 
 -- levels lie between 1 and 14
 pub binary_small : (o : BinaryOperator) → binary_level o < 15
@@ -28,6 +28,23 @@ chosen_false b x y e = ap (λ c. if c then x else y) e
 
 pub chosen_true : {A : Type 0} (b : Bool) (x y : A) → b ≡ true → (if b then x else y) ≡ x
 chosen_true b x y e = ap (λ c. if c then x else y) e
+
+-- where the operand on top goes on, nothing ends
+pub reduce_stays : (k : ℕ) (e : Expr) (fs : List Frame) → stays_open k fs ≡ true → reduce k e fs ≡ (e, fs)
+reduce_stays k e [] h = refl
+reduce_stays k e (right_operand a o t ∷ fs) h = chosen_true (nat_lt k (binary_level o)) _ _ h
+reduce_stays k e (unary_operand u t ∷ fs) h = chosen_true (nat_lt k (suc (unary_level u))) _ _ h
+reduce_stays k e (whole limit ∷ fs) h = refl
+reduce_stays k e (inner left ∷ fs) h = refl
+reduce_stays k e (type_of_operand word ∷ fs) h = refl
+reduce_stays k e (argument head before comma ∷ fs) h = refl
+reduce_stays k e (named_argument head before comma identifier colon_equal ∷ fs) h = refl
+
+-- else the operation on top ends, and then the rest
+pub reduce_ends : (k : ℕ) (e : Expr) (f : Frame) (fs : List Frame) → stays_open k (f ∷ fs) ≡ false → reduce k e (f ∷ fs) ≡ reduce k (operation f e) fs
+reduce_ends k e (right_operand a o t) fs h = chosen_false (nat_lt k (binary_level o)) _ _ h
+reduce_ends k e (unary_operand u t) fs h = chosen_false (nat_lt k (suc (unary_level u))) _ _ h
+reduce_ends k e other fs h = let e : true ≡ false = h in absurd cc
 
 -- ending what is as tight as a level, and then the rest, ends all
 pub reduce_again : (k : ℕ) (e : Expr) (fs : List Frame) → (let p = reduce k e fs in reduce loosest p.0 p.1) ≡ reduce loosest e fs

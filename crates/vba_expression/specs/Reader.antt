@@ -1,5 +1,5 @@
 -- Reading an expression token by token: a stack of frames holds what waits for an operand, so nothing is read twice.
-use Rattle.std.specs.Prelude.{ℕ, suc, List, [], ◌∷◌, Option, Some, None, nat_lt, if◌then◌else◌}
+use Rattle.std.specs.Prelude.{ℕ, suc, List, [], ◌∷◌, Option, Some, None, option_map, Bool, true, nat_lt, if◌then◌else◌}
 use Rattle.vba_lexer.specs.declared.token.Token.{Token}
 use Rattle.vba_lexer.specs.declared.number.TypeSuffix.{TypeSuffix}
 use Rattle.vba_words.specs.declared.identifier.Identifier.{Identifier}
@@ -74,6 +74,18 @@ reduce k e (argument head before comma ∷ frames) = (e, argument head before co
 reduce k e (named_argument head before comma identifier colon_equal ∷ frames) =
     (e, named_argument head before comma identifier colon_equal ∷ frames)
 
+-- does the operand on top go on at an operator of this level?
+abbrev pub stays_open : ℕ → List Frame → Bool
+stays_open k (right_operand left operator token ∷ frames) = nat_lt k (binary_level operator)
+stays_open k (unary_operand operator token ∷ frames) = nat_lt k (suc (unary_level operator))
+stays_open k other = true
+
+-- the operation that waits in a frame, with its last operand
+abbrev pub operation : Frame → Expr → Expr
+operation (right_operand left operator token) e = binary left operator token e
+operation (unary_operand operator token) e = unary operator token e
+operation other e = e
+
 -- the loosest level: a bracket, a comma and the end of the expression end every operand
 abbrev pub loosest : ℕ
 loosest = 14
@@ -109,11 +121,15 @@ abbrev pub last_missing : Args → Option Token → Args
 last_missing before None = before
 last_missing before (Some comma) = missing before (Some comma)
 
+-- an operator behind its left operand
+abbrev pub with_operator : Expr → List Frame → BinaryOperator → Token → Option State
+with_operator e frames operator token =
+    if nat_lt (binary_level operator) (room frames) then Some (want (right_operand e operator token ∷ frames)) else None
+
 -- a binary operator behind the operand that it ends; the Is of TypeOf is no operator
 abbrev pub operated : Expr → List Frame → BinaryOperator → Token → Option State
 operated e (type_of_operand word ∷ frames) op.Is token = Some (class_wanted word e token frames)
-operated e frames operator token =
-    if nat_lt (binary_level operator) (room frames) then Some (want (right_operand e operator token ∷ frames)) else None
+operated e frames operator token = with_operator e frames operator token
 
 -- a unary operator before the operand that is wanted
 abbrev pub operating : List Frame → UnaryOperator → Token → Option State
@@ -149,6 +165,11 @@ closed_early (argument (behind base left) before comma ∷ frames) right =
     Some (have (index base left (last_missing before comma) right) frames)
 closed_early other right = None
 
+-- the name that an expression is
+abbrev pub name_in : Expr → Option Identifier
+name_in (name identifier) = Some identifier
+name_in other = None
+
 -- `:=` behind a name that stands where an argument may stand
 abbrev pub naming_argument : Expr → List Frame → Token → Option State
 naming_argument (name identifier) (argument head before comma ∷ frames) token =
@@ -181,10 +202,14 @@ had e frames token part.RightParenthesis = let p = reduce loosest e frames in cl
 had e frames token part.ColonEqual = naming_argument e frames token
 had e frames token other = None
 
+-- the name that a part is
+abbrev pub name_of : Part → Option Identifier
+name_of (part.Name identifier) = Some identifier
+name_of other = None
+
 -- the state that a name leads to
 abbrev pub named_by : (Identifier → State) → Part → Option State
-named_by next (part.Name identifier) = Some (next identifier)
-named_by next other = None
+named_by next p = option_map next (name_of p)
 
 -- what a name leads to that may have no suffix
 abbrev pub unless_suffixed : {A : Type 0} → Option TypeSuffix → A → Option A

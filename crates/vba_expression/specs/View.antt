@@ -1,5 +1,5 @@
 -- The plain trees that the trees stand for.
-use Rattle.std.specs.Prelude.{List, [], ◌∷◌, map, Option}
+use Rattle.std.specs.Prelude.{List, [], ◌∷◌, map, Option, Some, None}
 use Rattle.vba_lexer.specs.declared.token.Token.{Token}
 use Rattle.vba_words.specs.declared.identifier.Identifier.{Identifier}
 use Rattle.vba_expression.specs.declared.tree.Expression.{Expression, fold-Expression, Expression-F}
@@ -52,3 +52,13 @@ argument_view = fold-Argument Arg tree.Expr argument_step expression_step
 
 abbrev pub arguments_view : List Argument → tree.Args
 arguments_view arguments = put_all tree.no_args (map argument_view arguments)
+
+-- the expression inside another one, the first
+abbrev pub inner_of : tree.Expr → Option tree.Expr
+inner_of (tree.member base dot member) = Some base
+inner_of (tree.index base left arguments right) = Some base
+inner_of (tree.parenthesised left inner right) = Some inner
+inner_of (tree.type_of type_of_word operand is_word class) = Some operand
+inner_of (tree.unary operator token operand) = Some operand
+inner_of (tree.binary left operator token right) = Some left
+inner_of other = None

@@ -1,6 +1,6 @@
 ghost use Rattle.std.specs.Prelude.{◌≡◌, IfOk, option_map, [], ◌∷◌};
 ghost use Rattle.vba_expression.specs.View.{view, arguments_view};
-ghost use Rattle.vba_expression.specs.Reader.{want, have, run, settled, finished, finished_arguments, expression_at, arguments_at};
+ghost use Rattle.vba_expression.specs.Reader.{want, have, run, settled, finished, finished_arguments, with_rest, expression_at, arguments_at};
 ghost use Rattle.vba_expression.specs.Seen.{stack, frame_view, state};
 
 use crate::frame::{Frame, Head, Mode, Stepped};
@@ -47,9 +47,20 @@ pub fn read_arguments(
         comma: None,
     })?;
     let (mode, frames, rest) = read_on(alloc, frames, tokens)?;
-    match finished_arguments(alloc, mode, frames)? {
-        Some(arguments) => Ok(Some((arguments, rest))),
-        None => Ok(None),
+    Ok(arguments_with_rest(finished_arguments(alloc, mode, frames)?, rest))
+}
+
+/// Arguments, where they are found, with the tokens behind them.
+fn arguments_with_rest(
+    found: Option<Vec<Argument>>,
+    rest: &[ReadToken],
+) -> Option<(Vec<Argument>, &[ReadToken])>
+    ensures { option_map (λ f. (arguments_view f.0.items, f.1.now)) result
+        ≡ with_rest rest.now (option_map (λ f. arguments_view f.items) found) }
+{
+    match found {
+        Some(arguments) => Some((arguments, rest)),
+        None => None,
     }
 }
 
@@ -64,9 +75,16 @@ fn read_below(
     let mut frames = Vec::new(alloc);
     frames.push(Frame::Whole(limit))?;
     let (mode, frames, rest) = read_on(alloc, frames, tokens)?;
-    match finished(alloc, mode, frames)? {
-        Some(e) => Ok(Some((e, rest))),
-        None => Ok(None),
+    Ok(with_rest(finished(alloc, mode, frames)?, rest))
+}
+
+/// An expression, where one is found, with the tokens behind it.
+fn with_rest(found: Option<Expression>, rest: &[ReadToken]) -> Option<(Expression, &[ReadToken])>
+    ensures { option_map (λ f. (view f.0, f.1.now)) result ≡ with_rest rest.now (option_map view found) }
+{
+    match found {
+        Some(e) => Some((e, rest)),
+        None => None,
     }
 }
 
@@ -112,12 +130,8 @@ fn finished(alloc: Global, mode: Mode, frames: Vec<Frame>) -> Result<Option<Expr
 fn whole_of(operand: Expression, frames: Vec<Frame>) -> Option<Expression>
     ensures { option_map view result ≡ finished (have (view operand) (stack frames.items)) }
 {
-    let mut held = frames;
-    let Some(frame) = held.pop() else {
-        return None;
-    };
-    match frame {
-        Frame::Whole(_) if held.is_empty() => Some(operand),
+    match frames.as_slice() {
+        [Frame::Whole(_)] => Some(operand),
         _ => None,
     }
 }
@@ -189,6 +203,7 @@ fn arguments_in(
 }
 
 /// The arguments of a call statement where one more is wanted.
+#[tactic(auto, using(crate::proofs::Steps::none_missing))]
 fn last_missing(frames: Vec<Frame>) -> Result<Option<Vec<Argument>>, NoMemory>
     ensures { IfOk result (λ found. option_map (λ f. arguments_view f.items) found ≡ finished_arguments (want (stack frames.items))) }
 {
@@ -196,12 +211,23 @@ fn last_missing(frames: Vec<Frame>) -> Result<Option<Vec<Argument>>, NoMemory>
     let Some(frame) = held.pop() else {
         return Ok(None);
     };
+    if held.is_empty() {
+        missing_in(frame)
+    } else {
+        Ok(None)
+    }
+}
+
+/// The arguments of a call statement in its frame, where one more is wanted.
+fn missing_in(frame: Frame) -> Result<Option<Vec<Argument>>, NoMemory>
+    ensures { IfOk result (λ found. option_map (λ f. arguments_view f.items) found ≡ finished_arguments (want (frame_view frame ∷ []))) }
+{
     match frame {
         Frame::Argument {
             head: Head::Call,
             before,
             comma,
-        } if held.is_empty() => Ok(Some(with_last_missing(before, comma)?)),
+        } => Ok(Some(with_last_missing(before, comma)?)),
         _ => Ok(None),
     }
 }

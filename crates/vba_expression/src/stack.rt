@@ -1,9 +1,9 @@
-ghost use Rattle.std.specs.Prelude.{◌≡◌, ℕ, ◌<◌, ◌≤◌, IfOk};
+ghost use Rattle.std.specs.Prelude.{◌≡◌, ℕ, ◌<◌, ◌≤◌, [], ◌∷◌, ◌++◌, IfOk, OnOk};
 ghost use Rattle.vba_expression.specs.Fitting.{unary_level, binary_level};
-ghost use Rattle.vba_expression.specs.Reader.{have, room, reduce, settled, last_missing, behind_dot, long_type};
+ghost use Rattle.vba_expression.specs.Reader.{have, room, reduce, stays_open, operation, settled, last_missing, behind_dot, long_type};
 ghost use Rattle.vba_expression.specs.Tree as tree;
 ghost use Rattle.vba_expression.specs.View.{view, argument_view, arguments_view, put};
-ghost use Rattle.vba_expression.specs.Seen.{stack};
+ghost use Rattle.vba_expression.specs.Seen.{stack, frame_view};
 
 use crate::frame::Frame;
 use crate::operator::{BinaryOperator, UnaryOperator};
@@ -77,6 +77,7 @@ pub fn reduce(
     ended(alloc, level, operand, frames)
 }
 
+#[tactic(auto, using(crate::proofs::Reducing::reduce_stays, crate::proofs::Reducing::reduce_ends))]
 fn ended(
     alloc: Global,
     level: u32,
@@ -86,46 +87,55 @@ fn ended(
     ensures { IfOk result (λ e. (view e, stack frames.new.items) ≡ reduce level (view operand) (stack frames.old.items)) }
 {
     let mut e = operand;
-    'reducing: while let Some(frame) = frames.pop() {
-        match frame {
-            Frame::RightOperand {
-                left,
-                operator,
-                token,
-            } => {
-                if level < binary_level(operator) {
-                    frames.push(Frame::RightOperand {
-                        left,
-                        operator,
-                        token,
-                    })?;
-                    return Ok(e);
-                }
-                e = Expression::Binary {
-                    left: Box::new(alloc, left)?,
-                    operator,
-                    token,
-                    right: Box::new(alloc, e)?,
-                };
-            }
-            Frame::UnaryOperand { operator, token } => {
-                if level < unary_level(operator) + 1 {
-                    frames.push(Frame::UnaryOperand { operator, token })?;
-                    return Ok(e);
-                }
-                e = Expression::Unary {
-                    operator,
-                    token,
-                    operand: Box::new(alloc, e)?,
-                };
-            }
-            other => {
-                frames.push(other)?;
-                return Ok(e);
-            }
-        }
+    'reducing: while !stays_open(level, frames) {
+        let Some(frame) = frames.pop() else {
+            return Ok(e);
+        };
+        e = operation(alloc, frame, e)?;
     }
     Ok(e)
+}
+
+/// Does the operand on top go on at an operator of this level? Then no operator waits for it that is as tight or tighter.
+fn stays_open(level: u32, frames: &Vec<Frame>) -> bool
+    ensures { result ≡ stays_open level (stack frames.now.items) }
+{
+    match frames.last() {
+        Some(Frame::RightOperand { operator, .. }) => level < binary_level(*operator),
+        Some(Frame::UnaryOperand { operator, .. }) => level < unary_level(*operator) + 1,
+        _ => true,
+    }
+}
+
+/// The operation that waits in a frame, with its last operand.
+fn operation(alloc: Global, frame: Frame, operand: Expression) -> Result<Expression, NoMemory>
+    ensures { IfOk result (λ e. view e ≡ operation (frame_view frame) (view operand)) }
+{
+    match frame {
+        Frame::RightOperand {
+            left,
+            operator,
+            token,
+        } => Ok(Expression::Binary {
+            left: Box::new(alloc, left)?,
+            operator,
+            token,
+            right: Box::new(alloc, operand)?,
+        }),
+        Frame::UnaryOperand { operator, token } => Ok(Expression::Unary {
+            operator,
+            token,
+            operand: Box::new(alloc, operand)?,
+        }),
+        _ => Ok(operand),
+    }
+}
+
+/// Puts a frame on top.
+pub fn push_frame(frames: &mut Vec<Frame>, frame: Frame) -> Result<(), NoMemory>
+    ensures { OnOk result (frames.new.items ≡ frames.old.items ++ frame ∷ []) }
+{
+    Ok(frames.push(frame)?)
 }
 
 /// The arguments and one more.
@@ -187,28 +197,8 @@ pub fn with_last_missing(
     }
 }
 
-/// A dot and a name behind a primary: behind a type of one name they belong to the type.
-pub fn behind_dot(
-    alloc: Global,
-    base: Expression,
-    dot: Token,
-    last: Identifier,
-) -> Result<Expression, NoMemory>
-    ensures { IfOk result (λ e. view e ≡ behind_dot (view base) dot last) }
-{
-    match base {
-        Expression::New { new_word, class } => new_behind_dot(alloc, new_word, class, dot, last),
-        Expression::TypeOf {
-            type_of_word,
-            operand,
-            is_word,
-            class,
-        } => type_of_behind_dot(alloc, type_of_word, operand, is_word, class, dot, last),
-        other => member_of(alloc, other, dot, last),
-    }
-}
-
-fn member_of(
+/// A member of a value.
+pub fn member_of(
     alloc: Global,
     base: Expression,
     dot: Token,
@@ -223,7 +213,8 @@ fn member_of(
     })
 }
 
-fn new_behind_dot(
+/// A dot and a name behind `New` and a type.
+pub fn new_behind_dot(
     alloc: Global,
     new_word: Token,
     class: TypeName,
@@ -248,7 +239,8 @@ fn new_behind_dot(
     }
 }
 
-fn type_of_behind_dot(
+/// A dot and a name behind `TypeOf`, its operand, `Is` and a type.
+pub fn type_of_behind_dot(
     alloc: Global,
     type_of_word: Token,
     operand: Box<Expression>,

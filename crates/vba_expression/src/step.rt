@@ -4,7 +4,7 @@ ghost use Rattle.vba_expression.specs.declared.frame.Frame.{Frame};
 ghost use Rattle.vba_expression.specs.declared.frame.Mode.TheVariants as modes;
 ghost use Rattle.vba_expression.specs.declared.frame.Stepped.TheVariants as steps;
 ghost use Rattle.vba_expression.specs.Parts.{part_of as part_meant};
-ghost use Rattle.vba_expression.specs.Reader.{want, have, argument, operating, short_type, next_argument, closed};
+ghost use Rattle.vba_expression.specs.Reader.{want, have, name_of, argument, named_argument, type_of_operand, operated, with_operator, operating, short_type, next_argument, closed};
 ghost use Rattle.vba_expression.specs.declared.part.Part.TheVariants as parts;
 ghost use Rattle.vba_expression.specs.Tree as tree;
 ghost use Rattle.vba_expression.specs.View.{view, arguments_view};
@@ -14,7 +14,7 @@ use crate::frame::{Frame, Head, Mode, Stepped};
 use crate::operator::{BinaryOperator, UnaryOperator};
 use crate::part::{Part, part_of};
 use crate::stack::{
-    behind_dot, binary_level, reduce, room_of, unary_level, with_argument, with_last_missing,
+    binary_level, push_frame, reduce, room_of, unary_level, with_argument, with_last_missing,
     with_named, with_plain,
 };
 use crate::tree::{Argument, Expression, Literal, TypeName};
@@ -36,38 +36,48 @@ pub fn step(
     match mode {
         Mode::Want => at_operand(alloc, frames, token.token, part),
         Mode::Have(e) => behind_primary(alloc, e, frames, token.token, part),
-        Mode::Dotted { base, dot } => match part {
-            Part::Name(member) => Ok(on_primary(behind_dot(alloc, base, dot, member)?)),
-            _ => Ok(Stepped::End(Mode::Dotted { base, dot })),
+        Mode::Dotted { base, dot } => match name_of(part) {
+            Some(member) => Ok(on_primary(base.behind_dot(alloc, dot, member)?)),
+            None => Ok(Stepped::End(Mode::Dotted { base, dot })),
         },
-        Mode::WithDotted(dot) => match part {
-            Part::Name(member) => Ok(on_primary(Expression::WithMember { dot, member })),
-            _ => Ok(Stepped::End(Mode::WithDotted(dot))),
+        Mode::WithDotted(dot) => match name_of(part) {
+            Some(member) => Ok(on_primary(Expression::WithMember { dot, member })),
+            None => Ok(Stepped::End(Mode::WithDotted(dot))),
         },
-        Mode::NewWanted(new_word) => match part {
-            Part::Name(name) => Ok(on_primary(Expression::New {
+        Mode::NewWanted(new_word) => match name_of(part) {
+            Some(name) => Ok(on_primary(Expression::New {
                 new_word,
                 class: short_type(name),
             })),
-            _ => Ok(Stepped::End(Mode::NewWanted(new_word))),
+            None => Ok(Stepped::End(Mode::NewWanted(new_word))),
         },
         Mode::ClassWanted {
             type_of_word,
             operand,
             is_word,
-        } => match part {
-            Part::Name(name) => Ok(on_primary(Expression::TypeOf {
+        } => match name_of(part) {
+            Some(name) => Ok(on_primary(Expression::TypeOf {
                 type_of_word,
                 operand: Box::new(alloc, operand)?,
                 is_word,
                 class: short_type(name),
             })),
-            _ => Ok(Stepped::End(Mode::ClassWanted {
+            None => Ok(Stepped::End(Mode::ClassWanted {
                 type_of_word,
                 operand,
                 is_word,
             })),
         },
+    }
+}
+
+/// The name that a part is.
+fn name_of(part: Part) -> Option<Identifier>
+    ensures { result ≡ name_of part }
+{
+    match part {
+        Part::Name(name) => Some(name),
+        _ => None,
     }
 }
 
@@ -118,7 +128,7 @@ fn wanting(frames: &mut Vec<Frame>, frame: Frame) -> Result<Stepped, NoMemory>
     ensures wants { IfOk result (λ s. s ≡ steps.On modes.Want) }
     ensures pushed { IfOk result (λ s. frames.new.items ≡ frames.old.items ++ frame ∷ []) }
 {
-    frames.push(frame)?;
+    push_frame(frames, frame)?;
     Ok(Stepped::On(Mode::Want))
 }
 
@@ -168,16 +178,19 @@ fn at_early_close(alloc: Global, frames: &mut Vec<Frame>, right: Token) -> Resul
                 Ok(on_primary(index_of(alloc, base, left, arguments, right)?))
             }
             Head::Call => {
-                frames.push(Frame::Argument {
-                    head: Head::Call,
-                    before,
-                    comma,
-                })?;
+                push_frame(
+                    frames,
+                    Frame::Argument {
+                        head: Head::Call,
+                        before,
+                        comma,
+                    },
+                )?;
                 Ok(Stepped::End(Mode::Want))
             }
         },
         Some(other) => {
-            frames.push(other)?;
+            push_frame(frames, other)?;
             Ok(Stepped::End(Mode::Want))
         }
         None => Ok(Stepped::End(Mode::Want)),
@@ -207,7 +220,7 @@ fn at_early_comma(frames: &mut Vec<Frame>, token: Token) -> Result<Stepped, NoMe
             )
         }
         Some(other) => {
-            frames.push(other)?;
+            push_frame(frames, other)?;
             Ok(Stepped::End(Mode::Want))
         }
         None => Ok(Stepped::End(Mode::Want)),
@@ -268,36 +281,62 @@ fn at_binary(
     let level = binary_level(operator);
     let operand = reduce(alloc, level, primary, frames)?;
     match frames.pop() {
-        Some(Frame::TypeOfOperand(type_of_word)) if operator == BinaryOperator::Is => {
-            Ok(Stepped::On(Mode::ClassWanted {
-                type_of_word,
-                operand,
-                is_word: token,
-            }))
+        Some(Frame::TypeOfOperand(type_of_word)) => {
+            behind_type_of(operand, frames, type_of_word, operator, token)
         }
         Some(other) => {
-            frames.push(other)?;
-            if level < room_of(frames) {
-                wanting(
-                    frames,
-                    Frame::RightOperand {
-                        left: operand,
-                        operator,
-                        token,
-                    },
-                )
-            } else {
-                Ok(Stepped::End(Mode::Have(operand)))
-            }
+            push_frame(frames, other)?;
+            at_operator(operand, frames, operator, token)
         }
-        None => wanting(
+        None => at_operator(operand, frames, operator, token),
+    }
+}
+
+/// A binary operator behind the operand of `TypeOf`: its `Is`, or an operator.
+fn behind_type_of(
+    operand: Expression,
+    frames: &mut Vec<Frame>,
+    type_of_word: Token,
+    operator: BinaryOperator,
+    token: Token,
+) -> Result<Stepped, NoMemory>
+    ensures { IfOk result (λ s. Comes (operated (view operand) (type_of_operand type_of_word ∷ stack frames.old.items) operator token)
+        (have (view operand) (type_of_operand type_of_word ∷ stack frames.old.items)) frames.new.items s) }
+{
+    match operator {
+        BinaryOperator::Is => Ok(Stepped::On(Mode::ClassWanted {
+            type_of_word,
+            operand,
+            is_word: token,
+        })),
+        _ => {
+            push_frame(frames, Frame::TypeOfOperand(type_of_word))?;
+            at_operator(operand, frames, operator, token)
+        }
+    }
+}
+
+/// An operator behind its left operand.
+fn at_operator(
+    left: Expression,
+    frames: &mut Vec<Frame>,
+    operator: BinaryOperator,
+    token: Token,
+) -> Result<Stepped, NoMemory>
+    ensures { IfOk result (λ s. Comes (with_operator (view left) (stack frames.old.items) operator token)
+        (have (view left) (stack frames.old.items)) frames.new.items s) }
+{
+    if binary_level(operator) < room_of(frames) {
+        wanting(
             frames,
             Frame::RightOperand {
-                left: operand,
+                left,
                 operator,
                 token,
             },
-        ),
+        )
+    } else {
+        Ok(Stepped::End(Mode::Have(left)))
     }
 }
 
@@ -362,7 +401,7 @@ fn next_argument(
             )
         }
         Some(other) => {
-            frames.push(other)?;
+            push_frame(frames, other)?;
             Ok(Stepped::End(Mode::Have(value)))
         }
         None => Ok(Stepped::End(Mode::Have(value))),
@@ -413,24 +452,19 @@ fn closed(
                 name,
                 colon_equal,
             },
-        ) => match head {
-            Head::Behind { base, left } => {
-                let arguments = with_named(alloc, before, comma, name, colon_equal, value)?;
-                Ok(on_primary(index_of(alloc, base, left, arguments, right)?))
-            }
-            Head::Call => {
-                frames.push(Frame::NamedArgument {
-                    head: Head::Call,
-                    before,
-                    comma,
-                    name,
-                    colon_equal,
-                })?;
-                Ok(Stepped::End(Mode::Have(value)))
-            }
-        },
+        ) => closed_named_argument(
+            alloc,
+            value,
+            head,
+            before,
+            comma,
+            name,
+            colon_equal,
+            frames,
+            right,
+        ),
         Some(other) => {
-            frames.push(other)?;
+            push_frame(frames, other)?;
             Ok(Stepped::End(Mode::Have(value)))
         }
         None => Ok(Stepped::End(Mode::Have(value))),
@@ -457,11 +491,52 @@ fn closed_argument(
             Ok(on_primary(index_of(alloc, base, left, arguments, right)?))
         }
         Head::Call => {
-            frames.push(Frame::Argument {
-                head: Head::Call,
-                before,
-                comma,
-            })?;
+            push_frame(
+                frames,
+                Frame::Argument {
+                    head: Head::Call,
+                    before,
+                    comma,
+                },
+            )?;
+            Ok(Stepped::End(Mode::Have(value)))
+        }
+    }
+}
+
+/// `)` behind the last argument, which has a name.
+fn closed_named_argument(
+    alloc: Global,
+    value: Expression,
+    head: Head,
+    before: Vec<Argument>,
+    comma: Option<Token>,
+    name: Identifier,
+    colon_equal: Token,
+    frames: &mut Vec<Frame>,
+    right: Token,
+) -> Result<Stepped, NoMemory>
+    ensures { IfOk result (λ s. Comes
+        (closed (view value) (named_argument (head_view head) (arguments_view before.items) comma name colon_equal ∷ stack frames.old.items) right)
+        (have (view value) (named_argument (head_view head) (arguments_view before.items) comma name colon_equal ∷ stack frames.old.items))
+        frames.new.items s) }
+{
+    match head {
+        Head::Behind { base, left } => {
+            let arguments = with_named(alloc, before, comma, name, colon_equal, value)?;
+            Ok(on_primary(index_of(alloc, base, left, arguments, right)?))
+        }
+        Head::Call => {
+            push_frame(
+                frames,
+                Frame::NamedArgument {
+                    head: Head::Call,
+                    before,
+                    comma,
+                    name,
+                    colon_equal,
+                },
+            )?;
             Ok(Stepped::End(Mode::Have(value)))
         }
     }
@@ -486,6 +561,7 @@ fn index_of(
 }
 
 /// `:=` behind a name that stands where an argument may stand.
+#[tactic(auto, using(crate::proofs::Steps::names_nothing))]
 fn at_colon_equal(
     primary: Expression,
     frames: &mut Vec<Frame>,
@@ -493,8 +569,9 @@ fn at_colon_equal(
 ) -> Result<Stepped, NoMemory>
     ensures { IfOk result (λ s. Does (have (view primary) (stack frames.old.items)) token parts.ColonEqual frames.new.items s) }
 {
-    let Expression::Name(name) = primary else {
-        return Ok(Stepped::End(Mode::Have(primary)));
+    let name = match primary.into_name() {
+        Ok(name) => name,
+        Err(other) => return Ok(Stepped::End(Mode::Have(other))),
     };
     match frames.pop() {
         Some(
@@ -514,7 +591,7 @@ fn at_colon_equal(
             },
         ),
         Some(other) => {
-            frames.push(other)?;
+            push_frame(frames, other)?;
             Ok(Stepped::End(Mode::Have(Expression::Name(name))))
         }
         None => Ok(Stepped::End(Mode::Have(Expression::Name(name)))),

@@ -10,13 +10,14 @@ use Rattle.vba_expression.specs.Tree.{Expr, member, index, Args}
 use Rattle.vba_expression.specs.Fitting.{is_place}
 use Rattle.vba_expression.specs.Spelling.{spell, spell_args}
 use Rattle.vba_expression.specs.Reader.{expression_at}
+use Rattle.vba_expression.specs.View.{inner_of}
 use Rattle.vba_expression.specs.Tokens.{bare}
 use Rattle.vba_expression.proofs.Inverses.{takes}
 use Rattle.vba_tree.specs.Tree.{Simple, assignment}
 use Rattle.vba_grammar.specs.Front.{Found, ◌>>=◌, or_else, found_as, is_equal, token_at, whole_at, kept_place, place_at, ends, ending}
 use Rattle.vba_grammar.specs.Places.{assigned_at, calls_at, behind_place, assignment_or_call_at}
 use Rattle.vba_grammar.proofs.Binding.{found_pair, same_found}
-use Rattle.vba_statements.specs.Calls.{equal_value, equal_value_at, call_at, bracket, shorter, counted}
+use Rattle.vba_statements.specs.Calls.{equal_value, equal_value_at, call_at, bracket, shorter, counted, last_length}
 
 -- what is found, where a test holds
 abbrev kept_if : {A : Type 0} → Bool → A → List ReadToken → Found A
@@ -87,6 +88,16 @@ not_assigned ts rest p h none =
     ap (calls_at p) (place_spans ts rest p h).1
     ∙ sym (ap (λ o. or_else o (calls_at p rest)) (assigned_by_value None p rest ∙ ap (found_as (assigned None p)) (sym none)))
     ∙ ap (λ o. o >>= behind_place) h
+
+-- the first of two that may be missing, with the second
+abbrev both : Option Expr → Option ℕ → Option (Expr × ℕ)
+both (Some base) (Some count) = Some (base, count)
+both base count = None
+
+pub counted_apart : (e : Expr) → counted (shorter e) ≡ both (inner_of e) (last_length e)
+counted_apart (member base dot identifier) = refl
+counted_apart (index base left arguments right) = refl
+counted_apart other = refl
 
 -- the tokens of a bracket, counted
 pub bracket_length : (left : Token) (arguments : Args) (right : Token) (tokens : List Token)

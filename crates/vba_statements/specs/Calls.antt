@@ -1,5 +1,5 @@
 -- What stands behind a place: a value for it, or the arguments of its call.
-use Rattle.std.specs.Prelude.{ℕ, Bool, true, false, List, [], ◌∷◌, ◌++◌, length, Option, Some, None, if◌then◌else◌}
+use Rattle.std.specs.Prelude.{ℕ, Bool, true, false, List, [], ◌∷◌, ◌++◌, length, Option, Some, None, option_map, if◌then◌else◌}
 use Rattle.vba_lexer.specs.declared.token.Token.{Token}
 use Rattle.vba_words.specs.declared.mark.Mark.TheVariants as mark
 use Rattle.vba_words.specs.declared.reading.ReadToken.{ReadToken}
@@ -44,3 +44,7 @@ shorter _ = None
 abbrev pub counted : Option (Expr × List ReadToken) → Option (Expr × ℕ)
 counted None = None
 counted (Some parts) = Some (parts.0, length parts.1)
+
+-- how many tokens the last part of a place has, where that is a member or a bracket
+abbrev pub last_length : Expr → Option ℕ
+last_length place = option_map (λ parts. parts.1) (counted (shorter place))

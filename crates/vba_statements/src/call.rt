@@ -8,7 +8,7 @@ ghost use Rattle.vba_tree.specs.Forms.{begins_attribute};
 ghost use Rattle.vba_tree.specs.Tree as tree;
 ghost use Rattle.vba_tree.specs.View.{simple_view};
 ghost use Rattle.vba_grammar.specs.Places.{calls_at};
-ghost use Rattle.vba_statements.specs.Calls.{may_be_called, call_at, bracket, shorter, counted};
+ghost use Rattle.vba_statements.specs.Calls.{may_be_called, call_at, bracket, shorter, counted, last_length};
 
 use crate::print::begins_print;
 use std::alloc::Global;
@@ -86,22 +86,33 @@ fn bracket_length(
     Ok(tokens.len())
 }
 
-/// A place without its last part, a member or a bracket, and how many tokens that part has.
-fn without_last(alloc: Global, place: Expression) -> Result<Option<(Expression, usize)>, NoMemory>
-    ensures { IfOk result (λ found. option_map (λ f. (view f.0, f.1)) found ≡ counted (shorter (view place))) }
+/// How many tokens the last part of a place has, where that is a member or a bracket.
+fn last_length(alloc: Global, place: &Expression) -> Result<Option<usize>, NoMemory>
+    ensures { IfOk result (λ found. found ≡ last_length (view place.now)) }
 {
     match place {
-        Expression::Member { base, .. } => Ok(Some((Box::into_inner(base), 2))),
+        Expression::Member { .. } => Ok(Some(2)),
         Expression::Index {
-            base,
             left,
             arguments,
             right,
-        } => {
-            let count = bracket_length(alloc, left, arguments.as_slice(), right)?;
-            Ok(Some((Box::into_inner(base), count)))
-        }
+            ..
+        } => Ok(Some(bracket_length(alloc, *left, arguments.as_slice(), *right)?)),
         _ => Ok(None),
+    }
+}
+
+/// A place without its last part, a member or a bracket, and how many tokens that part has.
+#[tactic(auto, using(crate::proofs::Places::counted_apart))]
+fn without_last(alloc: Global, place: Expression) -> Result<Option<(Expression, usize)>, NoMemory>
+    ensures { IfOk result (λ found. option_map (λ f. (view f.0, f.1)) found ≡ counted (shorter (view place))) }
+{
+    let Some(count) = last_length(alloc, &place)? else {
+        return Ok(None);
+    };
+    match place.into_inner() {
+        Some(base) => Ok(Some((base, count))),
+        None => Ok(None),
     }
 }
 

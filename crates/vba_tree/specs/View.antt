@@ -30,6 +30,7 @@ use Rattle.vba_tree.specs.declared.simple.SimpleStatement.TheVariants as simple
 use Rattle.vba_tree.specs.declared.statement.Statement.{Statement, fold-Statement, Statement-F}
 use Rattle.vba_tree.specs.declared.statement.StatementList.{StatementList, fold-StatementList, StatementList-F}
 use Rattle.vba_tree.specs.declared.statement.NextStatement.{NextStatement, fold-NextStatement, NextStatement-F}
+use Rattle.vba_tree.specs.declared.line.StatementLine.{StatementLine}
 use Rattle.vba_tree.specs.declared.line.LineTree.{LineTree}
 use Rattle.vba_tree.specs.declared.line.LineTree.TheVariants as line
 use Rattle.vba_tree.specs.Tree as tree
@@ -180,6 +181,11 @@ pub data Next : Type 0 where
   written : Token → tree.Stmt → Next
   missing : Token → Next
 
+-- the statement behind a colon, where one is written
+abbrev pub statement_in : Next → Option tree.Stmt
+statement_in (written colon statement) = Some statement
+statement_in (missing colon) = None
+
 -- statements and one more
 abbrev pub put : tree.Stmts → Next → tree.Stmts
 put before (written colon statement) = tree.more before colon statement
@@ -218,6 +224,11 @@ next_view = fold-NextStatement Next tree.Stmt tree.Stmts next_step statement_ste
 abbrev pub front : Option Statement → tree.Stmts
 front None = tree.nothing
 front (Some statement) = tree.one (statement_view statement)
+
+-- the line of statements that a line is
+abbrev pub statement_line_in : LineTree → Option StatementLine
+statement_line_in (line.Statements statements) = Some statements
+statement_line_in other = None
 
 -- the plain tree that the tree of a line stands for
 abbrev pub view : LineTree → tree.Line

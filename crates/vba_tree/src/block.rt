@@ -4,7 +4,6 @@ use vba_lexer::Token;
 use vba_words::Identifier;
 
 /// A test of a `Case` line.
-#[derive(Drop)]
 pub enum CaseTest {
     Value(Expression),
     /// `low To high`
@@ -20,6 +19,25 @@ pub enum CaseTest {
         operator_token: Token,
         value: Expression,
     },
+}
+
+impl Drop for CaseTest {
+    fn drop(self) {
+        match self {
+            CaseTest::Value(_value) => {}
+            CaseTest::Range {
+                low: _low,
+                to_word: _to_word,
+                high: _high,
+            } => {}
+            CaseTest::Comparison {
+                is_word: _is_word,
+                operator: _operator,
+                operator_token: _operator_token,
+                value: _value,
+            } => {}
+        }
+    }
 }
 
 /// `Step value` of a For line.
@@ -45,7 +63,6 @@ pub struct LoopCondition {
 }
 
 /// A line of a block. It may stand as a statement between colons.
-#[derive(Drop)]
 pub enum BlockLine {
     /// `If condition Then`
     If {
@@ -135,4 +152,84 @@ pub enum BlockLine {
         end_word: Token,
         with_word: Token,
     },
+}
+
+impl Drop for BlockLine {
+    fn drop(self) {
+        match self {
+            BlockLine::If {
+                if_word: _if_word,
+                condition: _condition,
+                then_word: _then_word,
+            } => {}
+            BlockLine::ElseIf {
+                else_if_word: _else_if_word,
+                condition: _condition,
+                then_word: _then_word,
+            } => {}
+            BlockLine::Else(_else) => {}
+            BlockLine::EndIf {
+                end_word: _end_word,
+                if_word: _if_word,
+            } => {}
+            BlockLine::SelectCase {
+                select_word: _select_word,
+                case_word: _case_word,
+                value: _value,
+            } => {}
+            BlockLine::Case {
+                case_word: _case_word,
+                tests: _tests,
+            } => {}
+            BlockLine::CaseElse {
+                case_word: _case_word,
+                else_word: _else_word,
+            } => {}
+            BlockLine::EndSelect {
+                end_word: _end_word,
+                select_word: _select_word,
+            } => {}
+            BlockLine::For {
+                for_word: _for_word,
+                counter: _counter,
+                equal: _equal,
+                start: _start,
+                to_word: _to_word,
+                limit: _limit,
+                step: _step,
+            } => {}
+            BlockLine::ForEach {
+                for_word: _for_word,
+                each_word: _each_word,
+                element: _element,
+                in_word: _in_word,
+                group: _group,
+            } => {}
+            BlockLine::Next {
+                next_word: _next_word,
+                counter: _counter,
+            } => {}
+            BlockLine::Do {
+                do_word: _do_word,
+                condition: _condition,
+            } => {}
+            BlockLine::Loop {
+                loop_word: _loop_word,
+                condition: _condition,
+            } => {}
+            BlockLine::While {
+                while_word: _while_word,
+                condition: _condition,
+            } => {}
+            BlockLine::Wend(_wend) => {}
+            BlockLine::With {
+                with_word: _with_word,
+                object: _object,
+            } => {}
+            BlockLine::EndWith {
+                end_word: _end_word,
+                with_word: _with_word,
+            } => {}
+        }
+    }
 }

@@ -27,7 +27,6 @@ pub struct Brackets {
 }
 
 /// A type behind `As`.
-#[derive(Drop)]
 pub enum DeclaredType {
     Named(TypeName),
     /// `String * length`
@@ -36,6 +35,19 @@ pub enum DeclaredType {
         times: Token,
         length: Expression,
     },
+}
+
+impl Drop for DeclaredType {
+    fn drop(self) {
+        match self {
+            DeclaredType::Named(_named) => {}
+            DeclaredType::FixedText {
+                string_word: _string_word,
+                times: _times,
+                length: _length,
+            } => {}
+        }
+    }
 }
 
 /// `As type`
@@ -54,7 +66,6 @@ pub struct NewTypeClause {
 }
 
 /// The bounds of one dimension of an array.
-#[derive(Drop)]
 pub enum Dim {
     Upper(Expression),
     /// `lower To upper`
@@ -65,21 +76,53 @@ pub enum Dim {
     },
 }
 
+impl Drop for Dim {
+    fn drop(self) {
+        match self {
+            Dim::Upper(_upper) => {}
+            Dim::Range {
+                lower: _lower,
+                to_word: _to_word,
+                upper: _upper,
+            } => {}
+        }
+    }
+}
+
 /// `([dims])` behind the name of an array.
-#[derive(Drop)]
 pub struct Dims {
     pub left: Token,
     pub dims: Option<Listed<Dim>>,
     pub right: Token,
 }
 
+impl Drop for Dims {
+    fn drop(self) {
+        let Dims {
+            left: _left,
+            dims: _dims,
+            right: _right,
+        } = self;
+    }
+}
+
 /// `[WithEvents] name [([dims])] [As [New] type]`
-#[derive(Drop)]
 pub struct Variable {
     pub with_events_word: Option<Token>,
     pub name: Identifier,
     pub dims: Option<Dims>,
     pub type_clause: Option<NewTypeClause>,
+}
+
+impl Drop for Variable {
+    fn drop(self) {
+        let Variable {
+            with_events_word: _with_events_word,
+            name: _name,
+            dims: _dims,
+            type_clause: _type_clause,
+        } = self;
+    }
 }
 
 /// The words that begin a declaration of variables.
@@ -93,15 +136,23 @@ pub enum VariableWord {
 }
 
 /// `Dim a, b(3), c As Long`
-#[derive(Drop)]
 pub struct Variables {
     pub word: VariableWord,
     pub word_token: Token,
     pub variables: Listed<Variable>,
 }
 
+impl Drop for Variables {
+    fn drop(self) {
+        let Variables {
+            word: _word,
+            word_token: _word_token,
+            variables: _variables,
+        } = self;
+    }
+}
+
 /// `name [As type] = value`
-#[derive(Drop)]
 pub struct Constant {
     pub name: Identifier,
     pub type_clause: Option<TypeClause>,
@@ -109,10 +160,30 @@ pub struct Constant {
     pub value: Expression,
 }
 
+impl Drop for Constant {
+    fn drop(self) {
+        let Constant {
+            name: _name,
+            type_clause: _type_clause,
+            equal: _equal,
+            value: _value,
+        } = self;
+    }
+}
+
 /// `[Public|Private|Global] Const a = 1, b = 2`
-#[derive(Drop)]
 pub struct Constants {
     pub access: Option<AccessWord>,
     pub const_word: Token,
     pub constants: Listed<Constant>,
+}
+
+impl Drop for Constants {
+    fn drop(self) {
+        let Constants {
+            access: _access,
+            const_word: _const_word,
+            constants: _constants,
+        } = self;
+    }
 }

@@ -1,3 +1,7 @@
+ghost use Rattle.std.specs.Prelude.{◌≡◌, IfOk, IfErr, None};
+ghost use Rattle.vba_tree.specs.declared.line.LineTree.TheVariants as lines;
+ghost use Rattle.vba_tree.specs.View.{statement_line_in};
+
 use crate::declaration::{AccessWord, Dims, TypeClause};
 use crate::list::Listed;
 use crate::procedure::{EventLine, ProcedureEnd, ProcedureHeader};
@@ -52,12 +56,22 @@ pub struct AttributeValue {
 }
 
 /// `Attribute name{.name} = value, ..`
-#[derive(Drop)]
 pub struct AttributeLine {
     pub attribute_word: Token,
     pub names: Listed<Identifier>,
     pub equal: Token,
     pub values: Listed<AttributeValue>,
+}
+
+impl Drop for AttributeLine {
+    fn drop(self) {
+        let AttributeLine {
+            attribute_word: _attribute_word,
+            names: _names,
+            equal: _equal,
+            values: _values,
+        } = self;
+    }
 }
 
 /// `[Public|Private] Enum name`
@@ -77,15 +91,23 @@ pub struct TypeHeader {
 }
 
 /// `name [([dims])] As type`: a member of a Type.
-#[derive(Drop)]
 pub struct TypeMember {
     pub name: Identifier,
     pub dims: Option<Dims>,
     pub type_clause: TypeClause,
 }
 
+impl Drop for TypeMember {
+    fn drop(self) {
+        let TypeMember {
+            name: _name,
+            dims: _dims,
+            type_clause: _type_clause,
+        } = self;
+    }
+}
+
 /// A label at the front of a line.
-#[derive(Drop)]
 pub enum LineLabel {
     /// `name:`
     Name {
@@ -100,16 +122,54 @@ pub enum LineLabel {
     },
 }
 
+impl Drop for LineLabel {
+    fn drop(self) {
+        match self {
+            LineLabel::Name {
+                name: _name,
+                colon: _colon,
+            } => {}
+            LineLabel::Number {
+                token: _token,
+                number: _number,
+                colon: _colon,
+            } => {}
+        }
+    }
+}
+
 /// `[label] [statement] {: [statement]}`. A line without tokens is one too, and so is a member of an Enum.
-#[derive(Drop)]
 pub struct StatementLine {
     pub label: Option<LineLabel>,
     pub first: Option<Statement>,
     pub others: Vec<NextStatement>,
 }
 
+impl StatementLine {
+    /// The label, the first statement and those behind a colon.
+    pub fn into_parts(self) -> (Option<LineLabel>, Option<Statement>, Vec<NextStatement>)
+        ensures { result ≡ (self.label, self.first, self.others) }
+    {
+        let StatementLine {
+            label,
+            first,
+            others,
+        } = self;
+        (label, first, others)
+    }
+}
+
+impl Drop for StatementLine {
+    fn drop(self) {
+        let StatementLine {
+            label: _label,
+            first: _first,
+            others: _others,
+        } = self;
+    }
+}
+
 /// A line of a module.
-#[derive(Drop)]
 pub enum LineTree {
     Option(OptionLine),
     Attribute(AttributeLine),
@@ -124,4 +184,42 @@ pub enum LineTree {
     ProcedureHeader(ProcedureHeader),
     ProcedureEnd(ProcedureEnd),
     Statements(StatementLine),
+}
+
+impl LineTree {
+    /// The line of statements that a line is, or else the line.
+    pub fn into_statements(self) -> Result<StatementLine, LineTree>
+        ensures statements { IfOk result (λ line. self ≡ lines.Statements line) }
+        ensures other { IfErr result (λ line. line ≡ self) }
+        ensures none { IfErr result (λ line. statement_line_in line ≡ None) }
+    {
+        match self {
+            LineTree::Statements(line) => Ok(line),
+            other => Err(other),
+        }
+    }
+}
+
+impl Drop for LineTree {
+    fn drop(self) {
+        match self {
+            LineTree::Option(_option) => {}
+            LineTree::Attribute(_attribute) => {}
+            LineTree::EnumHeader(_enum_header) => {}
+            LineTree::EnumEnd {
+                end_word: _end_word,
+                enum_word: _enum_word,
+            } => {}
+            LineTree::TypeHeader(_type_header) => {}
+            LineTree::TypeMember(_type_member) => {}
+            LineTree::TypeEnd {
+                end_word: _end_word,
+                type_word: _type_word,
+            } => {}
+            LineTree::Event(_event) => {}
+            LineTree::ProcedureHeader(_procedure_header) => {}
+            LineTree::ProcedureEnd(_procedure_end) => {}
+            LineTree::Statements(_statements) => {}
+        }
+    }
 }

@@ -26,7 +26,6 @@ pub struct DefaultValue {
 }
 
 /// `[Optional] [ByVal|ByRef] [ParamArray] name [()] [As type] [= value]`
-#[derive(Drop)]
 pub struct Parameter {
     pub optional_word: Option<Token>,
     pub passing: Option<PassingWord>,
@@ -37,21 +36,54 @@ pub struct Parameter {
     pub default: Option<DefaultValue>,
 }
 
+impl Drop for Parameter {
+    fn drop(self) {
+        let Parameter {
+            optional_word: _optional_word,
+            passing: _passing,
+            param_array_word: _param_array_word,
+            name: _name,
+            brackets: _brackets,
+            type_clause: _type_clause,
+            default: _default,
+        } = self;
+    }
+}
+
 /// `([parameters])`
-#[derive(Drop)]
 pub struct Parameters {
     pub left: Token,
     pub parameters: Option<Listed<Parameter>>,
     pub right: Token,
 }
 
+impl Drop for Parameters {
+    fn drop(self) {
+        let Parameters {
+            left: _left,
+            parameters: _parameters,
+            right: _right,
+        } = self;
+    }
+}
+
 /// `[Public] Event name [([parameters])]`
-#[derive(Drop)]
 pub struct EventLine {
     pub access: Option<AccessWord>,
     pub event_word: Token,
     pub name: Identifier,
     pub parameters: Option<Parameters>,
+}
+
+impl Drop for EventLine {
+    fn drop(self) {
+        let EventLine {
+            access: _access,
+            event_word: _event_word,
+            name: _name,
+            parameters: _parameters,
+        } = self;
+    }
 }
 
 /// The words for the kind of a procedure.
@@ -74,15 +106,23 @@ pub enum ProcedureWords {
 }
 
 /// `As type [()]` of a procedure.
-#[derive(Drop)]
 pub struct ResultType {
     pub as_word: Token,
     pub declared_type: DeclaredType,
     pub brackets: Option<Brackets>,
 }
 
+impl Drop for ResultType {
+    fn drop(self) {
+        let ResultType {
+            as_word: _as_word,
+            declared_type: _declared_type,
+            brackets: _brackets,
+        } = self;
+    }
+}
+
 /// `[Public|Private|Friend] [Static] Sub name [([parameters])] [As type [()]]`, likewise of Functions and Properties.
-#[derive(Drop)]
 pub struct ProcedureHeader {
     pub access: Option<AccessWord>,
     pub static_word: Option<Token>,
@@ -90,6 +130,19 @@ pub struct ProcedureHeader {
     pub name: Identifier,
     pub parameters: Option<Parameters>,
     pub result_type: Option<ResultType>,
+}
+
+impl Drop for ProcedureHeader {
+    fn drop(self) {
+        let ProcedureHeader {
+            access: _access,
+            static_word: _static_word,
+            words: _words,
+            name: _name,
+            parameters: _parameters,
+            result_type: _result_type,
+        } = self;
+    }
 }
 
 /// The words behind `End` of a procedure.

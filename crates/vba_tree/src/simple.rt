@@ -6,21 +6,43 @@ use vba_lexer::{Number, Token};
 use vba_words::Identifier;
 
 /// A label where it is gone to.
-#[derive(Drop)]
 pub enum LabelName {
     Name(Identifier),
     /// A line number.
     Number { token: Token, number: Number },
 }
 
+impl Drop for LabelName {
+    fn drop(self) {
+        match self {
+            LabelName::Name(_name) => {}
+            LabelName::Number {
+                token: _token,
+                number: _number,
+            } => {}
+        }
+    }
+}
+
 /// `place(dims) [As type]`
-#[derive(Drop)]
 pub struct ReDimArray {
     pub place: Expression,
     pub left: Token,
     pub dims: Listed<Dim>,
     pub right: Token,
     pub type_clause: Option<TypeClause>,
+}
+
+impl Drop for ReDimArray {
+    fn drop(self) {
+        let ReDimArray {
+            place: _place,
+            left: _left,
+            dims: _dims,
+            right: _right,
+            type_clause: _type_clause,
+        } = self;
+    }
 }
 
 /// What is left by `Exit`.
@@ -34,7 +56,6 @@ pub enum ExitKind {
 }
 
 /// What stands behind `On Error`.
-#[derive(Drop)]
 pub enum ErrorHandling {
     /// `GoTo label`
     GoTo {
@@ -59,20 +80,62 @@ pub enum ErrorHandling {
     },
 }
 
+impl Drop for ErrorHandling {
+    fn drop(self) {
+        match self {
+            ErrorHandling::GoTo {
+                goto_word: _goto_word,
+                label: _label,
+            } => {}
+            ErrorHandling::GoToZero {
+                goto_word: _goto_word,
+                zero: _zero,
+            } => {}
+            ErrorHandling::GoToMinusOne {
+                goto_word: _goto_word,
+                minus: _minus,
+                one: _one,
+            } => {}
+            ErrorHandling::ResumeNext {
+                resume_word: _resume_word,
+                next_word: _next_word,
+            } => {}
+        }
+    }
+}
+
 /// What stands behind `Resume`.
-#[derive(Drop)]
 pub enum ResumeTarget {
     Next(Token),
     Zero(Token),
     Label(LabelName),
 }
 
+impl Drop for ResumeTarget {
+    fn drop(self) {
+        match self {
+            ResumeTarget::Next(_next) => {}
+            ResumeTarget::Zero(_zero) => {}
+            ResumeTarget::Label(_label) => {}
+        }
+    }
+}
+
 /// `([arguments])` of a RaiseEvent statement.
-#[derive(Drop)]
 pub struct EventArguments {
     pub left: Token,
     pub arguments: Vec<Argument>,
     pub right: Token,
+}
+
+impl Drop for EventArguments {
+    fn drop(self) {
+        let EventArguments {
+            left: _left,
+            arguments: _arguments,
+            right: _right,
+        } = self;
+    }
 }
 
 /// The marks between what is printed.
@@ -83,15 +146,23 @@ pub enum PrintMark {
 }
 
 /// What is printed next, behind its mark. It may be missing.
-#[derive(Drop)]
 pub struct PrintItem {
     pub mark: PrintMark,
     pub mark_token: Token,
     pub value: Option<Expression>,
 }
 
+impl Drop for PrintItem {
+    fn drop(self) {
+        let PrintItem {
+            mark: _mark,
+            mark_token: _mark_token,
+            value: _value,
+        } = self;
+    }
+}
+
 /// A statement other than a single-line If.
-#[derive(Drop)]
 pub enum SimpleStatement {
     Variables(Variables),
     Constants(Constants),
@@ -175,4 +246,80 @@ pub enum SimpleStatement {
         others: Vec<PrintItem>,
     },
     BlockLine(BlockLine),
+}
+
+impl Drop for SimpleStatement {
+    fn drop(self) {
+        match self {
+            SimpleStatement::Variables(_variables) => {}
+            SimpleStatement::Constants(_constants) => {}
+            SimpleStatement::Assignment {
+                let_word: _let_word,
+                place: _place,
+                equal: _equal,
+                value: _value,
+            } => {}
+            SimpleStatement::SetAssignment {
+                set_word: _set_word,
+                place: _place,
+                equal: _equal,
+                value: _value,
+            } => {}
+            SimpleStatement::CallPlace {
+                call_word: _call_word,
+                place: _place,
+            } => {}
+            SimpleStatement::Call {
+                target: _target,
+                arguments: _arguments,
+            } => {}
+            SimpleStatement::ReDim {
+                redim_word: _redim_word,
+                preserve_word: _preserve_word,
+                arrays: _arrays,
+            } => {}
+            SimpleStatement::Erase {
+                erase_word: _erase_word,
+                places: _places,
+            } => {}
+            SimpleStatement::GoTo {
+                goto_word: _goto_word,
+                label: _label,
+            } => {}
+            SimpleStatement::GoSub {
+                gosub_word: _gosub_word,
+                label: _label,
+            } => {}
+            SimpleStatement::Return(_return) => {}
+            SimpleStatement::Exit {
+                exit_word: _exit_word,
+                kind: _kind,
+                kind_word: _kind_word,
+            } => {}
+            SimpleStatement::End(_end) => {}
+            SimpleStatement::Stop(_stop) => {}
+            SimpleStatement::OnError {
+                on_word: _on_word,
+                error_word: _error_word,
+                handling: _handling,
+            } => {}
+            SimpleStatement::Resume {
+                resume_word: _resume_word,
+                target: _target,
+            } => {}
+            SimpleStatement::RaiseEvent {
+                raise_event_word: _raise_event_word,
+                event: _event,
+                arguments: _arguments,
+            } => {}
+            SimpleStatement::DebugPrint {
+                debug_word: _debug_word,
+                dot: _dot,
+                print_word: _print_word,
+                first: _first,
+                others: _others,
+            } => {}
+            SimpleStatement::BlockLine(_block_line) => {}
+        }
+    }
 }
