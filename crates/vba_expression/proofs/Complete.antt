@@ -1,6 +1,6 @@
 -- What a fitting tree spells is read.
 use Rattle.std.proofs.Common.{◌≡◌, ℕ, suc, ◌<◌, ◌≤◌, false, List, [], ◌∷◌, ◌++◌, Option, Some, None, refl, ap, ◌∙◌, arith, append_assoc}
-use Rattle.std.specs.Prelude.{nat_lt, ◌&&◌}
+use Rattle.std.specs.Prelude.{nat_lt, ◌&&◌, option_map}
 use Rattle.std.proofs.lemmas.Bool.{le-ltb, lt-ltb}
 use Rattle.vba_lexer.specs.declared.token.Token.{Token}
 use Rattle.vba_lexer.specs.declared.number.TypeSuffix.{TypeSuffix}
@@ -232,10 +232,10 @@ reads_new : (t : Token) (q : Option TypeQualifier) (n : Identifier) (fs : List F
     → run (new_wanted t fs) (type_name_tokens (record { qualifier = q; name = n }) ++ rest)
     ≡ run (have (new t (record { qualifier = q; name = n })) fs) rest
 reads_new t None n fs rest w =
-    stepped (new_wanted t fs) (have (new t (short_type n)) fs) (naming n) rest (ap (λ s. unless_suffixed s (have (new t (short_type n)) fs)) w.0)
+    stepped (new_wanted t fs) (have (new t (short_type n)) fs) (naming n) rest (ap (λ s. option_map (λ x. have (new t (short_type x)) fs) (unless_suffixed s n)) w.0)
 reads_new t (Some q) n fs rest w =
     stepped (new_wanted t fs) (have (new t (short_type q.name)) fs) (naming q.name) (marked q.dot mark.Dot ∷ naming n ∷ rest)
-    (ap (λ s. unless_suffixed s (have (new t (short_type q.name)) fs)) w.1)
+    (ap (λ s. option_map (λ x. have (new t (short_type x)) fs) (unless_suffixed s q.name)) w.1)
     ∙ ap (λ s. run (have (new_behind_dot t None q.name q.dot n s) fs) rest) w.0
 
 reads_class : (t : Token) (e : Expr) (i : Token) (q : Option TypeQualifier) (n : Identifier) (fs : List Frame) (rest : List ReadToken)
@@ -244,10 +244,10 @@ reads_class : (t : Token) (e : Expr) (i : Token) (q : Option TypeQualifier) (n :
     ≡ run (have (type_of t e i (record { qualifier = q; name = n })) fs) rest
 reads_class t e i None n fs rest w =
     stepped (class_wanted t e i fs) (have (type_of t e i (short_type n)) fs) (naming n) rest
-    (ap (λ s. unless_suffixed s (have (type_of t e i (short_type n)) fs)) w.0)
+    (ap (λ s. option_map (λ x. have (type_of t e i (short_type x)) fs) (unless_suffixed s n)) w.0)
 reads_class t e i (Some q) n fs rest w =
     stepped (class_wanted t e i fs) (have (type_of t e i (short_type q.name)) fs) (naming q.name) (marked q.dot mark.Dot ∷ naming n ∷ rest)
-    (ap (λ s. unless_suffixed s (have (type_of t e i (short_type q.name)) fs)) w.1)
+    (ap (λ s. option_map (λ x. have (type_of t e i (short_type x)) fs) (unless_suffixed s q.name)) w.1)
     ∙ ap (λ s. run (have (type_of_behind_dot t e i None q.name q.dot n s) fs) rest) w.0
 
 operand_there : (u : UnaryOperator) (t : Token) (fs : List Frame) → unary_level u < room fs

@@ -1,6 +1,6 @@
 -- What is read is a fitting tree that spells the tokens.
 use Rattle.std.proofs.Common.{◌≡◌, ℕ, suc, ◌<◌, ◌≤◌, Bool, true, List, [], ◌∷◌, ◌++◌, Option, Some, None, refl, sym, ap, ◌∙◌, subst, arith, append_assoc}
-use Rattle.std.specs.Prelude.{nat_lt, if◌then◌else◌}
+use Rattle.std.specs.Prelude.{nat_lt, if◌then◌else◌, option_map}
 use Rattle.std.proofs.lemmas.Bool.{ltb-true, ltb-false, cond_both}
 use Rattle.std.proofs.lemmas.List.{append-nil}
 use Rattle.vba_lexer.specs.declared.token.Token.{Token}
@@ -25,7 +25,7 @@ use Rattle.vba_expression.specs.Tree.{Expr, literal, me, name, with_member, memb
 use Rattle.vba_expression.specs.Spelling.{literal_reading, unary_reading, binary_reading, comma_tokens, spell, spell_args}
 use Rattle.vba_expression.specs.Fitting.{unary_level, binary_level, level, is_none, CommaFits, HasPlainNames, Fits, FitsArgs}
 use Rattle.vba_expression.specs.Parts.{keyword_part, mark_part, reading_part, part_of}
-use Rattle.vba_expression.specs.Reader.{Head, call, behind, Frame, whole, right_operand, unary_operand, inner, type_of_operand, argument, named_argument, State, want, have, dotted, with_dotted, new_wanted, class_wanted, room, reduce, loosest, new_behind_dot, type_of_behind_dot, behind_dot, operated, operating, next_argument, missing_argument, closed, closed_early, naming_argument, wanted, had, unless_suffixed, after, step, next, run}
+use Rattle.vba_expression.specs.Reader.{Head, call, behind, Frame, whole, right_operand, unary_operand, inner, type_of_operand, argument, named_argument, State, want, have, dotted, with_dotted, new_wanted, class_wanted, room, reduce, loosest, short_type, new_behind_dot, type_of_behind_dot, behind_dot, operated, operating, next_argument, missing_argument, closed, closed_early, naming_argument, wanted, had, unless_suffixed, after, step, next, run}
 use Rattle.vba_expression.proofs.Reducing.{binary_positive}
 
 -- the token that a part stands for
@@ -390,9 +390,10 @@ module _ (floor : ℕ) where
       (ap (λ ts. frames fs ++ ts) b.same ∙ dot_text (frames fs) (spell e) (marked d mark.Dot) (naming x), (b.primary, b.fits, w.2))
 
   -- the name of a type has no suffix
-  told_class : (o : Option TypeSuffix) (ts : List ReadToken) (s : State) → (o ≡ None → (so_far s ≡ ts) × FitsState s) → Told ts (unless_suffixed o s)
-  told_class None ts s h = h refl
-  told_class (Some suffix) ts s h = tt
+  told_class : (o : Option TypeSuffix) (ts : List ReadToken) (next : Identifier → State) (x : Identifier)
+      → (o ≡ None → (so_far (next x) ≡ ts) × FitsState (next x)) → Told ts (option_map next (unless_suffixed o x))
+  told_class None ts next x h = h refl
+  told_class (Some suffix) ts next x h = tt
 
   told_after : (s : State) (t : Token) (p : Part) → FitsState s → Told (so_far s ++ token_of t p ∷ []) (after s t p)
   told_after (want fs) t p w = told_wanted fs t p w
@@ -403,10 +404,10 @@ module _ (floor : ℕ) where
       (sym (append_assoc (frames fs) (marked d mark.WithDot ∷ []) (naming x ∷ [])), (refl, tt, w))
   told_after (with_dotted d fs) t other w = tt
   told_after (new_wanted n fs) t (part.Name x) w =
-      told_class x.suffix _ _ (λ h. (sym (append_assoc (frames fs) (word n keyword.New ∷ []) (naming x ∷ [])), (refl, (h, tt), w)))
+      told_class x.suffix _ (λ y. have (new n (short_type y)) fs) x (λ h. (sym (append_assoc (frames fs) (word n keyword.New ∷ []) (naming x ∷ [])), (refl, (h, tt), w)))
   told_after (new_wanted n fs) t other w = tt
   told_after (class_wanted n e i fs) t (part.Name x) w =
-      told_class x.suffix _ _
+      told_class x.suffix _ (λ y. have (type_of n e i (short_type y)) fs) x
       (λ h. (class_text (frames fs) (spell e) (word n keyword.TypeOf) (word i keyword.Is) (naming x), (refl, (w.0, w.1, (h, tt)), w.2)))
   told_after (class_wanted n e i fs) t other w = tt
 

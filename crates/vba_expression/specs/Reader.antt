@@ -211,15 +211,19 @@ name_of other = None
 abbrev pub named_by : (Identifier → State) → Part → Option State
 named_by next p = option_map next (name_of p)
 
--- what a name leads to that may have no suffix
+-- what there is where no suffix stands
 abbrev pub unless_suffixed : {A : Type 0} → Option TypeSuffix → A → Option A
-unless_suffixed None next = Some next
-unless_suffixed (Some suffix) next = None
+unless_suffixed None named = Some named
+unless_suffixed (Some suffix) named = None
+
+-- the name that a part is, if it has no suffix
+abbrev pub plain_name_of : Part → Option Identifier
+plain_name_of (part.Name identifier) = unless_suffixed identifier.suffix identifier
+plain_name_of other = None
 
 -- the state that the name of a type leads to, which has no suffix
 abbrev pub classed_by : (Identifier → State) → Part → Option State
-classed_by next (part.Name identifier) = unless_suffixed identifier.suffix (next identifier)
-classed_by next other = None
+classed_by next p = option_map next (plain_name_of p)
 
 -- the state that a token leads to, if it can be read
 abbrev pub after : State → Token → Part → Option State

@@ -13,7 +13,7 @@ ghost use Rattle.vba_words.specs.Readings as readings;
 use crate::form::form_place;
 use crate::line::read_line;
 use std::alloc::Global;
-use vba_base::{OrMemory, Place, Refusal, Units};
+use vba_base::{NoMemory, OrMemory, Place, Refusal, Units};
 use vba_lexer::Line;
 use vba_tree::LineTree;
 use vba_words::{ReadToken, read_tokens};
@@ -31,21 +31,21 @@ pub fn parse_line(alloc: Global, source: &Units, line: &Line) -> Result<LineTree
     let tokens = read_tokens(alloc, source, line.tokens.as_slice())?;
     match read_line(alloc, tokens.as_slice())? {
         Some(tree) => Ok(tree),
-        None => Err(OrMemory::Fault(refusal_of(tokens.as_slice()))),
+        None => Err(OrMemory::Fault(refusal_of(alloc, tokens.as_slice())?)),
     }
 }
 
 /// The refusal of a line with these tokens that has no tree.
-fn refusal_of(tokens: &[ReadToken]) -> Refusal
-    ensures { result ≡ verdict.unread tokens.now (form_of tokens.now) }
+fn refusal_of(alloc: Global, tokens: &[ReadToken]) -> Result<Refusal, NoMemory>
+    ensures { IfOk result (λ refusal. refusal ≡ verdict.unread tokens.now (form_of tokens.now)) }
 {
-    match form_place(tokens) {
+    Ok(match form_place(alloc, tokens)? {
         Some(place) => Refusal { rule: 13, place },
         None => Refusal {
             rule: 10,
             place: first_place(tokens),
         },
-    }
+    })
 }
 
 /// The place of the first token.
