@@ -1,5 +1,5 @@
 -- What is looked for in statements, in single-line Ifs too.
-use Rattle.std.specs.Prelude.{ℕ, Bool, false, List, [], ◌∷◌, ◌++◌}
+use Rattle.std.specs.Prelude.{ℕ, Bool, true, false, List, [], ◌∷◌, ◌++◌}
 use Rattle.vba_base.specs.declared.place.Place.{Place}
 use Rattle.vba_expression.specs.Fitting.{is_none}
 use Rattle.vba_expression.specs.Tree.{Expr, name}
