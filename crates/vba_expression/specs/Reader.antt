@@ -213,8 +213,8 @@ named_by next p = option_map next (name_of p)
 
 -- what there is where no suffix stands
 abbrev pub unless_suffixed : {A : Type 0} → Option TypeSuffix → A → Option A
-unless_suffixed None named = Some named
-unless_suffixed (Some suffix) named = None
+unless_suffixed None found = Some found
+unless_suffixed (Some suffix) found = None
 
 -- the name that a part is, if it has no suffix
 abbrev pub plain_name_of : Part → Option Identifier
