@@ -179,12 +179,7 @@ fn pass_directive(
     if stands_on_kept(directive.kind, &progress.arms) {
         note_fault(&mut progress.least, line.fault);
         note_if(&mut progress.least, !form, 7, place);
-        note_if(
-            &mut progress.least,
-            is_bad,
-            9,
-            expression_place(directive),
-        );
+        note_if(&mut progress.least, is_bad, 9, expression_place(directive));
     }
     define(alloc, source, directive, value, &mut progress.constants)?;
     pass(&mut progress.arms, directive.kind, place, told.holds)

@@ -130,7 +130,9 @@ fn is_simple_member(statement: &SimpleStatement) -> bool
     ensures { result ≡ places.is_enum_member (simple (simple_view statement.now)) }
 {
     match statement {
-        SimpleStatement::Call { target, arguments } => { is_plain_name(target) && arguments.is_empty() }
+        SimpleStatement::Call { target, arguments } => {
+            is_plain_name(target) && arguments.is_empty()
+        }
         SimpleStatement::Assignment {
             let_word: None,
             place,

@@ -6,7 +6,9 @@ ghost use Rattle.vba_lexer.specs.Inside.{LiesIn};
 ghost use Rattle.vba_module.specs.Outside.{form_of};
 ghost use Rattle.vba_module.specs.Parts as parts;
 ghost use Rattle.vba_module.specs.Verdict as verdict;
-ghost use Rattle.vba_parser.specs.Parsed.{IsRefused};
+ghost use Rattle.vba_parser.specs.Parsed.{IsRefused, IsRefusedUnspelled};
+ghost use Rattle.vba_tree.specs.Fitting.{IsReadAs};
+ghost use Rattle.vba_tree.specs.Spelling.{spell, tokens_of};
 ghost use Rattle.vba_tree.specs.View.{view};
 ghost use Rattle.vba_words.specs.Readings as readings;
 
@@ -20,12 +22,16 @@ use vba_words::{ReadToken, read_tokens};
 
 /// The tree of a line of a source, whose tokens have to lie in it: the one tree of the grammar that has these tokens and fits.
 ///
-/// Answers a tree exactly where there is one (`line_of` finds it), and refuses the line exactly where there is none: by S13 at
-/// the first word or mark of a form that the profile hasn't, and by S10 at the line's first token where no such form stands
-/// there. Only want of memory says nothing of the line.
+/// Answers a tree exactly where there is one (`line_of` finds it), and refuses the line exactly where no tree of the grammar's
+/// form has its tokens, whether it would fit or not: by S13 at the first word or mark of a form that the profile hasn't, and by
+/// S10 at the line's first token where no such form stands there. Only want of memory says nothing of the line.
+#[tactic(auto, using(crate::proofs::Reads::is_read, crate::proofs::Reads::is_spelled, crate::proofs::Reads::is_unspelled))]
 pub fn parse_line(alloc: Global, source: &Units, line: &Line) -> Result<LineTree, OrMemory<Refusal>>
     requires { LiesIn source.now line.now }
     ensures tree { IfOk result (λ tree. line_of (readings.read_line source.now line.now.tokens.items) ≡ Some (view tree)) }
+    ensures read { IfOk result (λ tree. IsReadAs (readings.read_line source.now line.now.tokens.items) (view tree)) }
+    ensures spelled { IfOk result (λ tree. tokens_of (spell (view tree)) ≡ line.now.tokens.items) }
+    ensures unspelled { IfErr result (IsRefusedUnspelled (readings.read_line source.now line.now.tokens.items)) }
     ensures refused { IfErr result (IsRefused (readings.read_line source.now line.now.tokens.items)) }
 {
     let tokens = read_tokens(alloc, source, line.tokens.as_slice())?;
