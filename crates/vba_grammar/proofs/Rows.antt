@@ -449,3 +449,20 @@ bad_18 = refl
 bad_19 : read_back (codes "Foo.Value + 1") ≡ no_tree (codes "Foo.Value + 1")
 unfolding read_back no_tree tokens folded caseless
 bad_19 = refl
+
+-- no suffix stands on a label where it is gone to, and none on a type
+bad_20 : read_back (codes "GoTo a$") ≡ no_tree (codes "GoTo a$")
+unfolding read_back no_tree tokens folded caseless
+bad_20 = refl
+
+bad_21 : read_back (codes "Dim x As Long&") ≡ no_tree (codes "Dim x As Long&")
+unfolding read_back no_tree tokens folded caseless
+bad_21 = refl
+
+bad_22 : read_back (codes "Dim x As New C%") ≡ no_tree (codes "Dim x As New C%")
+unfolding read_back no_tree tokens folded caseless
+bad_22 = refl
+
+bad_23 : read_back (codes "x = TypeOf y Is C@") ≡ no_tree (codes "x = TypeOf y Is C@")
+unfolding read_back no_tree tokens folded caseless
+bad_23 = refl
