@@ -6,14 +6,13 @@ use Rattle.vba_lexer.specs.declared.token.Token.{Token}
 use Rattle.vba_expression.specs.View.{view as expression_view}
 use Rattle.vba_tree.specs.Forms.{begins}
 use Rattle.vba_tree.specs.Tree.{if_then, if_else, Stmts}
-use Rattle.vba_tree.specs.View.{list_view}
-use Rattle.vba_tree.specs.declared.statement.StatementList.{StatementList}
 use Rattle.vba_grammar.specs.Lists.{in_list, put, Frame, then_frame, else_frame, State, need, with_else, closed}
 use Rattle.vba_parser.specs.Begun.{ended, AreBegun}
-use Rattle.vba_parser.specs.Seen.{place_view, frame_view, stack}
+use Rattle.vba_parser.specs.Seen.{head_place, else_view, frame_view, stack}
 use Rattle.vba_parser.specs.declared.frame.Frame as declared
 use Rattle.vba_parser.specs.declared.frame.Frame.TheVariants as frames
 use Rattle.vba_parser.specs.declared.frame.IfHead.{IfHead}
+use Rattle.vba_parser.specs.declared.frame.ElseHead.{ElseHead}
 use Rattle.vba_parser.proofs.Begun.{put_begun}
 
 -- no If is open
@@ -90,19 +89,17 @@ opening_begun wanted token held waiting frame h =
 -- the innermost If has no Else
 pub opens_else : (wanted : Option State) (token : Token) (held : Stmts) (waiting : List declared.Frame) (head : IfHead) (s : State)
     → Opening wanted token held (waiting ++ frames.Then head ∷ [])
-    → s ≡ need in_list (else_frame (place_view head.place) head.if_word (expression_view head.condition) head.then_word held token ∷ stack waiting)
+    → s ≡ need in_list (else_frame (head_place head) head.if_word (expression_view head.condition) head.then_word held token ∷ stack waiting)
     → Some s ≡ wanted
 opens_else wanted token held waiting head s h e =
     ap Some e ∙ sym (ap (λ fs. with_else held fs token) (stack_push waiting (frames.Then head))) ∙ h.same
 
 -- it has one, and ends
-pub opens_more : (wanted : Option State) (token : Token) (held next : Stmts) (all waiting : List declared.Frame) (frame : declared.Frame)
-    (head : IfHead) (then_list : StatementList) (else_word : Token)
-    → all ≡ waiting ++ frame ∷ [] → frame ≡ frames.Else head then_list else_word → Opening wanted token held all
-    → next ≡ put (place_view head.place) (if_else head.if_word (expression_view head.condition) head.then_word (list_view then_list) else_word held)
+pub opens_more : (wanted : Option State) (token : Token) (held next : Stmts) (all waiting : List declared.Frame) (frame : declared.Frame) (head : ElseHead)
+    → all ≡ waiting ++ frame ∷ [] → frame ≡ frames.Else head → Opening wanted token held all → next ≡ ended (else_view head) held
     → Opening wanted token next waiting
-opens_more wanted token held next all waiting frame head then_list else_word e is_else h is_next =
-    let made = frames.Else head then_list else_word in
+opens_more wanted token held next all waiting frame head e is_else h is_next =
+    let made = frames.Else head in
     let last : all ≡ waiting ++ made ∷ [] = e ∙ ap (λ f. waiting ++ f ∷ []) is_else in
     let P : Stmts → Type 0 = λ ss. AreBegun (begins ss) (stack waiting) in
     record {

@@ -27,11 +27,10 @@ none_begins others h =
     let e : begins (put_all (front None) (map next_view others)) ≡ false = begins_put_all (front None) (map next_view others) in
     cc
 
-list_is : (list : StatementList) (statement : Statement) → list.first.value ≡ statement
-    → list_view list ≡ put_all (front (Some statement)) (map next_view list.others.items)
-list_is list statement same = rw fold_out-StatementList (ap (λ s. put_all (one (statement_view s)) (map next_view list.others.items)) same)
+list_is : (list : StatementList) → list_view list ≡ put_all (front (Some list.first.value)) (map next_view list.others.items)
+list_is list = rw fold_out-StatementList refl
 
 -- a list that is made
-pub list_made : (r : StatementList-F NextStatement Statement StatementList) (statement : Statement) → r.first.value ≡ statement
-    → list_view (roll-StatementList r) ≡ put_all (front (Some statement)) (map next_view r.others.items)
-list_made r statement same = list_is (roll-StatementList r) statement same
+pub list_made : (r : StatementList-F NextStatement Statement StatementList)
+    → list_view (roll-StatementList r) ≡ put_all (front (Some r.first.value)) (map next_view r.others.items)
+list_made r = list_is (roll-StatementList r)

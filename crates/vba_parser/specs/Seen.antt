@@ -1,5 +1,5 @@
 -- The states of the reading of a line as contracts see them.
-use Rattle.std.specs.Prelude.{List, map, reverse}
+use Rattle.std.specs.Prelude.{List, Option, Some, None, map, option_map, reverse}
 use Rattle.vba_expression.specs.View.{view as expression_view}
 use Rattle.vba_tree.specs.Tree.{Stmts}
 use Rattle.vba_tree.specs.View.{put_all, front, next_view, list_view}
@@ -8,34 +8,51 @@ use Rattle.vba_grammar.specs.Lines as lines
 use Rattle.vba_parser.specs.declared.frame.Statements.{Statements}
 use Rattle.vba_parser.specs.declared.frame.Where.{Where}
 use Rattle.vba_parser.specs.declared.frame.Where.TheVariants as places
+use Rattle.vba_parser.specs.declared.frame.IfHead.{IfHead}
+use Rattle.vba_parser.specs.declared.frame.ElseHead.{ElseHead}
 use Rattle.vba_parser.specs.declared.frame.Frame.{Frame}
 use Rattle.vba_parser.specs.declared.frame.Frame.TheVariants as frames
 use Rattle.vba_parser.specs.declared.frame.State.{State}
-use Rattle.vba_parser.specs.declared.frame.State.TheVariants as states
 use Rattle.vba_parser.specs.declared.header.Header.{Header}
 use Rattle.vba_parser.specs.declared.header.Header.TheVariants as headers
 
 -- what the statements stand for; it is opened only where statements are made or taken apart
 unfoldable pub statements_view : Statements → Stmts
-statements_view ss = put_all (front ss.first) (map next_view ss.others.items)
+statements_view ss = put_all (front (option_map (λ first. first.value) ss.first)) (map next_view ss.others.items)
 
-abbrev pub place_view : Where → lists.Where
-place_view places.AtLine = lists.at_line
-place_view places.InList = lists.in_list
-place_view (places.Behind before colon) = lists.behind (statements_view before) colon
+-- where a statement goes, behind these
+abbrev pub place_view : Where → Stmts → lists.Where
+place_view places.AtLine before = lists.at_line
+place_view places.InList before = lists.in_list
+place_view (places.Behind colon) before = lists.behind before colon
+
+-- where an If goes
+abbrev pub head_place : IfHead → lists.Where
+head_place head = place_view head.place (statements_view head.before)
+
+abbrev pub then_view : IfHead → lists.Frame
+then_view head = lists.then_frame (head_place head) head.if_word (expression_view head.condition) head.then_word
+
+abbrev pub else_view : ElseHead → lists.Frame
+else_view ending =
+    lists.else_frame (head_place ending.head) ending.head.if_word (expression_view ending.head.condition) ending.head.then_word
+    (list_view ending.then_list) ending.else_word
 
 abbrev pub frame_view : Frame → lists.Frame
-frame_view (frames.Then head) = lists.then_frame (place_view head.place) head.if_word (expression_view head.condition) head.then_word
-frame_view (frames.Else head then_list else_word) =
-    lists.else_frame (place_view head.place) head.if_word (expression_view head.condition) head.then_word (list_view then_list) else_word
+frame_view (frames.Then head) = then_view head
+frame_view (frames.Else head) = else_view head
 
 -- the last frame is on top
 unfoldable pub stack : List Frame → List lists.Frame
 stack held = reverse (map frame_view held)
 
+-- these statements, and what may follow them
+abbrev pub seen : Option Where → Stmts → List lists.Frame → lists.State
+seen None statements waiting = lists.got statements waiting
+seen (Some place) statements waiting = lists.need (place_view place statements) waiting
+
 abbrev pub state_view : State → lists.State
-state_view (states.Need place held) = lists.need (place_view place) (stack held.items)
-state_view (states.Got statements held) = lists.got (statements_view statements) (stack held.items)
+state_view state = seen state.place (statements_view state.statements) (stack state.frames.items)
 
 abbrev pub header_view : Header → lines.Header
 header_view (headers.Enum enum_word) = lines.of_enum enum_word

@@ -1,16 +1,17 @@
 //! Statements with one more, and single-line Ifs that end.
 
-ghost use Rattle.std.specs.Prelude.{◌≡◌, true, ◌∷◌, IfOk, option_map};
+ghost use Rattle.std.specs.Prelude.{◌≡◌, true, ◌∷◌, Some, None, if◌then◌else◌, IfOk, OnOk};
 ghost use Rattle.vba_expression.specs.View.{view as expression_view};
 ghost use Rattle.vba_tree.specs.Forms.{begins};
 ghost use Rattle.vba_tree.specs.Tree as tree;
 ghost use Rattle.vba_tree.specs.View.{put as put_next, statement_view, next_view, list_view};
 ghost use Rattle.vba_grammar.specs.Lists as lists;
 ghost use Rattle.vba_parser.specs.Begun.{ended, AreBegun};
-ghost use Rattle.vba_parser.specs.Seen.{statements_view, place_view, frame_view, stack, state_view};
+ghost use Rattle.vba_parser.specs.Seen.{statements_view, place_view, head_place, then_view, else_view, frame_view, stack, state_view};
 
-use crate::frame::{Frame, IfHead, State, Statements, Where};
+use crate::frame::{ElseHead, Frame, IfHead, State, Statements, Where};
 use std::alloc::Global;
+use std::mem;
 use vba_base::NoMemory;
 use vba_lexer::Token;
 use vba_tree::{NextStatement, Statement, StatementList};
@@ -28,8 +29,8 @@ pub fn no_statements(alloc: Global) -> Statements
 
 /// A statement alone.
 #[tactic(auto, unfolding(crate::specs::Seen::statements_view))]
-fn alone(alloc: Global, statement: Statement) -> Statements
-    ensures { statements_view result ≡ tree.one (statement_view statement) }
+fn alone(alloc: Global, statement: Box<Statement>) -> Statements
+    ensures { statements_view result ≡ tree.one (statement_view statement.value) }
 {
     Statements {
         first: Some(statement),
@@ -37,197 +38,153 @@ fn alone(alloc: Global, statement: Statement) -> Statements
     }
 }
 
-/// Statements, and one more, or none, behind a colon.
+/// A statement in a box.
+pub fn boxed(alloc: Global, statement: Statement) -> Result<Box<Statement>, NoMemory>
+    ensures { IfOk result (λ made. made.value ≡ statement) }
+{
+    Ok(Box::new(alloc, statement)?)
+}
+
+/// Adds a statement, or none, behind a colon.
 #[tactic(auto, using(crate::proofs::Pushed::statements_push), unfolding(crate::specs::Seen::statements_view))]
-fn with_next(before: Statements, next: NextStatement) -> Result<Statements, NoMemory>
-    ensures { IfOk result (λ all. statements_view all ≡ put_next (statements_view before) (next_view next)) }
+fn push_next(statements: &mut Statements, next: NextStatement) -> Result<(), NoMemory>
+    ensures { OnOk result (statements_view statements.new ≡ put_next (statements_view statements.old) (next_view next)) }
 {
-    let Statements { first, others } = before;
-    let mut all = others;
-    all.push(next)?;
-    Ok(Statements { first, others: all })
+    Ok(statements.others.push(next)?)
 }
 
-/// Statements, and none behind a colon.
-pub fn with_gap(before: Statements, colon: Token) -> Result<Statements, NoMemory>
-    ensures { IfOk result (λ all. statements_view all ≡ tree.gap (statements_view before) colon) }
+/// Adds none behind a colon.
+pub fn push_gap(statements: &mut Statements, colon: Token) -> Result<(), NoMemory>
+    ensures { OnOk result (statements_view statements.new ≡ tree.gap (statements_view statements.old) colon) }
 {
-    with_next(before, NextStatement::Missing { colon })
+    push_next(statements, NextStatement::Missing { colon })
 }
 
-/// A statement where it goes.
-pub fn put(alloc: Global, place: Where, statement: Statement) -> Result<Statements, NoMemory>
-    ensures { IfOk result (λ all. statements_view all ≡ lists.put (place_view place) (statement_view statement)) }
+/// Puts a statement where it goes.
+pub fn put(
+    alloc: Global,
+    place: Where,
+    statements: &mut Statements,
+    statement: Box<Statement>,
+) -> Result<(), NoMemory>
+    ensures { OnOk result (statements_view statements.new ≡ lists.put (place_view place (statements_view statements.old)) (statement_view statement.value)) }
 {
     match place {
-        Where::AtLine | Where::InList => Ok(alone(alloc, statement)),
-        Where::Behind { before, colon } => with_next(
-            before,
-            NextStatement::Written {
-                colon,
-                statement: Box::new(alloc, statement)?,
-            },
-        ),
+        Where::AtLine | Where::InList => {
+            *statements = alone(alloc, statement);
+            Ok(())
+        }
+        Where::Behind(colon) => push_next(statements, NextStatement::Written { colon, statement }),
     }
 }
 
 /// Statements as a list of a single-line If: the first is written.
-#[tactic(auto, using(crate::proofs::Pushed::none_begins), unfolding(crate::specs::Seen::statements_view))]
-fn list_of(alloc: Global, statements: Statements) -> Result<StatementList, NoMemory>
+#[tactic(auto, using(crate::proofs::Pushed::none_begins, crate::proofs::Pushed::list_made), unfolding(crate::specs::Seen::statements_view))]
+fn list_of(statements: Statements) -> StatementList
     requires { begins (statements_view statements) ≡ true }
-    ensures { IfOk result (λ list. list_view list ≡ statements_view statements) }
+    ensures { list_view result ≡ statements_view statements }
 {
-    let Statements { first, others } = statements;
-    let Some(statement) = first else {
+    let (first, others) = statements.parts();
+    let Some(first) = first else {
         unreachable!();
     };
-    let first = Box::new(alloc, statement)?;
-    Ok(StatementList { first, others })
+    StatementList { first, others }
 }
 
-/// A single-line If without Else ends.
-fn end_if(alloc: Global, head: IfHead, statements: Statements) -> Result<Statements, NoMemory>
-    requires { begins (statements_view statements) ≡ true }
-    ensures { IfOk result (λ all. statements_view all
-        ≡ lists.put (place_view head.place) (tree.if_then head.if_word (expression_view head.condition) head.then_word (statements_view statements))) }
+/// Takes the statements that were read as a list of a single-line If.
+fn take_list(alloc: Global, statements: &mut Statements) -> StatementList
+    requires { begins (statements_view statements.old) ≡ true }
+    ensures { list_view result ≡ statements_view statements.old }
 {
-    let IfHead {
-        place,
-        if_word,
-        condition,
-        then_word,
-    } = head;
-    let then_list = list_of(alloc, statements)?;
-    put(
-        alloc,
-        place,
-        Statement::SingleLineIf {
-            if_word,
-            condition,
-            then_word,
-            then_list,
-        },
-    )
+    list_of(mem::replace(statements, no_statements(alloc)))
 }
 
-/// A single-line If with an Else ends.
-fn end_if_else(
-    alloc: Global,
-    head: IfHead,
-    then_list: StatementList,
-    else_word: Token,
-    statements: Statements,
-) -> Result<Statements, NoMemory>
-    requires { begins (statements_view statements) ≡ true }
-    ensures { IfOk result (λ all. statements_view all
-        ≡ lists.put (place_view head.place)
-        (tree.if_else head.if_word (expression_view head.condition) head.then_word (list_view then_list) else_word (statements_view statements))) }
+/// A single-line If without Else ends with these statements.
+fn end_if(alloc: Global, head: IfHead, statements: &mut Statements) -> Result<(), NoMemory>
+    requires { begins (statements_view statements.old) ≡ true }
+    ensures { OnOk result (statements_view statements.new ≡ ended (then_view head) (statements_view statements.old)) }
 {
-    let IfHead {
-        place,
-        if_word,
-        condition,
-        then_word,
-    } = head;
-    let else_list = list_of(alloc, statements)?;
-    put(
-        alloc,
-        place,
-        Statement::SingleLineIfElse {
-            if_word,
-            condition,
-            then_word,
-            then_list,
-            else_word,
-            else_list,
-        },
-    )
+    let then_list = take_list(alloc, statements);
+    head.end(alloc, statements, then_list)
 }
 
-/// A single-line If ends.
-fn end_frame(alloc: Global, frame: Frame, statements: Statements) -> Result<Statements, NoMemory>
-    requires { begins (statements_view statements) ≡ true }
-    ensures { IfOk result (λ all. statements_view all ≡ ended (frame_view frame) (statements_view statements)) }
+/// A single-line If with an Else ends with these statements.
+fn end_if_else(alloc: Global, head: ElseHead, statements: &mut Statements) -> Result<(), NoMemory>
+    requires { begins (statements_view statements.old) ≡ true }
+    ensures { OnOk result (statements_view statements.new ≡ ended (else_view head) (statements_view statements.old)) }
+{
+    let else_list = take_list(alloc, statements);
+    head.end(alloc, statements, else_list)
+}
+
+/// A single-line If ends with these statements.
+fn end_frame(alloc: Global, frame: Frame, statements: &mut Statements) -> Result<(), NoMemory>
+    requires { begins (statements_view statements.old) ≡ true }
+    ensures { OnOk result (statements_view statements.new ≡ ended (frame_view frame) (statements_view statements.old)) }
 {
     match frame {
         Frame::Then(head) => end_if(alloc, head, statements),
-        Frame::Else {
-            head,
-            then_list,
-            else_word,
-        } => end_if_else(alloc, head, then_list, else_word, statements),
+        Frame::Else(head) => end_if_else(alloc, head, statements),
     }
 }
 
 /// The line ends, and with it each If that is open.
 #[tactic(auto, using(crate::proofs::Closing::closes, crate::proofs::Closing::closes_none))]
-pub fn close_all(
-    alloc: Global,
-    statements: Statements,
-    frames: Vec<Frame>,
-) -> Result<Statements, NoMemory>
-    requires { AreBegun (begins (statements_view statements)) (stack frames.items) }
-    ensures { IfOk result (λ all. statements_view all ≡ lists.closed (statements_view statements) (stack frames.items)) }
+pub fn close_all(alloc: Global, state: &mut State) -> Result<(), NoMemory>
+    requires { AreBegun (begins (statements_view state.old.statements)) (stack state.old.frames.items) }
+    ensures { OnOk result (statements_view state.new.statements ≡ lists.closed (statements_view state.old.statements) (stack state.old.frames.items)) }
 {
-    let mut held = statements;
-    let mut waiting = frames;
-    'closing: while let Some(frame) = waiting.pop() {
-        held = end_frame(alloc, frame, held)?;
+    'closing: while let Some(frame) = state.frames.pop() {
+        end_frame(alloc, frame, &mut state.statements)?;
     }
-    Ok(held)
+    Ok(())
+}
+
+/// One more If is open.
+#[tactic(auto, using(crate::proofs::Closing::stack_push))]
+pub fn push_frame(frames: &mut Vec<Frame>, frame: Frame) -> Result<(), NoMemory>
+    ensures { OnOk result (stack frames.new.items ≡ frame_view frame ∷ stack frames.old.items) }
+{
+    Ok(frames.push(frame)?)
 }
 
 /// Behind the `Else` of a single-line If, its second list begins.
-#[tactic(auto, using(crate::proofs::Closing::stack_push))]
 fn begin_else(
     alloc: Global,
+    state: &mut State,
     head: IfHead,
-    statements: Statements,
-    frames: Vec<Frame>,
     else_word: Token,
-) -> Result<State, NoMemory>
-    requires { begins (statements_view statements) ≡ true }
-    ensures { IfOk result (λ state. state_view state
-        ≡ lists.need lists.in_list (lists.else_frame (place_view head.place) head.if_word (expression_view head.condition) head.then_word (statements_view statements) else_word ∷ stack frames.items)) }
+) -> Result<(), NoMemory>
+    requires { begins (statements_view state.old.statements) ≡ true }
+    ensures { OnOk result (state_view state.new
+        ≡ lists.need lists.in_list (lists.else_frame (head_place head) head.if_word (expression_view head.condition) head.then_word (statements_view state.old.statements) else_word ∷ stack state.old.frames.items)) }
 {
-    let then_list = list_of(alloc, statements)?;
-    let mut waiting = frames;
-    waiting.push(Frame::Else {
+    let then_list = take_list(alloc, &mut state.statements);
+    let head = ElseHead {
         head,
         then_list,
         else_word,
-    })?;
-    Ok(State::Need {
-        place: Where::InList,
-        frames: waiting,
-    })
+    };
+    push_frame(&mut state.frames, Frame::Else(head))?;
+    state.place = Some(Where::InList);
+    Ok(())
 }
 
-/// An `Else` belongs to the nearest If that has none. Those inside end.
+/// An `Else` belongs to the nearest If that has none. Those inside end. It finds none where each has one.
 #[tactic(auto, using(crate::proofs::Closing::opens, crate::proofs::Closing::opening_begun, crate::proofs::Closing::opens_else, crate::proofs::Closing::opens_none))]
-pub fn open_else(
-    alloc: Global,
-    statements: Statements,
-    frames: Vec<Frame>,
-    token: Token,
-) -> Result<Option<State>, NoMemory>
-    requires { AreBegun (begins (statements_view statements)) (stack frames.items) }
-    ensures { IfOk result (λ found. option_map state_view found ≡ lists.with_else (statements_view statements) (stack frames.items) token) }
+pub fn open_else(alloc: Global, state: &mut State, else_word: Token) -> Result<bool, NoMemory>
+    requires { AreBegun (begins (statements_view state.old.statements)) (stack state.old.frames.items) }
+    ensures { IfOk result (λ is_open. (if is_open then Some (state_view state.new) else None)
+        ≡ lists.with_else (statements_view state.old.statements) (stack state.old.frames.items) else_word) }
 {
-    let mut held = statements;
-    let mut waiting = frames;
-    'closing: while let Some(frame) = waiting.pop() {
+    'closing: while let Some(frame) = state.frames.pop() {
         match frame {
             Frame::Then(head) => {
-                let state = begin_else(alloc, head, held, waiting, token)?;
-                return Ok(Some(state));
+                begin_else(alloc, state, head, else_word)?;
+                return Ok(true);
             }
-            Frame::Else {
-                head,
-                then_list,
-                else_word,
-            } => held = end_if_else(alloc, head, then_list, else_word, held)?,
+            Frame::Else(head) => end_if_else(alloc, head, &mut state.statements)?,
         }
     }
-    Ok(None)
+    Ok(false)
 }

@@ -1,11 +1,13 @@
 //! Headers of Types, Enums, events and procedures ([MS-VBAL] 5.2.3.3, 5.2.3.4, 5.2.4.3, 5.3.1).
 
 ghost use Rattle.std.specs.Prelude.{◌≡◌, IfOk, option_map};
+ghost use Rattle.vba_grammar.specs.Clauses.{parameters_at, result_type_at};
+ghost use Rattle.vba_grammar.specs.Front.{is_as, is_left, part_if, whole_line};
 ghost use Rattle.vba_grammar.specs.Lines as lines;
 ghost use Rattle.vba_parser.specs.Headers.{event_of, procedure_of};
 ghost use Rattle.vba_parser.specs.Seen.{header_view};
 ghost use Rattle.vba_tree.specs.Forms as forms;
-ghost use Rattle.vba_tree.specs.View.{view};
+ghost use Rattle.vba_tree.specs.View.{parameters_view, result_type_view, view};
 
 use crate::header::Header;
 use std::alloc::Global;
@@ -13,8 +15,8 @@ use vba_base::NoMemory;
 use vba_clauses::{Expected, ParametersPart, ResultTypePart, read_name, read_part_if};
 use vba_lexer::Token;
 use vba_tree::{
-    Access, AccessWord, EnumHeader, EventLine, LineTree, ProcedureHeader, ProcedureWords,
-    TypeHeader,
+    Access, AccessWord, EnumHeader, EventLine, LineTree, Parameters, ProcedureHeader,
+    ProcedureWords, ResultType, TypeHeader,
 };
 use vba_words::ReadToken;
 
@@ -107,8 +109,47 @@ fn read_event(
     if !may_precede_event(access) || static_word.is_some() {
         return Ok(None);
     }
-    let line = read_allowed_event(alloc, access, event_word, tokens)?;
-    Ok(line)
+    read_allowed_event(alloc, access, event_word, tokens)
+}
+
+/// `[([parameters])]` at the end of a line.
+fn read_last_parameters(
+    alloc: Global,
+    tokens: &[ReadToken],
+) -> Result<Option<Option<Parameters>>, NoMemory>
+    ensures { IfOk result (λ found. option_map (option_map parameters_view) found ≡ whole_line (part_if is_left parameters_at tokens.now)) }
+{
+    let Some((parameters, rest)) = read_part_if::<ParametersPart>(
+        alloc,
+        tokens,
+        Expected::LeftParenthesis,
+    )?
+    else {
+        return Ok(None);
+    };
+    if rest.is_empty() {
+        Ok(Some(parameters))
+    } else {
+        Ok(None)
+    }
+}
+
+/// `[As type [()]]` at the end of a line.
+fn read_last_result(
+    alloc: Global,
+    tokens: &[ReadToken],
+) -> Result<Option<Option<ResultType>>, NoMemory>
+    ensures { IfOk result (λ found. option_map (option_map result_type_view) found ≡ whole_line (part_if is_as result_type_at tokens.now)) }
+{
+    let Some((result_type, rest)) = read_part_if::<ResultTypePart>(alloc, tokens, Expected::As)?
+    else {
+        return Ok(None);
+    };
+    if rest.is_empty() {
+        Ok(Some(result_type))
+    } else {
+        Ok(None)
+    }
 }
 
 /// `name [([parameters])]` of an event that may stand there.
@@ -123,17 +164,9 @@ fn read_allowed_event(
     let Some((name, rest)) = read_name(alloc, tokens)? else {
         return Ok(None);
     };
-    let Some((parameters, rest)) = read_part_if::<ParametersPart>(
-        alloc,
-        rest,
-        Expected::LeftParenthesis,
-    )?
-    else {
+    let Some(parameters) = read_last_parameters(alloc, rest)? else {
         return Ok(None);
     };
-    if !rest.is_empty() {
-        return Ok(None);
-    }
     Ok(Some(LineTree::Event(EventLine {
         access,
         event_word,
@@ -156,8 +189,7 @@ fn read_procedure_header(
     if !may_precede_procedure(access) {
         return Ok(None);
     }
-    let line = read_allowed_procedure(alloc, access, static_word, words, tokens)?;
-    Ok(line)
+    read_allowed_procedure(alloc, access, static_word, words, tokens)
 }
 
 /// `name [([parameters])] [As type [()]]` of a procedure that may stand there.
@@ -181,13 +213,9 @@ fn read_allowed_procedure(
     else {
         return Ok(None);
     };
-    let Some((result_type, rest)) = read_part_if::<ResultTypePart>(alloc, rest, Expected::As)?
-    else {
+    let Some(result_type) = read_last_result(alloc, rest)? else {
         return Ok(None);
     };
-    if !rest.is_empty() {
-        return Ok(None);
-    }
     Ok(Some(LineTree::ProcedureHeader(ProcedureHeader {
         access,
         static_word,

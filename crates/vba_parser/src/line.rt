@@ -18,18 +18,30 @@ use std::alloc::Global;
 use vba_base::NoMemory;
 use vba_clauses::{Expected, begins_with, is_expected, skip_access, skip_token};
 use vba_lexer::Token;
-use vba_tree::{LineLabel, LineTree, OptionLine, ProcedureEnd, ProcedureKind, StatementLine};
+use vba_tree::{
+    LineLabel, LineTree, OptionLine, ProcedureEnd, ProcedureKind, Statement, StatementLine,
+};
 use vba_words::{Keyword, ReadToken, Reading, reads_word};
+
+/// The first statement out of its box.
+fn unboxed(first: Option<Box<Statement>>) -> Option<Statement>
+    ensures { result ≡ option_map (λ statement. statement.value) first }
+{
+    match first {
+        Some(statement) => Some(Box::into_inner(statement)),
+        None => None,
+    }
+}
 
 /// The line with this label and these statements.
 #[tactic(auto, unfolding(crate::specs::Seen::statements_view))]
 fn with_label(label: Option<LineLabel>, statements: Statements) -> LineTree
     ensures { view result ≡ statement_line label (statements_view statements) }
 {
-    let Statements { first, others } = statements;
+    let (first, others) = statements.parts();
     LineTree::Statements(StatementLine {
         label,
-        first,
+        first: unboxed(first),
         others,
     })
 }

@@ -1,20 +1,21 @@
 //! The statements of a line, one token or statement after another.
 
-ghost use Rattle.std.specs.Prelude.{◌≡◌, ◌∷◌, Some, IfOk, option_map};
+ghost use Rattle.std.specs.Prelude.{◌≡◌, ◌∷◌, Some, None, if◌then◌else◌, IfOk, OnOk, option_map};
 ghost use Rattle.vba_expression.specs.View.{view as expression_view};
 ghost use Rattle.vba_tree.specs.Forms.{begins};
-ghost use Rattle.vba_tree.specs.Tree as tree;
+ghost use Rattle.vba_tree.specs.View.{block_line_view};
 ghost use Rattle.vba_grammar.specs.Lists as lists;
 ghost use Rattle.vba_parser.specs.Begun.{is_begun, AreBegun, IsBegun};
 ghost use Rattle.vba_parser.specs.Seen.{statements_view, place_view, stack, state_view};
 ghost use Rattle.vba_parser.specs.Turns as turns;
 
-use crate::building::{close_all, no_statements, open_else, put, with_gap};
+use crate::building::{boxed, close_all, no_statements, open_else, push_frame, push_gap, put};
 use crate::frame::{Cut, Frame, IfHead, State, Statements, Where};
 use std::alloc::Global;
+use std::mem;
 use vba_base::NoMemory;
 use vba_clauses::{Expected, read_token};
-use vba_expression::read_expression;
+use vba_expression::{Expression, read_expression};
 use vba_lexer::Token;
 use vba_statements::read_simple;
 use vba_tree::{BlockLine, SimpleStatement, Statement};
@@ -73,38 +74,38 @@ fn is_block_else(tokens: &[ReadToken]) -> bool
 }
 
 /// The If is a line of a block.
-fn block_if(alloc: Global, head: IfHead, frames: Vec<Frame>) -> Result<State, NoMemory>
-    ensures { IfOk result (λ state. state_view state
-        ≡ lists.got (lists.put_block (place_view head.place) (tree.if_line head.if_word (expression_view head.condition) head.then_word)) (stack frames.items)) }
+fn block_if(alloc: Global, state: &mut State, place: Where, line: BlockLine) -> Result<(), NoMemory>
+    ensures { OnOk result (state_view state.new
+        ≡ lists.got (lists.put_block (place_view place (statements_view state.old.statements)) (block_line_view line)) (stack state.old.frames.items)) }
 {
-    let IfHead {
+    let statement = boxed(alloc, Statement::Simple(SimpleStatement::BlockLine(line)))?;
+    put(alloc, place, &mut state.statements, statement)?;
+    state.place = None;
+    Ok(())
+}
+
+/// The first list of an If begins.
+fn begin_then(
+    alloc: Global,
+    state: &mut State,
+    place: Where,
+    if_word: Token,
+    condition: Expression,
+    then_word: Token,
+) -> Result<(), NoMemory>
+    ensures { OnOk result (state_view state.new ≡ lists.need lists.in_list
+        (lists.then_frame (place_view place (statements_view state.old.statements)) if_word (expression_view condition) then_word ∷ stack state.old.frames.items)) }
+{
+    let before = mem::replace(&mut state.statements, no_statements(alloc));
+    let head = IfHead {
         place,
-        if_word,
-        condition,
-        then_word,
-    } = head;
-    let line = BlockLine::If {
+        before,
         if_word,
         condition,
         then_word,
     };
-    let statement = Statement::Simple(SimpleStatement::BlockLine(line));
-    let statements = put(alloc, place, statement)?;
-    Ok(State::Got { statements, frames })
-}
-
-/// The first list of the If begins.
-#[tactic(auto, using(crate::proofs::Closing::stack_push))]
-fn begin_then(head: IfHead, frames: Vec<Frame>) -> Result<State, NoMemory>
-    ensures { IfOk result (λ state. state_view state
-        ≡ lists.need lists.in_list (lists.then_frame (place_view head.place) head.if_word (expression_view head.condition) head.then_word ∷ stack frames.items)) }
-{
-    let mut waiting = frames;
-    waiting.push(Frame::Then(head))?;
-    Ok(State::Need {
-        place: Where::InList,
-        frames: waiting,
-    })
+    state.place = Some(Where::InList);
+    push_frame(&mut state.frames, Frame::Then(head))
 }
 
 /// Behind `Then`: the If is a line of a block where no statement follows, or where an `Else` follows that belongs to an If
@@ -112,30 +113,36 @@ fn begin_then(head: IfHead, frames: Vec<Frame>) -> Result<State, NoMemory>
 #[tactic(auto, using(vba_grammar::proofs::ListsComplete::behind_is))]
 fn behind_then(
     alloc: Global,
-    head: IfHead,
-    frames: Vec<Frame>,
+    state: &mut State,
+    place: Where,
+    if_word: Token,
+    condition: Expression,
+    then_word: Token,
     tokens: &[ReadToken],
-) -> Result<State, NoMemory>
-    ensures { IfOk result (λ state. lists.behind_then (place_view head.place) head.if_word (expression_view head.condition) head.then_word (stack frames.items) tokens.now
-        ≡ Some (state_view state, tokens.now)) }
+) -> Result<(), NoMemory>
+    ensures { OnOk result (lists.behind_then (place_view place (statements_view state.old.statements)) if_word (expression_view condition) then_word (stack state.old.frames.items) tokens.now
+        ≡ Some (state_view state.new, tokens.now)) }
 {
     if is_else_line(tokens) {
-        let state = block_if(alloc, head, frames)?;
-        Ok(state)
+        let line = BlockLine::If {
+            if_word,
+            condition,
+            then_word,
+        };
+        block_if(alloc, state, place, line)
     } else {
-        let state = begin_then(head, frames)?;
-        Ok(state)
+        begin_then(alloc, state, place, if_word, condition, then_word)
     }
 }
 
 /// A single-line If up to its `Then`.
-fn at_if(
+fn at_if<'a>(
     alloc: Global,
+    state: &mut State,
     place: Where,
-    frames: Vec<Frame>,
-    tokens: &[ReadToken],
-) -> Result<Option<(State, &[ReadToken])>, NoMemory>
-    ensures { IfOk result (λ found. option_map (λ f. (state_view f.0, f.1.now)) found ≡ turns.if_at (place_view place) (stack frames.items) tokens.now) }
+    tokens: &'a [ReadToken],
+) -> Result<Option<&'a [ReadToken]>, NoMemory>
+    ensures { IfOk result (λ found. option_map (λ rest. (state_view state.new, rest.now)) found ≡ turns.if_at (place_view place (statements_view state.old.statements)) (stack state.old.frames.items) tokens.now) }
 {
     let [first, rest @ ..] = tokens else {
         return Ok(None);
@@ -146,194 +153,212 @@ fn at_if(
     let Some((then_word, behind)) = read_token(rest, Expected::Then) else {
         return Ok(None);
     };
-    let head = IfHead {
+    behind_then(
+        alloc,
+        state,
         place,
-        if_word: first.token,
+        first.token,
         condition,
         then_word,
-    };
-    let state = behind_then(alloc, head, frames, behind)?;
-    Ok(Some((state, behind)))
+        behind,
+    )?;
+    Ok(Some(behind))
 }
 
 /// A statement other than an If.
-fn at_statement(
+fn at_statement<'a>(
     alloc: Global,
+    state: &mut State,
     place: Where,
-    frames: Vec<Frame>,
-    tokens: &[ReadToken],
-) -> Result<Option<(State, &[ReadToken])>, NoMemory>
-    ensures { IfOk result (λ found. option_map (λ f. (state_view f.0, f.1.now)) found ≡ lists.statement_at (place_view place) (stack frames.items) tokens.now) }
+    tokens: &'a [ReadToken],
+) -> Result<Option<&'a [ReadToken]>, NoMemory>
+    ensures { IfOk result (λ found. option_map (λ rest. (state_view state.new, rest.now)) found ≡ lists.statement_at (place_view place (statements_view state.old.statements)) (stack state.old.frames.items) tokens.now) }
 {
     let Some((simple, rest)) = read_simple(alloc, tokens)? else {
         return Ok(None);
     };
-    let statements = put(alloc, place, Statement::Simple(simple))?;
-    Ok(Some((State::Got { statements, frames }, rest)))
+    let statement = boxed(alloc, Statement::Simple(simple))?;
+    put(alloc, place, &mut state.statements, statement)?;
+    state.place = None;
+    Ok(Some(rest))
 }
 
 /// An `Else` that goes on with an If that is open.
-fn next_list(
+fn next_list<'a>(
     alloc: Global,
-    statements: Statements,
-    frames: Vec<Frame>,
-    tokens: &[ReadToken],
-) -> Result<Option<(State, &[ReadToken])>, NoMemory>
-    requires { AreBegun (begins (statements_view statements)) (stack frames.items) }
-    ensures { IfOk result (λ found. option_map (λ f. (state_view f.0, f.1.now)) found ≡ turns.next_list_at (statements_view statements) (stack frames.items) tokens.now) }
+    state: &mut State,
+    tokens: &'a [ReadToken],
+) -> Result<Option<&'a [ReadToken]>, NoMemory>
+    requires { AreBegun (begins (statements_view state.old.statements)) (stack state.old.frames.items) }
+    ensures { IfOk result (λ found. option_map (λ rest. (state_view state.new, rest.now)) found ≡ turns.next_list_at (statements_view state.old.statements) (stack state.old.frames.items) tokens.now) }
 {
     let [first, rest @ ..] = tokens else {
         return Ok(None);
     };
-    let Some(state) = open_else(alloc, statements, frames, first.token)? else {
-        return Ok(None);
-    };
-    Ok(Some((state, rest)))
+    if open_else(alloc, state, first.token)? {
+        Ok(Some(rest))
+    } else {
+        Ok(None)
+    }
 }
 
 /// A colon behind statements.
-fn next_place(
-    before: Statements,
-    frames: Vec<Frame>,
-    tokens: &[ReadToken],
-) -> Option<(State, &[ReadToken])>
-    ensures { option_map (λ f. (state_view f.0, f.1.now)) result ≡ turns.next_place_at (statements_view before) (stack frames.items) tokens.now }
+fn next_place<'a>(state: &mut State, tokens: &'a [ReadToken]) -> Option<&'a [ReadToken]>
+    ensures { option_map (λ rest. (state_view state.new, rest.now)) result ≡ turns.next_place_at (statements_view state.old.statements) (stack state.old.frames.items) tokens.now }
 {
     let [first, rest @ ..] = tokens else {
         return None;
     };
-    let place = Where::Behind {
-        before,
-        colon: first.token,
-    };
-    Some((State::Need { place, frames }, rest))
+    state.place = Some(Where::Behind(first.token));
+    Some(rest)
 }
 
 /// An `Else` behind a colon: a line of a block, or it goes on with an If that is open.
-fn else_behind(
+fn else_behind<'a>(
     alloc: Global,
-    before: Statements,
+    state: &mut State,
     colon: Token,
-    frames: Vec<Frame>,
-    tokens: &[ReadToken],
-) -> Result<Option<(State, &[ReadToken])>, NoMemory>
-    requires { AreBegun (begins (statements_view before)) (stack frames.items) }
-    ensures { IfOk result (λ found. option_map (λ f. (state_view f.0, f.1.now)) found ≡ turns.else_behind (statements_view before) colon (stack frames.items) tokens.now) }
+    tokens: &'a [ReadToken],
+) -> Result<Option<&'a [ReadToken]>, NoMemory>
+    requires { AreBegun (begins (statements_view state.old.statements)) (stack state.old.frames.items) }
+    ensures { IfOk result (λ found. option_map (λ rest. (state_view state.new, rest.now)) found ≡ turns.else_behind (statements_view state.old.statements) colon (stack state.old.frames.items) tokens.now) }
 {
     if is_block_else(tokens) {
-        return at_statement(alloc, Where::Behind { before, colon }, frames, tokens);
+        return at_statement(alloc, state, Where::Behind(colon), tokens);
     }
-    let statements = with_gap(before, colon)?;
-    let found = next_list(alloc, statements, frames, tokens)?;
-    Ok(found)
+    push_gap(&mut state.statements, colon)?;
+    next_list(alloc, state, tokens)
 }
 
 /// An `Else` where a statement may stand.
-fn at_else(
+fn at_else<'a>(
     alloc: Global,
+    state: &mut State,
     place: Where,
-    frames: Vec<Frame>,
-    tokens: &[ReadToken],
-) -> Result<Option<(State, &[ReadToken])>, NoMemory>
-    requires { AreBegun (is_begun (place_view place)) (stack frames.items) }
-    ensures { IfOk result (λ found. option_map (λ f. (state_view f.0, f.1.now)) found ≡ turns.else_at (place_view place) (stack frames.items) tokens.now) }
+    tokens: &'a [ReadToken],
+) -> Result<Option<&'a [ReadToken]>, NoMemory>
+    requires { AreBegun (is_begun (place_view place (statements_view state.old.statements))) (stack state.old.frames.items) }
+    ensures { IfOk result (λ found. option_map (λ rest. (state_view state.new, rest.now)) found ≡ turns.else_at (place_view place (statements_view state.old.statements)) (stack state.old.frames.items) tokens.now) }
 {
     match place {
-        Where::AtLine => at_statement(alloc, Where::AtLine, frames, tokens),
-        Where::InList => at_statement(alloc, Where::InList, frames, tokens),
-        Where::Behind { before, colon } => else_behind(alloc, before, colon, frames, tokens),
+        Where::AtLine | Where::InList => at_statement(alloc, state, place, tokens),
+        Where::Behind(colon) => else_behind(alloc, state, colon, tokens),
     }
 }
 
 /// A colon where a statement may stand.
-fn at_colon(
+fn at_colon<'a>(
     alloc: Global,
+    state: &mut State,
     place: Where,
-    frames: Vec<Frame>,
-    tokens: &[ReadToken],
-) -> Result<Option<(State, &[ReadToken])>, NoMemory>
-    ensures { IfOk result (λ found. option_map (λ f. (state_view f.0, f.1.now)) found ≡ turns.colon_at (place_view place) (stack frames.items) tokens.now) }
+    tokens: &'a [ReadToken],
+) -> Result<Option<&'a [ReadToken]>, NoMemory>
+    ensures { IfOk result (λ found. option_map (λ rest. (state_view state.new, rest.now)) found ≡ turns.colon_at (place_view place (statements_view state.old.statements)) (stack state.old.frames.items) tokens.now) }
 {
     match place {
-        Where::AtLine => Ok(next_place(no_statements(alloc), frames, tokens)),
-        Where::InList => at_statement(alloc, Where::InList, frames, tokens),
-        Where::Behind { before, colon } => {
-            let statements = with_gap(before, colon)?;
-            Ok(next_place(statements, frames, tokens))
-        }
+        Where::AtLine => state.statements = no_statements(alloc),
+        Where::InList => return at_statement(alloc, state, place, tokens),
+        Where::Behind(colon) => push_gap(&mut state.statements, colon)?,
     }
+    Ok(next_place(state, tokens))
 }
 
 /// Where a statement may stand.
-fn at_place(
+fn at_place<'a>(
     alloc: Global,
     cut: Cut,
+    state: &mut State,
     place: Where,
-    frames: Vec<Frame>,
-    tokens: &[ReadToken],
-) -> Result<Option<(State, &[ReadToken])>, NoMemory>
-    requires { AreBegun (is_begun (place_view place)) (stack frames.items) }
-    ensures { IfOk result (λ found. option_map (λ f. (state_view f.0, f.1.now)) found ≡ turns.needed_by cut (place_view place) (stack frames.items) tokens.now) }
+    tokens: &'a [ReadToken],
+) -> Result<Option<&'a [ReadToken]>, NoMemory>
+    requires { AreBegun (is_begun (place_view place (statements_view state.old.statements))) (stack state.old.frames.items) }
+    ensures { IfOk result (λ found. option_map (λ rest. (state_view state.new, rest.now)) found ≡ turns.needed_by cut (place_view place (statements_view state.old.statements)) (stack state.old.frames.items) tokens.now) }
 {
     match cut {
-        Cut::If => at_if(alloc, place, frames, tokens),
-        Cut::Else => at_else(alloc, place, frames, tokens),
-        Cut::Colon => at_colon(alloc, place, frames, tokens),
-        Cut::Other => at_statement(alloc, place, frames, tokens),
+        Cut::If => at_if(alloc, state, place, tokens),
+        Cut::Else => at_else(alloc, state, place, tokens),
+        Cut::Colon => at_colon(alloc, state, place, tokens),
+        Cut::Other => at_statement(alloc, state, place, tokens),
     }
 }
 
 /// Behind a statement.
-fn behind_statement(
+fn behind_statement<'a>(
     alloc: Global,
     cut: Cut,
-    statements: Statements,
-    frames: Vec<Frame>,
-    tokens: &[ReadToken],
-) -> Result<Option<(State, &[ReadToken])>, NoMemory>
-    requires { AreBegun (begins (statements_view statements)) (stack frames.items) }
-    ensures { IfOk result (λ found. option_map (λ f. (state_view f.0, f.1.now)) found ≡ turns.had_by cut (statements_view statements) (stack frames.items) tokens.now) }
+    state: &mut State,
+    tokens: &'a [ReadToken],
+) -> Result<Option<&'a [ReadToken]>, NoMemory>
+    requires { AreBegun (begins (statements_view state.old.statements)) (stack state.old.frames.items) }
+    ensures { IfOk result (λ found. option_map (λ rest. (state_view state.new, rest.now)) found ≡ turns.had_by cut (statements_view state.old.statements) (stack state.old.frames.items) tokens.now) }
 {
     match cut {
-        Cut::Else => next_list(alloc, statements, frames, tokens),
-        Cut::Colon => Ok(next_place(statements, frames, tokens)),
+        Cut::Else => next_list(alloc, state, tokens),
+        Cut::Colon => Ok(next_place(state, tokens)),
         Cut::If | Cut::Other => Ok(None),
     }
 }
 
 /// One turn: a token is read, or a statement.
-fn turn(
+fn turn<'a>(
     alloc: Global,
-    state: State,
-    tokens: &[ReadToken],
-) -> Result<Option<(State, &[ReadToken])>, NoMemory>
-    requires { IsBegun (state_view state) }
-    ensures { IfOk result (λ found. option_map (λ f. (state_view f.0, f.1.now)) found ≡ turns.turn_by (turns.cut_at tokens.now) (state_view state) tokens.now) }
+    state: &mut State,
+    tokens: &'a [ReadToken],
+) -> Result<Option<&'a [ReadToken]>, NoMemory>
+    requires { IsBegun (state_view state.old) }
+    ensures { IfOk result (λ found. option_map (λ rest. (state_view state.new, rest.now)) found ≡ turns.turn_by (turns.cut_at tokens.now) (state_view state.old) tokens.now) }
 {
     let cut = cut_at(tokens);
-    match state {
-        State::Need { place, frames } => at_place(alloc, cut, place, frames, tokens),
-        State::Got { statements, frames } => {
-            behind_statement(alloc, cut, statements, frames, tokens)
+    match state.place {
+        Some(place) => at_place(alloc, cut, state, place, tokens),
+        None => behind_statement(alloc, cut, state, tokens),
+    }
+}
+
+/// The line ends where a statement may stand. False where one must.
+fn end_at(alloc: Global, state: &mut State, place: Where) -> Result<bool, NoMemory>
+    requires { AreBegun (is_begun (place_view place (statements_view state.old.statements))) (stack state.old.frames.items) }
+    ensures { IfOk result (λ is_whole. (if is_whole then Some (statements_view state.new.statements) else None)
+        ≡ lists.finish (lists.need (place_view place (statements_view state.old.statements)) (stack state.old.frames.items))) }
+{
+    match place {
+        Where::AtLine => {
+            state.statements = no_statements(alloc);
+            Ok(true)
+        }
+        Where::InList => Ok(false),
+        Where::Behind(colon) => {
+            push_gap(&mut state.statements, colon)?;
+            close_all(alloc, state)?;
+            Ok(true)
         }
     }
 }
 
-/// The line ends.
+/// The line ends. False where a statement must stand there.
+fn end(alloc: Global, state: &mut State) -> Result<bool, NoMemory>
+    requires { IsBegun (state_view state.old) }
+    ensures { IfOk result (λ is_whole. (if is_whole then Some (statements_view state.new.statements) else None) ≡ lists.finish (state_view state.old)) }
+{
+    match state.place {
+        Some(place) => end_at(alloc, state, place),
+        None => {
+            close_all(alloc, state)?;
+            Ok(true)
+        }
+    }
+}
+
+/// The statements of a line that ends.
 fn finished(alloc: Global, state: State) -> Result<Option<Statements>, NoMemory>
     requires { IsBegun (state_view state) }
     ensures { IfOk result (λ found. option_map statements_view found ≡ lists.finish (state_view state)) }
 {
-    match state {
-        State::Got { statements, frames } => Ok(Some(close_all(alloc, statements, frames)?)),
-        State::Need { place, frames } => match place {
-            Where::AtLine => Ok(Some(no_statements(alloc))),
-            Where::InList => Ok(None),
-            Where::Behind { before, colon } => {
-                let all = with_gap(before, colon)?;
-                Ok(Some(close_all(alloc, all, frames)?))
-            }
-        },
+    let mut ending = state;
+    if end(alloc, &mut ending)? {
+        Ok(Some(ending.read()))
+    } else {
+        Ok(None)
     }
 }
 
@@ -342,28 +367,24 @@ fn finished(alloc: Global, state: State) -> Result<Option<Statements>, NoMemory>
 pub fn read_statements(alloc: Global, tokens: &[ReadToken]) -> Result<Option<Statements>, NoMemory>
     ensures { IfOk result (λ found. option_map statements_view found ≡ lists.statements_of tokens.now) }
 {
-    let mut state = State::Need {
-        place: Where::AtLine,
+    let mut state = State {
+        place: Some(Where::AtLine),
+        statements: no_statements(alloc),
         frames: Vec::new(alloc),
     };
     let mut left = tokens;
     // A turn reads a token at least.
     'turns: for _ in 0..tokens.len() {
         if left.is_empty() {
-            let found = finished(alloc, state)?;
-            return Ok(found);
+            return finished(alloc, state);
         }
-        let Some((next, behind)) = turn(alloc, state, left)? else {
+        let Some(behind) = turn(alloc, &mut state, left)? else {
             return Ok(None);
         };
-        state = next;
         left = behind;
     }
     match left {
-        [] => {
-            let found = finished(alloc, state)?;
-            Ok(found)
-        }
+        [] => finished(alloc, state),
         [_, ..] => Ok(None),
     }
 }

@@ -37,8 +37,7 @@ pub fn read_member(alloc: Global, tokens: &[ReadToken]) -> Result<Option<LineTre
     let Some((name, rest)) = read_name(alloc, tokens)? else {
         return Ok(None);
     };
-    let line = read_named_member(alloc, name, rest)?;
-    Ok(line)
+    read_named_member(alloc, name, rest)
 }
 
 /// `[([dims])] As type`, behind the name of a member.

@@ -6,7 +6,7 @@ use Rattle.vba_parser.proofs.building.close_all.Given as goal
 
 abbrev pub invariant-closing : goal.invariant-closing
 invariant-closing l =
-    Closing (closed (statements_view l.fn.statements) (stack l.fn.frames.items)) (statements_view l.held) l.waiting.items
+    Closing (closed (statements_view l.fn.state.statements) (stack l.fn.state.frames.items)) (statements_view l.state.statements) l.state.frames.items
 
 abbrev pub decreases-closing : goal.decreases-closing
-decreases-closing l = vec_len l.waiting
+decreases-closing l = vec_len l.state.frames

@@ -6,7 +6,8 @@ use Rattle.vba_parser.proofs.building.open_else.Given as goal
 
 abbrev pub invariant-closing : goal.invariant-closing
 invariant-closing l =
-    Opening (with_else (statements_view l.fn.statements) (stack l.fn.frames.items) l.token) l.token (statements_view l.held) l.waiting.items
+    Opening (with_else (statements_view l.fn.state.statements) (stack l.fn.state.frames.items) l.else_word) l.else_word
+    (statements_view l.state.statements) l.state.frames.items
 
 abbrev pub decreases-closing : goal.decreases-closing
-decreases-closing l = vec_len l.waiting
+decreases-closing l = vec_len l.state.frames
