@@ -132,14 +132,14 @@ is_redim _ = false
 abbrev pub may_go_on : Context → Reading → Bool
 may_go_on context before = ends_primary before && not context.is_word
 
--- a name behind another token is a word of the grammar, where it is Preserve behind ReDim, or the Step of a For line: behind To and
--- what ends its limit
+-- a name behind another token is a word of the grammar where it is Preserve behind ReDim, or the Step of a For line, which
+-- stands behind To and what may end its limit
 abbrev pub becomes_word : Context → Reading → Reading → Bool
 becomes_word context before meant =
     (is_redim before && is_word meant (codes "preserve")) || (context.is_behind_to && (may_go_on context before && is_word meant (codes "step")))
 
--- what tokens behind a token have to know: whether a To of their statement stands before them, and whether a name that the last token
--- seems to be is a word of the grammar
+-- what tokens behind a token have to know: whether a To of their statement stands before them, and whether the name that
+-- the last token seems to be is a word of the grammar
 abbrev pub context_behind : Context → Option ReadToken → Reading → Context
 context_behind context None meant = record { is_behind_to = behind_to false meant; is_word = false }
 context_behind context (Some before) meant =

@@ -9,7 +9,8 @@ use crate::mark::Mark;
 use crate::reading::{ReadToken, Reading};
 use crate::table::is_text;
 
-/// Whether a To of the statement stands before, and whether the name that the last token seems to be is a word of the grammar.
+/// Whether a To of the statement stands before, and whether the name that the last token seems to be is a word of the
+/// grammar.
 #[derive(Clone, Copy, Debug, PartialEq, Eq)]
 pub struct Context {
     pub is_behind_to: bool,
@@ -85,7 +86,8 @@ pub fn may_go_on(context: Context, before: &Reading) -> bool
     ends_primary(before) && !context.is_word
 }
 
-/// Is a name behind another token a word of the grammar? It is where it is Preserve behind ReDim, or the Step of a For line.
+/// Is a name behind another token a word of the grammar? It is where it is Preserve behind ReDim, or the Step of a For
+/// line.
 fn becomes_word(context: Context, before: &Reading, reading: &Reading) -> bool
     ensures { result ≡ readings.becomes_word context before.now reading.now }
 {
