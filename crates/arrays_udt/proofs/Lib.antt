@@ -5,5 +5,4 @@ pub mod Nested
 pub mod Resized
 pub mod PathLaws
 pub mod FreshLaws
-pub mod TestTypes
 mod Rows

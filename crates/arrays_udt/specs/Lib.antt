@@ -5,4 +5,3 @@ pub mod Nesting
 pub mod Fresh
 pub mod Resize
 pub mod Paths
-pub mod Lines

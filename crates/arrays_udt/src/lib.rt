@@ -8,8 +8,6 @@ mod offsets;
 mod paths;
 mod resize;
 mod shape;
-#[cfg(test)]
-mod tests;
 mod udt;
 
 pub use copy::copy_value;

@@ -10,8 +10,6 @@ mod row;
 mod saved_text;
 mod scan;
 mod sizes;
-#[cfg(test)]
-mod tests;
 mod write;
 
 pub use fault::BookFault;

@@ -16,6 +16,3 @@ pub use text::{ParseFault, parse, parse_whole};
 pub use value::{
     Currency, Overflow, add, count, from_count, from_whole, mul, neg, round_to_whole, sub,
 };
-
-#[cfg(test)]
-mod tests;

@@ -4,8 +4,6 @@
 mod err_object;
 mod frame;
 mod laws;
-#[cfg(test)]
-mod tests;
 
 pub use err_object::ErrObject;
 pub use frame::{At, FrameErrors, Policy, ResumeKind, Taken};

@@ -3,8 +3,6 @@
 
 mod frame;
 mod table;
-#[cfg(test)]
-mod tests;
 mod text_list;
 
 pub use table::FieldTable;

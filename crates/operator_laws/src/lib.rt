@@ -3,7 +3,5 @@
 #![tactic(auto)]
 
 mod laws;
-#[cfg(test)]
-mod tests;
 
 pub use laws::{binary_results_are_of_static_types, unary_results_are_of_static_types};

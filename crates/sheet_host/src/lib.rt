@@ -3,8 +3,6 @@
 
 mod addresses;
 mod area;
-#[cfg(test)]
-mod area_tests;
 mod book;
 mod cell;
 mod corner;
@@ -16,8 +14,6 @@ mod pages;
 mod printing;
 mod reading;
 mod sheet;
-#[cfg(test)]
-mod tests;
 mod used;
 mod writing;
 

@@ -12,8 +12,6 @@ mod os_sink;
 mod outside;
 mod place;
 mod tally;
-#[cfg(test)]
-mod tests;
 mod text;
 mod units;
 

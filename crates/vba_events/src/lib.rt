@@ -5,8 +5,6 @@ mod laws;
 mod linked;
 mod links;
 mod maps;
-#[cfg(test)]
-mod tests;
 
 pub use laws::{numbers_rise, same_links_are_equal};
 pub use linked::Linked;

@@ -13,8 +13,6 @@ mod object;
 mod operands;
 mod operators;
 mod static_types;
-#[cfg(test)]
-mod tests;
 mod text_sums;
 mod texts;
 mod types;

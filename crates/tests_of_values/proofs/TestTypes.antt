@@ -1,12 +1,8 @@
--- The Types of the tests: a Point, and a Line that holds one.
-use Rattle.std.proofs.Common.{◌≡◌, ℕ, zero, suc, ◌<◌, nat_eq, true, false, ◌||◌, pos, [], ◌∷◌, refl, arith, rules}
+-- The Types of the tests, a Point and a Line that holds one, are types that values can have; so are none.
+use Rattle.std.proofs.Common.{◌≡◌, ℕ, zero, suc, ◌<◌, nat_eq, true, false, ◌||◌, [], refl, arith, rules}
 use Rattle.std.proofs.lemmas.Bool.Decides.{nat_tests}
-use Rattle.vba_values.specs.declared.types.WholeKind.TheVariants as kind
-use Rattle.vba_values.specs.Types as type
-use Rattle.vba_values.specs.Val.{whole, text, array, udt, no_vals, vals_of}
 use Rattle.arrays_udt.specs.Fields.{AreTypes, Leads, holds}
-use Rattle.arrays_udt.specs.Fresh.{initial}
-use Rattle.arrays_udt.specs.Lines.{line_types}
+use Rattle.tests_of_values.specs.Lines.{line_types}
 
 zero_only : (n : ℕ) → nat_eq n 0 || (false || (false || false)) ≡ true → n ≡ 0
 zero_only n h = grind (arith, nat_tests)
@@ -22,14 +18,6 @@ leads_less number other (suc count) l = let h = holds_less number l.0 l.1 in let
 
 pub are_types : AreTypes line_types
 are_types = record { fields = refl; none_holds_itself = λ number count l. let h = leads_less number number count l in omega arith }
-
--- a Line as it begins
-pub a_line : initial line_types (type.udt 1) ≡ udt 1 (vals_of (
-    udt 0 (vals_of (whole kind.Long (pos 0) ∷ array (record { low = pos 1; high = pos 2 } ∷ []) type.integer (vals_of (whole kind.Integer (pos 0) ∷ whole kind.Integer (pos 0) ∷ [])) ∷ []))
-    ∷ text (0 ∷ 0 ∷ 0 ∷ [])
-    ∷ array [] type.byte no_vals
-    ∷ []))
-a_line = refl
 
 holds_none : (number next : ℕ) → holds [] number next ≡ true → ⊥
 holds_none number next h = search rules
