@@ -1,4 +1,5 @@
--- Expressions whose names are replaced by what they stand for. A place in the source is Place; what can be written or lent is an Lvalue.
+-- Expressions whose names are replaced by what they stand for. A place in the source is Place; what can be written or
+-- lent is an Lvalue.
 use Rattle.std.specs.Prelude.{ℕ, List}
 use Rattle.vba_base.specs.declared.place.Place.{Place}
 use Rattle.vba_values.specs.declared.types.OpKind.{OpKind}
@@ -6,8 +7,9 @@ use Rattle.vba_values.specs.declared.types.Compare.{Compare}
 use Rattle.vba_values.specs.Types.{Declared}
 use Rattle.vba_values.specs.Val.{Val}
 
--- where a variable is kept: in its procedure's frame (the result first, then its own variables, then its parameters), or among the module
--- variables and statics of the project, which stand in one list, module by module, each module's statics behind its variables
+-- where a variable is kept: in its procedure's frame (the result first, then its own variables, then its parameters),
+-- or among the module variables and statics of the project, which stand in one list, module by module, each module's
+-- statics behind its variables
 pub data Storage : Type 0 where
   local : ℕ → Storage
   shared : ℕ → Storage
@@ -24,8 +26,8 @@ pub data ErrMember : Type 0 where
   err_description : ErrMember
 
 mutual
-  -- an expression: what it is, the place of its first token, its declared type, and the one that it has as an operand, once an object
-  -- has given way to the value of its default member
+  -- an expression: what it is, the place of its first token, its declared type, and the one that it has as an
+  -- operand, once an object has given way to the value of its default member
   pub data Expr : Type 0 where
     expr : Node → Place → (of operand : Declared) → Expr
 

@@ -1,5 +1,5 @@
--- A project whose names are replaced by what they stand for, and whose constants by their values. No name is looked up in it, no declaration,
--- block or label is searched for, and no constant expression is left.
+-- A project whose names are replaced by what they stand for, and whose constants by their values. No name is looked
+-- up in it, no declaration, block or label is searched for, and no constant expression is left.
 use Rattle.std.specs.Prelude.{ℕ, zero, suc, List, [], map, Bool, Option, Some, None, slice_get, slice_index_or}
 use Rattle.vba_base.specs.declared.place.Place.{Place}
 use Rattle.vba_values.specs.declared.types.Compare.{Compare}

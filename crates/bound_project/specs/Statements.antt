@@ -1,5 +1,6 @@
--- Statements, in one flat list of a procedure in the order of the text. Each is named by its number there, from 0; what stands past the last
--- one is the procedure's end. Labels, declarations, Else, Case Else, End If and End Select are no statements.
+-- Statements, in one flat list of a procedure in the order of the text. Each is named by its number there, from 0;
+-- what stands past the last one is the procedure's end. Labels, declarations, Else, Case Else, End If and End Select
+-- are no statements.
 use Rattle.std.specs.Prelude.{ℕ, List, Bool, Option}
 use Rattle.vba_base.specs.declared.place.Place.{Place}
 use Rattle.vba_values.specs.declared.types.OpKind.{OpKind}
@@ -25,7 +26,8 @@ pub data Action : Type 0 where
   assign : Lvalue → Expr → Action
   -- a call whose value isn't used
   evaluate : Expr → Action
-  -- an assignment to a property of a standard module: its Property Let, that one's other arguments, the value and its parameter's type
+  -- an assignment to a property of a standard module: its Property Let, that one's other arguments, the value and its
+  -- parameter's type
   let_property : (procedure : ℕ) → Args → Expr → Declared → Action
   -- Debug.Print, and whether the line is finished
   print : Prints → (ends : Bool) → Action
@@ -41,7 +43,8 @@ pub data Action : Type 0 where
   next : Variable → (header first : ℕ) → Action
   -- Select Case: to its first Case
   select : Expr → (first : ℕ) → Action
-  -- Case of the Select Case with this number, whose value has this type as an operand: into its block, or to the next arm
+  -- Case of the Select Case with this number, whose value has this type as an operand: into its block, or to the next
+  -- arm
   case_of : Tests → (header : ℕ) → Declared → Compare → (first other : ℕ) → Action
   go_sub : ℕ → Action
   return_sub : Action
@@ -59,14 +62,16 @@ pub data Action : Type 0 where
   stop : Action
   end_run : Action
 
--- a statement: what it does, its place, and the number of the statement that is next after it in text order, at which Resume Next goes on. For a header
--- that is the first statement of its block (for Select Case the one after End Select), for the last statement of an arm the one after the block
+-- a statement: what it does, its place, and the number of the statement that is next after it in text order, at which
+-- Resume Next goes on. For a header that is the first statement of its block (for Select Case the one after End
+-- Select), for the last statement of an arm the one after the block
 pub record Statement : Type 0 where
   pub action : Action
   pub place : Place
   pub next : ℕ
 
--- a block by the numbers of its statements: its header, its further arms, its last line where that is a statement, and what stands behind
+-- a block by the numbers of its statements: its header, its further arms, its last line where that is a statement,
+-- and what stands behind
 pub record Block : Type 0 where
   pub opening : ℕ
   pub arms : List ℕ

@@ -1,5 +1,5 @@
-//! The bound project: trees without names to look up, between the binder and the rules on one side, and the meaning, the code
-//! and the machine on the other. The definitions stand in `specs/`.
+//! The bound project: trees without names to look up, between the binder and the rules on one side, and the meaning,
+//! the code and the machine on the other. The definitions stand in `specs/`.
 #![tactic(auto)]
 
 mod laws;

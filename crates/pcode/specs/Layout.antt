@@ -64,7 +64,8 @@ abbrev pub HasStatement : List Instr → Entry → (procedure statement : ℕ) �
 HasStatement code entry p i None = slice_get code (entry i) ≡ Some Leave
 HasStatement code entry p i (Some l) = HasAt code (entry i) (statement_code entry p i l)
 
--- the code of each statement stands at its address, past the last one stands Leave, and the tables say the addresses and the next statements
+-- the code of each statement stands at its address, past the last one stands Leave, and the tables say the addresses
+-- and the next statements
 pub record Laid (pr : Project) (entry : ℕ → Entry) (code : Code) : Type 0 where
   pub statement : (p i : ℕ) → HasStatement code.instrs (entry p) p i (statement_at pr p i)
   pub start : (p : ℕ) → slice_index code.starts p ≡ entry p 0

@@ -1,4 +1,5 @@
--- A whole run of the code of a project is the project's meaning, and fewer turns tell the beginning of what more turns tell.
+-- A whole run of the code of a project is the project's meaning, and fewer turns tell the beginning of what more
+-- turns tell.
 use Rattle.std.proofs.Common.{◌≡◌, ℕ, zero, suc, ◌+◌, ◌≤◌, Bool, true, false, List, [], ◌++◌, refl, sym, ap, ◌∙◌, subst, arith, append_assoc}
 use Rattle.std.specs.Prelude.{nat_lt, if◌then◌else◌}
 use Rattle.std.proofs.lemmas.Bool.{ltb-true}

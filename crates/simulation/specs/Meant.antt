@@ -11,7 +11,8 @@ use Rattle.pcode.specs.Machine.{Fin, Done, Stuck, run_code}
 abbrev pub fin_of : Run → Fin
 fin_of r = Done r.ending r.state r.events
 
--- with a bound on turns the code's run ends, with the project's ending (and so its place), state and events; and whenever it ends, it ends so, and never sticks
+-- with a bound on turns the code's run ends, with the project's ending (and so its place), state and events; and
+-- whenever it ends, it ends so, and never sticks
 pub record Means (pr : Project) (bound : ℕ) (code : Code) : Type 0 where
   pub ends : (steps : ℕ) × (run_code code bound steps ≡ fin_of (meaning pr bound))
   pub only : (steps : ℕ) (e : Ending) (s : State) (es : List Event) → run_code code bound steps ≡ Done e s es → Done e s es ≡ fin_of (meaning pr bound)

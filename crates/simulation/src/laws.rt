@@ -5,8 +5,8 @@ ghost use Rattle.vba_meaning.specs.Meaning.{meaning};
 ghost use Rattle.pcode.specs.Layout.{code_of};
 ghost use Rattle.simulation.specs.Meant.{Begins, Means};
 
-/// For each project and each bound on turns the run of its code ends, and with the ending, the last state and the events that
-/// the project means; it never lacks an operand or an instruction.
+/// For each project and each bound on turns the run of its code ends, and with the ending, the last state and the
+/// events that the project means; it never lacks an operand or an instruction.
 pub fn runs_are_meant()
     ensures { (pr : Project) (turns : ℕ) → Means pr turns (code_of pr) }
 {}

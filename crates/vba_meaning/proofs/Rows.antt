@@ -179,7 +179,8 @@ pub by_ref_is : told (meaning by_ref 50) ≡ (Ended, line (codes " 22 ") ∷ lin
 unfolding digits
 by_ref_is = refl
 
--- an error leaves its procedure, and Err tells where it was raised: On Error Resume Next ¶ Work ¶ Debug.Print Err.Number; Err.Source; Err.Description
+-- an error leaves its procedure, and Err tells where it was raised: On Error Resume Next ¶ Work ¶ Debug.Print
+-- Err.Number; Err.Source; Err.Description
 abbrev passed : Project
 passed = program [] (
     (sub [], flat 0 (on_error skipped ∷ evaluate (e type.variant (call 1 no_args)) ∷
@@ -190,7 +191,8 @@ pub passed_is : told (meaning passed 50) ≡ (Ended, Raised (pos 13) ∷ line (c
 unfolding digits
 passed_is = refl
 
--- Select Case 7 ¶ Case 1 To 3, Is > 8 ¶ Debug.Print 1 ¶ Case 5, 7 ¶ Debug.Print 2 ¶ Case Else ¶ Debug.Print 3 ¶ End Select
+-- Select Case 7 ¶ Case 1 To 3, Is > 8 ¶ Debug.Print 1 ¶ Case 5, 7 ¶ Debug.Print 2 ¶ Case Else ¶ Debug.Print 3 ¶ End
+-- Select
 abbrev chosen : Project
 chosen = main [] (
     jumping 6 (select (n 7) 1) ∷

@@ -1,5 +1,5 @@
--- What a statement does in one go: each effect changes the memory and gives a value, raises an error, or stops the run. The tables of values,
--- operators, arrays and error frames say what is computed.
+-- What a statement does in one go: each effect changes the memory and gives a value, raises an error, or stops the
+-- run. The tables of values, operators, arrays and error frames say what is computed.
 use Rattle.std.specs.Prelude.{ℕ, zero, ◌+◌, ◌-◌, ◌%◌, ◌==◌, nat_lt, ℤ, pos, ◌-ℤ◌, List, [], ◌∷◌, ◌++◌, length, replicate, codes, Bool, true, false, not, ◌&&◌, if◌then◌else◌, Option, Some, None, Result, Ok, Err, slice_index_or}
 use Rattle.std.specs.Fmt.{signed_decimal}
 use Rattle.vba_values.specs.declared.fault.Bad.{Bad}
@@ -238,7 +238,8 @@ loop_off i m = done (with_top m (record (top m) { loops = without (top m).loops 
 abbrev pub looping : ℕ → Loop → Memory → Memory
 looping i l m = with_top m (record (top m) { loops = (i, l) ∷ (top m).loops })
 
--- whether a counter is still within its loop: a step below 0 counts down, and a comparison that gives Null ends the loop
+-- whether a counter is still within its loop: a step below 0 counts down, and a comparison that gives Null ends the
+-- loop
 abbrev pub counts_down : Loop → Memory → Effect Bool
 counts_down l m = on_fine (operated op.Lt l.compare l.step.of type.integer l.step.value (whole kind.Integer (pos 0)) m) (λ b m1. Fine (is_true b) m1)
 
@@ -388,7 +389,8 @@ abbrev pub text_or : Option (List ℕ) → List ℕ → List ℕ
 text_or None t = t
 text_or (Some s) t = s
 
--- what Err tells: the source is the module of the procedure that raised the error unless one was given, the description its message
+-- what Err tells: the source is the module of the procedure that raised the error unless one was given, the
+-- description its message
 abbrev pub err_of : Declarations → ErrMember → Error → Val
 err_of d err_number e = whole kind.Long e.number
 err_of d err_source e = text (if is_zero e.number then [] else text_or e.source (module_name d e.procedure))

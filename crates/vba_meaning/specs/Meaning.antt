@@ -1,5 +1,5 @@
--- What a project does. A result is a value with the state that is left, an error on its way, or the end of the run; before it may stand events,
--- which are told first, and turns, which the bound on turns may refuse.
+-- What a project does. A result is a value with the state that is left, an error on its way, or the end of the run;
+-- before it may stand events, which are told first, and turns, which the bound on turns may refuse.
 use Rattle.std.specs.Prelude.{ℕ, zero, suc, ◌+◌, nat_lt, List, [], ◌∷◌, ◌++◌, length, Bool, true, false, Option, Some, None, if◌then◌else◌, slice_index_or}
 use Rattle.vba_values.specs.declared.object.ObjRef.TheVariants.{Heap}
 use Rattle.vba_values.specs.declared.types.Compare.{Compare}

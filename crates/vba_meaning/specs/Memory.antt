@@ -11,8 +11,8 @@ use Rattle.error_frames.specs.Decision as decision
 use Rattle.bound_project.specs.Expressions.{Storage, local, shared, Variable}
 use Rattle.bound_project.specs.Project.{Declarations, Procedure, procedure_at, first_value, first_values}
 
--- an error on its way, and what Err keeps of the last one: its number, a source and a description where they were given, and where it was raised
--- ([MS-VBAL] 5.4.4, 6.1.3.2)
+-- an error on its way, and what Err keeps of the last one: its number, a source and a description where they were
+-- given, and where it was raised ([MS-VBAL] 5.4.4, 6.1.3.2)
 pub record Error : Type 0 where
   pub number : ℤ
   pub source : Option (List ℕ)
@@ -37,7 +37,8 @@ pub data Root : Type 0 where
   in_frame : (frame variable : ℕ) → Root
   in_project : ℕ → Root
 
--- a path leads to a value: to a variable, then to fields and elements inside it. It has the declared type of what is there
+-- a path leads to a value: to a variable, then to fields and elements inside it. It has the declared type of what is
+-- there
 pub record Path : Type 0 where
   pub root : Root
   pub steps : List PathStep
@@ -70,7 +71,8 @@ pub record Object : Type 0 where
   pub told : Bool
   pub fields : List Val
 
--- a call that stands. One that code called hands its result on; a Class_Terminate that the end of an object called has none to hand on to
+-- a call that stands. One that code called hands its result on; a Class_Terminate that the end of an object called
+-- has none to hand on to
 pub record Frame : Type 0 where
   pub called : Bool
   pub procedure : ℕ

@@ -93,8 +93,8 @@ taken_off m = record m { waiting = rest m.waiting }
 abbrev pub let_held : Memory → Memory
 let_held m = waits (top m).held (with_top m (record (top m) { held = [] }))
 
--- what a frame that is left lets go: its temporaries, what its blocks keep, its variables and parameters in order, Me. A result is handed on,
--- and the Me of a Class_Terminate goes with the frame
+-- what a frame that is left lets go: its temporaries, what its blocks keep, its variables and parameters in order,
+-- Me. A result is handed on, and the Me of a Class_Terminate goes with the frame
 abbrev pub held_by : Frame → List ℕ
 held_by f = f.held ++ (objects_kept f.keeps ++ (if f.called then objects_in_slots (rest f.slots) ++ objects_in f.me else objects_in_slots f.slots))
 

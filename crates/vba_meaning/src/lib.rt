@@ -1,4 +1,5 @@
-//! The meaning of a bound project: what a run remembers, what it tells, and how it ends. The definitions stand in `specs/`.
+//! The meaning of a bound project: what a run remembers, what it tells, and how it ends. The definitions stand in
+//! `specs/`.
 #![tactic(auto)]
 
 mod laws;
