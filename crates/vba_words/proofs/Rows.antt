@@ -73,3 +73,13 @@ texts_row : readings (codes "x = \"a\"\"b\" + \"\"\"\" #1/2#") ≡
     (plain (codes "x") ∷ reading.Mark mark.Equal ∷ reading.Text (codes "a\"b") ∷ reading.Mark mark.Plus ∷ reading.Text (codes "\"") ∷ reading.Other ∷ []) ∷ []
 unfolding readings plain folded caseless
 texts_row = refl
+
+-- the Step of a For line and the Preserve of a ReDim are words, with which no dot goes on; elsewhere they are names
+words_row : readings (codes "For i = Step.a To n Step.c: Foo Step.d: ReDim Preserve.x(Preserve.y)") ≡
+    (reading.Keyword keyword.For ∷ plain (codes "i") ∷ reading.Mark mark.Equal ∷ plain (codes "step") ∷ reading.Mark mark.Dot ∷ plain (codes "a")
+    ∷ reading.Keyword keyword.To ∷ plain (codes "n") ∷ plain (codes "step") ∷ reading.Mark mark.WithDot ∷ plain (codes "c") ∷ reading.Mark mark.Colon
+    ∷ plain (codes "foo") ∷ plain (codes "step") ∷ reading.Mark mark.Dot ∷ plain (codes "d") ∷ reading.Mark mark.Colon
+    ∷ reading.Keyword keyword.ReDim ∷ plain (codes "preserve") ∷ reading.Mark mark.WithDot ∷ plain (codes "x") ∷ reading.Mark mark.LeftParenthesis
+    ∷ plain (codes "preserve") ∷ reading.Mark mark.Dot ∷ plain (codes "y") ∷ reading.Mark mark.RightParenthesis ∷ []) ∷ []
+unfolding readings plain folded caseless
+words_row = refl

@@ -15,12 +15,14 @@ use Rattle.vba_lexer.specs.Texts.{text_of}
 use Rattle.vba_words.specs.declared.keyword.Keyword.{Keyword}
 use Rattle.vba_words.specs.declared.keyword.Keyword.TheVariants as keyword
 use Rattle.vba_words.specs.declared.mark.Mark.{Mark}
-use Rattle.vba_words.specs.declared.mark.Mark.TheVariants.{Dot, WithDot, RightParenthesis}
+use Rattle.vba_words.specs.declared.mark.Mark.TheVariants.{Dot, WithDot, RightParenthesis, Colon}
 use Rattle.vba_words.specs.declared.reading.Reading.{Reading}
 use Rattle.vba_words.specs.declared.reading.Reading.TheVariants as reading
 use Rattle.vba_words.specs.declared.reading.ReadToken.{ReadToken}
 use Rattle.vba_words.specs.Keywords.{keyword_of}
+use Rattle.vba_words.specs.declared.context.Context.{Context}
 use Rattle.vba_words.specs.Marks.{mark_of}
+use Rattle.vba_words.specs.Words.{is_word}
 
 abbrev mutual
   -- what stands between the quotes of a string literal, each doubled quote once; from behind the opening quote
@@ -113,22 +115,56 @@ ends_primary reading.Other = false
 abbrev pub adjoins : Token → Token → Bool
 adjoins before token = (before.end == token.start) || not (before.place.line == token.place.line)
 
+-- behind a word To of the same statement
+abbrev pub behind_to : Bool → Reading → Bool
+behind_to is_behind (reading.Keyword keyword.To) = true
+behind_to is_behind (reading.Keyword keyword.Then) = false
+behind_to is_behind (reading.Keyword keyword.Else) = false
+behind_to is_behind (reading.Mark Colon) = false
+behind_to is_behind _ = is_behind
+
+-- ReDim
+abbrev pub is_redim : Reading → Bool
+is_redim (reading.Keyword keyword.ReDim) = true
+is_redim _ = false
+
+-- a token ends what may go on with a dot: a place or primary, and no word of the grammar
+abbrev pub may_go_on : Context → Reading → Bool
+may_go_on context before = ends_primary before && not context.is_word
+
+-- a name behind another token is a word of the grammar where it is Preserve behind ReDim, or the Step of a For line, which
+-- stands behind To and what may end its limit
+abbrev pub becomes_word : Context → Reading → Reading → Bool
+becomes_word context before meant =
+    (is_redim before && is_word meant (codes "preserve")) || (context.is_behind_to && (may_go_on context before && is_word meant (codes "step")))
+
+-- what tokens behind a token have to know: whether a To of their statement stands before them, and whether the name that
+-- the last token seems to be is a word of the grammar
+abbrev pub context_behind : Context → Option ReadToken → Reading → Context
+context_behind context None meant = record { is_behind_to = behind_to false meant; is_word = false }
+context_behind context (Some before) meant =
+    record { is_behind_to = behind_to context.is_behind_to meant; is_word = becomes_word context before.reading meant }
+
+abbrev pub nothing_before : Context
+nothing_before = record { is_behind_to = false; is_word = false }
+
 -- what a token is behind another one, or first on its line
-abbrev pub reading_behind : Option ReadToken → Token → List ℕ → Reading
-reading_behind None token text = reading_of false false token.kind text
-reading_behind (Some before) token text =
-    reading_of (is_dot before.reading) (ends_primary before.reading && adjoins before.token token) token.kind text
+abbrev pub reading_behind : Context → Option ReadToken → Token → List ℕ → Reading
+reading_behind context None token text = reading_of false false token.kind text
+reading_behind context (Some before) token text =
+    reading_of (is_dot before.reading) (may_go_on context before.reading && adjoins before.token token) token.kind text
 
 -- a token of a source, behind another one or first on its line
-abbrev pub read_token : List ℕ → Option ReadToken → Token → ReadToken
-read_token source before token = record { token = token; reading = reading_behind before token (text_of source token) }
+abbrev pub read_token : List ℕ → Context → Option ReadToken → Token → ReadToken
+read_token source context before token = record { token = token; reading = reading_behind context before token (text_of source token) }
 
 -- the tokens of a source behind another one, or from the front of a line
-abbrev pub read_behind : List ℕ → Option ReadToken → List Token → List ReadToken
-read_behind source before [] = []
-read_behind source before (token ∷ tokens) =
-    read_token source before token ∷ read_behind source (Some (read_token source before token)) tokens
+abbrev pub read_behind : List ℕ → Context → Option ReadToken → List Token → List ReadToken
+read_behind source context before [] = []
+read_behind source context before (token ∷ tokens) =
+    let next = read_token source context before token in
+    next ∷ read_behind source (context_behind context before next.reading) (Some next) tokens
 
 -- the tokens of a line of a source as the grammar reads them
 abbrev pub read_line : List ℕ → List Token → List ReadToken
-read_line source tokens = read_behind source None tokens
+read_line source tokens = read_behind source nothing_before None tokens

@@ -1,6 +1,7 @@
 //! Tokens as the grammar reads them: kept words, names, numbers, texts and marks.
 #![tactic(auto)]
 
+mod context;
 mod identifier;
 mod keyword;
 mod laws;

@@ -7,7 +7,8 @@ ghost use Rattle.vba_lexer.specs.Inside.{IsWithin};
 ghost use Rattle.vba_lexer.specs.Numbers.{number_of};
 ghost use Rattle.vba_words.specs.Readings as readings;
 
-use crate::keyword::{Keyword, keyword_of};
+use crate::context::{Context, context_behind, may_go_on, nothing_before};
+use crate::keyword::keyword_of;
 use crate::mark::{Mark, mark_of};
 use crate::quotes::quoted_text;
 use crate::reading::{ReadToken, Reading};
@@ -26,8 +27,11 @@ pub fn read_tokens(
     ensures { IfOk result (λ found. found.items ≡ readings.read_line source.now tokens.now) }
 {
     let mut found = Vec::with_capacity(alloc, tokens.len())?;
+    let mut context = nothing_before();
     for token in tokens {
-        let next = read_token(alloc, source, found.last(), token)?;
+        let before = found.last();
+        let next = read_token(alloc, source, context, before, token)?;
+        context = context_behind(context, before, &next.reading);
         found.push(next)?;
     }
     Ok(found)
@@ -37,18 +41,19 @@ pub fn read_tokens(
 fn read_token(
     alloc: Global,
     source: &Units,
+    context: Context,
     before: Option<&ReadToken>,
     token: &Token,
 ) -> Result<ReadToken, NoMemory>
     requires { IsWithin (length source.now) token.now }
     ensures { IfOk result (λ next. next
-        ≡ readings.read_token source.now (option_map (λ read. read.now) before.entry) token.now) }
+        ≡ readings.read_token source.now context (option_map (λ read. read.now) before.entry) token.now) }
 {
     let text = slice_of(source, token);
     let reading = match before {
         None => reading_of(alloc, false, false, token.kind, text)?,
         Some(before) => {
-            let goes_on = ends_primary(&before.reading) && adjoins(&before.token, token);
+            let goes_on = may_go_on(context, &before.reading) && adjoins(&before.token, token);
             reading_of(alloc, is_dot(&before.reading), goes_on, token.kind, text)?
         }
     };
@@ -154,33 +159,6 @@ fn is_dot(reading: &Reading) -> bool
     ensures { result ≡ readings.is_dot reading.now }
 {
     matches!(reading, Reading::Mark(Mark::Dot | Mark::WithDot))
-}
-
-/// Is it a word that is a value or the object itself?
-fn is_value_word(word: Keyword) -> bool
-    ensures { result ≡ readings.is_value_word word }
-{
-    matches!(
-        word,
-        Keyword::Empty
-            | Keyword::False
-            | Keyword::Me
-            | Keyword::Nothing
-            | Keyword::Null
-            | Keyword::True
-    )
-}
-
-/// May a place or primary end with it?
-fn ends_primary(reading: &Reading) -> bool
-    ensures { result ≡ readings.ends_primary reading.now }
-{
-    match reading {
-        Reading::Keyword(word) => is_value_word(*word),
-        Reading::Name { .. } | Reading::Number { .. } | Reading::Text(_) => true,
-        Reading::Mark(mark) => matches!(mark, Mark::RightParenthesis),
-        Reading::Other => false,
-    }
 }
 
 /// Stands no white space between two tokens, or a continuation?

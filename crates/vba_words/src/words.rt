@@ -1,9 +1,9 @@
 ghost use Rattle.std.specs.Prelude.{◌≡◌, IfOk};
 ghost use Rattle.vba_words.specs.Words.{reads_word, identifier_of};
 
+use crate::context::is_word;
 use crate::identifier::Identifier;
 use crate::reading::{ReadToken, Reading};
-use crate::table::is_text;
 use std::alloc::Global;
 use vba_base::NoMemory;
 
@@ -12,14 +12,7 @@ use vba_base::NoMemory;
 pub fn reads_word(token: &ReadToken, word: &[u8]) -> bool
     ensures { result ≡ reads_word token.now word.now }
 {
-    match &token.reading {
-        Reading::Name {
-            name,
-            suffix: None,
-            is_bracketed: false,
-        } => is_text(name.units(), word),
-        _ => false,
-    }
+    is_word(&token.reading, word)
 }
 
 /// The name that a token is.
