@@ -1,6 +1,6 @@
 -- Lines are a block's exactly where no directive is unmatched.
 use Rattle.std.proofs.Common.{◌≡◌, ℕ, Bool, true, false, not, List, [], ◌∷◌, ◌++◌, Option, Some, None, refl, sym, ap, ◌∙◌, subst, inl, inr, arith}
-use Rattle.std.specs.Prelude.{◌≢◌, ◌⊎◌, IfSome, option_map, if◌then◌else◌}
+use Rattle.std.specs.Prelude.{◌≢◌, ◌⊎◌, ◌&&◌, IfSome, is_some, option_map, if◌then◌else◌}
 use Rattle.std.specs.List.{AllByRecursion}
 use Rattle.std.proofs.lemmas.List.Elements.{All-from_recursion, recursion_from_All}
 use Rattle.vba_base.specs.declared.place.Place.{Place}
@@ -237,7 +237,7 @@ quiet_directive source standing first directive sound well =
     (quiet_if (is_kept (enclosing directive.kind standing.arms)) _
     (none_append (fault_list first.fault ++ broken_if (not (has_form source directive)) 7 (place_of first)) _
     (none_append (fault_list first.fault) _ (quiet_fault first.fault sound) (quiet_broken (not (has_form source directive)) 7 (place_of first) (λ e. absurd (omega arith))))
-    (quiet_broken (is_bad directive.kind (evaluated source standing directive)) 9 (expression_place directive) (λ e. absurd (omega arith)))))
+    (quiet_broken (not (is_some first.fault) && is_bad directive.kind (evaluated source standing directive)) 9 (expression_place directive) (λ e. absurd (omega arith)))))
 
 quiet_passed : (source : List ℕ) (standing : Ground) (first : LexedLine) (lines : Lines) (directive : Directive) → directive_in source first.tokens ≡ Some directive
     → Sound first → is_unmatched directive.kind standing.arms ≡ false

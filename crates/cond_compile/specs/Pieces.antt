@@ -1,10 +1,10 @@
 -- The tokens of an expression as the grammar reads them.
-use Rattle.std.specs.Prelude.{ℕ, ◌==◌, nat_lt, Bool, true, false, ◌&&◌, List, [], ◌∷◌, codes, Option, Some, None, unwrap_or, if◌then◌else◌, bytes_eq}
+use Rattle.std.specs.Prelude.{ℕ, ◌==◌, nat_lt, Bool, true, false, ◌&&◌, List, [], ◌∷◌, codes, Option, Some, None, is_some, if◌then◌else◌, bytes_eq}
 use Rattle.vba_base.specs.Fold.{folded}
 use Rattle.vba_lexer.specs.declared.token.Token.{Token}
 use Rattle.vba_lexer.specs.declared.token.TokenKind.{TokenKind}
 use Rattle.vba_lexer.specs.declared.token.TokenKind.TheVariants as kind
-use Rattle.vba_lexer.specs.Numbers.{number_of}
+use Rattle.vba_lexer.specs.Numbers.{number_of, suffix_of, without_suffix}
 use Rattle.vba_lexer.specs.Texts.{text_of}
 use Rattle.vba_values.specs.declared.object.ObjRef.TheVariants.{Nothing}
 use Rattle.vba_values.specs.Val.{Val, empty, null, boolean, text, object}
@@ -81,9 +81,13 @@ literal_or None word = operator_or (operator_word word) word
 abbrev pub kept_piece : List ℕ → Option Piece
 kept_piece word = literal_or (literal_word word) word
 
--- a word, which is a name where it is none of these
+-- a word, which is a name where it is none of these; one of these with a suffix is no token of an expression
 abbrev pub word_piece : List ℕ → Piece
-word_piece spelled = unwrap_or (kept_piece (folded spelled)) (name (name_in spelled))
+word_piece spelled = at (kept_piece (folded (without_suffix spelled))) (is_some (suffix_of spelled))
+  where
+    at : Option Piece → Bool → Piece
+    at None has_suffix = name (name_in spelled)
+    at (Some kept) has_suffix = if has_suffix then other else kept
 
 -- a mark of one character
 abbrev pub single_mark : ℕ → Piece

@@ -245,14 +245,14 @@ expression_place directive = of_kind directive.kind
     of_kind kind = first_place directive.last.place directive.rest
 
 -- the rules that a directive line breaks where it is not on kept ground: S8 alone; and where it is: S1 to S6 by its tokens,
--- S7 by its form, S9 by its expression
+-- S7 by its form, S9 by its expression, which isn't asked of a line that breaks one of S1 to S6
 abbrev pub directive_violations : List ℕ → Ground → LexedLine → Directive → List Refusal
 directive_violations source standing line directive =
     broken_if (is_unmatched directive.kind standing.arms) 8 (first_place line.place line.tokens)
     ++ (if is_kept (enclosing directive.kind standing.arms) then
     fault_list line.fault
     ++ broken_if (not (has_form source directive)) 7 (first_place line.place line.tokens)
-    ++ broken_if (is_bad directive.kind (evaluated source standing directive)) 9 (expression_place directive)
+    ++ broken_if (not (is_some line.fault) && is_bad directive.kind (evaluated source standing directive)) 9 (expression_place directive)
     else [])
 
 -- the rules that a line breaks

@@ -14,7 +14,7 @@ use crate::operator::Operator;
 use crate::words::{is_kept_word, is_word, name_in};
 use std::alloc::Global;
 use vba_base::{Name, NoMemory, Units, name_of};
-use vba_lexer::{Token, TokenKind, slice_of};
+use vba_lexer::{Token, TokenKind, slice_of, suffix_of, without_suffix};
 use vba_values::{ObjRef, Value};
 use vba_words::quoted_text;
 
@@ -125,12 +125,13 @@ fn kept_piece(word: &[u16]) -> Option<Piece>
     grammar_word(word)
 }
 
-/// A word, which may be a name.
+/// A word, which may be a name. One that is no name has no suffix in an expression.
 fn word_piece(alloc: Global, text: &[u16]) -> Result<Piece, NoMemory>
     ensures { IfOk result (λ piece. piece_view piece ≡ pieces.word_piece text.now) }
 {
-    let word = name_of(alloc, text)?;
+    let word = name_of(alloc, without_suffix(text))?;
     match kept_piece(word.units()) {
+        Some(_) if suffix_of(text).is_some() => Ok(Piece::Other),
         Some(piece) => Ok(piece),
         None => Ok(Piece::Name(name_in(alloc, text)?)),
     }

@@ -175,15 +175,11 @@ fn pass_directive(
     note_if(&mut progress.least, unmatched, 8, place);
     let (value, form) = evaluated(alloc, source, directive, progress)?;
     let told = told_by(alloc, directive.kind, &value)?;
+    let is_bad = line.fault.is_none() && told.is_bad;
     if stands_on_kept(directive.kind, &progress.arms) {
         note_fault(&mut progress.least, line.fault);
         note_if(&mut progress.least, !form, 7, place);
-        note_if(
-            &mut progress.least,
-            told.is_bad,
-            9,
-            expression_place(directive),
-        );
+        note_if(&mut progress.least, is_bad, 9, expression_place(directive));
     }
     define(alloc, source, directive, value, &mut progress.constants)?;
     pass(&mut progress.arms, directive.kind, place, told.holds)
