@@ -3,7 +3,7 @@
 ghost use Rattle.std.specs.Prelude.{◌≡◌, IfOk, option_map, is_some};
 ghost use Rattle.vba_expression.specs.View.{view};
 ghost use Rattle.vba_expression.specs.Fitting.{is_place};
-ghost use Rattle.vba_grammar.specs.Front.{begins, token_at, token_if, reads, name_at, place_at, ends};
+ghost use Rattle.vba_grammar.specs.Front.{begins, token_at, token_if, reads, name_at, plain_name_at, place_at, ends};
 ghost use Rattle.vba_grammar.specs.Clauses.{item_ends};
 ghost use Rattle.vba_clauses.specs.Meets.{meets};
 
@@ -90,6 +90,22 @@ pub fn begins_with_word(tokens: &[ReadToken], word: &[u8]) -> bool
     match tokens {
         [] => false,
         [first, ..] => reads_word(first, word),
+    }
+}
+
+/// The name without a suffix at the front, and the tokens behind it.
+pub(crate) fn read_plain_name(
+    alloc: Global,
+    tokens: &[ReadToken],
+) -> Result<Option<(Identifier, &[ReadToken])>, NoMemory>
+    ensures { IfOk result (λ found. option_map (λ f. (f.0, f.1.now)) found ≡ plain_name_at tokens.now) }
+{
+    let Some((name, rest)) = read_name(alloc, tokens)? else {
+        return Ok(None);
+    };
+    match name.suffix {
+        None => Ok(Some((name, rest))),
+        Some(_) => Ok(None),
     }
 }
 

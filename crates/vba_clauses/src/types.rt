@@ -7,7 +7,7 @@ ghost use Rattle.vba_tree.specs.View.{declared_type_view, type_clause_view, new_
 ghost use Rattle.vba_grammar.specs.Clauses.{type_name_at, is_fixed, type_at, type_clause_at, new_type_clause_at};
 
 use crate::expected::{Expected, is_expected};
-use crate::front::{read_name, read_token, read_word, skip_token};
+use crate::front::{read_plain_name, read_token, read_word, skip_token};
 use crate::part::Part;
 use std::alloc::Global;
 use vba_base::NoMemory;
@@ -16,20 +16,20 @@ use vba_tree::{DeclaredType, NewTypeClause, TypeClause};
 use vba_words::{Identifier, ReadToken, reads_word};
 
 /// The name of a type at the front, and the tokens behind it: `name`, or `name.name` where a dot and a name stand behind
-/// the first.
+/// the first. No name of a type has a suffix.
 pub fn read_type_name(
     alloc: Global,
     tokens: &[ReadToken],
 ) -> Result<Option<(TypeName, &[ReadToken])>, NoMemory>
     ensures { IfOk result (λ found. option_map (λ f. (f.0, f.1.now)) found ≡ type_name_at tokens.now) }
 {
-    let Some((first, rest)) = read_name(alloc, tokens)? else {
+    let Some((first, rest)) = read_plain_name(alloc, tokens)? else {
         return Ok(None);
     };
     let Some((dot, behind)) = read_token(rest, Expected::Dot) else {
         return Ok(Some((one_name(first), rest)));
     };
-    let Some((last, left)) = read_name(alloc, behind)? else {
+    let Some((last, left)) = read_plain_name(alloc, behind)? else {
         return Ok(Some((one_name(first), rest)));
     };
     let class = TypeName {

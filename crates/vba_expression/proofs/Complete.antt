@@ -1,8 +1,9 @@
 -- What a fitting tree spells is read.
 use Rattle.std.proofs.Common.{◌≡◌, ℕ, suc, ◌<◌, ◌≤◌, false, List, [], ◌∷◌, ◌++◌, Option, Some, None, refl, ap, ◌∙◌, arith, append_assoc}
-use Rattle.std.specs.Prelude.{nat_lt}
+use Rattle.std.specs.Prelude.{nat_lt, ◌&&◌, option_map}
 use Rattle.std.proofs.lemmas.Bool.{le-ltb, lt-ltb}
 use Rattle.vba_lexer.specs.declared.token.Token.{Token}
+use Rattle.vba_lexer.specs.declared.number.TypeSuffix.{TypeSuffix}
 use Rattle.vba_words.specs.declared.identifier.Identifier.{Identifier}
 use Rattle.vba_words.specs.declared.keyword.Keyword.TheVariants as keyword
 use Rattle.vba_words.specs.declared.mark.Mark.TheVariants as mark
@@ -18,9 +19,9 @@ use Rattle.vba_expression.specs.declared.part.Part.TheVariants as part
 use Rattle.vba_expression.specs.Tree.{Expr, literal, me, name, with_member, member, index, parenthesised, new, type_of, unary, binary, Args, no_args, missing, plain, named}
 use Rattle.vba_words.specs.Spelling.{read, word, marked, naming}
 use Rattle.vba_expression.specs.Spelling.{literal_reading, unary_reading, binary_reading, type_name_tokens, comma_tokens, spell, spell_args}
-use Rattle.vba_expression.specs.Fitting.{unary_level, binary_level, level, is_lone, CommaFits, has_short_type, Fits, FitsArgs}
+use Rattle.vba_expression.specs.Fitting.{unary_level, binary_level, level, is_none, is_lone, CommaFits, HasPlainNames, has_short_type, Fits, FitsArgs}
 use Rattle.vba_expression.specs.Parts.{part_of}
-use Rattle.vba_expression.specs.Reader.{Head, behind, Frame, whole, right_operand, unary_operand, inner, type_of_operand, argument, named_argument, State, want, have, new_wanted, class_wanted, room, reduce, loosest, behind_dot, last_missing, operated, next_argument, closed, after, step, next, run}
+use Rattle.vba_expression.specs.Reader.{Head, behind, Frame, whole, right_operand, unary_operand, inner, type_of_operand, argument, named_argument, State, want, have, new_wanted, class_wanted, room, reduce, loosest, short_type, new_behind_dot, type_of_behind_dot, behind_dot, last_missing, operated, next_argument, closed, unless_suffixed, after, step, next, run}
 use Rattle.vba_expression.proofs.Reducing.{binary_small, binary_positive, unary_small, chosen_false, chosen_true}
 
 -- a literal, and an operator, is the part that it is read as
@@ -199,20 +200,22 @@ after_close (plain before comma e) f l r fs w h =
 after_close (named before comma x g e) f l r fs w h =
     ap (λ p. closed p.0 p.1 r) (bracketed e (named_argument (behind f l) before comma x g ∷ fs) w.2 (omega arith))
 
--- a dot and a name behind what has no short type
-is_member : (e : Expr) (d : Token) (x : Identifier) → has_short_type e ≡ false → behind_dot e d x ≡ member e d x
-is_member (new t class) d x h = with_class class.qualifier class.name h
+-- a dot and a name behind what they don't belong to
+is_member : (e : Expr) (d : Token) (x : Identifier) → (has_short_type e && is_none x.suffix) ≡ false → behind_dot e d x ≡ member e d x
+is_member (new t class) d x h = with_class class.qualifier class.name x.suffix h
   where
-    with_class : (q : Option TypeQualifier) (n : Identifier) → has_short_type (new t (record { qualifier = q; name = n })) ≡ false
-        → behind_dot (new t (record { qualifier = q; name = n })) d x ≡ member (new t (record { qualifier = q; name = n })) d x
-    with_class None n h = absurd cc
-    with_class (Some q) n h = refl
-is_member (type_of t e i class) d x h = with_class class.qualifier class.name h
+    with_class : (q : Option TypeQualifier) (n : Identifier) (s : Option TypeSuffix) → (is_none q && is_none s) ≡ false
+        → new_behind_dot t q n d x s ≡ member (new t (record { qualifier = q; name = n })) d x
+    with_class None n None h = absurd cc
+    with_class None n (Some s) h = refl
+    with_class (Some q) n s h = refl
+is_member (type_of t e i class) d x h = with_class class.qualifier class.name x.suffix h
   where
-    with_class : (q : Option TypeQualifier) (n : Identifier) → has_short_type (type_of t e i (record { qualifier = q; name = n })) ≡ false
-        → behind_dot (type_of t e i (record { qualifier = q; name = n })) d x ≡ member (type_of t e i (record { qualifier = q; name = n })) d x
-    with_class None n h = absurd cc
-    with_class (Some q) n h = refl
+    with_class : (q : Option TypeQualifier) (n : Identifier) (s : Option TypeSuffix) → (is_none q && is_none s) ≡ false
+        → type_of_behind_dot t e i q n d x s ≡ member (type_of t e i (record { qualifier = q; name = n })) d x
+    with_class None n None h = absurd cc
+    with_class None n (Some s) h = refl
+    with_class (Some q) n s h = refl
 is_member (literal l) d x h = refl
 is_member (me t) d x h = refl
 is_member (name y) d x h = refl
@@ -225,16 +228,27 @@ is_member (binary a o t b) d x h = refl
 
 -- a type is read behind New, and behind the Is of TypeOf
 reads_new : (t : Token) (q : Option TypeQualifier) (n : Identifier) (fs : List Frame) (rest : List ReadToken)
+    → HasPlainNames (record { qualifier = q; name = n })
     → run (new_wanted t fs) (type_name_tokens (record { qualifier = q; name = n }) ++ rest)
     ≡ run (have (new t (record { qualifier = q; name = n })) fs) rest
-reads_new t None n fs rest = refl
-reads_new t (Some q) n fs rest = refl
+reads_new t None n fs rest w =
+    stepped (new_wanted t fs) (have (new t (short_type n)) fs) (naming n) rest (ap (λ s. option_map (λ x. have (new t (short_type x)) fs) (unless_suffixed s n)) w.0)
+reads_new t (Some q) n fs rest w =
+    stepped (new_wanted t fs) (have (new t (short_type q.name)) fs) (naming q.name) (marked q.dot mark.Dot ∷ naming n ∷ rest)
+    (ap (λ s. option_map (λ x. have (new t (short_type x)) fs) (unless_suffixed s q.name)) w.1)
+    ∙ ap (λ s. run (have (new_behind_dot t None q.name q.dot n s) fs) rest) w.0
 
 reads_class : (t : Token) (e : Expr) (i : Token) (q : Option TypeQualifier) (n : Identifier) (fs : List Frame) (rest : List ReadToken)
+    → HasPlainNames (record { qualifier = q; name = n })
     → run (class_wanted t e i fs) (type_name_tokens (record { qualifier = q; name = n }) ++ rest)
     ≡ run (have (type_of t e i (record { qualifier = q; name = n })) fs) rest
-reads_class t e i None n fs rest = refl
-reads_class t e i (Some q) n fs rest = refl
+reads_class t e i None n fs rest w =
+    stepped (class_wanted t e i fs) (have (type_of t e i (short_type n)) fs) (naming n) rest
+    (ap (λ s. option_map (λ x. have (type_of t e i (short_type x)) fs) (unless_suffixed s n)) w.0)
+reads_class t e i (Some q) n fs rest w =
+    stepped (class_wanted t e i fs) (have (type_of t e i (short_type q.name)) fs) (naming q.name) (marked q.dot mark.Dot ∷ naming n ∷ rest)
+    (ap (λ s. option_map (λ x. have (type_of t e i (short_type x)) fs) (unless_suffixed s q.name)) w.1)
+    ∙ ap (λ s. run (have (type_of_behind_dot t e i None q.name q.dot n s) fs) rest) w.0
 
 operand_there : (u : UnaryOperator) (t : Token) (fs : List Frame) → unary_level u < room fs
     → step (want fs) (read t (unary_reading u)) ≡ Some (want (unary_operand u t ∷ fs))
@@ -266,12 +280,12 @@ mutual
       ∙ (reads e (inner l ∷ fs) (marked r mark.RightParenthesis ∷ rest) (level_small e) w
       ∙ stepped (at (peak e (inner l ∷ fs))) (have (parenthesised l e r) fs) (marked r mark.RightParenthesis) rest
       (ap (λ p. closed p.0 p.1 r) (bracketed e (inner l ∷ fs) w (omega arith))))
-  reads (new t class) fs rest h w = reads_new t class.qualifier class.name fs rest
+  reads (new t class) fs rest h w = reads_new t class.qualifier class.name fs rest w
   reads (type_of t e i class) fs rest h w =
       ap (run (want (type_of_operand t ∷ fs))) (append_assoc (spell e) (word i keyword.Is ∷ type_name_tokens class) rest)
       ∙ (reads e (type_of_operand t ∷ fs) (word i keyword.Is ∷ (type_name_tokens class ++ rest)) (omega (arith, w.0)) w.1
       ∙ (ap (λ p. run (at p) (word i keyword.Is ∷ (type_name_tokens class ++ rest))) (primary e (type_of_operand t ∷ fs) w.0)
-      ∙ reads_class t e i class.qualifier class.name fs rest))
+      ∙ reads_class t e i class.qualifier class.name fs rest w.2))
   reads (unary u t e) fs rest h w =
       stepped (want fs) (want (unary_operand u t ∷ fs)) (read t (unary_reading u)) (spell e ++ rest) (operand_there u t fs h)
       ∙ reads e (unary_operand u t ∷ fs) rest (omega (arith, w.0)) w.1

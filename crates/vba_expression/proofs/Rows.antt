@@ -2,6 +2,7 @@
 use Rattle.std.proofs.Common.{◌≡◌, refl, [], ◌∷◌, Some, None, true}
 use Rattle.vba_lexer.specs.declared.token.Token.{Token}
 use Rattle.vba_lexer.specs.declared.number.Number.{Number}
+use Rattle.vba_lexer.specs.declared.number.TypeSuffix.TheVariants as suffix
 use Rattle.vba_words.specs.declared.identifier.Identifier.{Identifier}
 use Rattle.vba_words.specs.declared.keyword.Keyword.{Keyword}
 use Rattle.vba_words.specs.declared.keyword.Keyword.TheVariants as keyword
@@ -27,6 +28,13 @@ module _ (t : Token) (a b c f g : Identifier) (one two three seven : Number) whe
 
   abbrev n : Identifier → ReadToken
   n = naming
+
+  -- a name without a suffix, and with one
+  abbrev p : Identifier → Identifier
+  p x = record { token = x.token; name = x.name; suffix = None; is_bracketed = x.is_bracketed }
+
+  abbrev q : Identifier → Identifier
+  q x = record { token = x.token; name = x.name; suffix = Some suffix.Text; is_bracketed = x.is_bracketed }
 
   abbrev d : Number → ReadToken
   d number = read t (reading.Number number true)
@@ -129,21 +137,31 @@ module _ (t : Token) (a b c f g : Identifier) (one two three seven : Number) whe
   row16 = refl
 
   -- `TypeOf a Is b Is c` is `(TypeOf a Is b) Is c`, and `Is` behind no TypeOf is an operator
-  row17 : expression_at 15 (w keyword.TypeOf ∷ n a ∷ w keyword.Is ∷ n b ∷ w keyword.Is ∷ n c ∷ [])
-      ≡ Some (bin op.Is (type_of t (name a) t (short_type b)) (name c), [])
+  row17 : expression_at 15 (w keyword.TypeOf ∷ n a ∷ w keyword.Is ∷ n (p b) ∷ w keyword.Is ∷ n c ∷ [])
+      ≡ Some (bin op.Is (type_of t (name a) t (short_type (p b))) (name c), [])
   row17 = refl
 
   row18 : expression_at 15 (w keyword.TypeOf ∷ n a ∷ plus ∷ n b ∷ w keyword.Is ∷ n c ∷ []) ≡ None
   row18 = refl
 
   -- `New A.B.C` is `(New A.B).C`
-  row19 : expression_at 15 (w keyword.New ∷ n a ∷ dot ∷ n b ∷ dot ∷ n c ∷ [])
-      ≡ Some (member (new t (long_type a t b)) t c, [])
+  row19 : expression_at 15 (w keyword.New ∷ n (p a) ∷ dot ∷ n (p b) ∷ dot ∷ n c ∷ [])
+      ≡ Some (member (new t (long_type (p a) t (p b))) t c, [])
   row19 = refl
 
+  -- no type has a suffix: `New A$` has no tree, and in `New A.B$` the member is one of the object
+  row19a : expression_at 15 (w keyword.New ∷ n (q a) ∷ []) ≡ None
+  row19a = refl
+
+  row19b : expression_at 15 (w keyword.New ∷ n (p a) ∷ dot ∷ n (q b) ∷ []) ≡ Some (member (new t (short_type (p a))) t (q b), [])
+  row19b = refl
+
+  row19c : expression_at 15 (w keyword.TypeOf ∷ n a ∷ w keyword.Is ∷ n (q b) ∷ []) ≡ None
+  row19c = refl
+
   -- `TypeOf a Is b.c.f`
-  row20 : expression_at 15 (w keyword.TypeOf ∷ n a ∷ w keyword.Is ∷ n b ∷ dot ∷ n c ∷ dot ∷ n f ∷ [])
-      ≡ Some (member (type_of t (name a) t (long_type b t c)) t f, [])
+  row20 : expression_at 15 (w keyword.TypeOf ∷ n a ∷ w keyword.Is ∷ n (p b) ∷ dot ∷ n (p c) ∷ dot ∷ n f ∷ [])
+      ≡ Some (member (type_of t (name a) t (long_type (p b) t (p c))) t f, [])
   row20 = refl
 
   -- `.f.g(1)` in a With block, and a dot of a With block goes on with nothing

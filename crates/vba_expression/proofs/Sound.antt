@@ -1,9 +1,10 @@
 -- What is read is a fitting tree that spells the tokens.
 use Rattle.std.proofs.Common.{◌≡◌, ℕ, suc, ◌<◌, ◌≤◌, Bool, true, List, [], ◌∷◌, ◌++◌, Option, Some, None, refl, sym, ap, ◌∙◌, subst, arith, append_assoc}
-use Rattle.std.specs.Prelude.{nat_lt, if◌then◌else◌}
+use Rattle.std.specs.Prelude.{nat_lt, if◌then◌else◌, option_map}
 use Rattle.std.proofs.lemmas.Bool.{ltb-true, ltb-false, cond_both}
 use Rattle.std.proofs.lemmas.List.{append-nil}
 use Rattle.vba_lexer.specs.declared.token.Token.{Token}
+use Rattle.vba_lexer.specs.declared.number.TypeSuffix.{TypeSuffix}
 use Rattle.vba_words.specs.declared.identifier.Identifier.{Identifier}
 use Rattle.vba_words.specs.declared.keyword.Keyword.{Keyword}
 use Rattle.vba_words.specs.declared.keyword.Keyword.TheVariants as keyword
@@ -22,9 +23,9 @@ use Rattle.vba_expression.specs.declared.part.Part.{Part}
 use Rattle.vba_expression.specs.declared.part.Part.TheVariants as part
 use Rattle.vba_expression.specs.Tree.{Expr, literal, me, name, with_member, member, index, parenthesised, new, type_of, unary, binary, no_args, missing, plain, named}
 use Rattle.vba_expression.specs.Spelling.{literal_reading, unary_reading, binary_reading, comma_tokens, spell, spell_args}
-use Rattle.vba_expression.specs.Fitting.{unary_level, binary_level, level, CommaFits, Fits, FitsArgs}
+use Rattle.vba_expression.specs.Fitting.{unary_level, binary_level, level, is_none, CommaFits, HasPlainNames, Fits, FitsArgs}
 use Rattle.vba_expression.specs.Parts.{keyword_part, mark_part, reading_part, part_of}
-use Rattle.vba_expression.specs.Reader.{Head, call, behind, Frame, whole, right_operand, unary_operand, inner, type_of_operand, argument, named_argument, State, want, have, dotted, with_dotted, new_wanted, class_wanted, room, reduce, loosest, behind_dot, operated, operating, next_argument, missing_argument, closed, closed_early, naming_argument, wanted, had, after, step, next, run}
+use Rattle.vba_expression.specs.Reader.{Head, call, behind, Frame, whole, right_operand, unary_operand, inner, type_of_operand, argument, named_argument, State, want, have, dotted, with_dotted, new_wanted, class_wanted, room, reduce, loosest, short_type, new_behind_dot, type_of_behind_dot, behind_dot, operated, operating, next_argument, missing_argument, closed, closed_early, naming_argument, wanted, had, unless_suffixed, after, step, next, run}
 use Rattle.vba_expression.proofs.Reducing.{binary_positive}
 
 -- the token that a part stands for
@@ -123,24 +124,29 @@ pub record Behind (e e1 : Expr) (d : Token) (x : Identifier) : Type 0 where
   pub fits : Fits e1
 
 pub dot_fits : (e : Expr) (d : Token) (x : Identifier) → level e ≡ 0 → Fits e → Behind e (behind_dot e d x) d x
-dot_fits (new t class) d x l w = at class.qualifier class.name
+dot_fits (new t class) d x l w = at class.qualifier class.name x.suffix refl w
   where
-    at : (q : Option TypeQualifier) (n : Identifier)
-        → Behind (new t (record { qualifier = q; name = n })) (behind_dot (new t (record { qualifier = q; name = n })) d x) d x
-    at None n = record { same = refl; primary = refl; fits = tt }
-    at (Some q) n = record { same = refl; primary = refl; fits = (refl, tt, refl) }
-dot_fits (type_of t e i class) d x l w = at class.qualifier class.name
+    at : (q : Option TypeQualifier) (n : Identifier) (s : Option TypeSuffix) → x.suffix ≡ s → HasPlainNames (record { qualifier = q; name = n })
+        → Behind (new t (record { qualifier = q; name = n })) (new_behind_dot t q n d x s) d x
+    at None n None h w = record { same = refl; primary = refl; fits = (h, w.0) }
+    at None n (Some s) h w = record { same = refl; primary = refl; fits = (refl, w, ap is_none h) }
+    at (Some q) n s h w = record { same = refl; primary = refl; fits = (refl, w, refl) }
+dot_fits (type_of t e i class) d x l w = at class.qualifier class.name x.suffix refl (w.0, w.1) w.2
   where
     text : (s : List ReadToken) (a b c f : ReadToken) → s ++ a ∷ b ∷ c ∷ f ∷ [] ≡ (s ++ a ∷ b ∷ []) ++ c ∷ f ∷ []
     text s a b c f = simp append_assoc
 
-    longer : (s : List ReadToken) (a b c f g h : ReadToken) → (s ++ a ∷ b ∷ c ∷ f ∷ []) ++ g ∷ h ∷ [] ≡ (s ++ a ∷ b ∷ c ∷ f ∷ []) ++ g ∷ h ∷ []
-    longer s a b c f g h = refl
-
-    at : (q : Option TypeQualifier) (n : Identifier)
-        → Behind (type_of t e i (record { qualifier = q; name = n })) (behind_dot (type_of t e i (record { qualifier = q; name = n })) d x) d x
-    at None n = record { same = ap (λ ts. word t keyword.TypeOf ∷ ts) (text (spell e) (word i keyword.Is) (naming n) (marked d mark.Dot) (naming x)); primary = refl; fits = w }
-    at (Some q) n = record { same = refl; primary = refl; fits = (refl, w, refl) }
+    at : (q : Option TypeQualifier) (n : Identifier) (s : Option TypeSuffix) → x.suffix ≡ s → (level e ≡ 0) × Fits e
+        → HasPlainNames (record { qualifier = q; name = n })
+        → Behind (type_of t e i (record { qualifier = q; name = n })) (type_of_behind_dot t e i q n d x s) d x
+    at None n None h v w =
+        record {
+          same = ap (λ ts. word t keyword.TypeOf ∷ ts) (text (spell e) (word i keyword.Is) (naming n) (marked d mark.Dot) (naming x));
+          primary = refl;
+          fits = (v.0, v.1, (h, w.0));
+        }
+    at None n (Some s) h v w = record { same = refl; primary = refl; fits = (refl, (v.0, v.1, w), ap is_none h) }
+    at (Some q) n s h v w = record { same = refl; primary = refl; fits = (refl, (v.0, v.1, w), refl) }
 dot_fits (literal k) d x l w = record { same = refl; primary = refl; fits = (l, w, refl) }
 dot_fits (me t) d x l w = record { same = refl; primary = refl; fits = (l, w, refl) }
 dot_fits (name y) d x l w = record { same = refl; primary = refl; fits = (l, w, refl) }
@@ -383,6 +389,12 @@ module _ (floor : ℕ) where
       let b = dot_fits e d x w.0 w.1 in
       (ap (λ ts. frames fs ++ ts) b.same ∙ dot_text (frames fs) (spell e) (marked d mark.Dot) (naming x), (b.primary, b.fits, w.2))
 
+  -- the name of a type has no suffix
+  told_class : (o : Option TypeSuffix) (ts : List ReadToken) (next : Identifier → State) (x : Identifier)
+      → (o ≡ None → (so_far (next x) ≡ ts) × FitsState (next x)) → Told ts (option_map next (unless_suffixed o x))
+  told_class None ts next x h = h refl
+  told_class (Some suffix) ts next x h = tt
+
   told_after : (s : State) (t : Token) (p : Part) → FitsState s → Told (so_far s ++ token_of t p ∷ []) (after s t p)
   told_after (want fs) t p w = told_wanted fs t p w
   told_after (have e fs) t p w = told_had e fs t p w
@@ -392,10 +404,11 @@ module _ (floor : ℕ) where
       (sym (append_assoc (frames fs) (marked d mark.WithDot ∷ []) (naming x ∷ [])), (refl, tt, w))
   told_after (with_dotted d fs) t other w = tt
   told_after (new_wanted n fs) t (part.Name x) w =
-      (sym (append_assoc (frames fs) (word n keyword.New ∷ []) (naming x ∷ [])), (refl, tt, w))
+      told_class x.suffix _ (λ y. have (new n (short_type y)) fs) x (λ h. (sym (append_assoc (frames fs) (word n keyword.New ∷ []) (naming x ∷ [])), (refl, (h, tt), w)))
   told_after (new_wanted n fs) t other w = tt
   told_after (class_wanted n e i fs) t (part.Name x) w =
-      (class_text (frames fs) (spell e) (word n keyword.TypeOf) (word i keyword.Is) (naming x), (refl, (w.0, w.1), w.2))
+      told_class x.suffix _ (λ y. have (type_of n e i (short_type y)) fs) x
+      (λ h. (class_text (frames fs) (spell e) (word n keyword.TypeOf) (word i keyword.Is) (naming x), (refl, (w.0, w.1, (h, tt)), w.2)))
   told_after (class_wanted n e i fs) t other w = tt
 
   told_outside : (s : State) (t : Token) (ts : List ReadToken) → Told ts (after s t part.Outside)

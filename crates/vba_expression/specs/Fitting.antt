@@ -1,10 +1,11 @@
 -- Which trees fit: the levels of operators, and where commas stand.
-use Rattle.std.specs.Prelude.{ℕ, ◌<◌, ◌≤◌, ◌≡◌, Bool, true, false, Option, Some, None}
+use Rattle.std.specs.Prelude.{ℕ, ◌<◌, ◌≤◌, ◌≡◌, Bool, true, false, ◌&&◌, Option, Some, None, IfSome}
 use Rattle.vba_lexer.specs.declared.token.Token.{Token}
 use Rattle.vba_expression.specs.declared.operator.UnaryOperator.{UnaryOperator}
 use Rattle.vba_expression.specs.declared.operator.UnaryOperator.TheVariants as unary
 use Rattle.vba_expression.specs.declared.operator.BinaryOperator.{BinaryOperator}
 use Rattle.vba_expression.specs.declared.operator.BinaryOperator.TheVariants as op
+use Rattle.vba_expression.specs.declared.tree.TypeName.{TypeName}
 use Rattle.vba_expression.specs.Tree.{Expr, me, name, with_member, member, index, parenthesised, new, type_of, unary, binary, Args, no_args, missing, plain, named}
 
 -- the levels of operators, the tightest first
@@ -57,7 +58,11 @@ CommaFits no_args (Some comma) = ⊥
 CommaFits before None = ⊥
 CommaFits before (Some comma) = Unit {0}
 
--- New or TypeOf with a type of one name: a dot and a name behind it belong to the type
+-- no suffix stands on the names of a type
+abbrev pub HasPlainNames : TypeName → Type 0
+HasPlainNames class = (class.name.suffix ≡ None) × IfSome class.qualifier (λ q. q.name.suffix ≡ None)
+
+-- New or TypeOf with a type of one name: a dot and a name without a suffix behind it belong to the type
 abbrev pub has_short_type : Expr → Bool
 has_short_type (new word class) = is_none class.qualifier
 has_short_type (type_of word operand is_word class) = is_none class.qualifier
@@ -67,10 +72,11 @@ abbrev mutual
   -- what stands before a dot or a bracket, and the operand of TypeOf, is a primary; a left operand has its operator's level or a
   -- tighter one, a right operand a tighter one, the operand of Not and of minus its level or a tighter one
   pub Fits : Expr → Type 0
-  Fits (member base dot identifier) = (level base ≡ 0) × Fits base × (has_short_type base ≡ false)
+  Fits (member base dot identifier) = (level base ≡ 0) × Fits base × ((has_short_type base && is_none identifier.suffix) ≡ false)
   Fits (index base left arguments right) = (level base ≡ 0) × Fits base × FitsArgs arguments × (is_lone arguments ≡ false)
   Fits (parenthesised left inner right) = Fits inner
-  Fits (type_of type_of_word operand is_word class) = (level operand ≡ 0) × Fits operand
+  Fits (new new_word class) = HasPlainNames class
+  Fits (type_of type_of_word operand is_word class) = (level operand ≡ 0) × Fits operand × HasPlainNames class
   Fits (unary operator token operand) = (level operand ≤ unary_level operator) × Fits operand
   Fits (binary left operator token right) =
       (level left ≤ binary_level operator) × (level right < binary_level operator) × Fits left × Fits right

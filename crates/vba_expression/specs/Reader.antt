@@ -1,6 +1,7 @@
 -- Reading an expression token by token: a stack of frames holds what waits for an operand, so nothing is read twice.
 use Rattle.std.specs.Prelude.{ℕ, suc, List, [], ◌∷◌, Option, Some, None, option_map, Bool, true, nat_lt, if◌then◌else◌}
 use Rattle.vba_lexer.specs.declared.token.Token.{Token}
+use Rattle.vba_lexer.specs.declared.number.TypeSuffix.{TypeSuffix}
 use Rattle.vba_words.specs.declared.identifier.Identifier.{Identifier}
 use Rattle.vba_words.specs.declared.reading.ReadToken.{ReadToken}
 use Rattle.vba_expression.specs.declared.operator.UnaryOperator.{UnaryOperator}
@@ -97,21 +98,22 @@ short_type identifier = record { qualifier = None; name = identifier }
 abbrev pub long_type : Identifier → Token → Identifier → TypeName
 long_type first dot last = record { qualifier = Some (record { name = first; dot = dot }); name = last }
 
--- a dot and a name behind a primary: behind a type of one name they belong to the type
+-- a dot and a name behind New and a type: behind a type of one name they belong to the type, if the name has no suffix
+abbrev pub new_behind_dot : Token → Option TypeQualifier → Identifier → Token → Identifier → Option TypeSuffix → Expr
+new_behind_dot word None first dot last None = new word (long_type first dot last)
+new_behind_dot word qualifier first dot last suffix = member (new word (record { qualifier = qualifier; name = first })) dot last
+
+-- the same behind TypeOf
+abbrev pub type_of_behind_dot : Token → Expr → Token → Option TypeQualifier → Identifier → Token → Identifier → Option TypeSuffix → Expr
+type_of_behind_dot word operand is_word None first dot last None = type_of word operand is_word (long_type first dot last)
+type_of_behind_dot word operand is_word qualifier first dot last suffix =
+    member (type_of word operand is_word (record { qualifier = qualifier; name = first })) dot last
+
+-- a dot and a name behind a primary
 abbrev pub behind_dot : Expr → Token → Identifier → Expr
-behind_dot (new word class) dot last = at word class.qualifier class.name dot last
-  where
-    at : Token → Option TypeQualifier → Identifier → Token → Identifier → Expr
-    at word None first dot last = new word (long_type first dot last)
-    at word (Some qualifier) first dot last =
-        member (new word (record { qualifier = Some qualifier; name = first })) dot last
+behind_dot (new word class) dot last = new_behind_dot word class.qualifier class.name dot last last.suffix
 behind_dot (type_of word operand is_word class) dot last =
-    at word operand is_word class.qualifier class.name dot last
-  where
-    at : Token → Expr → Token → Option TypeQualifier → Identifier → Token → Identifier → Expr
-    at word operand is_word None first dot last = type_of word operand is_word (long_type first dot last)
-    at word operand is_word (Some qualifier) first dot last =
-        member (type_of word operand is_word (record { qualifier = Some qualifier; name = first })) dot last
+    type_of_behind_dot word operand is_word class.qualifier class.name dot last last.suffix
 behind_dot e dot last = member e dot last
 
 -- the arguments behind the last comma: where nothing stands behind it, one that isn't written
@@ -209,15 +211,29 @@ name_of other = None
 abbrev pub named_by : (Identifier → State) → Part → Option State
 named_by next p = option_map next (name_of p)
 
+-- what there is where no suffix stands
+abbrev pub unless_suffixed : {A : Type 0} → Option TypeSuffix → A → Option A
+unless_suffixed None found = Some found
+unless_suffixed (Some suffix) found = None
+
+-- the name that a part is, if it has no suffix
+abbrev pub plain_name_of : Part → Option Identifier
+plain_name_of (part.Name identifier) = unless_suffixed identifier.suffix identifier
+plain_name_of other = None
+
+-- the state that the name of a type leads to, which has no suffix
+abbrev pub classed_by : (Identifier → State) → Part → Option State
+classed_by next p = option_map next (plain_name_of p)
+
 -- the state that a token leads to, if it can be read
 abbrev pub after : State → Token → Part → Option State
 after (want frames) token p = wanted frames token p
 after (have e frames) token p = had e frames token p
 after (dotted e dot frames) token p = named_by (λ identifier. have (behind_dot e dot identifier) frames) p
 after (with_dotted dot frames) token p = named_by (λ identifier. have (with_member dot identifier) frames) p
-after (new_wanted word frames) token p = named_by (λ identifier. have (new word (short_type identifier)) frames) p
+after (new_wanted word frames) token p = classed_by (λ identifier. have (new word (short_type identifier)) frames) p
 after (class_wanted word operand is_word frames) token p =
-    named_by (λ identifier. have (type_of word operand is_word (short_type identifier)) frames) p
+    classed_by (λ identifier. have (type_of word operand is_word (short_type identifier)) frames) p
 
 abbrev pub step : State → ReadToken → Option State
 step state t = after state t.token (part_of t)

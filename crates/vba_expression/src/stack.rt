@@ -1,5 +1,5 @@
-ghost use Rattle.std.specs.Prelude.{◌≡◌, ℕ, ◌<◌, ◌≤◌, [], ◌∷◌, ◌++◌, IfOk, OnOk};
-ghost use Rattle.vba_expression.specs.Fitting.{unary_level, binary_level};
+ghost use Rattle.std.specs.Prelude.{◌≡◌, ℕ, ◌<◌, ◌≤◌, ◌&&◌, [], ◌∷◌, ◌++◌, IfOk, OnOk};
+ghost use Rattle.vba_expression.specs.Fitting.{unary_level, binary_level, is_none};
 ghost use Rattle.vba_expression.specs.Reader.{have, room, reduce, stays_open, operation, settled, last_missing, behind_dot, long_type};
 ghost use Rattle.vba_expression.specs.Tree as tree;
 ghost use Rattle.vba_expression.specs.View.{view, argument_view, arguments_view, put};
@@ -213,6 +213,13 @@ pub fn member_of(
     })
 }
 
+/// Does a name behind a dot belong to a type? It does behind a type of one name, if it has no suffix.
+fn is_of_type(class: &TypeName, last: &Identifier) -> bool
+    ensures { result ≡ (is_none class.now.qualifier && is_none last.now.suffix) }
+{
+    class.qualifier.is_none() && last.suffix.is_none()
+}
+
 /// A dot and a name behind `New` and a type.
 pub fn new_behind_dot(
     alloc: Global,
@@ -223,20 +230,11 @@ pub fn new_behind_dot(
 ) -> Result<Expression, NoMemory>
     ensures { IfOk result (λ e. view e ≡ behind_dot (tree.new new_word class) dot last) }
 {
-    let TypeName { qualifier, name } = class;
-    match qualifier {
-        None => Ok(Expression::New {
-            new_word,
-            class: long_type(name, dot, last),
-        }),
-        Some(qualifier) => {
-            let class = TypeName {
-                qualifier: Some(qualifier),
-                name,
-            };
-            member_of(alloc, Expression::New { new_word, class }, dot, last)
-        }
+    if is_of_type(&class, &last) {
+        let class = long_type(class.name, dot, last);
+        return Ok(Expression::New { new_word, class });
     }
+    member_of(alloc, Expression::New { new_word, class }, dot, last)
 }
 
 /// A dot and a name behind `TypeOf`, its operand, `Is` and a type.
@@ -251,28 +249,21 @@ pub fn type_of_behind_dot(
 ) -> Result<Expression, NoMemory>
     ensures { IfOk result (λ e. view e ≡ behind_dot (tree.type_of type_of_word (view operand.value) is_word class) dot last) }
 {
-    let TypeName { qualifier, name } = class;
-    match qualifier {
-        None => Ok(Expression::TypeOf {
+    if is_of_type(&class, &last) {
+        return Ok(Expression::TypeOf {
             type_of_word,
             operand,
             is_word,
-            class: long_type(name, dot, last),
-        }),
-        Some(qualifier) => {
-            let class = TypeName {
-                qualifier: Some(qualifier),
-                name,
-            };
-            let base = Expression::TypeOf {
-                type_of_word,
-                operand,
-                is_word,
-                class,
-            };
-            member_of(alloc, base, dot, last)
-        }
+            class: long_type(class.name, dot, last),
+        });
     }
+    let base = Expression::TypeOf {
+        type_of_word,
+        operand,
+        is_word,
+        class,
+    };
+    member_of(alloc, base, dot, last)
 }
 
 fn long_type(first: Identifier, dot: Token, last: Identifier) -> TypeName

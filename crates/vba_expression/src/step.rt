@@ -4,7 +4,7 @@ ghost use Rattle.vba_expression.specs.declared.frame.Frame.{Frame};
 ghost use Rattle.vba_expression.specs.declared.frame.Mode.TheVariants as modes;
 ghost use Rattle.vba_expression.specs.declared.frame.Stepped.TheVariants as steps;
 ghost use Rattle.vba_expression.specs.Parts.{part_of as part_meant};
-ghost use Rattle.vba_expression.specs.Reader.{want, have, name_of, argument, named_argument, type_of_operand, operated, with_operator, operating, short_type, next_argument, closed};
+ghost use Rattle.vba_expression.specs.Reader.{want, have, name_of, plain_name_of, argument, named_argument, type_of_operand, operated, with_operator, operating, short_type, next_argument, closed};
 ghost use Rattle.vba_expression.specs.declared.part.Part.TheVariants as parts;
 ghost use Rattle.vba_expression.specs.Tree as tree;
 ghost use Rattle.vba_expression.specs.View.{view, arguments_view};
@@ -44,7 +44,7 @@ pub fn step(
             Some(member) => Ok(on_primary(Expression::WithMember { dot, member })),
             None => Ok(Stepped::End(Mode::WithDotted(dot))),
         },
-        Mode::NewWanted(new_word) => match name_of(part) {
+        Mode::NewWanted(new_word) => match plain_name_of(part) {
             Some(name) => Ok(on_primary(Expression::New {
                 new_word,
                 class: short_type(name),
@@ -55,7 +55,7 @@ pub fn step(
             type_of_word,
             operand,
             is_word,
-        } => match name_of(part) {
+        } => match plain_name_of(part) {
             Some(name) => Ok(on_primary(Expression::TypeOf {
                 type_of_word,
                 operand: Box::new(alloc, operand)?,
@@ -78,6 +78,19 @@ fn name_of(part: Part) -> Option<Identifier>
     match part {
         Part::Name(name) => Some(name),
         _ => None,
+    }
+}
+
+/// The name that a part is, if it has no suffix.
+fn plain_name_of(part: Part) -> Option<Identifier>
+    ensures { result ≡ plain_name_of part }
+{
+    let Part::Name(name) = part else {
+        return None;
+    };
+    match name.suffix {
+        None => Some(name),
+        Some(_) => None,
     }
 }
 

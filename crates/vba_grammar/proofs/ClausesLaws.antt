@@ -12,6 +12,7 @@ use Rattle.vba_words.specs.Spelling.{read, word, marked, naming}
 use Rattle.vba_expression.specs.declared.tree.TypeName.{TypeName}
 use Rattle.vba_expression.specs.declared.tree.TypeQualifier.{TypeQualifier}
 use Rattle.vba_expression.specs.Spelling.{spell, type_name_tokens}
+use Rattle.vba_expression.specs.Fitting.{HasPlainNames}
 use Rattle.vba_expression.specs.Reader.{short_type, long_type}
 use Rattle.vba_expression.specs.Taking.{Stops}
 use Rattle.vba_tree.specs.declared.declaration.Access.TheVariants as access
@@ -21,32 +22,38 @@ use Rattle.vba_tree.specs.Tree.{Listed, DeclaredType, named, fixed_text, NewType
 use Rattle.vba_tree.specs.Spelling.{optional, optional_word, place_word, with_commas, spell_access, access_keyword, spell_brackets, spell_type, spell_type_clause, spell_new_type_clause, spell_dim, spell_dims, spell_variable, spell_result_type}
 use Rattle.vba_tree.specs.Forms.{Each, FormedType, FormedDim, FormedVariable}
 use Rattle.vba_tree.specs.Fitting.{ResultFits}
-use Rattle.vba_grammar.specs.Front.{Found, ◌>>=◌, or_else, found_as, is_as, is_new, is_to, is_times, is_left, is_right, is_comma, is_dot, begins, token_at, token_if, name_at, part_if, before_right, commas_at}
+use Rattle.vba_grammar.specs.Front.{Found, ◌>>=◌, or_else, found_as, is_as, is_new, is_to, is_times, is_left, is_right, is_comma, is_dot, begins, token_at, token_if, name_at, plain_name_at, part_if, before_right, commas_at}
 use Rattle.vba_grammar.specs.Clauses.{type_name_at, is_fixed, type_at, type_clause_at, new_type_clause_at, dim_at, dims_at, is_with_events, variable_at, brackets_at, result_type_at, access_of, access_if}
 use Rattle.vba_grammar.specs.Laws.{IsComplete}
 use Rattle.vba_grammar.proofs.Binding.{Told, Spelled, some_told, weaker_told, then_told, as_told, cond_told, else_told, then_is, as_is, if_not}
-use Rattle.vba_grammar.proofs.Fronts.{means_as, means_new, means_to, means_times, means_left, means_right, means_dot, means_reads, token_told, name_told, token_if_told, token_if_is, whole_told, whole_is, part_told, part_is, before_told, before_is, commas_told, commas_is, begins_not, opens_no_right, stops_no_left, stops_no_dot}
+use Rattle.vba_grammar.proofs.Fronts.{means_as, means_new, means_to, means_times, means_left, means_right, means_dot, means_reads, token_told, name_told, plain_told, plain_name_is, token_if_told, token_if_is, whole_told, whole_is, part_told, part_is, before_told, before_is, commas_told, commas_is, begins_not, opens_no_right, stops_no_left, stops_no_dot}
 
 -- a type's name
-pub type_name_told : (ts : List ReadToken) → Told (λ class rest. ts ≡ type_name_tokens class ++ rest) (type_name_at ts)
+pub type_name_told : (ts : List ReadToken) → Told (λ class rest. (ts ≡ type_name_tokens class ++ rest) × HasPlainNames class) (type_name_at ts)
 type_name_told ts =
-    then_told (name_told ts) (λ first rest p.
+    then_told (plain_told ts) (λ first rest p.
     else_told
-    (then_told (token_told rest means_dot) (λ dot behind q. as_told (long_type first dot) (name_told behind)
-    (λ last rest2 r. p ∙ ap (λ us. naming first ∷ us) (q ∙ ap (λ us. marked dot mark.Dot ∷ us) r))))
-    (some_told p))
+    (then_told (token_told rest means_dot) (λ dot behind q. as_told (long_type first dot) (plain_told behind)
+    (λ last rest2 r. (p.0 ∙ ap (λ us. naming first ∷ us) (q ∙ ap (λ us. marked dot mark.Dot ∷ us) r.0), (r.1, p.1)))))
+    (some_told (p.0, (p.1, tt))))
 
 no_dot : {A : Type 0} (go : Token → List ReadToken → Found A) (ts : List ReadToken) → begins is_dot ts ≡ false → (token_at is_dot ts >>= go) ≡ None
 no_dot go [] h = refl
 no_dot go (t ∷ ts) h = ap (λ c. (if c then Some (t.token, ts) else None) >>= go) h
 
-pub type_name_is : (class : TypeName) (rest : List ReadToken) → begins is_dot rest ≡ false → type_name_at (type_name_tokens class ++ rest) ≡ Some (class, rest)
-type_name_is class rest h = at class.qualifier class.name
+pub type_name_is : (class : TypeName) (rest : List ReadToken) → HasPlainNames class → begins is_dot rest ≡ false
+    → type_name_at (type_name_tokens class ++ rest) ≡ Some (class, rest)
+type_name_is class rest good h = at class.qualifier class.name good
   where
-    at : (qualifier : Option TypeQualifier) (x : Identifier)
+    at : (qualifier : Option TypeQualifier) (x : Identifier) → HasPlainNames (record { qualifier = qualifier; name = x })
         → type_name_at (type_name_tokens (record { qualifier = qualifier; name = x }) ++ rest) ≡ Some (record { qualifier = qualifier; name = x }, rest)
-    at None x = ap (λ o. or_else o (Some (short_type x, rest))) (no_dot (λ dot behind. found_as (long_type x dot) (name_at behind)) rest h)
-    at (Some qualifier) x = refl
+    at None x good =
+        then_is _ (plain_name_is x rest good.0)
+        (ap (λ o. or_else o (Some (short_type x, rest))) (no_dot (λ dot behind. found_as (long_type x dot) (plain_name_at behind)) rest h))
+    at (Some q) x good =
+        then_is _ (plain_name_is q.name (marked q.dot mark.Dot ∷ naming x ∷ rest) good.1)
+        (ap (λ o. or_else o (Some (short_type q.name, marked q.dot mark.Dot ∷ naming x ∷ rest)))
+        (as_is (long_type q.name q.dot) (plain_name_is x rest good.0)))
 
 -- a type ends before these tokens
 abbrev pub TypeEnds : DeclaredType → List ReadToken → Type 0
@@ -66,7 +73,7 @@ type_told ts =
     then_told (token_told rest means_times) (λ times behind q.
     as_told (fixed_text string_word times) (whole_told behind) (λ length rest2 r.
     (p ∙ ap (λ us. place_word string_word (codes "string") ∷ us) (q ∙ ap (λ us. marked times mark.Times ∷ us) r.same), r.fits, r.stops)))))
-    (λ e. as_told named (type_name_told ts) (λ class rest p. (p, tt, tt)))
+    (λ e. as_told named (type_name_told ts) (λ class rest p. (p.0, p.1, tt)))
 
 pub not_fixed : (class : TypeName) (rest : List ReadToken) → begins is_times rest ≡ false → is_fixed (type_name_tokens class ++ rest) ≡ false
 not_fixed class rest h = at class.qualifier class.name rest h
@@ -82,7 +89,7 @@ not_fixed class rest h = at class.qualifier class.name rest h
     at (Some qualifier) x rest h = both _ _ refl
 
 pub type_is : (t : DeclaredType) (rest : List ReadToken) → FormedType t → TypeEnds t rest → type_at (spell_type t ++ rest) ≡ Some (t, rest)
-type_is (named class) rest good h = if_not _ _ (not_fixed class rest h.1) (as_is named (type_name_is class rest h.0))
+type_is (named class) rest good h = if_not _ _ (not_fixed class rest h.1) (as_is named (type_name_is class rest good h.0))
 type_is (fixed_text string_word times length) rest good h = as_is (fixed_text string_word times) (whole_is length rest good h)
 
 stops_no_times : (ts : List ReadToken) → Stops 15 ts → begins is_times ts ≡ false

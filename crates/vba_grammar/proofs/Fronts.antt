@@ -5,6 +5,8 @@ use Rattle.std.proofs.lemmas.Bool.{cond_both}
 use Rattle.std.proofs.lemmas.List.{length-append}
 use Rattle.std.proofs.lemmas.Slice.Eq.{bytes_eq-Decides}
 use Rattle.vba_lexer.specs.declared.token.Token.{Token}
+use Rattle.vba_lexer.specs.declared.number.TypeSuffix.{TypeSuffix}
+use Rattle.vba_words.specs.declared.identifier.Identifier.{Identifier}
 use Rattle.vba_words.specs.declared.keyword.Keyword.{Keyword}
 use Rattle.vba_words.specs.declared.keyword.Keyword.TheVariants as keyword
 use Rattle.vba_words.specs.declared.mark.Mark.{Mark}
@@ -25,13 +27,13 @@ use Rattle.vba_expression.specs.Tree.{Expr, literal, me, name, with_member, memb
 use Rattle.vba_expression.specs.Spelling.{literal_reading, unary_reading, spell, spell_args}
 use Rattle.vba_expression.specs.Fitting.{level, Fits, is_place}
 use Rattle.vba_expression.specs.Parts.{part_of, reading_part}
-use Rattle.vba_expression.specs.Reader.{expression_at}
+use Rattle.vba_expression.specs.Reader.{expression_at, unless_suffixed, with_rest}
 use Rattle.vba_expression.specs.Taking.{StopsAt, Stops, Takes}
 use Rattle.vba_expression.proofs.Complete.{level_small}
 use Rattle.vba_expression.proofs.Inverses.{again, takes}
 use Rattle.vba_tree.specs.Spelling.{optional, optional_word, spell_others, spell_listed, with_commas}
 use Rattle.vba_tree.specs.Forms.{IsPlace, Each, EachOther}
-use Rattle.vba_grammar.specs.Front.{Found, ◌>>=◌, found_as, is_as, is_new, is_to, is_then, is_in, is_equal, is_times, is_left, is_right, is_comma, is_dot, is_else, begins, token_at, token_if, reads, name_at, whole_at, kept_place, place_at, part_if, before_right, with_next, others_at, listed_at, commas_at, ends}
+use Rattle.vba_grammar.specs.Front.{Found, ◌>>=◌, found_as, is_as, is_new, is_to, is_then, is_in, is_equal, is_times, is_left, is_right, is_comma, is_dot, is_else, begins, token_at, token_if, reads, name_at, plain_name_at, whole_at, kept_place, place_at, part_if, before_right, with_next, others_at, listed_at, commas_at, ends}
 use Rattle.vba_grammar.specs.Laws.{IsComplete, Ends}
 use Rattle.vba_grammar.proofs.Binding.{Told, Spelled, nothing_told, some_told, then_told, as_told, cond_told, then_is, as_is, if_is, if_not}
 
@@ -103,6 +105,18 @@ name_told (t ∷ ts) = at t.token t.reading refl
     at : (token : Token) (r : Reading) → t ≡ read token r → Told (λ x rest. t ∷ ts ≡ naming x ∷ rest) (name_at (read token r ∷ ts))
     at token (reading.Name x suffix is_bracketed) h = some_told (ap (λ u. u ∷ ts) h)
     at token _ h = nothing_told
+
+-- a name without a suffix at the front
+pub plain_told : (ts : List ReadToken) → Told (λ x rest. (ts ≡ naming x ∷ rest) × (x.suffix ≡ None)) (plain_name_at ts)
+plain_told ts = then_told (name_told ts) (λ x rest p. by_suffix x rest p x.suffix refl)
+  where
+    by_suffix : (x : Identifier) (rest : List ReadToken) → ts ≡ naming x ∷ rest → (suffix : Option TypeSuffix) → x.suffix ≡ suffix
+        → Told (λ y behind. (ts ≡ naming y ∷ behind) × (y.suffix ≡ None)) (with_rest rest (unless_suffixed suffix x))
+    by_suffix x rest p None e = some_told (p, e)
+    by_suffix x rest p (Some suffix) e = nothing_told
+
+pub plain_name_is : (x : Identifier) (rest : List ReadToken) → x.suffix ≡ None → plain_name_at (naming x ∷ rest) ≡ Some (x, rest)
+plain_name_is x rest h = ap (λ suffix. with_rest rest (unless_suffixed suffix x)) h
 
 -- a token that may be missing
 pub token_if_told : {is_so : Reading → Bool} {kept : Keyword} (ts : List ReadToken) → ((r : Reading) → is_so r ≡ true → r ≡ reading.Keyword kept)

@@ -1,5 +1,5 @@
 -- Where a place and arguments stand at the front, there is a longest primary.
-use Rattle.std.proofs.Common.{◌≡◌, ◌≤◌, true, false, List, [], ◌∷◌, ◌++◌, Option, Some, None, refl, sym, ap, ◌∙◌, subst, arith, append_assoc}
+use Rattle.std.proofs.Common.{◌≡◌, ◌≤◌, true, false, ◌&&◌, List, [], ◌∷◌, ◌++◌, Option, Some, None, refl, sym, ap, ◌∙◌, subst, arith, append_assoc}
 use Rattle.vba_lexer.specs.declared.token.Token.{Token}
 use Rattle.vba_words.specs.declared.identifier.Identifier.{Identifier}
 use Rattle.vba_words.specs.declared.mark.Mark.TheVariants as mark
@@ -12,7 +12,7 @@ use Rattle.vba_expression.specs.declared.part.Part.{Part}
 use Rattle.vba_expression.specs.declared.part.Part.TheVariants as part
 use Rattle.vba_expression.specs.Tree.{Expr, literal, member, index, parenthesised, unary, binary, Args, no_args, missing, plain, named}
 use Rattle.vba_expression.specs.Spelling.{spell, spell_args, unary_reading, binary_reading, comma_tokens}
-use Rattle.vba_expression.specs.Fitting.{binary_level, level, has_short_type, CommaFits, Fits, FitsArgs}
+use Rattle.vba_expression.specs.Fitting.{binary_level, level, is_none, has_short_type, CommaFits, Fits, FitsArgs}
 use Rattle.vba_expression.specs.Parts.{part_of}
 use Rattle.vba_expression.specs.Reader.{call, argument, want, after, settled, finished_arguments, with_rest, expression_at, arguments_at}
 use Rattle.vba_expression.specs.Taking.{StopsAt, Stops}
@@ -110,7 +110,7 @@ graft_dot q e d x g = record {
   tree = member g.tree d x;
   same = ap (λ z. z ++ dotted d x []) g.same ∙ append_assoc (spell q) (spell e) (dotted d x []);
   under = refl;
-  fits = (g.under, g.fits, g.no_type);
+  fits = (g.under, g.fits, ap (λ b. b && is_none x.suffix) g.no_type);
   no_type = refl;
 }
 

@@ -20,7 +20,7 @@ use Rattle.vba_tree.specs.declared.simple.ResumeTarget.{ResumeTarget}
 use Rattle.vba_tree.specs.declared.simple.ResumeTarget.TheVariants as target
 use Rattle.vba_tree.specs.Tree.{Simple, on_error, resume}
 use Rattle.vba_tree.specs.Spelling.{place_word, digits, spell_label_name, spell_handling, spell_target, spell_simple}
-use Rattle.vba_tree.specs.Forms.{IsOneUnit, FormedHandling, FormedTarget}
+use Rattle.vba_tree.specs.Forms.{IsOneUnit, FormedLabelName, FormedHandling, FormedTarget}
 use Rattle.vba_tree.specs.Fitting.{is_zero, HandlingFits, TargetFits}
 use Rattle.vba_grammar.specs.Front.{Found, found_as, begins, ends, ending}
 use Rattle.vba_grammar.specs.Statements.{is_digit, is_minus, is_go_to, is_next, is_resume, go_to_at, handling_at, target_at, kept_at, simple_at}
@@ -28,7 +28,7 @@ use Rattle.vba_grammar.specs.Laws.{Ends, IsFoundBefore}
 use Rattle.vba_grammar.proofs.Binding.{Told, nothing_told, some_told, weaker_told, then_told, as_told, cond_told, as_is, if_is, if_not, ending_is}
 use Rattle.vba_grammar.proofs.Fronts.{means_reads, token_told}
 use Rattle.vba_grammar.proofs.BlocksLaws.{KeptTold, IsFound}
-use Rattle.vba_grammar.proofs.StatementsLaws.{label_told}
+use Rattle.vba_grammar.proofs.StatementsLaws.{label_told, label_is}
 
 means_minus : (r : Reading) → is_minus r ≡ true → r ≡ reading.Mark mark.Minus
 means_minus (reading.Mark mark.Minus) h = refl
@@ -100,7 +100,7 @@ go_to_told goto_word (t ∷ ts) =
     cond_told (is_digit 0 t) _ _
     (λ e. some_told (ap (λ u. word goto_word keyword.GoTo ∷ u ∷ ts) (digits_known 0 t e), one_unit 0 t e, tt))
     (λ e. cond_told (is_minus t.reading) _ _ (λ m. minus ts m)
-    (λ m. as_told (handling.GoTo goto_word) (label_told (t ∷ ts)) (λ l rest p. (ap (λ us. word goto_word keyword.GoTo ∷ us) p, tt, label_not_zero t ts l rest p e))))
+    (λ m. as_told (handling.GoTo goto_word) (label_told (t ∷ ts)) (λ l rest p. (ap (λ us. word goto_word keyword.GoTo ∷ us) p.0, p.1, label_not_zero t ts l rest p.0 e))))
   where
     minus_one : List ReadToken → Found ErrorHandling
     minus_one [] = None
@@ -135,13 +135,13 @@ is_digit_zero token h = eq-eqb token.end (token.start + 1) h
 is_digit_one : (token : Token) → IsOneUnit token → is_digit 1 (digits token 1) ≡ true
 is_digit_one token h = eq-eqb token.end (token.start + 1) h
 
-label_no_digit : (l : LabelName) (rest : List ReadToken) → is_zero l ≡ false → (goto_word : Token)
+label_no_digit : (l : LabelName) (rest : List ReadToken) → FormedLabelName l → is_zero l ≡ false → (goto_word : Token)
     → go_to_at goto_word (spell_label_name l ++ rest) ≡ Some (handling.GoTo goto_word l, rest)
-label_no_digit (label.Name x) rest h goto_word = refl
-label_no_digit (label.Number token number) rest h goto_word = if_not _ _ (zero_same token number ∙ h) refl
+label_no_digit (label.Name x) rest f h goto_word = as_is (handling.GoTo goto_word) (label_is (label.Name x) rest f)
+label_no_digit (label.Number token number) rest f h goto_word = if_not _ _ (zero_same token number ∙ h) refl
 
 handling_is : (how : ErrorHandling) (rest : List ReadToken) → FormedHandling how → HandlingFits how → handling_at (spell_handling how ++ rest) ≡ Some (how, rest)
-handling_is (handling.GoTo goto_word l) rest f h = label_no_digit l rest h goto_word
+handling_is (handling.GoTo goto_word l) rest f h = label_no_digit l rest f h goto_word
 handling_is (handling.GoToZero goto_word zero) rest f h = if_is _ _ (is_digit_zero zero f) refl
 handling_is (handling.GoToMinusOne goto_word minus digit) rest f h = if_is _ _ (is_digit_one digit f) refl
 handling_is (handling.ResumeNext resume_word next_word) rest f h = refl
@@ -156,7 +156,7 @@ target_told [] = nothing_told
 target_told (t ∷ ts) =
     cond_told (is_next t.reading) _ _ (λ e. some_told (ap (λ r. read t.token r ∷ ts) (means_next t.reading e), tt, tt))
     (λ _. cond_told (is_digit 0 t) _ _ (λ e. some_told (ap (λ u. u ∷ ts) (digits_known 0 t e), one_unit 0 t e, tt))
-    (λ e. as_told target.Label (label_told (t ∷ ts)) (λ l rest p. (p, tt, label_not_zero t ts l rest p e))))
+    (λ e. as_told target.Label (label_told (t ∷ ts)) (λ l rest p. (p.0, p.1, label_not_zero t ts l rest p.0 e))))
 
 pub resume_told : (token : Token) (ts : List ReadToken) → KeptTold (word token keyword.Resume ∷ ts) (kept_at token keyword.Resume ts)
 resume_told token ts = cond_told (ends ts) _ _
@@ -167,7 +167,7 @@ resume_told token ts = cond_told (ends ts) _ _
 target_is : (to : ResumeTarget) (rest : List ReadToken) → FormedTarget to → TargetFits to → target_at (spell_target to ++ rest) ≡ Some (to, rest)
 target_is (target.Next token) rest f h = refl
 target_is (target.Zero token) rest f h = if_is _ _ (is_digit_zero token f) refl
-target_is (target.Label (label.Name x)) rest f h = refl
+target_is (target.Label (label.Name x)) rest f h = as_is target.Label (label_is (label.Name x) rest f)
 target_is (target.Label (label.Number token number)) rest f h = if_not _ _ (zero_same token number ∙ h) refl
 
 target_goes_on : (to : ResumeTarget) (rest : List ReadToken) → ends (spell_target to ++ rest) ≡ false
@@ -182,11 +182,11 @@ resume_is token None rest f c h = ending_is (if_is _ _ h refl) h
 resume_is token (Some to) rest f c h = ending_is (if_not _ _ (target_goes_on to rest) (as_is (λ t. resume token (Some t)) (target_is to rest f c))) h
 
 -- where a statement of the form stands, one that ends there is found, if not this one
-go_to_found : (l : LabelName) (rest : List ReadToken) (goto_word : Token) (f : ErrorHandling → Simple) (token : Token) → Ends rest
+go_to_found : (l : LabelName) (rest : List ReadToken) (goto_word : Token) (f : ErrorHandling → Simple) (token : Token) → FormedLabelName l → Ends rest
     → IsFoundBefore rest (ending (found_as f (go_to_at goto_word (spell_label_name l ++ rest))))
-go_to_found (label.Name x) rest goto_word f token h =
-    subst (IsFoundBefore rest) (sym (ending_is {m = Some (f (handling.GoTo goto_word (label.Name x)), rest)} refl h)) refl
-go_to_found (label.Number number_token number) rest goto_word f token h =
+go_to_found (label.Name x) rest goto_word f token formed h =
+    subst (IsFoundBefore rest) (sym (ending_is (as_is f (as_is (handling.GoTo goto_word) (label_is (label.Name x) rest formed))) h)) refl
+go_to_found (label.Number number_token number) rest goto_word f token formed h =
     cond_both (is_digit 0 (read number_token (reading.Number number true))) (Some (handling.GoToZero goto_word number_token, rest))
     (Some (handling.GoTo goto_word (label.Number number_token number), rest)) (λ o. IsFoundBefore rest (ending (found_as f o)))
     (λ e. subst (IsFoundBefore rest) (sym (ending_is {m = Some (f (handling.GoToZero goto_word number_token), rest)} refl h)) refl)
@@ -197,7 +197,7 @@ is_found {rest = rest} h = subst (IsFoundBefore rest) (sym h) refl
 
 pub on_error_found : (token error_word : Token) (how : ErrorHandling) (rest : List ReadToken) → FormedHandling how → Ends rest
     → IsFoundBefore rest (simple_at (spell_simple (on_error token error_word how) ++ rest))
-on_error_found token error_word (handling.GoTo goto_word l) rest f h = go_to_found l rest goto_word (on_error token error_word) token h
+on_error_found token error_word (handling.GoTo goto_word l) rest f h = go_to_found l rest goto_word (on_error token error_word) token f h
 on_error_found token error_word (handling.GoToZero goto_word zero) rest f h = is_found (on_error_is token error_word (handling.GoToZero goto_word zero) rest f tt h)
 on_error_found token error_word (handling.GoToMinusOne goto_word minus digit) rest f h =
     is_found (on_error_is token error_word (handling.GoToMinusOne goto_word minus digit) rest f tt h)

@@ -449,3 +449,42 @@ bad_18 = refl
 bad_19 : read_back (codes "Foo.Value + 1") ≡ no_tree (codes "Foo.Value + 1")
 unfolding read_back no_tree tokens folded caseless
 bad_19 = refl
+
+-- no suffix stands on a label where it is gone to, and none on a type
+bad_20 : read_back (codes "GoTo a$") ≡ no_tree (codes "GoTo a$")
+unfolding read_back no_tree tokens folded caseless
+bad_20 = refl
+
+bad_21 : read_back (codes "Dim x As Long&") ≡ no_tree (codes "Dim x As Long&")
+unfolding read_back no_tree tokens folded caseless
+bad_21 = refl
+
+bad_22 : read_back (codes "Dim x As New C%") ≡ no_tree (codes "Dim x As New C%")
+unfolding read_back no_tree tokens folded caseless
+bad_22 = refl
+
+bad_23 : read_back (codes "x = TypeOf y Is C@") ≡ no_tree (codes "x = TypeOf y Is C@")
+unfolding read_back no_tree tokens folded caseless
+bad_23 = refl
+
+-- a dot behind a word of the grammar begins a place of a With block
+good_words_0 : read_back (codes "For i = 1 To 2 Step.c") ≡ is_whole (codes "For i = 1 To 2 Step.c")
+unfolding read_back is_whole tokens folded caseless
+good_words_0 = refl
+
+good_words_1 : read_back (codes "ReDim Preserve.x(1), Preserve.y(2)") ≡ is_whole (codes "ReDim Preserve.x(1), Preserve.y(2)")
+unfolding read_back is_whole tokens folded caseless
+good_words_1 = refl
+
+good_words_2 : read_back (codes "Foo Step.c") ≡ is_whole (codes "Foo Step.c")
+unfolding read_back is_whole tokens folded caseless
+good_words_2 = refl
+
+good_words_3 : read_back (codes "If Not.y Then.x = 1") ≡ is_whole (codes "If Not.y Then.x = 1")
+unfolding read_back is_whole tokens folded caseless
+good_words_3 = refl
+
+-- behind a dot every word is a name
+bad_words : read_back (codes "x.Else Print 1") ≡ no_tree (codes "x.Else Print 1")
+unfolding read_back no_tree tokens folded caseless
+bad_words = refl

@@ -13,7 +13,7 @@ use Rattle.vba_words.specs.declared.reading.ReadToken.{ReadToken}
 use Rattle.vba_words.specs.Spelling.{read, word, marked, naming}
 use Rattle.vba_expression.specs.Tree.{Expr}
 use Rattle.vba_expression.specs.Spelling.{spell, spell_args}
-use Rattle.vba_expression.specs.Reader.{arguments_at}
+use Rattle.vba_expression.specs.Reader.{arguments_at, unless_suffixed, with_rest}
 use Rattle.vba_expression.specs.Taking.{Stops, Takes, TakesArgs}
 use Rattle.vba_expression.proofs.Inverses.{args_again, args_takes, one}
 use Rattle.vba_tree.specs.declared.declaration.AccessWord.{AccessWord}
@@ -25,7 +25,7 @@ use Rattle.vba_tree.specs.declared.simple.ExitKind.{ExitKind}
 use Rattle.vba_tree.specs.declared.simple.ExitKind.TheVariants as exit_kind
 use Rattle.vba_tree.specs.Tree.{Listed, Variable, EventArguments, Simple, variables, assignment, set_assignment, call_place, call, erase, go_to, go_sub, return_from, exit, end, stop, raise_event, debug_print}
 use Rattle.vba_tree.specs.Spelling.{with_commas, spell_variable, spell_label_name, exit_token, spell_event_arguments, spell_simple, variable_keyword, optional_word, spell_others}
-use Rattle.vba_tree.specs.Forms.{IsPlace, Each, FormedVariable, FormedArguments, Formed}
+use Rattle.vba_tree.specs.Forms.{IsPlace, Each, FormedVariable, FormedArguments, FormedLabelName, Formed}
 use Rattle.vba_tree.specs.Fitting.{first_part, is_print, Chosen}
 use Rattle.vba_grammar.specs.Front.{Found, ◌>>=◌, found_as, is_left, is_right, is_comma, is_as, begins, token_at, reads, place_at, commas_at}
 use Rattle.vba_grammar.specs.Clauses.{variable_at, access_of}
@@ -42,25 +42,27 @@ plain : (s : Simple) → Formed s → Chosen s → is_if_line s ≡ false → Fi
 plain s f c n = record { formed = f; chosen = c; no_if = n }
 
 -- a label where it is gone to
-pub label_told : (ts : List ReadToken) → Told (λ l rest. ts ≡ spell_label_name l ++ rest) (label_at ts)
+pub label_told : (ts : List ReadToken) → Told (λ l rest. (ts ≡ spell_label_name l ++ rest) × FormedLabelName l) (label_at ts)
 label_told [] = nothing_told
 label_told (t ∷ ts) = at t.token t.reading
   where
-    at : (token : Token) (r : Reading) → Told (λ l rest. read token r ∷ ts ≡ spell_label_name l ++ rest) (label_at (read token r ∷ ts))
-    at token (reading.Number number true) = some_told refl
+    at : (token : Token) (r : Reading)
+        → Told (λ l rest. (read token r ∷ ts ≡ spell_label_name l ++ rest) × FormedLabelName l) (label_at (read token r ∷ ts))
+    at token (reading.Number number true) = some_told (refl, tt)
     at token (reading.Number number false) = nothing_told
-    at token (reading.Name x suffix is_bracketed) = some_told refl
+    at token (reading.Name x None is_bracketed) = some_told (refl, refl)
+    at token (reading.Name x (Some suffix) is_bracketed) = nothing_told
     at token _ = nothing_told
 
-pub label_is : (l : LabelName) (rest : List ReadToken) → label_at (spell_label_name l ++ rest) ≡ Some (l, rest)
-label_is (label.Name x) rest = refl
-label_is (label.Number token number) rest = refl
+pub label_is : (l : LabelName) (rest : List ReadToken) → FormedLabelName l → label_at (spell_label_name l ++ rest) ≡ Some (l, rest)
+label_is (label.Name x) rest f = ap (λ suffix. with_rest rest (unless_suffixed suffix (label.Name x))) f
+label_is (label.Number token number) rest f = refl
 
 pub go_to_told : (token : Token) (ts : List ReadToken) → KeptTold (word token keyword.GoTo ∷ ts) (kept_at token keyword.GoTo ts)
-go_to_told token ts = as_told (go_to token) (label_told ts) (λ l rest p. (ap (λ us. word token keyword.GoTo ∷ us) p, plain (go_to token l) tt tt refl))
+go_to_told token ts = as_told (go_to token) (label_told ts) (λ l rest p. (ap (λ us. word token keyword.GoTo ∷ us) p.0, plain (go_to token l) p.1 tt refl))
 
 pub go_sub_told : (token : Token) (ts : List ReadToken) → KeptTold (word token keyword.GoSub ∷ ts) (kept_at token keyword.GoSub ts)
-go_sub_told token ts = as_told (go_sub token) (label_told ts) (λ l rest p. (ap (λ us. word token keyword.GoSub ∷ us) p, plain (go_sub token l) tt tt refl))
+go_sub_told token ts = as_told (go_sub token) (label_told ts) (λ l rest p. (ap (λ us. word token keyword.GoSub ∷ us) p.0, plain (go_sub token l) p.1 tt refl))
 
 pub return_told : (token : Token) (ts : List ReadToken) → KeptTold (word token keyword.Return ∷ ts) (kept_at token keyword.Return ts)
 return_told token ts = some_told (refl, plain (return_from token) tt tt refl)
@@ -68,11 +70,11 @@ return_told token ts = some_told (refl, plain (return_from token) tt tt refl)
 pub stop_told : (token : Token) (ts : List ReadToken) → KeptTold (word token keyword.Stop ∷ ts) (kept_at token keyword.Stop ts)
 stop_told token ts = some_told (refl, plain (stop token) tt tt refl)
 
-pub go_to_is : (token : Token) (l : LabelName) (rest : List ReadToken) → Ends rest → IsFound (go_to token l) rest
-go_to_is token l rest h = ending_is (as_is (go_to token) (label_is l rest)) h
+pub go_to_is : (token : Token) (l : LabelName) (rest : List ReadToken) → FormedLabelName l → Ends rest → IsFound (go_to token l) rest
+go_to_is token l rest f h = ending_is (as_is (go_to token) (label_is l rest f)) h
 
-pub go_sub_is : (token : Token) (l : LabelName) (rest : List ReadToken) → Ends rest → IsFound (go_sub token l) rest
-go_sub_is token l rest h = ending_is (as_is (go_sub token) (label_is l rest)) h
+pub go_sub_is : (token : Token) (l : LabelName) (rest : List ReadToken) → FormedLabelName l → Ends rest → IsFound (go_sub token l) rest
+go_sub_is token l rest f h = ending_is (as_is (go_sub token) (label_is l rest f)) h
 
 pub return_is : (token : Token) (rest : List ReadToken) → Ends rest → IsFound (return_from token) rest
 return_is token rest h = ending_is refl h

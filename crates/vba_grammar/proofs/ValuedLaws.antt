@@ -155,24 +155,24 @@ plain_told ts =
       (p.1, q.1),
     )))
 
-clause_is : (c : Option TypeClause) (d : Option DefaultValue) (rest : List ReadToken) → has_fixed c ≡ false → item_ends rest ≡ true
+clause_is : (c : Option TypeClause) (d : Option DefaultValue) (rest : List ReadToken) → has_fixed c ≡ false → FormedTypeClause c → item_ends rest ≡ true
     → part_if is_as type_clause_at (optional spell_type_clause c ++ (optional spell_default d ++ rest)) ≡ Some (c, optional spell_default d ++ rest)
-clause_is None d rest bare h = part_none is_as type_clause_at (optional spell_default d ++ rest) (value_no is_as refl refl refl refl refl d rest h)
-clause_is (Some clause) d rest bare h = at clause.as_word clause.declared_type bare
+clause_is None d rest bare formed h = part_none is_as type_clause_at (optional spell_default d ++ rest) (value_no is_as refl refl refl refl refl d rest h)
+clause_is (Some clause) d rest bare formed h = at clause.as_word clause.declared_type bare formed
   where
-    at : (as_word : Token) (t : DeclaredType) → fixed_type t ≡ false
+    at : (as_word : Token) (t : DeclaredType) → fixed_type t ≡ false → FormedType t
         → part_if is_as type_clause_at (word as_word keyword.As ∷ (spell_type t ++ (optional spell_default d ++ rest)))
         ≡ Some (Some (record { as_word = as_word; declared_type = t }), optional spell_default d ++ rest)
-    at as_word (named class) bare =
-        as_is Some (as_is (λ t. record { as_word = as_word; declared_type = t }) (type_is (named class) (optional spell_default d ++ rest) tt
+    at as_word (named class) bare formed =
+        as_is Some (as_is (λ t. record { as_word = as_word; declared_type = t }) (type_is (named class) (optional spell_default d ++ rest) formed
         (value_no is_dot refl refl refl refl refl d rest h, value_no is_times refl refl refl refl refl d rest h)))
-    at as_word (fixed_text string_word times length) bare = absurd cc
+    at as_word (fixed_text string_word times length) bare formed = absurd cc
 
-plain_is : (c : Option TypeClause) (d : Option DefaultValue) (rest : List ReadToken) → has_fixed c ≡ false → FormedDefault d → item_ends rest ≡ true
+plain_is : (c : Option TypeClause) (d : Option DefaultValue) (rest : List ReadToken) → has_fixed c ≡ false → FormedTypeClause c → FormedDefault d → item_ends rest ≡ true
     → plain_at (spell_valued (c, d) ++ rest) ≡ Some ((c, d), rest)
-plain_is c d rest bare good h =
+plain_is c d rest bare formed good h =
     ap plain_at (append_assoc (optional spell_type_clause c) (optional spell_default d) rest)
-    ∙ then_is (λ clause rest. found_as (λ default. (clause, default)) (part_if is_equal default_at rest)) (clause_is c d rest bare h)
+    ∙ then_is (λ clause rest. found_as (λ default. (clause, default)) (part_if is_equal default_at rest)) (clause_is c d rest bare formed h)
     (as_is (λ default. (c, default)) (part_is is_equal spell_default default_at default_is (λ d us. refl) d rest good (item_stops 15 rest h, item_no is_equal refl refl refl refl rest h)))
 
 valued_pair : (p q : Valued × List ReadToken) → Some p ≡ Some q → p ≡ q
@@ -182,12 +182,12 @@ not_both : {A : Type 0} (b : Bool) → b ≡ true → b ≡ false → A
 not_both b t f = absurd cc
 
 -- without `String * e` there's one reading
-plain_longest : (May : Valued → Type 0) (c : Option TypeClause) (d : Option DefaultValue) → has_fixed c ≡ false → FormedDefault d → LongestValued May (c, d)
-plain_longest May c d bare good w may formed same =
+plain_longest : (May : Valued → Type 0) (c : Option TypeClause) (d : Option DefaultValue) → has_fixed c ≡ false → FormedTypeClause c → FormedDefault d → LongestValued May (c, d)
+plain_longest May c d bare clause good w may formed same =
     let front : has_fixed w.0 ≡ has_fixed c =
     sym (front_is w.0 w.1 [] refl) ∙ ap (λ us. fixed_front (us ++ [])) same ∙ front_is c d [] refl in
-    let one = plain_is w.0 w.1 [] (front ∙ bare) formed.1 refl in
-    let two = plain_is c d [] bare good refl in
+    let one = plain_is w.0 w.1 [] (front ∙ bare) formed.0 formed.1 refl in
+    let two = plain_is c d [] bare clause good refl in
     let e = valued_pair (w, []) ((c, d), []) (sym one ∙ ap (λ us. plain_at (us ++ [])) same ∙ two) in
     let f : length (clause_tokens w) ≡ length (optional spell_type_clause c) = ap (λ p. length (clause_tokens p.0)) e in
     omega arith
@@ -201,7 +201,7 @@ plain_valued_told : (May : Valued → Type 0) (ts : List ReadToken) → fixed_fr
 plain_valued_told May ts bare = weaker_told (plain_told ts) (λ v rest p. (
   p.0,
   p.1,
-  plain_longest May v.0 v.1 (false_of (has_fixed v.0) (λ yes. not_both (fixed_front ts) (ap fixed_front p.0 ∙ front_fixed v.0 v.1 rest yes) bare)) p.1.1,
+  plain_longest May v.0 v.1 (false_of (has_fixed v.0) (λ yes. not_both (fixed_front ts) (ap fixed_front p.0 ∙ front_fixed v.0 v.1 rest yes) bare)) p.1.0 p.1.1,
 ))
 
 -- the whole of tokens is an expression
@@ -627,7 +627,7 @@ module _ (May : Valued → Type 0) (fixed : List ReadToken → Found Valued) (la
       by_type true fix = by_found fix (fixed (spell_valued v ++ rest)) refl
       by_type false bare = record {
         value = v;
-        is = valued_plain fixed (spell_valued v ++ rest) (front_is v.0 v.1 rest h ∙ bare) ∙ plain_is v.0 v.1 rest bare formed.1 h;
+        is = valued_plain fixed (spell_valued v ++ rest) (front_is v.0 v.1 rest h ∙ bare) ∙ plain_is v.0 v.1 rest bare formed.0 formed.1 h;
         may = may;
         one = λ longest. refl;
       }

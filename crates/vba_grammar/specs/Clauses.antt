@@ -15,14 +15,14 @@ use Rattle.vba_tree.specs.declared.declaration.Brackets.{Brackets}
 use Rattle.vba_tree.specs.declared.procedure.Passing.TheVariants as passing
 use Rattle.vba_tree.specs.declared.procedure.PassingWord.{PassingWord}
 use Rattle.vba_tree.specs.Tree.{DeclaredType, named, fixed_text, TypeClause, NewTypeClause, Dim, upper, Dims, Variable, Constant, DefaultValue, Parameter, Parameters, ResultType}
-use Rattle.vba_grammar.specs.Front.{Found, ◌>>=◌, or_else, found_as, is_as, is_new, is_to, is_equal, is_times, is_left, is_right, is_comma, is_dot, begins, token_at, token_if, reads, name_at, whole_at, part_if, before_right, commas_at, ends, is_nothing}
+use Rattle.vba_grammar.specs.Front.{Found, ◌>>=◌, or_else, found_as, is_as, is_new, is_to, is_equal, is_times, is_left, is_right, is_comma, is_dot, begins, token_at, token_if, reads, name_at, plain_name_at, whole_at, part_if, before_right, commas_at, ends, is_nothing}
 
--- a type's name, of two names where a dot and a name stand behind the first
+-- a type's name, of two names where a dot and a name stand behind the first; none has a suffix
 abbrev pub type_name_at : List ReadToken → Found TypeName
-type_name_at ts = name_at ts >>= λ first rest. or_else (dotted first rest) (Some (short_type first, rest))
+type_name_at ts = plain_name_at ts >>= λ first rest. or_else (dotted first rest) (Some (short_type first, rest))
   where
     dotted : Identifier → List ReadToken → Found TypeName
-    dotted first rest = token_at is_dot rest >>= λ dot behind. found_as (long_type first dot) (name_at behind)
+    dotted first rest = token_at is_dot rest >>= λ dot behind. found_as (long_type first dot) (plain_name_at behind)
 
 -- `String *` stands at the front
 abbrev pub is_fixed : List ReadToken → Bool

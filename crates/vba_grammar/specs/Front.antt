@@ -9,7 +9,7 @@ use Rattle.vba_words.specs.declared.reading.Reading.TheVariants as reading
 use Rattle.vba_words.specs.declared.reading.ReadToken.{ReadToken}
 use Rattle.vba_words.specs.Words.{identifier_of, is_word}
 use Rattle.vba_expression.specs.Tree.{Expr}
-use Rattle.vba_expression.specs.Reader.{expression_at, loosest, with_rest}
+use Rattle.vba_expression.specs.Reader.{expression_at, loosest, unless_suffixed, with_rest}
 use Rattle.vba_expression.specs.Fitting.{is_place}
 use Rattle.vba_tree.specs.Tree.{Listed}
 
@@ -108,6 +108,10 @@ reads fold meant = is_word meant fold
 abbrev pub name_at : List ReadToken → Found Identifier
 name_at [] = None
 name_at (t ∷ ts) = with_rest ts (identifier_of t)
+
+-- a name without a suffix
+abbrev pub plain_name_at : List ReadToken → Found Identifier
+plain_name_at ts = name_at ts >>= λ identifier rest. with_rest rest (unless_suffixed identifier.suffix identifier)
 
 -- an expression, as long as it can be
 abbrev pub whole_at : List ReadToken → Found Expr

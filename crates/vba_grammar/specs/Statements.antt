@@ -10,7 +10,7 @@ use Rattle.vba_words.specs.declared.reading.Reading.TheVariants as reading
 use Rattle.vba_words.specs.declared.reading.ReadToken.{ReadToken}
 use Rattle.vba_words.specs.Words.{identifier_of}
 use Rattle.vba_expression.specs.Tree.{Expr}
-use Rattle.vba_expression.specs.Reader.{arguments_at, with_rest}
+use Rattle.vba_expression.specs.Reader.{arguments_at, unless_suffixed, with_rest}
 use Rattle.vba_tree.specs.declared.declaration.AccessWord.{AccessWord}
 use Rattle.vba_tree.specs.declared.declaration.VariableWord.{VariableWord}
 use Rattle.vba_tree.specs.declared.declaration.VariableWord.TheVariants as variable_word
@@ -32,14 +32,14 @@ use Rattle.vba_grammar.specs.Clauses.{dim_at, type_clause_at, variable_at, const
 use Rattle.vba_grammar.specs.Blocks.{case_at, else_if_at, for_at, for_each_at, is_case, is_each, is_name, loop_condition_if, block_end}
 use Rattle.vba_grammar.specs.Places.{assigned_at, assignment_or_call_at}
 
--- a label where it is gone to
+-- a label where it is gone to; a name has no suffix there
 abbrev pub label_of : ReadToken → Option LabelName
 label_of t = at t.token t.reading (identifier_of t)
   where
     at : Token → Reading → Option Identifier → Option LabelName
     at token (reading.Number number true) found = Some (label.Number token number)
     at token _ None = None
-    at token _ (Some identifier) = Some (label.Name identifier)
+    at token _ (Some identifier) = unless_suffixed identifier.suffix (label.Name identifier)
 
 abbrev pub label_at : List ReadToken → Found LabelName
 label_at [] = None

@@ -13,15 +13,16 @@ use vba_lexer::{Number, NumberKind, Token};
 use vba_tree::{ExitKind, LabelName, SimpleStatement};
 use vba_words::{Keyword, ReadToken, Reading, identifier_at, reads_word};
 
-/// The label that a token is where it is gone to: a name, or a line number.
+/// The label that a token is where it is gone to: a name without a suffix, or a line number.
 fn label_of(alloc: Global, token: &ReadToken) -> Result<Option<LabelName>, NoMemory>
     ensures { IfOk result (λ found. found ≡ label_of token.now) }
 {
     match &token.reading {
-        Reading::Name { .. } => match identifier_at(alloc, token)? {
+        Reading::Name { suffix: None, .. } => match identifier_at(alloc, token)? {
             Some(name) => Ok(Some(LabelName::Name(name))),
             None => Ok(None),
         },
+        Reading::Name { .. } => Ok(None),
         Reading::Number { number, is_plain } => Ok(line_number(token.token, *number, *is_plain)),
         Reading::Keyword(_) | Reading::Text(_) | Reading::Mark(_) | Reading::Other => Ok(None),
     }

@@ -12,10 +12,12 @@ use Rattle.vba_expression.specs.declared.tree.LiteralValue.{LiteralValue}
 use Rattle.vba_expression.specs.declared.tree.LiteralValue.TheVariants as literal
 use Rattle.vba_expression.specs.Tree.{Expr, Args, me, name, with_member, member}
 use Rattle.vba_expression.specs.Spelling.{spell as spell_expression}
-use Rattle.vba_expression.specs.Fitting.{Fits as ExpressionFits, FitsArgs, is_lone, is_place}
+use Rattle.vba_expression.specs.Fitting.{HasPlainNames, Fits as ExpressionFits, FitsArgs, is_lone, is_place}
 use Rattle.vba_tree.specs.declared.declaration.Access.{Access}
 use Rattle.vba_tree.specs.declared.declaration.Access.TheVariants as access
 use Rattle.vba_tree.specs.declared.declaration.AccessWord.{AccessWord}
+use Rattle.vba_tree.specs.declared.simple.LabelName.{LabelName}
+use Rattle.vba_tree.specs.declared.simple.LabelName.TheVariants as label
 use Rattle.vba_tree.specs.declared.simple.ErrorHandling.{ErrorHandling}
 use Rattle.vba_tree.specs.declared.simple.ErrorHandling.TheVariants as handling
 use Rattle.vba_tree.specs.declared.simple.ResumeTarget.{ResumeTarget}
@@ -25,7 +27,7 @@ use Rattle.vba_tree.specs.declared.line.OptionChoice.TheVariants as choice
 use Rattle.vba_tree.specs.declared.line.AttributeValue.{AttributeValue}
 use Rattle.vba_tree.specs.declared.line.LineLabel.{LineLabel}
 use Rattle.vba_tree.specs.declared.line.LineLabel.TheVariants as line_label
-use Rattle.vba_tree.specs.Tree.{Listed, DeclaredType, named, fixed_text, TypeClause, Dim, upper, Dims, Variable, Constant, Parameter, Parameters, CaseTest, value, comparison, LoopCondition, BlockLine, if_line, else_if_line, select_case, case_line, for_line, for_each, do_line, loop_line, while_line, with_line, ReDimArray, PrintItem, Simple, variables, constants, assignment, set_assignment, call_place, call, re_dim, erase, on_error, resume, raise_event, debug_print, block_line, Stmt, simple, if_then, if_else, Stmts, nothing, one, gap, more, Line, option_line, attribute_line, enum_header, type_header, type_member, event_line, procedure_header, statement_line}
+use Rattle.vba_tree.specs.Tree.{Listed, DeclaredType, named, fixed_text, TypeClause, Dim, upper, Dims, Variable, Constant, Parameter, Parameters, CaseTest, value, comparison, LoopCondition, BlockLine, if_line, else_if_line, select_case, case_line, for_line, for_each, do_line, loop_line, while_line, with_line, ReDimArray, PrintItem, Simple, variables, constants, assignment, set_assignment, call_place, call, re_dim, erase, go_to, go_sub, on_error, resume, raise_event, debug_print, block_line, Stmt, simple, if_then, if_else, Stmts, nothing, one, gap, more, Line, option_line, attribute_line, enum_header, type_header, type_member, event_line, procedure_header, statement_line}
 
 -- the items behind the first
 abbrev pub EachOther : {A : Type 0} → (A → Type 0) → List (Token × A) → Type 0
@@ -74,7 +76,7 @@ abbrev pub AccessIs : (Access → Bool) → Option AccessWord → Type 0
 AccessIs may_stand a = IfSome a (λ w. may_stand w.access ≡ true)
 
 abbrev pub FormedType : DeclaredType → Type 0
-FormedType (named class) = Unit {0}
+FormedType (named class) = HasPlainNames class
 FormedType (fixed_text string_word times length) = ExpressionFits length
 
 abbrev pub FormedTypeClause : Option TypeClause → Type 0
@@ -138,14 +140,21 @@ FormedArray a = IsPlace a.place × Each FormedDim a.dims × FormedTypeClause a.t
 abbrev pub FormedArguments : Args → Type 0
 FormedArguments arguments = FitsArgs arguments × (is_lone arguments ≡ false)
 
+-- a label where it is gone to has no suffix
+abbrev pub FormedLabelName : LabelName → Type 0
+FormedLabelName (label.Name identifier) = identifier.suffix ≡ None
+FormedLabelName (label.Number token number) = Unit {0}
+
 -- the `0` and the `1` behind GoTo are those digits alone
 abbrev pub FormedHandling : ErrorHandling → Type 0
+FormedHandling (handling.GoTo goto_word to) = FormedLabelName to
 FormedHandling (handling.GoToZero goto_word zero) = IsOneUnit zero
 FormedHandling (handling.GoToMinusOne goto_word minus digit) = IsOneUnit digit
 FormedHandling _ = Unit {0}
 
 abbrev pub FormedTarget : ResumeTarget → Type 0
 FormedTarget (target.Zero token) = IsOneUnit token
+FormedTarget (target.Label to) = FormedLabelName to
 FormedTarget _ = Unit {0}
 
 abbrev pub FormedPrintItems : List PrintItem → Type 0
@@ -178,6 +187,8 @@ Formed (call called arguments) =
     × ((begins_attribute (spell_expression called) || begins_print (spell_expression called)) ≡ false)
 Formed (re_dim redim_word preserve_word arrays) = Each FormedArray arrays
 Formed (erase erase_word places) = Each IsPlace places
+Formed (go_to goto_word to) = FormedLabelName to
+Formed (go_sub gosub_word to) = FormedLabelName to
 Formed (on_error on_word error_word how) = FormedHandling how
 Formed (resume resume_word to) = IfSome to FormedTarget
 Formed (raise_event raise_event_word event arguments) = IfSome arguments (λ a. FormedArguments a.arguments)
