@@ -1,6 +1,7 @@
 -- What is looked for in statements, in single-line Ifs too.
 use Rattle.std.specs.Prelude.{ℕ, Bool, true, false, List, [], ◌∷◌, ◌++◌}
 use Rattle.vba_base.specs.declared.place.Place.{Place}
+use Rattle.vba_expression.specs.Fitting.{is_none}
 use Rattle.vba_expression.specs.Tree.{Expr, name}
 use Rattle.vba_tree.specs.Tree.{Stmt, Stmts}
 use Rattle.vba_tree.specs.View.{Next, written, missing}
@@ -43,6 +44,7 @@ abbrev pub exits_in : Role → List (Kind × Place)
 exits_in (stands exits) = exits
 exits_in other = []
 
-abbrev pub is_a_name : Expr → Bool
-is_a_name (name identifier) = true
-is_a_name other = false
+-- a name without a suffix
+abbrev pub is_plain_name : Expr → Bool
+is_plain_name (name identifier) = is_none identifier.suffix
+is_plain_name other = false

@@ -1,15 +1,15 @@
-//! S14 at the bounds of arrays: at most sixty.
+//! S14 at the bounds of arrays that are declared: at most sixty. A ReDim may have more.
 
 ghost use Rattle.std.specs.Prelude.{◌≡◌, option_map};
 ghost use Rattle.module_rules.specs.Found.{noted};
 ghost use Rattle.vba_module.specs.Headers as headers;
 ghost use Rattle.vba_tree.specs.Tree.{simple};
-ghost use Rattle.vba_tree.specs.View.{array_view, dim_view, dims_view, listed_view, simple_view, variable_view};
+ghost use Rattle.vba_tree.specs.View.{dim_view, dims_view, listed_view, simple_view, variable_view};
 
 use crate::noting::note_place;
 use module_parts::dim_place;
 use vba_base::Refusal;
-use vba_tree::{Dim, Dims, Listed, ReDimArray, SimpleStatement, Variable};
+use vba_tree::{Dim, Dims, Listed, SimpleStatement, Variable};
 
 /// How many bounds an array may have behind the first.
 const MOST_OTHER_BOUNDS: usize = 59;
@@ -49,17 +49,6 @@ fn note_bounds_of_variables(variables: &Listed<Variable>, least: &mut Option<Ref
     }
 }
 
-/// The same of arrays that ReDim makes.
-#[tactic(auto, using(crate::proofs::Noted::noted_append, std::proofs::lemmas::List::drop_more))]
-fn note_bounds_of_arrays(arrays: &Listed<ReDimArray>, least: &mut Option<Refusal>)
-    ensures { least.new ≡ noted 14 least.old (headers.arrays_faults (headers.all_of (listed_view array_view arrays.now))) }
-{
-    note_many(&arrays.first.dims, least);
-    for next in &arrays.others {
-        note_many(&next.item.dims, least);
-    }
-}
-
 /// The same of a statement that is no single-line If.
 pub fn note_bounds_in(statement: &SimpleStatement, least: &mut Option<Refusal>)
     ensures { least.new ≡ noted 14 least.old (headers.statement_faults (simple (simple_view statement.now))) }
@@ -68,7 +57,6 @@ pub fn note_bounds_in(statement: &SimpleStatement, least: &mut Option<Refusal>)
         SimpleStatement::Variables(variables) => {
             note_bounds_of_variables(&variables.variables, least);
         }
-        SimpleStatement::ReDim { arrays, .. } => note_bounds_of_arrays(arrays, least),
         _ => {}
     }
 }

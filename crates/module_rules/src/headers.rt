@@ -10,8 +10,9 @@ use crate::bounds::note_bounds;
 use crate::noting::note_place;
 use crate::parameters::note_parameters;
 use crate::statements::{Check, note_statement};
+use crate::types::OwnTypes;
 use module_parts::Part;
-use vba_base::{Name, Refusal};
+use vba_base::Refusal;
 use vba_lexer::Token;
 use vba_tree::{LineTree, Parameters, ProcedureWords};
 
@@ -49,8 +50,8 @@ fn note_value(word: Option<Token>, parameters: &Option<Parameters>, least: &mut 
 
 /// Notes S14 at a line that is no statements, where these are the names of the own Types.
 #[tactic(auto, using(crate::proofs::Noted::noted_append))]
-fn note_line(line: &LineTree, types: &[Name], least: &mut Option<Refusal>)
-    ensures { least.new ≡ noted 14 least.old (headers.line_faults (headers.is_named types.now) (view line.now)) }
+fn note_line(line: &LineTree, types: &OwnTypes, least: &mut Option<Refusal>)
+    ensures { least.new ≡ noted 14 least.old (headers.line_faults (headers.is_named types.now.module_name types.now.names.items) (view line.now)) }
 {
     match line {
         LineTree::ProcedureHeader(header) => {
@@ -65,8 +66,8 @@ fn note_line(line: &LineTree, types: &[Name], least: &mut Option<Refusal>)
 }
 
 /// Notes S14 at a part.
-fn note_part(part: &Part, types: &[Name], least: &mut Option<Refusal>)
-    ensures { least.new ≡ noted 14 least.old (headers.header_faults (headers.is_named types.now) (part_view part.now)) }
+fn note_part(part: &Part, types: &OwnTypes, least: &mut Option<Refusal>)
+    ensures { least.new ≡ noted 14 least.old (headers.header_faults (headers.is_named types.now.module_name types.now.names.items) (part_view part.now)) }
 {
     match part {
         Part::Label(_) => {}
@@ -76,8 +77,8 @@ fn note_part(part: &Part, types: &[Name], least: &mut Option<Refusal>)
 }
 
 /// Notes S14 at parts, where these are the names of the own Types.
-pub fn note_headers(parts: &[Part], types: &[Name], least: &mut Option<Refusal>)
-    ensures { least.new ≡ noted 14 least.old (flat_map (headers.header_faults (headers.is_named types.now)) (parts_view parts.now)) }
+pub fn note_headers(parts: &[Part], types: &OwnTypes, least: &mut Option<Refusal>)
+    ensures { least.new ≡ noted 14 least.old (flat_map (headers.header_faults (headers.is_named types.now.module_name types.now.names.items)) (parts_view parts.now)) }
 {
     for part in parts {
         note_part(part, types, least);

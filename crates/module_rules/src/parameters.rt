@@ -7,9 +7,9 @@ ghost use Rattle.vba_module.specs.Headers as headers;
 ghost use Rattle.vba_tree.specs.View.{listed_view, parameter_view, parameters_view, type_clause_view};
 
 use crate::noting::note_place;
-use crate::types::is_own_type;
+use crate::types::{OwnTypes, is_own_type};
 use module_parts::{expression_place, parameter_place};
-use vba_base::{Name, Refusal};
+use vba_base::Refusal;
 use vba_tree::{DeclaredType, Listed, Next, Parameter, Parameters, Passing, TypeClause};
 
 /// `variant`
@@ -59,8 +59,8 @@ fn note_param_array(parameter: &Parameter, others: &[Next<Parameter>], least: &m
 }
 
 /// The word ByVal stands before no array and no value of a Type.
-fn note_by_value(parameter: &Parameter, types: &[Name], least: &mut Option<Refusal>)
-    ensures { least.new ≡ noted 14 least.old (headers.by_value_faults (headers.is_named types.now) (parameter_view parameter.now)) }
+fn note_by_value(parameter: &Parameter, types: &OwnTypes, least: &mut Option<Refusal>)
+    ensures { least.new ≡ noted 14 least.old (headers.by_value_faults (headers.is_named types.now.module_name types.now.names.items) (parameter_view parameter.now)) }
 {
     if let Some(word) = parameter.passing {
         let is_by_value = match word.passing {
@@ -103,11 +103,11 @@ fn note_parameter(
     others: &[Next<Parameter>],
     is_behind_optional: bool,
     takes_value: bool,
-    types: &[Name],
+    types: &OwnTypes,
     least: &mut Option<Refusal>,
 )
-    ensures { noted 14 least.new (headers.parameter_faults (headers.is_named types.now) takes_value (is_behind_optional || is_some parameter.now.optional_word) (parameters_behind others.now))
-        ≡ noted 14 least.old (headers.parameter_faults (headers.is_named types.now) takes_value is_behind_optional (parameter_view parameter.now ∷ parameters_behind others.now)) }
+    ensures { noted 14 least.new (headers.parameter_faults (headers.is_named types.now.module_name types.now.names.items) takes_value (is_behind_optional || is_some parameter.now.optional_word) (parameters_behind others.now))
+        ≡ noted 14 least.old (headers.parameter_faults (headers.is_named types.now.module_name types.now.names.items) takes_value is_behind_optional (parameter_view parameter.now ∷ parameters_behind others.now)) }
 {
     let is_late = is_late(parameter, others, is_behind_optional, takes_value);
     note_place(least, is_late, 14, parameter_place(parameter));
@@ -120,10 +120,10 @@ fn note_parameter(
 fn note_listed(
     list: &Listed<Parameter>,
     takes_value: bool,
-    types: &[Name],
+    types: &OwnTypes,
     least: &mut Option<Refusal>,
 )
-    ensures { least.new ≡ noted 14 least.old (headers.parameter_faults (headers.is_named types.now) takes_value false (headers.all_of (listed_view parameter_view list.now))) }
+    ensures { least.new ≡ noted 14 least.old (headers.parameter_faults (headers.is_named types.now.module_name types.now.names.items) takes_value false (headers.all_of (listed_view parameter_view list.now))) }
 {
     let mut left = list.others.as_slice();
     note_parameter(&list.first, left, false, takes_value, types, least);
@@ -146,10 +146,10 @@ fn note_listed(
 pub fn note_parameters(
     parameters: &Option<Parameters>,
     takes_value: bool,
-    types: &[Name],
+    types: &OwnTypes,
     least: &mut Option<Refusal>,
 )
-    ensures { least.new ≡ noted 14 least.old (headers.parameter_faults (headers.is_named types.now) takes_value false (headers.parameters_of (option_map parameters_view parameters.now))) }
+    ensures { least.new ≡ noted 14 least.old (headers.parameter_faults (headers.is_named types.now.module_name types.now.names.items) takes_value false (headers.parameters_of (option_map parameters_view parameters.now))) }
 {
     if let Some(
         Parameters {

@@ -6,7 +6,7 @@ ghost use Rattle.refusal_order.specs.Least.{least_of};
 ghost use Rattle.vba_module.specs.Verdict.{part_violations};
 
 use crate::headers::note_headers;
-use crate::types::type_names;
+use crate::types::own_types;
 use crate::walk::{pass_parts, start};
 use module_parts::Part;
 use refusal_order::note_both;
@@ -29,9 +29,9 @@ pub fn part_refusal(
 {
     let mut walk = start(alloc);
     pass_parts(is_class, parts, &mut walk)?;
-    let types = type_names(alloc, parts)?;
+    let types = own_types(alloc, parts)?;
     let mut headers = None;
-    note_headers(parts, types.as_slice(), &mut headers);
+    note_headers(parts, &types, &mut headers);
     let mut others = walk.misplaced;
     note_both(&mut others, headers);
     let mut least = walk.unmatched;

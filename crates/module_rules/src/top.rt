@@ -2,7 +2,7 @@
 
 ghost use Rattle.std.specs.Prelude.{◌≡◌};
 ghost use Rattle.module_rules.specs.Found.{noted};
-ghost use Rattle.module_rules.specs.Statements.{is_a_name};
+ghost use Rattle.module_rules.specs.Statements.{is_plain_name};
 ghost use Rattle.module_rules.specs.Seen.{before_view};
 ghost use Rattle.vba_expression.specs.View.{view as expression_view};
 ghost use Rattle.vba_module.specs.Misplaced as places;
@@ -114,28 +114,30 @@ pub fn note_line_at_top(
     }
 }
 
-/// Is it a name?
-fn is_a_name(expression: &Expression) -> bool
-    ensures { result ≡ is_a_name (expression_view expression.now) }
+/// Is it a name without a suffix?
+fn is_plain_name(expression: &Expression) -> bool
+    ensures { result ≡ is_plain_name (expression_view expression.now) }
 {
     match expression {
-        Expression::Name(_) => true,
+        Expression::Name(name) => name.suffix.is_none(),
         _ => false,
     }
 }
 
-/// Is it a member of an Enum, that is a name, with `=` and its value where it is written?
+/// Is it a member of an Enum, that is a name without a suffix, with `=` and its value where it is written?
 #[tactic(auto, using(crate::proofs::Members::called_alone, crate::proofs::Members::called_with, crate::proofs::Members::assigned, crate::proofs::Members::assigned_by_let))]
 fn is_simple_member(statement: &SimpleStatement) -> bool
     ensures { result ≡ places.is_enum_member (simple (simple_view statement.now)) }
 {
     match statement {
-        SimpleStatement::Call { target, arguments } => { is_a_name(target) && arguments.is_empty() }
+        SimpleStatement::Call { target, arguments } => {
+            is_plain_name(target) && arguments.is_empty()
+        }
         SimpleStatement::Assignment {
             let_word: None,
             place,
             ..
-        } => is_a_name(place),
+        } => is_plain_name(place),
         _ => false,
     }
 }

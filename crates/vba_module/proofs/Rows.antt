@@ -75,3 +75,18 @@ row_14 = refl
 row_15 : told false (codes "Type T\nn As Long\nEnd Type\nSub a(ByVal x As T, ByVal y As U, ByRef z As t, ByVal v As m.T)\nEnd Sub") ≡ (14, 4, 7) ∷ []
 unfolding told folded caseless
 row_15 = refl
+
+-- On without an expression behind it is no form
+row_on : told false (codes "Sub Main()\nOn\nOn = 1\nOn Resume Next\nOn a GoTo b\nEnd Sub") ≡ (10, 2, 1) ∷ (10, 3, 1) ∷ (10, 4, 1) ∷ (13, 5, 1) ∷ []
+unfolding told folded caseless
+row_on = refl
+
+-- a member of an Enum has no suffix
+row_enum : told false (codes "Enum E\nA%\nB$ = 2\nC\nEnd Enum") ≡ (12, 2, 1) ∷ (12, 3, 1) ∷ []
+unfolding told folded caseless
+row_enum = refl
+
+-- a Type of the module is its own behind the module's name too
+row_own : told false (codes "Attribute VB_Name = \"M\"\nType T\nx As Long\nEnd Type\nSub A(ByVal p As m.T)\nEnd Sub\nSub B(ByVal p As N.T)\nEnd Sub") ≡ (14, 5, 7) ∷ []
+unfolding told folded caseless
+row_own = refl

@@ -1,9 +1,13 @@
 -- S14: headers of procedures and events, and bounds, of a form that may not be.
-use Rattle.std.specs.Prelude.{ℕ, Bool, true, false, ◌&&◌, ◌||◌, not, nat_lt, List, [], ◌∷◌, ◌++◌, length, codes, bytes_eq, Option, Some, None, is_some}
+use Rattle.std.specs.Prelude.{ℕ, Bool, true, false, ◌&&◌, ◌||◌, not, nat_lt, List, [], ◌∷◌, ◌++◌, length, codes, bytes_eq, Option, Some, None, is_some, if◌then◌else◌}
 use Rattle.std.specs.List.{list_any}
 use Rattle.vba_base.specs.declared.place.Place.{Place}
+use Rattle.vba_base.specs.Fold.{folded}
 use Rattle.vba_lexer.specs.declared.token.Token.{Token}
 use Rattle.vba_lexer.specs.declared.number.TypeSuffix.{TypeSuffix}
+use Rattle.vba_words.specs.declared.identifier.Identifier.{Identifier}
+use Rattle.vba_expression.specs.declared.tree.LiteralValue.{LiteralValue}
+use Rattle.vba_expression.specs.declared.tree.LiteralValue.TheVariants as literal
 use Rattle.vba_expression.specs.declared.tree.TypeName.{TypeName}
 use Rattle.vba_expression.specs.declared.tree.TypeQualifier.{TypeQualifier}
 use Rattle.vba_expression.specs.Spelling.{spell as spell_expression}
@@ -12,8 +16,10 @@ use Rattle.vba_tree.specs.declared.procedure.Passing.TheVariants as passing
 use Rattle.vba_tree.specs.declared.procedure.PassingWord.{PassingWord}
 use Rattle.vba_tree.specs.declared.procedure.ProcedureWords.{ProcedureWords}
 use Rattle.vba_tree.specs.declared.procedure.ProcedureWords.TheVariants as words
+use Rattle.vba_tree.specs.declared.line.AttributeValue.{AttributeValue}
 use Rattle.vba_tree.specs.Spelling.{spell_parameter, spell_dim}
-use Rattle.vba_tree.specs.Tree.{Listed, DeclaredType, named, fixed_text, TypeClause, Dim, Dims, Variable, DefaultValue, Parameter, Parameters, ReDimArray, variables, re_dim, Stmt, simple, if_then, if_else, Stmts, nothing, one, gap, more, Line, type_member, event_line, procedure_header, type_header}
+use Rattle.vba_tree.specs.Tree.{Listed, DeclaredType, named, fixed_text, TypeClause, Dim, Dims, Variable, DefaultValue, Parameter, Parameters, variables, Stmt, simple, if_then, if_else, Stmts, nothing, one, gap, more, Line, attribute_line, type_member, event_line, procedure_header, type_header}
+use Rattle.vba_grammar.specs.Front.{or_else}
 use Rattle.vba_module.specs.Parts.{Part, label, statement, whole_line, nowhere, first_place}
 use Rattle.vba_module.specs.Misplaced.{place_if}
 
@@ -111,7 +117,7 @@ abbrev pub value_faults : Option Token → List Parameter → List Place
 value_faults (Some word) [] = word.place ∷ []
 value_faults word ps = []
 
--- at most sixty bounds
+-- at most sixty bounds are declared
 abbrev pub many : List Dim → List Place
 many [] = []
 many (dim ∷ dims) = place_if (nat_lt 59 (length dims)) (first_place nowhere (spell_dim dim))
@@ -128,14 +134,10 @@ abbrev pub variables_faults : List Variable → List Place
 variables_faults [] = []
 variables_faults (v ∷ vs) = dims_faults v.dims ++ variables_faults vs
 
-abbrev pub arrays_faults : List ReDimArray → List Place
-arrays_faults [] = []
-arrays_faults (a ∷ others) = many (all_of a.dims) ++ arrays_faults others
-
 abbrev mutual
+  -- bounds of a ReDim may be more: they are told when it runs
   pub statement_faults : Stmt → List Place
   statement_faults (simple (variables word token vs)) = variables_faults (all_of vs)
-  statement_faults (simple (re_dim redim_word preserve_word arrays)) = arrays_faults (all_of arrays)
   statement_faults (simple _) = []
   statement_faults (if_then if_word condition then_word then_list) = list_faults then_list
   statement_faults (if_else if_word condition then_word then_list else_word else_list) = list_faults then_list ++ list_faults else_list
@@ -167,10 +169,26 @@ type_names [] = []
 type_names (whole_line (type_header header) ∷ parts) = header.name.name ∷ type_names parts
 type_names (part ∷ parts) = type_names parts
 
--- a type is one of these, by its name alone
-abbrev pub is_named : List (List ℕ) → TypeName → Bool
-is_named names class = at class.qualifier
+-- the name that an attribute gives its module: a text behind VB_Name
+abbrev pub name_given : Listed Identifier → Listed AttributeValue → Option (List ℕ)
+name_given names values = at names.others values.first.minus values.first.literal.value
   where
-    at : Option TypeQualifier → Bool
-    at None = list_any (bytes_eq class.name.name) names
-    at (Some qualifier) = false
+    at : List (Token × Identifier) → Option Token → LiteralValue → Option (List ℕ)
+    at [] None (literal.Text text) = if bytes_eq names.first.name (codes "vb_name") then Some (folded text) else None
+    at others minus _ = None
+
+-- the name of the module that parts are, where an attribute gives one: the first
+abbrev pub module_name : List Part → Option (List ℕ)
+module_name [] = None
+module_name (whole_line (attribute_line attribute_word names equal values) ∷ parts) = or_else (name_given names values) (module_name parts)
+module_name (part ∷ parts) = module_name parts
+
+-- no qualifier, or the name of the module
+abbrev pub is_here : Option (List ℕ) → Option TypeQualifier → Bool
+is_here name None = true
+is_here None (Some qualifier) = false
+is_here (Some name) (Some qualifier) = bytes_eq qualifier.name.name name
+
+-- a type is one of these of a module, by its name alone or behind the module's
+abbrev pub is_named : Option (List ℕ) → List (List ℕ) → TypeName → Bool
+is_named name names class = is_here name class.qualifier && list_any (bytes_eq class.name.name) names

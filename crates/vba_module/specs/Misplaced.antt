@@ -2,6 +2,7 @@
 use Rattle.std.specs.Prelude.{Bool, true, false, ◌&&◌, ◌||◌, not, List, [], ◌∷◌, ◌++◌, Option, Some, None, if◌then◌else◌}
 use Rattle.vba_base.specs.declared.place.Place.{Place}
 use Rattle.vba_lexer.specs.declared.token.Token.{Token}
+use Rattle.vba_expression.specs.Fitting.{is_none}
 use Rattle.vba_expression.specs.Tree.{name, no_args}
 use Rattle.vba_tree.specs.declared.declaration.Access.{Access}
 use Rattle.vba_tree.specs.declared.declaration.Access.TheVariants as access
@@ -100,10 +101,10 @@ abbrev mutual
   in_list (gap before colon) = in_list before
   in_list (more before colon s) = in_list before ++ in_body (statement_place s) true s
 
--- a member of an Enum: a name, and `=` with its value where it is written
+-- a member of an Enum: a name without a suffix, and `=` with its value where it is written
 abbrev pub is_enum_member : Stmt → Bool
-is_enum_member (simple (call (name identifier) no_args)) = true
-is_enum_member (simple (assignment None (name identifier) equal e)) = true
+is_enum_member (simple (call (name identifier) no_args)) = is_none identifier.suffix
+is_enum_member (simple (assignment None (name identifier) equal e)) = is_none identifier.suffix
 is_enum_member _ = false
 
 -- a statement outside of procedures: a declaration of variables or constants, before the procedures

@@ -1,14 +1,18 @@
 -- S13: the tokens of a line that no tree spells begin a statement of a form that the profile hasn't.
-use Rattle.std.specs.Prelude.{Bool, true, false, ◌&&◌, ◌||◌, not, List, [], ◌∷◌, codes, Option, Some, None, if◌then◌else◌}
+use Rattle.std.specs.Prelude.{Bool, true, false, ◌&&◌, ◌||◌, not, List, [], ◌∷◌, codes, Option, Some, None, is_some, if◌then◌else◌}
 use Rattle.vba_base.specs.declared.place.Place.{Place}
 use Rattle.vba_words.specs.declared.keyword.Keyword.TheVariants as keyword
 use Rattle.vba_words.specs.declared.mark.Mark.TheVariants as mark
 use Rattle.vba_words.specs.declared.reading.Reading.{Reading}
 use Rattle.vba_words.specs.declared.reading.Reading.TheVariants as reading
 use Rattle.vba_words.specs.declared.reading.ReadToken.{ReadToken}
-use Rattle.vba_grammar.specs.Front.{begins, reads, is_colon, is_then, is_else}
+use Rattle.vba_grammar.specs.Front.{begins, reads, whole_at, is_colon, is_then, is_else}
 
--- a word that begins such a statement; On begins one but for On Error
+-- an expression stands at the front
+abbrev pub begins_expression : List ReadToken → Bool
+begins_expression ts = is_some (whole_at ts)
+
+-- a word that begins such a statement; On begins one before an expression, but for On Error
 abbrev pub begins_form : Reading → List ReadToken → Bool
 begins_form (reading.Keyword keyword.Open) rest = true
 begins_form (reading.Keyword keyword.Print) rest = true
@@ -16,7 +20,7 @@ begins_form (reading.Keyword keyword.Declare) rest = true
 begins_form (reading.Keyword keyword.LSet) rest = true
 begins_form (reading.Keyword keyword.RSet) rest = true
 begins_form (reading.Keyword keyword.Implements) rest = true
-begins_form (reading.Keyword keyword.On) rest = not (begins (reads (codes "error")) rest)
+begins_form (reading.Keyword keyword.On) rest = not (begins (reads (codes "error")) rest) && begins_expression rest
 begins_form _ rest = false
 
 -- an operator or a mark of such a form, wherever it stands

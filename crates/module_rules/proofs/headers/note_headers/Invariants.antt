@@ -7,5 +7,5 @@ use Rattle.module_rules.proofs.headers.note_headers.Given as goal
 
 abbrev pub invariant-loop-part : goal.invariant-loop-part
 invariant-loop-part l =
-    noted 14 l.least (flat_map (header_faults (is_named l.types)) (parts_view (drop l.part-index l.parts)))
-    ≡ noted 14 l.fn.least (flat_map (header_faults (is_named l.types)) (parts_view l.parts))
+    noted 14 l.least (flat_map (header_faults (is_named l.types.module_name l.types.names.items)) (parts_view (drop l.part-index l.parts)))
+    ≡ noted 14 l.fn.least (flat_map (header_faults (is_named l.types.module_name l.types.names.items)) (parts_view l.parts))

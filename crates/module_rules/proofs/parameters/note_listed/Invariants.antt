@@ -7,8 +7,8 @@ use Rattle.module_rules.proofs.parameters.note_listed.Given as goal
 
 abbrev pub invariant-parameters : goal.invariant-parameters
 invariant-parameters l =
-    noted 14 l.least (parameter_faults (is_named l.types) l.takes_value l.is_behind_optional (parameters_behind l.left))
-    ≡ noted 14 l.fn.least (parameter_faults (is_named l.types) l.takes_value false (all_of (listed_view parameter_view l.list)))
+    noted 14 l.least (parameter_faults (is_named l.types.module_name l.types.names.items) l.takes_value l.is_behind_optional (parameters_behind l.left))
+    ≡ noted 14 l.fn.least (parameter_faults (is_named l.types.module_name l.types.names.items) l.takes_value false (all_of (listed_view parameter_view l.list)))
 
 abbrev pub decreases-parameters : goal.decreases-parameters
 decreases-parameters l = length l.left
