@@ -257,6 +257,6 @@ fn no_tokens(rt: HostRuntime) -> Result<(), Fail> {
         return Err(Fail::from("no statements"));
     };
     assert_eq!(rt; statements.others.len(), 0);
-    assert_eq!(rt; form_place(&[]), None);
+    assert_eq!(rt; form_place(alloc, &[])?, None);
     Ok(())
 }

@@ -4,3 +4,4 @@ pub mod Closing
 pub mod Cuts
 pub mod Pushed
 pub mod Turning
+pub mod Related

@@ -1,16 +1,25 @@
 //! Forms of statements that the profile hasn't.
 
-ghost use Rattle.std.specs.Prelude.{◌≡◌, true};
+ghost use Rattle.std.specs.Prelude.{◌≡◌, true, IfOk};
 ghost use Rattle.vba_grammar.specs.Front.{begins};
 ghost use Rattle.vba_module.specs.Outside as outside;
 
-use vba_base::Place;
+use std::alloc::Global;
+use vba_base::{NoMemory, Place};
 use vba_clauses::{Expected, begins_with_word, is_expected};
+use vba_expression::read_expression;
 use vba_words::{Keyword, Mark, ReadToken, Reading};
 
-/// Does a word begin such a statement, before these tokens? `On` begins one but for `On Error`.
-fn begins_form(reading: &Reading, rest: &[ReadToken]) -> bool
-    ensures { result ≡ outside.begins_form reading.now rest.now }
+/// Does an expression stand at the front?
+fn begins_with_expression(alloc: Global, tokens: &[ReadToken]) -> Result<bool, NoMemory>
+    ensures { IfOk result (λ begins. begins ≡ outside.begins_expression tokens.now) }
+{
+    Ok(read_expression(alloc, tokens)?.is_some())
+}
+
+/// Does a word begin such a statement, before these tokens? `On` begins one before an expression, but for `On Error`.
+fn begins_form(alloc: Global, reading: &Reading, rest: &[ReadToken]) -> Result<bool, NoMemory>
+    ensures { IfOk result (λ begins. begins ≡ outside.begins_form reading.now rest.now) }
 {
     match reading {
         Reading::Keyword(
@@ -20,9 +29,15 @@ fn begins_form(reading: &Reading, rest: &[ReadToken]) -> bool
             | Keyword::LSet
             | Keyword::RSet
             | Keyword::Implements,
-        ) => true,
-        Reading::Keyword(Keyword::On) => !begins_with_word(rest, b"error"),
-        _ => false,
+        ) => Ok(true),
+        Reading::Keyword(Keyword::On) => {
+            if begins_with_word(rest, b"error") {
+                Ok(false)
+            } else {
+                begins_with_expression(alloc, rest)
+            }
+        }
+        _ => Ok(false),
     }
 }
 
@@ -65,32 +80,34 @@ fn ends_before(reading: &Reading) -> bool
 }
 
 /// The place of the first word that begins such a statement or belongs to one, where a statement may begin at the front.
-fn form_in(tokens: &[ReadToken]) -> Option<Place>
-    ensures { result ≡ outside.form_in true tokens.now }
+fn form_in(alloc: Global, tokens: &[ReadToken]) -> Result<Option<Place>, NoMemory>
+    ensures { IfOk result (λ place. place ≡ outside.form_in true tokens.now) }
 {
     let mut left = tokens;
     let mut may_begin = true;
     'tokens: while let [token, rest @ ..] = left {
-        if is_of_form(&token.reading) || (may_begin && begins_form(&token.reading, rest)) {
-            return Some(token.token.place);
+        let is_form = is_of_form(&token.reading)
+            || (may_begin && begins_form(alloc, &token.reading, rest)?);
+        if is_form {
+            return Ok(Some(token.token.place));
         }
         may_begin = ends_before(&token.reading)
             || (may_begin && is_before_declare(&token.reading, rest));
         left = rest;
     }
-    None
+    Ok(None)
 }
 
 /// The place at which the tokens of a line have a form that the profile hasn't, if they have one. A line number may stand
-/// before it.
-pub fn form_place(tokens: &[ReadToken]) -> Option<Place>
-    ensures { result ≡ outside.form_of tokens.now }
+/// before it. It fails only for want of memory.
+pub fn form_place(alloc: Global, tokens: &[ReadToken]) -> Result<Option<Place>, NoMemory>
+    ensures { IfOk result (λ place. place ≡ outside.form_of tokens.now) }
 {
     let [first, rest @ ..] = tokens else {
-        return None;
+        return Ok(None);
     };
     match &first.reading {
-        Reading::Number { is_plain: true, .. } => form_in(rest),
-        _ => form_in(tokens),
+        Reading::Number { is_plain: true, .. } => form_in(alloc, rest),
+        _ => form_in(alloc, tokens),
     }
 }
