@@ -26,7 +26,7 @@ use vba_words::{ReadToken, read_tokens};
 /// grammar's form has its tokens, whether it would fit or not: by S13 at the first word or mark of a form that the profile
 /// hasn't, and by S10 at the line's first token where no such form stands there. Only want of memory says nothing of the
 /// line.
-#[tactic(auto, using(crate::proofs::Related::is_read, crate::proofs::Related::is_spelled, crate::proofs::Related::is_unspelled))]
+#[tactic(auto, using(crate::proofs::Related::is_spelled))]
 pub fn parse_line(alloc: Global, source: &Units, line: &Line) -> Result<LineTree, OrMemory<Refusal>>
     requires { LiesIn source.now line.now }
     ensures tree { IfOk result (λ tree. line_of (readings.read_line source.now line.now.tokens.items) ≡ Some (view tree)) }

@@ -1,4 +1,5 @@
 use Rattle.module_rules.proofs.Listing.{listed_start}
+use Rattle.vba_module.specs.Headers.{is_named}
 use Rattle.module_rules.proofs.parameters.note_listed.Goals as goal
 
 pub parameters-init : goal.parameters-init

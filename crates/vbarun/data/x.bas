@@ -1,0 +1,3 @@
+Sub Main()
+    GoTo a$
+End Sub
