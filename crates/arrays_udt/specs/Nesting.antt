@@ -1,4 +1,4 @@
--- How deep Types are inside one another.
+-- Serves the code: how deep Types are inside one another.
 use Rattle.std.specs.Prelude.{ℕ, zero, suc, nat_lt, Bool, true, false, ◌&&◌, List, length}
 use Rattle.std.specs.List.{list_all}
 use Rattle.vba_values.specs.Types.{Declared}

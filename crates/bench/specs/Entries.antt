@@ -1,4 +1,4 @@
--- The Type whose elements are made.
+-- Serves the code: the Type whose elements are made.
 use Rattle.std.specs.Prelude.{List, [], ◌∷◌}
 use Rattle.vba_values.specs.Types as type
 use Rattle.arrays_udt.specs.Fields.{Field}

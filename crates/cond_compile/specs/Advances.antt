@@ -1,4 +1,4 @@
--- How a reading goes on from a state.
+-- Serves the code: how a reading goes on from a state.
 use Rattle.std.specs.Prelude.{◌≡◌, ℕ, List, Option}
 use Rattle.vba_lexer.specs.declared.token.Token.{Token}
 use Rattle.cond_compile.specs.declared.frame.Frame.{Frame}

@@ -1,4 +1,4 @@
--- The tokens of an expression as the grammar reads them.
+-- Serves the code: the tokens of an expression as the grammar reads them.
 use Rattle.std.specs.Prelude.{ℕ, ◌==◌, nat_lt, Bool, true, false, ◌&&◌, List, [], ◌∷◌, codes, Option, Some, None, is_some, if◌then◌else◌, bytes_eq}
 use Rattle.vba_base.specs.Fold.{folded}
 use Rattle.vba_lexer.specs.declared.token.Token.{Token}

@@ -1,4 +1,4 @@
--- Reading an expression token by token, over whatever its parts are made into.
+-- Serves the code: reading an expression token by token, over whatever its parts are made into.
 use Rattle.std.specs.Prelude.{ℕ, suc, nat_lt, Bool, true, false, List, [], ◌∷◌, Option, Some, None, if◌then◌else◌}
 use Rattle.cond_compile.specs.declared.operator.Operator.{Operator}
 use Rattle.cond_compile.specs.declared.operator.Operator.TheVariants as op

@@ -1,4 +1,4 @@
--- What contracts see of the reader's parts.
+-- Serves the code: what contracts see of the reader's parts.
 use Rattle.std.specs.Prelude.{◌≡◌, ℕ, List, [], ◌∷◌, length, map, reverse, All, Option, Some, None, option_map}
 use Rattle.vba_lexer.specs.Inside.{IsWithin}
 use Rattle.vba_values.specs.View.{view}

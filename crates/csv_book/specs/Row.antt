@@ -1,4 +1,4 @@
--- A row that is being read, and the sheet that it is read into.
+-- Serves the code: a row that is being read, and the sheet that it is read into.
 use Rattle.std.specs.Prelude.{◌≡◌, ℕ, ◌+◌, ◌≤◌, List, [], ◌∷◌, ◌++◌, drop, length, map, min, Option, Some, None, true}
 use Rattle.std.specs.List.{list_all}
 use Rattle.std.specs.Str.{is_utf8}

@@ -1,4 +1,4 @@
--- The text that a cell is saved as.
+-- Serves the code: the text that a cell is saved as.
 use Rattle.std.specs.Prelude.{ℕ, List}
 use Rattle.csv_book.specs.declared.saved_text.SavedText.{SavedText}
 use Rattle.csv_book.specs.declared.saved_text.SavedText.TheVariants.{Kept, Made}

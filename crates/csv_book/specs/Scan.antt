@@ -1,4 +1,4 @@
--- The states of reading a row, as those of csv's machine.
+-- Serves the code: the states of reading a row, as those of csv's machine.
 use Rattle.csv.specs.declared.parser.Action.{Action}
 use Rattle.csv.specs.declared.parser.Action.TheVariants as act
 use Rattle.csv.specs.declared.parser.State.{State}

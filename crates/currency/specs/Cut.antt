@@ -1,4 +1,4 @@
--- A quotient cut to a whole number, and what was cut off.
+-- Serves the code: a quotient cut to a whole number, and what was cut off.
 use Rattle.std.specs.Prelude.{ℕ, ◌+◌, ◌-◌, ◌*◌, ◌/◌, ◌%◌, ◌^◌, min, nat_lt, ◌==◌, ◌&&◌, ◌++◌, Bool, true, false, if◌then◌else◌, ℤ, pos, negsuc}
 use Rattle.std.specs.declared.cmp.Ordering.{Ordering}
 use Rattle.std.specs.declared.cmp.Ordering.TheVariants.{Less, Equal, Greater}

@@ -1,4 +1,4 @@
--- What contracts see of borrowed parts.
+-- Serves the code: what contracts see of borrowed parts.
 use Rattle.currency.specs.declared.numeral.Numeral.{Numeral as Slices}
 use Rattle.currency.specs.NumberText.{Numeral}
 

@@ -1,4 +1,4 @@
--- Frames: texts behind one another, each behind its length.
+-- Serves the code: frames: texts behind one another, each behind its length.
 use Rattle.std.specs.Prelude.{◌≡◌, ℕ, zero, suc, ◌+◌, ◌*◌, ◌/◌, ◌%◌, ◌^◌, ◌<◌, ◌≤◌, List, [], ◌∷◌, ◌++◌, length, drop, slice_index, slice_range, nat_eq, nat_lt, if◌then◌else◌}
 
 -- a length: one unit where it is below 65535, and else 65535 and two units, the higher half first

@@ -1,4 +1,4 @@
--- Rows of fields: where each row begins among them.
+-- Serves the code: rows of fields: where each row begins among them.
 use Rattle.std.specs.Prelude.{ℕ, ◌≤◌, List, [], ◌∷◌, length, slice_range}
 
 -- where the first of these pieces begins, or the end where there is none

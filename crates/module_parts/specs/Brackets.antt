@@ -1,4 +1,4 @@
--- What parts are to the brackets of their module.
+-- Serves the code: what parts are to the brackets of their module.
 use Rattle.std.specs.Prelude.{◌≡◌}
 use Rattle.vba_module.specs.Blocks as blocks
 use Rattle.module_parts.specs.declared.bracket.BlockKind.{BlockKind}

@@ -1,4 +1,4 @@
--- The statements that stand behind colons.
+-- Serves the code: the statements that stand behind colons.
 use Rattle.std.specs.Prelude.{List, [], ◌∷◌}
 use Rattle.vba_tree.specs.Tree.{Stmt}
 use Rattle.vba_tree.specs.View.{Next, written, missing}

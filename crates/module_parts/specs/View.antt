@@ -1,4 +1,4 @@
--- The parts that parts of trees stand for.
+-- Serves the code: the parts that parts of trees stand for.
 use Rattle.std.specs.Prelude.{List, map}
 use Rattle.vba_tree.specs.View.{view, statement_view}
 use Rattle.vba_module.specs.Parts as parts

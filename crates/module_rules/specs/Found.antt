@@ -1,4 +1,4 @@
--- What is found of rules, one place after another.
+-- Serves the code: what is found of rules, one place after another.
 use Rattle.std.specs.Prelude.{ℕ, Bool, true, false, List, [], ◌∷◌, Option, Some, None}
 use Rattle.vba_base.specs.declared.place.Place.{Place}
 use Rattle.vba_base.specs.declared.place.Refusal.{Refusal}

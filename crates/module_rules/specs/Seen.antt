@@ -1,4 +1,4 @@
--- What the walk over the parts of a module holds, as contracts see it.
+-- Serves the code: what the walk over the parts of a module holds, as contracts see it.
 use Rattle.std.specs.Prelude.{List, map, reverse}
 use Rattle.module_parts.specs.Brackets.{kind_view}
 use Rattle.vba_lexer.specs.declared.token.Token.{Token}

@@ -1,4 +1,4 @@
--- What is looked for in statements, in single-line Ifs too.
+-- Serves the code: what is looked for in statements, in single-line Ifs too.
 use Rattle.std.specs.Prelude.{ℕ, Bool, true, false, List, [], ◌∷◌, ◌++◌}
 use Rattle.vba_base.specs.declared.place.Place.{Place}
 use Rattle.vba_expression.specs.Fitting.{is_none}

@@ -1,4 +1,5 @@
--- Bracketing part by part: a stack of frames holds the blocks that are open, so nothing is read twice.
+-- Serves the code: bracketing part by part: a stack of frames holds the blocks that are open, so nothing is read
+-- twice.
 use Rattle.std.specs.Prelude.{Bool, List, [], ◌∷◌, Option, Some, None}
 use Rattle.vba_module.specs.Parts.{Part}
 use Rattle.vba_module.specs.Blocks.{Kind, Role, opens, divides, closes, stands, role_of}

@@ -1,4 +1,4 @@
--- What was read of a module as contracts see it.
+-- Serves the code: what was read of a module as contracts see it.
 use Rattle.std.specs.Prelude.{List, map, reverse}
 use Rattle.module_parts.specs.Brackets.{kind_view}
 use Rattle.vba_module.specs.Parts.{Part}

@@ -1,4 +1,4 @@
--- The plain tree that the tree of a module stands for.
+-- Serves the code: the plain tree that the tree of a module stands for.
 use Rattle.std.specs.Prelude.{Bool, List, [], ◌∷◌, map}
 use Rattle.vba_module.specs.Parts as parts
 use Rattle.vba_module.specs.Tree as plain

@@ -1,4 +1,4 @@
--- The code of expressions and statements.
+-- Serves the code: the code of expressions and statements.
 use Rattle.std.specs.Prelude.{ℕ, suc, true, List, [], ◌∷◌, ◌++◌, length}
 use Rattle.vba_values.specs.declared.types.Compare.{Compare}
 use Rattle.vba_values.specs.Types.{Declared}

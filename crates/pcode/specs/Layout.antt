@@ -1,4 +1,5 @@
--- The code of a project: one Leave at address 0 for all procedures, then the statements in the order of the text.
+-- Serves the code: the code of a project: one Leave at address 0 for all procedures, then the statements in the
+-- order of the text.
 use Rattle.std.specs.Prelude.{◌≡◌, ℕ, suc, ◌+◌, List, [], ◌∷◌, ◌++◌, length, map, Option, Some, None, slice_get, slice_index}
 use Rattle.bound_project.specs.Statements.{Statement}
 use Rattle.bound_project.specs.Project.{Project, Body, statement_at, next_of}

@@ -1,4 +1,4 @@
--- Codes, by which proofs tell contents of sheets and books apart.
+-- Serves the code: codes, by which proofs tell contents of sheets and books apart.
 use Rattle.std.specs.Prelude.{refl}
 use Rattle.std.specs.Coded.{Coded, code_by, coded×, coded_ℕ, coded_list}
 use Rattle.std.specs.FinMap.{code}

@@ -1,4 +1,4 @@
--- Lists made place by place.
+-- Serves the code: lists made place by place.
 use Rattle.std.specs.Prelude.{ℕ, zero, suc, List, [], ◌∷◌, ◌++◌, Result, Ok}
 use Rattle.vba_base.specs.Answer.{◌>>=◌}
 

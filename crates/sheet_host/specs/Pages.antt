@@ -1,4 +1,4 @@
--- How written cells are kept: in pages of 256 rows, each with slots by rows and columns.
+-- Serves the code: how written cells are kept: in pages of 256 rows, each with slots by rows and columns.
 use Rattle.std.specs.Prelude.{◌≡◌, ℕ, max, if◌then◌else◌, ◌-◌, ◌/◌, ◌≤◌, length, fold, List, [], ◌∷◌, ◌++◌, Option, Some, None, is_some, IsTrue}
 use Rattle.std.specs.List.Sorted.{IsStrictlySortedBy}
 use Rattle.std.specs.Map.{keys_of, lookup, set_value}

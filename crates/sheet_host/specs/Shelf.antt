@@ -1,4 +1,5 @@
--- How a book keeps its sheets: each with its name and the folded name, and the count of all written cells.
+-- Serves the code: how a book keeps its sheets: each with its name and the folded name, and the count of all
+-- written cells.
 use Rattle.std.specs.Prelude.{◌≡◌, ℕ, ◌<◌, ◌^◌, List, [], ◌∷◌, map, length}
 use Rattle.vba_base.specs.Fold.{folded}
 use Rattle.sheet_host.specs.declared.book.Named.{Named}

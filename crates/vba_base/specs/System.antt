@@ -1,4 +1,4 @@
--- A sink of the system.
+-- Serves the code: a sink of the system.
 use Rattle.std.specs.Prelude.{ℕ, List, Option}
 
 -- how many puts failed, and the bytes that the writer holds, where it tells them

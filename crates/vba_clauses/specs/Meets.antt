@@ -1,4 +1,4 @@
--- What is expected somewhere in a line.
+-- Serves the code: what is expected somewhere in a line.
 use Rattle.std.specs.Prelude.{Bool}
 use Rattle.vba_words.specs.declared.reading.Reading.{Reading}
 use Rattle.vba_grammar.specs.Front.{is_as, is_new, is_to, is_then, is_in, is_equal, is_times, is_left, is_right, is_comma, is_dot, is_colon, is_else}

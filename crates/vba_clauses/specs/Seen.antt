@@ -1,4 +1,4 @@
--- What the parts of constants and parameters stand for, and where a length is parted from a value.
+-- Serves the code: what the parts of constants and parameters stand for, and where a length is parted from a value.
 use Rattle.std.specs.Prelude.{Bool, false, ◌&&◌, List, [], ◌∷◌, Option, Some, None, option_map, if◌then◌else◌}
 use Rattle.vba_words.specs.declared.identifier.Identifier.{Identifier}
 use Rattle.vba_words.specs.declared.reading.ReadToken.{ReadToken}

@@ -1,4 +1,4 @@
--- What reading a line goes through: where tokens lie, and what each part of a line is read as.
+-- Serves the code: what reading a line goes through: where tokens lie, and what each part of a line is read as.
 use Rattle.std.specs.Prelude.{ℕ, Bool, ◌&&◌, nat_le, List, [], ◌∷◌, Option, Some, None, codes, if◌then◌else◌}
 use Rattle.std.specs.List.{AllByRecursion, list_all}
 use Rattle.vba_lexer.specs.declared.token.Token.{Token}

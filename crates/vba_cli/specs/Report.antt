@@ -1,4 +1,4 @@
--- What running the statements of Main gives.
+-- Serves the code: what running the statements of Main gives.
 use Rattle.std.specs.Prelude.{◌≡◌, ℕ, nat_lt, pos, Result, Ok, Err, if◌then◌else◌}
 use Rattle.vba_base.specs.declared.place.Place.{Place}
 use Rattle.built_form.specs.declared.expression.Expression.{Expression}

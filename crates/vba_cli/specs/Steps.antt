@@ -1,4 +1,4 @@
--- What the steps of a command do: running a source, performing the command, and telling its status.
+-- Serves the code: what the steps of a command do: running a source, performing the command, and telling its status.
 use Rattle.std.specs.Prelude.{◌≡◌, ℕ, List, Option, None, IfSome, IsSomeAnd, ◌⊎◌}
 use Rattle.vba_base.specs.Causes.{up, Rose, Adds, AddsPrefix}
 use Rattle.vba_cli.specs.declared.status.Status.{Status}

@@ -1,4 +1,4 @@
--- How links are kept: under their source and number, and under their sink and field.
+-- Serves the code: how links are kept: under their source and number, and under their sink and field.
 use Rattle.std.specs.Prelude.{◌≡◌, ℕ, ◌+◌, Bool, ◌&&◌, nat_eq, List, [], ◌∷◌, ◌++◌, map}
 use Rattle.std.specs.List.{IsDistinct}
 use Rattle.std.specs.Map.{keys_of}

@@ -1,4 +1,4 @@
--- Links put in order.
+-- Serves the code: links put in order.
 use Rattle.std.specs.Prelude.{ℕ, ◌<◌, nat_lt, List, [], ◌∷◌, cond}
 use Rattle.vba_events.specs.declared.linked.Linked.{Linked}
 

@@ -1,4 +1,5 @@
--- Reading an expression token by token: a stack of frames holds what waits for an operand, so nothing is read twice.
+-- Serves the code: reading an expression token by token: a stack of frames holds what waits for an operand, so
+-- nothing is read twice.
 use Rattle.std.specs.Prelude.{ℕ, suc, List, [], ◌∷◌, Option, Some, None, option_map, Bool, true, nat_lt, if◌then◌else◌}
 use Rattle.vba_lexer.specs.declared.token.Token.{Token}
 use Rattle.vba_lexer.specs.declared.number.TypeSuffix.{TypeSuffix}

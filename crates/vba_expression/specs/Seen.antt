@@ -1,4 +1,4 @@
--- The reader's states as contracts see them.
+-- Serves the code: the reader's states as contracts see them.
 use Rattle.std.specs.Prelude.{◌≡◌, List, map, reverse, Option, Some, None}
 use Rattle.vba_lexer.specs.declared.token.Token.{Token}
 use Rattle.vba_expression.specs.declared.frame.Head.{Head}

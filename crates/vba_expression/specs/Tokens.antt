@@ -1,4 +1,4 @@
--- The tokens that trees keep, in order.
+-- Serves the code: the tokens that trees keep, in order.
 use Rattle.std.specs.Prelude.{List, ◌∷◌, ◌++◌, map}
 use Rattle.vba_lexer.specs.declared.token.Token.{Token}
 use Rattle.vba_words.specs.declared.mark.Mark.TheVariants as mark

@@ -1,4 +1,4 @@
--- Reading the lines of blocks, behind their first word.
+-- Serves the code: reading the lines of blocks, behind their first word.
 use Rattle.std.specs.Prelude.{Bool, true, false, List, [], ◌∷◌, codes, Option, Some, None, if◌then◌else◌}
 use Rattle.vba_lexer.specs.declared.token.Token.{Token}
 use Rattle.vba_words.specs.declared.keyword.Keyword.TheVariants as keyword

@@ -1,4 +1,4 @@
--- Reading the parts of declarations: types, bounds, variables, constants, parameters.
+-- Serves the code: reading the parts of declarations: types, bounds, variables, constants, parameters.
 use Rattle.std.specs.Prelude.{Bool, true, false, ◌&&◌, ◌||◌, List, [], ◌∷◌, ◌++◌, codes, Option, Some, None, if◌then◌else◌}
 use Rattle.vba_lexer.specs.declared.token.Token.{Token}
 use Rattle.vba_words.specs.declared.identifier.Identifier.{Identifier}

@@ -1,4 +1,4 @@
--- What stands at the front of tokens: one token, a name, items with a mark between each two.
+-- Serves the code: what stands at the front of tokens: one token, a name, items with a mark between each two.
 use Rattle.std.specs.Prelude.{ℕ, zero, suc, Bool, true, false, List, [], ◌∷◌, length, Option, Some, None, if◌then◌else◌}
 use Rattle.vba_lexer.specs.declared.token.Token.{Token}
 use Rattle.vba_words.specs.declared.identifier.Identifier.{Identifier}

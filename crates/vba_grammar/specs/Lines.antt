@@ -1,4 +1,4 @@
--- Reading a line, by its first words.
+-- Serves the code: reading a line, by its first words.
 use Rattle.std.specs.Prelude.{Bool, true, false, ◌&&◌, List, [], ◌∷◌, codes, Option, Some, None, option_map, if◌then◌else◌}
 use Rattle.vba_lexer.specs.declared.token.Token.{Token}
 use Rattle.vba_lexer.specs.declared.number.TypeSuffix.{TypeSuffix}

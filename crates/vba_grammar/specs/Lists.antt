@@ -1,4 +1,5 @@
--- Reading the statements of a line, by turns: a stack of frames holds the single-line Ifs that are open.
+-- Serves the code: reading the statements of a line, by turns: a stack of frames holds the single-line Ifs that
+-- are open.
 use Rattle.std.specs.Prelude.{ℕ, zero, suc, Bool, true, ◌||◌, ◌&&◌, not, List, [], ◌∷◌, length, Option, Some, None, if◌then◌else◌}
 use Rattle.vba_lexer.specs.declared.token.Token.{Token}
 use Rattle.vba_words.specs.declared.keyword.Keyword.TheVariants as keyword

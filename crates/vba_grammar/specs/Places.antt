@@ -1,4 +1,4 @@
--- Reading an assignment or a call: what is assigned to or called is as long as it can be.
+-- Serves the code: reading an assignment or a call: what is assigned to or called is as long as it can be.
 use Rattle.std.specs.Prelude.{Bool, ◌||◌, List, ◌∷◌, ◌++◌, Option, None, if◌then◌else◌}
 use Rattle.vba_lexer.specs.declared.token.Token.{Token}
 use Rattle.vba_words.specs.declared.mark.Mark.TheVariants as mark

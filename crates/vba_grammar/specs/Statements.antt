@@ -1,4 +1,4 @@
--- Reading a statement other than a single-line If, by its first words.
+-- Serves the code: reading a statement other than a single-line If, by its first words.
 use Rattle.std.specs.Prelude.{ℕ, zero, suc, ◌+◌, ◌==◌, pos, negsuc, ℤ, Bool, true, false, ◌&&◌, List, [], ◌∷◌, ◌++◌, length, codes, Option, Some, None, if◌then◌else◌}
 use Rattle.vba_lexer.specs.declared.token.Token.{Token}
 use Rattle.vba_words.specs.declared.identifier.Identifier.{Identifier}

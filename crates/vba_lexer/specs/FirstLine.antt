@@ -1,4 +1,4 @@
--- The first line of a source, by the size of its text and how it ends.
+-- Serves the code: the first line of a source, by the size of its text and how it ends.
 use Rattle.std.specs.Prelude.{◌≡◌, ℕ, ◌+◌, ◌≤◌, List, [], ◌∷◌, length, take, drop, if◌then◌else◌}
 use Rattle.vba_lexer.specs.declared.lines.Ending.{Ending}
 use Rattle.vba_lexer.specs.Lines.{PhysicalLine, end_units, is_last, lines_of}

@@ -1,4 +1,4 @@
--- Where the tokens of a line and of a source lie.
+-- Serves the code: where the tokens of a line and of a source lie.
 use Rattle.std.specs.Prelude.{ℕ, ◌+◌, ◌<◌, ◌≤◌, List, [], ◌∷◌, length, All, sum_by}
 use Rattle.vba_lexer.specs.declared.token.Token.{Token}
 use Rattle.vba_lexer.specs.declared.line.Line.{Line}

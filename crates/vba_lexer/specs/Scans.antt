@@ -1,4 +1,4 @@
--- How the front of a line is told.
+-- Serves the code: how the front of a line is told.
 use Rattle.std.specs.Prelude.{◌≡◌, ℕ, ◌+◌, ◌<◌, ◌≤◌, Bool, true, false, List, [], ◌∷◌, length, drop, slice_index, ◌==◌, ◌&&◌, Option, Some, None, nat_lt, if◌then◌else◌}
 use Rattle.std.specs.List.{prefix_len}
 use Rattle.vba_lexer.specs.declared.token.TokenKind.{TokenKind}

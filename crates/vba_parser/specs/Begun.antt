@@ -1,4 +1,4 @@
--- Each list of a single-line If begins with a statement.
+-- Serves the code: each list of a single-line If begins with a statement.
 use Rattle.std.specs.Prelude.{◌≡◌, Bool, true, false, List, [], ◌∷◌}
 use Rattle.vba_tree.specs.Forms.{begins}
 use Rattle.vba_tree.specs.Tree.{if_then, if_else, Stmts}

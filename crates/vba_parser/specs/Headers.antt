@@ -1,4 +1,5 @@
--- Events and procedures behind the words that they begin with, where they may stand, and members of Types behind their names.
+-- Serves the code: events and procedures behind the words that they begin with, where they may stand, and members
+-- of Types behind their names.
 use Rattle.std.specs.Prelude.{List, Option}
 use Rattle.vba_lexer.specs.declared.token.Token.{Token}
 use Rattle.vba_words.specs.declared.identifier.Identifier.{Identifier}

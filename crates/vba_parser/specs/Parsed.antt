@@ -1,4 +1,4 @@
--- What is answered of a line by its tokens.
+-- Serves the code: what is answered of a line by its tokens.
 use Rattle.std.specs.Prelude.{◌≡◌, List, None}
 use Rattle.vba_base.specs.declared.fault.OrMemory.{OrMemory}
 use Rattle.vba_base.specs.declared.fault.OrMemory.TheVariants.{Fault, NoMemory}

@@ -1,4 +1,4 @@
--- The states of the reading of a line as contracts see them.
+-- Serves the code: the states of the reading of a line as contracts see them.
 use Rattle.std.specs.Prelude.{List, Option, Some, None, map, option_map, reverse}
 use Rattle.vba_expression.specs.View.{view as expression_view}
 use Rattle.vba_tree.specs.Tree.{Stmts}

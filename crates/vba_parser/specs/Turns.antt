@@ -1,4 +1,4 @@
--- Reading the statements of a line by what each token is between statements.
+-- Serves the code: reading the statements of a line by what each token is between statements.
 use Rattle.std.specs.Prelude.{Bool, true, List, [], ◌∷◌, Some, None, if◌then◌else◌}
 use Rattle.vba_lexer.specs.declared.token.Token.{Token}
 use Rattle.vba_words.specs.declared.keyword.Keyword.TheVariants as keyword

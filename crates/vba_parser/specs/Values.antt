@@ -1,4 +1,4 @@
--- Values of attributes.
+-- Serves the code: values of attributes.
 use Rattle.std.specs.Prelude.{Option, Some, None, if◌then◌else◌}
 use Rattle.vba_lexer.specs.declared.token.Token.{Token}
 use Rattle.vba_expression.specs.declared.part.Part.{Part}

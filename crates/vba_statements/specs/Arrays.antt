@@ -1,4 +1,4 @@
--- An array of a ReDim from a bracket on.
+-- Serves the code: an array of a ReDim from a bracket on.
 use Rattle.std.specs.Prelude.{List, Some, None, if◌then◌else◌}
 use Rattle.vba_lexer.specs.declared.token.Token.{Token}
 use Rattle.vba_words.specs.declared.reading.ReadToken.{ReadToken}

@@ -1,4 +1,4 @@
--- What stands behind a place: a value for it, or the arguments of its call.
+-- Serves the code: what stands behind a place: a value for it, or the arguments of its call.
 use Rattle.std.specs.Prelude.{ℕ, Bool, true, false, List, [], ◌∷◌, ◌++◌, length, Option, Some, None, option_map, if◌then◌else◌}
 use Rattle.vba_lexer.specs.declared.token.Token.{Token}
 use Rattle.vba_words.specs.declared.mark.Mark.TheVariants as mark

@@ -1,4 +1,4 @@
--- The kept words that statements begin with.
+-- Serves the code: the kept words that statements begin with.
 use Rattle.std.specs.Prelude.{List, codes, Option, Some, None}
 use Rattle.vba_lexer.specs.declared.token.Token.{Token}
 use Rattle.vba_words.specs.declared.identifier.Identifier.{Identifier}

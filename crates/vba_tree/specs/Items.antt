@@ -1,4 +1,4 @@
--- The tokens of statements behind their colons.
+-- Serves the code: the tokens of statements behind their colons.
 use Rattle.std.specs.Prelude.{List, [], ◌∷◌, ◌++◌}
 use Rattle.vba_words.specs.declared.mark.Mark.TheVariants.{Colon}
 use Rattle.vba_words.specs.declared.reading.ReadToken.{ReadToken}
