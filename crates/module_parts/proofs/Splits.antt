@@ -18,11 +18,11 @@ parts_push before part = map-append part_view before (part ∷ [])
 
 -- a statement behind a colon, and none
 pub some_written : (next : Next) (s : Stmt) → Some s ≡ statement_in next → written_in (next ∷ []) ≡ s ∷ []
-some_written (written colon statement) s h = cc
+some_written (written colon t) s h = cc
 some_written (missing colon) s h = absurd cc
 
 pub none_written : (next : Next) → None ≡ statement_in next → written_in (next ∷ []) ≡ []
-none_written (written colon statement) h = absurd cc
+none_written (written colon t) h = absurd cc
 none_written (missing colon) h = refl
 
 -- a line that is no statements
