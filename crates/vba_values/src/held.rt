@@ -9,6 +9,7 @@ ghost use Rattle.vba_values.specs.View.{view};
 
 use crate::coercion::{coerce, is_same_type};
 use crate::fault::Bad;
+use crate::operands::number_of;
 use crate::types::VType;
 use crate::value::Value;
 use std::alloc::Global;
@@ -20,10 +21,10 @@ pub fn can_hold(to: &VType, value: &Value) -> bool
 {
     match to {
         VType::Boolean => matches!(value, Value::Boolean(_)),
-        VType::Byte => matches!(value, Value::Byte(_)),
-        VType::Integer => matches!(value, Value::Integer(_)),
-        VType::Long => matches!(value, Value::Long(_)),
-        VType::LongLong => matches!(value, Value::LongLong(_)),
+        VType::Byte => is_byte(value),
+        VType::Integer => is_integer(value),
+        VType::Long => is_long(value),
+        VType::LongLong => is_long_long(value),
         VType::Currency => matches!(value, Value::Currency(_)),
         VType::Text => matches!(value, Value::Text(_)),
         VType::FixedText(size) => has_length(value, usize::from(*size)),
@@ -36,6 +37,38 @@ pub fn can_hold(to: &VType, value: &Value) -> bool
         VType::Udt(place) => is_udt(value, *place),
         VType::ArrayOf(element) => is_array(value, element),
     }
+}
+
+fn is_byte(value: &Value) -> bool
+    ensures { result ≡ can_hold type.byte (view value.now) }
+{
+    // The number says that it fits its kind.
+    let _number = number_of(value);
+    matches!(value, Value::Byte(_))
+}
+
+fn is_integer(value: &Value) -> bool
+    ensures { result ≡ can_hold type.integer (view value.now) }
+{
+    // The number says that it fits its kind.
+    let _number = number_of(value);
+    matches!(value, Value::Integer(_))
+}
+
+fn is_long(value: &Value) -> bool
+    ensures { result ≡ can_hold type.long (view value.now) }
+{
+    // The number says that it fits its kind.
+    let _number = number_of(value);
+    matches!(value, Value::Long(_))
+}
+
+fn is_long_long(value: &Value) -> bool
+    ensures { result ≡ can_hold type.long_long (view value.now) }
+{
+    // The number says that it fits its kind.
+    let _number = number_of(value);
+    matches!(value, Value::LongLong(_))
 }
 
 fn has_length(value: &Value, size: usize) -> bool
