@@ -54,10 +54,7 @@ fn add_udt_references(references: &mut Vec<ObjRef>, udt: &UdtValue) -> Result<()
 }
 
 #[cycle(references)]
-fn add_inner_references(
-    references: &mut Vec<ObjRef>,
-    items: &Vec<Value>,
-) -> Result<(), NoMemory>
+fn add_inner_references(references: &mut Vec<ObjRef>, items: &Vec<Value>) -> Result<(), NoMemory>
     ensures { OnOk result (references.new.items ≡ references.old.items ++ references_in (views items.now.items)) }
 {
     for item in items {
