@@ -5,5 +5,6 @@ pub mod Nested
 pub mod Resized
 pub mod PathLaws
 pub mod FreshLaws
+pub mod WellFormedLaws
 pub mod TestTypes
 mod Rows

@@ -5,4 +5,5 @@ pub mod Nesting
 pub mod Fresh
 pub mod Resize
 pub mod Paths
+pub mod WellFormed
 pub mod Lines
