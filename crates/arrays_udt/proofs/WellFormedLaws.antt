@@ -63,11 +63,15 @@ array_filled types bounds e item s k h =
     (both (nat_eq (count (vals_of (replicate (elements bounds) item))) (elements bounds)) _ (eq-eqb _ _ (filled_whole bounds e item))
     (all_replicate types e (elements bounds) item h)))
 
+-- the units of a text of a length as it begins
+zeros : (size : ℕ) → can_hold (type.fixed_text size) (text (replicate size 0)) ≡ true
+zeros size = let units : List ℕ = replicate size 0 in eq-eqb (length units) size (length-replicate size 0)
+
 -- initial values, by what is told of those of Types
 module _ (types : List (List Field)) (f : ℕ → Val) (p : ℕ → Bool) (told : (n : ℕ) → p n ≡ true → is_held types (type.udt n) (f n) ≡ true) (known : (n : ℕ) → p n ≡ true → nat_lt n (length types) ≡ true) where
   initial_well : (of : Declared) → nested_by p of ≡ true → is_held types of (initial_by f of) ≡ true
   initial_well (type.udt number) h = told number h
-  initial_well (type.fixed_text size) h = rw (eq-eqb (length (replicate size 0)) size (length-replicate size 0)) refl
+  initial_well (type.fixed_text size) h = both (can_hold (type.fixed_text size) (text (replicate size 0))) true (zeros size) refl
   initial_well (type.array_of element) h = rw (same_itself element) refl
   initial_well _ h = refl
 
@@ -145,7 +149,7 @@ all_of types bounds e items h =
     (both_second (can_store types bounds e) (nat_eq (count items) (elements bounds) && all_well_formed types e items) h)
 
 -- ReDim Preserve
-list_of : Vals → List Val
+abbrev list_of : Vals → List Val
 list_of no_vals = []
 list_of (val v vs) = v ∷ list_of vs
 
