@@ -5,4 +5,5 @@ pub mod Nested
 pub mod Resized
 pub mod PathLaws
 pub mod FreshLaws
+pub mod WellFormedLaws
 mod Rows

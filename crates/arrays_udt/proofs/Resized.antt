@@ -33,7 +33,7 @@ item_at-vals_of [] n = refl
 item_at-vals_of (v ∷ vs) zero = refl
 item_at-vals_of (v ∷ vs) (suc n) = item_at-vals_of vs n
 
-count-vals_of : (vs : List Val) → count (vals_of vs) ≡ length vs
+pub count-vals_of : (vs : List Val) → count (vals_of vs) ≡ length vs
 count-vals_of [] = refl
 count-vals_of (v ∷ vs) = ap suc (count-vals_of vs)
 

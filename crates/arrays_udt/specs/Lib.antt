@@ -5,3 +5,4 @@ pub mod Nesting
 pub mod Fresh
 pub mod Resize
 pub mod Paths
+pub mod WellFormed

@@ -8,13 +8,12 @@ ghost use Rattle.arrays_udt.specs.Fresh.{field_by, filled, initial, initial_by, 
 ghost use Rattle.arrays_udt.specs.Nesting.{field_nested, nested_by, udt_nested};
 ghost use Rattle.arrays_udt.specs.Shapes.{elements, is_shape};
 
-use crate::copy::copy_type;
 use crate::shape::{Shape, count_elements};
 use crate::udt::{UdtField, UdtType};
 use currency::from_count;
 use std::alloc::Global;
 use vba_base::{NoMemory, Units};
-use vba_values::{ArrayValue, Bound, ObjRef, UdtValue, VType, Value};
+use vba_values::{ArrayValue, Bound, ObjRef, UdtValue, VType, Value, copy_type};
 
 /// The initial value of a declared type.
 pub fn fresh(alloc: Global, of: &VType, types: &Vec<UdtType>) -> Result<Value, NoMemory>

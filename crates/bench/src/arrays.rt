@@ -5,14 +5,14 @@ ghost use Rattle.bench.specs.Entries.{entry_fields, entry_types};
 
 use crate::{micros_now, out_of_memory, tell};
 use arrays_udt::{
-    PathStep, Shape, UdtField, UdtType, copy_value, fresh_array, has_path, offset, path_read,
-    path_write, shape_of,
+    PathStep, Shape, UdtField, UdtType, fresh_array, has_path, offset, path_read, path_write,
+    shape_of,
 };
 use std::alloc::Global;
 use std::io;
 use std::time::CpuClock;
 use vba_base::NoMemory;
-use vba_values::{Bound, VType, Value};
+use vba_values::{Bound, VType, Value, copy_value};
 
 /// The most elements of a Type that are made; twice as many are still an array.
 const MOST_ENTRIES: u32 = 524_288;

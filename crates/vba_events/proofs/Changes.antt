@@ -11,7 +11,7 @@ use Rattle.vba_values.specs.declared.object.ObjId.{ObjId}
 use Rattle.vba_events.specs.declared.linked.Linked.{Linked}
 use Rattle.vba_events.specs.Kept.{SourceKey, SinkKey, same_source_key, same_sink_key, by_source, by_sink, links_kept, AreKept, AreTakenOut}
 use Rattle.vba_events.specs.Links.{is_of_field, same_link, without_field, stands}
-use Rattle.vba_events.specs.Objects.{same_object}
+use Rattle.vba_values.specs.Objects.{same_object}
 use Rattle.vba_events.specs.Order.{in_order, AllBelow}
 use Rattle.vba_events.proofs.Entries.{remove_absent, removed, finds, any_found}
 use Rattle.vba_events.proofs.Keys.{source_cmp, sink_cmp, source_tied, sink_tied, source_itself, source_alike, sink_alike}

@@ -13,13 +13,11 @@ use Rattle.vba_values.specs.declared.object.HostRef.TheVariants.{Application, Wo
 use Rattle.vba_values.specs.declared.object.ObjRef.{ObjRef}
 use Rattle.vba_values.specs.declared.object.ObjRef.TheVariants.{Nothing, Heap, Host}
 use Rattle.vba_values.specs.contracts.object.ObjRefOrd.TheImpl as object
-use Rattle.vba_values.specs.contracts.object.ObjRefPartialEq.TheImpl as object_eq
-use Rattle.vba_values.specs.contracts.object.HostRefPartialEq.TheImpl as host_eq
 use Rattle.vba_values.specs.contracts.object.HostRefOrd.TheImpl as host
 use Rattle.vba_values.specs.contracts.object.ObjIdOrd.TheImpl as id
 use Rattle.vba_events.specs.declared.linked.Linked.{Linked}
 use Rattle.vba_events.specs.Links.{same_link}
-use Rattle.vba_events.specs.Objects.{same_host, same_object}
+use Rattle.vba_values.specs.Objects.{same_host, same_object}
 use Rattle.vba_events.specs.Kept.{SourceKey, SinkKey, same_source_key, same_sink_key}
 
 both : (a b : Bool) → (a && b) ≡ true → (a ≡ true) × (b ≡ true)
@@ -148,24 +146,6 @@ source_alike k x y h = ap (λ z. same_source_key z y) (source_true k x h)
 
 pub sink_alike : (k x y : SinkKey) → same_sink_key k x ≡ true → same_sink_key k y ≡ same_sink_key x y
 sink_alike k x y h = ap (λ z. same_sink_key z y) (sink_true k x h)
-
--- what == answers
-host_equal : (a b : HostRef) → host_eq.ghosts.eq a b ≡ same_host a b
-host_equal Application Application = refl
-host_equal Workbook Workbook = refl
-host_equal Sheets Sheets = refl
-host_equal ErrObject ErrObject = refl
-host_equal (Sheet a) (Sheet b) = refl
-host_equal (Area sheet top left rows columns) (Area sheet' top' left' rows' columns') = refl
-host_equal (RowsOf a) (RowsOf b) = refl
-host_equal (ColumnsOf a) (ColumnsOf b) = refl
-host_equal _ _ = refl
-
-pub object_equal : (a b : ObjRef) → object_eq.ghosts.eq a b ≡ same_object a b
-object_equal Nothing Nothing = refl
-object_equal (Heap a) (Heap b) = refl
-object_equal (Host a) (Host b) = host_equal a b
-object_equal _ _ = refl
 
 -- links are the same exactly where they are equal
 pub same_link_true : (a b : Linked) → same_link a b ≡ true → a ≡ b

@@ -11,7 +11,7 @@ use mathlib.Core.Bool.{true≢false}
 use Rattle.vba_events.specs.declared.linked.Linked.{Linked}
 use Rattle.vba_events.specs.Kept.{SourceKey, SinkKey, by_source, by_sink, links_kept, AreKept, ArePut}
 use Rattle.vba_events.specs.Links.{is_of_field, same_link}
-use Rattle.vba_events.specs.Objects.{same_object}
+use Rattle.vba_values.specs.Objects.{same_object}
 use Rattle.vba_events.specs.Order.{in_order, AllBelow}
 use Rattle.vba_events.proofs.Changes.{and_false, at_source, at_sink, sources_distinct, sinks_distinct, kept_out, none_out, source_out, sink_out, found_stands}
 use Rattle.vba_events.proofs.Entries.{removed_again, inserted_new, inserted_over, inserted_below}

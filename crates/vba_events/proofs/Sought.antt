@@ -16,7 +16,7 @@ use Rattle.vba_values.specs.declared.object.ObjRef.{ObjRef}
 use Rattle.vba_values.specs.contracts.object.ObjRefOrd.TheImpl as object
 use Rattle.vba_events.specs.Kept.{SourceKey, SinkKey, by_source, links_kept, AreKept}
 use Rattle.vba_events.specs.Links.{links_of}
-use Rattle.vba_events.specs.Objects.{same_object}
+use Rattle.vba_values.specs.Objects.{same_object}
 use Rattle.vba_events.specs.Order.{in_order, AllBelow}
 use Rattle.vba_events.proofs.Entries.{filter_links}
 use Rattle.vba_events.proofs.Keys.{source_cmp, object_tied, same_object_itself, same_object_true}

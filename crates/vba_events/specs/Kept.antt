@@ -6,7 +6,7 @@ use Rattle.vba_values.specs.declared.object.ObjId.{ObjId}
 use Rattle.vba_values.specs.declared.object.ObjRef.{ObjRef}
 use Rattle.vba_events.specs.declared.linked.Linked.{Linked}
 use Rattle.vba_events.specs.Links.{without_field}
-use Rattle.vba_events.specs.Objects.{same_object}
+use Rattle.vba_values.specs.Objects.{same_object}
 use Rattle.vba_events.specs.Order.{in_order, AllBelow}
 
 -- a source and a set number

@@ -9,7 +9,7 @@ use Rattle.vba_values.specs.declared.fault.OutKind.TheVariants as kind
 use Rattle.vba_values.specs.declared.object.ObjId.{ObjId}
 use Rattle.vba_values.specs.declared.object.ObjRef.{ObjRef}
 use Rattle.vba_events.specs.declared.linked.Linked.{Linked}
-use Rattle.vba_events.specs.Objects.{same_object}
+use Rattle.vba_values.specs.Objects.{same_object}
 
 -- the links in rising set number, and the number that the next one gets
 pub record Linking : Type 0 where

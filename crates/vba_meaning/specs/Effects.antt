@@ -29,7 +29,7 @@ use Rattle.bound_project.specs.Statements.{Handling, passed_on, skipped, handled
 use Rattle.bound_project.specs.Project.{Declarations, Module, no_name, procedure_at}
 use Rattle.vba_meaning.specs.Memory.{Error, Why, stop_said, outside, Path, Slot, value, path, Loop, Kept, only, Memory, top, with_top, value_at, path_of, no_error, number_or}
 use Rattle.vba_meaning.specs.References.{hold, displaced, replaced, kept_value, object_at}
-use Rattle.vba_meaning.specs.Messages.{message_of}
+use Rattle.vba_values.specs.Messages.{message_of}
 
 -- what a run tells ([MS-VBAL] has no trace; Debug.Print is the host's)
 pub data Event : Type 0 where

@@ -1,5 +1,4 @@
 pub mod Memory
 pub mod References
-pub mod Messages
 pub mod Effects
 pub mod Meaning

@@ -3,3 +3,7 @@ pub mod OperatorRows
 pub mod Products
 pub mod SameTypes
 pub mod KindRanges
+pub mod SameObjects
+pub mod TwoNumbers
+pub mod ReferencesInOrder
+pub mod Coerced

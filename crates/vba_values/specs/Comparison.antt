@@ -100,8 +100,12 @@ compare_values compare left left_declared right right_declared = Ok (int_cmp (co
 abbrev pub are_texts : Declared → Declared → Bool
 are_texts left right = (is_string left && is_variant right) || (is_variant left && is_string right)
 
+-- a text and the text of an operand
+abbrev pub compare_with_text_of : Compare → List ℕ → Val → Result Ordering Bad
+compare_with_text_of compare left right = text_of right >>= λ r. Ok (compare_texts compare left r)
+
 unfoldable pub compare_as_texts : Compare → Val → Val → Result Ordering Bad
-compare_as_texts compare left right = text_of left >>= λ l. text_of right >>= λ r. Ok (compare_texts compare l r)
+compare_as_texts compare left right = text_of left >>= λ l. compare_with_text_of compare l right
 
 abbrev pub order_of : Compare → Val → Declared → Val → Declared → Result Ordering Bad
 order_of compare left left_declared right right_declared =

@@ -10,5 +10,9 @@ pub mod Arithmetic
 pub mod Comparison
 pub mod Logic
 pub mod Operators
+pub mod TwoNumbers
+pub mod Objects
+pub mod Held
+pub mod Messages
 pub mod StaticTypes
 pub use Rattle.vba_base.specs.Answer

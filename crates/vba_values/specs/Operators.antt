@@ -1,6 +1,8 @@
 -- The operators, composed: which table an operator's operands go by.
-use Rattle.std.specs.Prelude.{ℕ, Bool, true, false, ◌||◌, ◌&&◌, List, [], Result, Ok, Err, if◌then◌else◌}
+use Rattle.std.specs.Prelude.{◌≡◌, ℕ, Bool, true, false, ◌||◌, ◌&&◌, List, [], Result, Ok, Err, if◌then◌else◌}
 use Rattle.vba_base.specs.Answer.{◌>>=◌}
+use Rattle.vba_base.specs.declared.fault.OrMemory.{OrMemory}
+use Rattle.vba_base.specs.declared.fault.OrMemory.TheVariants.{Fault, NoMemory}
 use Rattle.vba_values.specs.declared.fault.Bad.{Bad}
 use Rattle.vba_values.specs.declared.types.OpKind.{OpKind}
 use Rattle.vba_values.specs.declared.types.OpKind.TheVariants as op
@@ -12,19 +14,35 @@ use Rattle.vba_values.specs.Errors.{type_mismatch}
 use Rattle.vba_values.specs.Logic.{logical, logical_not}
 use Rattle.vba_values.specs.Operands.{is_no_operand, is_null}
 use Rattle.vba_values.specs.Types.{Declared}
-use Rattle.vba_values.specs.Val.{Val, null}
+use Rattle.vba_values.specs.Val.{Val, null, text}
 
 -- the text of an operand of &: Null counts as ""
 abbrev pub join_text : Val → Result (List ℕ) Bad
 join_text null = Ok []
 join_text value = text_of value
 
+-- a text, and the text of an operand behind it
+abbrev pub join_behind : List ℕ → Val → Result Val Bad
+join_behind left right = join_text right >>= λ r. joined left r
+
 -- &: both as String, joined; Null and Null give Null
 unfoldable pub join : Val → Val → Result Val Bad
 join left right =
     if is_no_operand left || is_no_operand right then Err type_mismatch
     else if is_null left && is_null right then Ok null
-    else join_text left >>= λ l. join_text right >>= λ r. joined l r
+    else join_text left >>= λ l. join_behind l right
+
+-- a text became what two texts joined give; where that is none it stayed
+abbrev pub AppendsUnits : {X : Type 0} → Result X (OrMemory Bad) → List ℕ → List ℕ → List ℕ → Type 0
+AppendsUnits (Ok x) old units new = joined old units ≡ Ok (text new)
+AppendsUnits (Err (Fault bad)) old units new = (joined old units ≡ Err bad) × (new ≡ old)
+AppendsUnits (Err NoMemory) old units new = Unit {0}
+
+-- a text became what & gives of it and an operand; where that is no text it stayed
+abbrev pub Appends : {X : Type 0} → Result X (OrMemory Bad) → List ℕ → Val → List ℕ → Type 0
+Appends (Ok x) old right new = join (text old) right ≡ Ok (text new)
+Appends (Err (Fault bad)) old right new = (join (text old) right ≡ Err bad) × (new ≡ old)
+Appends (Err NoMemory) old right new = Unit {0}
 
 -- the operators of two operands
 abbrev pub has_two_operands : OpKind → Bool

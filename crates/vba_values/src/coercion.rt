@@ -128,9 +128,13 @@ fn to_text(alloc: Global, value: &Value) -> Result<Value, OrMemory<Bad>>
 fn to_fixed_text(alloc: Global, size: usize, value: &Value) -> Result<Value, OrMemory<Bad>>
     ensures { Gives view result (to_fixed_text size (view value.now)) }
 {
-    let text = text_of(alloc, value)?;
-    let fixed = of_length(alloc, size, text.units())?;
-    Ok(Value::Text(fixed))
+    match value {
+        Value::Text(text) => Ok(Value::Text(of_length(alloc, size, text.units())?)),
+        _ => {
+            let text = text_of(alloc, value)?;
+            Ok(Value::Text(of_length(alloc, size, text.units())?))
+        }
+    }
 }
 
 /// An object of any kind, unchanged.
@@ -179,7 +183,7 @@ fn to_array(alloc: Global, wanted: &VType, value: &Value) -> Result<Value, OrMem
 }
 
 /// Whether two declared types are the same.
-fn is_same_type(left: &VType, right: &VType) -> bool
+pub fn is_same_type(left: &VType, right: &VType) -> bool
     ensures { result ≡ is_same_type (declared left.now) (declared right.now) }
 {
     match (left, right) {

@@ -1,7 +1,7 @@
 // The comparisons = <> < > <= >=.
 ghost use Rattle.std.specs.Prelude.{◌≡◌, ◌≢◌, ◌||◌, false, IfOk};
 ghost use Rattle.vba_base.specs.Answer.{Gives};
-ghost use Rattle.vba_values.specs.Comparison.{are_texts, comparison, compare_as_texts, compare_number_text, compare_text_before, compare_text_behind, compare_texts, compare_values, compare_with_text, holds, is_number, is_string, is_variant, order_of, reversed};
+ghost use Rattle.vba_values.specs.Comparison.{are_texts, comparison, compare_as_texts, compare_number_text, compare_text_before, compare_text_behind, compare_texts, compare_values, compare_with_text, compare_with_text_of, holds, is_number, is_string, is_variant, order_of, reversed};
 ghost use Rattle.vba_values.specs.Coerce.{is_text};
 ghost use Rattle.vba_values.specs.Types.{declared};
 ghost use Rattle.vba_values.specs.View.{view};
@@ -18,7 +18,8 @@ use std::cmp::Ordering;
 use vba_base::{NoMemory, OrMemory, name_of};
 
 /// Whether an order is one that the comparison asks for.
-fn holds(op: OpKind, order: Ordering) -> bool
+#[inline(always)]
+pub fn holds(op: OpKind, order: Ordering) -> bool
     ensures { result ≡ holds op order }
 {
     match op {
@@ -77,7 +78,7 @@ pub fn is_number(of: &VType) -> bool
 }
 
 /// Whether both are compared as texts: a declared String beside a Variant.
-fn are_texts(left: &VType, right: &VType) -> bool
+pub fn are_texts(left: &VType, right: &VType) -> bool
     ensures { result ≡ are_texts (declared left.now) (declared right.now) }
 {
     (is_string(left) && is_variant(right)) || (is_variant(left) && is_string(right))
@@ -226,9 +227,31 @@ fn compare_as_texts(
 ) -> Result<Ordering, OrMemory<Bad>>
     ensures { Gives (λ order. order) result (compare_as_texts compare (view left.now) (view right.now)) }
 {
-    let left = text_of(alloc, left)?;
-    let right = text_of(alloc, right)?;
-    Ok(compare_texts(alloc, compare, left.units(), right.units())?)
+    match left {
+        Value::Text(left) => compare_with_text_of(alloc, compare, left.units(), right),
+        _ => {
+            let left = text_of(alloc, left)?;
+            compare_with_text_of(alloc, compare, left.units(), right)
+        }
+    }
+}
+
+/// How a text compares with the text of an operand. A text isn't copied.
+fn compare_with_text_of(
+    alloc: Global,
+    compare: Compare,
+    left: &[u16],
+    right: &Value,
+) -> Result<Ordering, OrMemory<Bad>>
+    ensures { Gives (λ order. order) result (compare_with_text_of compare left.now (view right.now)) }
+{
+    match right {
+        Value::Text(right) => Ok(compare_texts(alloc, compare, left, right.units())?),
+        _ => {
+            let right = text_of(alloc, right)?;
+            Ok(compare_texts(alloc, compare, left, right.units())?)
+        }
+    }
 }
 
 /// How two operands compare: as texts where one is a declared String beside a Variant, else by their values.

@@ -13,7 +13,7 @@ use crate::types::{OpKind, WholeKind};
 use crate::value::Value;
 
 /// The operator on Booleans.
-fn logic(op: OpKind, left: bool, right: bool) -> bool
+pub fn logic(op: OpKind, left: bool, right: bool) -> bool
     ensures { result ≡ logic op left right }
 {
     match op {
@@ -39,7 +39,7 @@ fn byte_bits(op: OpKind, left: u8, right: u8) -> u8
 }
 
 /// The operator on the bits of an Integer.
-fn integer_bits(op: OpKind, left: i16, right: i16) -> i16
+pub fn integer_bits(op: OpKind, left: i16, right: i16) -> i16
     ensures { result ≡ of_bits kind.Integer (bitwise op kind.Integer (bits_of kind.Integer left) (bits_of kind.Integer right)) }
 {
     match op {
@@ -52,7 +52,7 @@ fn integer_bits(op: OpKind, left: i16, right: i16) -> i16
 }
 
 /// The operator on the bits of a Long.
-fn long_bits(op: OpKind, left: i32, right: i32) -> i32
+pub fn long_bits(op: OpKind, left: i32, right: i32) -> i32
     ensures { result ≡ of_bits kind.Long (bitwise op kind.Long (bits_of kind.Long left) (bits_of kind.Long right)) }
 {
     match op {

@@ -6,10 +6,11 @@ ghost use Rattle.vba_values.specs.Types.{declared, declared as declared_type};
 ghost use Rattle.vba_values.specs.View.{view};
 
 use crate::arithmetic::{arithmetic, negated};
-use crate::comparison::{comparison, is_variant};
+use crate::comparison::{are_texts, comparison, is_variant};
 use crate::division::division;
 use crate::fault::Bad;
 use crate::logic::{logical, logical_not};
+use crate::numbers::of_two_numbers;
 use crate::text_sums::join;
 use crate::types::{Compare, OpKind, VType};
 use crate::value::Value;
@@ -19,6 +20,38 @@ use vba_base::OrMemory;
 /// An operator of two operands, by their values and declared types. Without a text and without a declared String every
 /// operator but `&` takes no memory.
 pub fn binary(
+    alloc: Global,
+    op: OpKind,
+    left: &Value,
+    left_declared: &VType,
+    right: &Value,
+    right_declared: &VType,
+    compare: Compare,
+) -> Result<Value, OrMemory<Bad>>
+    requires { IsTrue (has_two_operands op) }
+    ensures value { Gives view result (binary_of op (view left.now) (declared left_declared.now) (view right.now) (declared right_declared.now) compare) }
+    ensures memory { may_take_memory op (view left.now) (declared left_declared.now) (view right.now) (declared right_declared.now) ≡ false
+        → result ≢ Err OrMemory.NoMemory }
+{
+    if !are_texts(left_declared, right_declared)
+        && let Some(value) = of_two_numbers(op, left, right)
+    {
+        return Ok(value);
+    }
+    by_tables(
+        alloc,
+        op,
+        left,
+        left_declared,
+        right,
+        right_declared,
+        compare,
+    )
+}
+
+/// An operator by the table of its operands.
+#[inline(never)]
+fn by_tables(
     alloc: Global,
     op: OpKind,
     left: &Value,

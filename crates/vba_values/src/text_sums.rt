@@ -3,7 +3,7 @@ ghost use Rattle.std.specs.Prelude.{◌≡◌, false, ◌++◌, OnOk};
 ghost use Rattle.vba_base.specs.Answer.{Gives};
 ghost use Rattle.vba_values.specs.Arithmetic.{double_of, double_of_texts, joined, of_numbers, text_before, text_behind, text_beside_currency, with_text};
 ghost use Rattle.currency.specs.NumberText.{read};
-ghost use Rattle.vba_values.specs.Operators.{join, join_text};
+ghost use Rattle.vba_values.specs.Operators.{Appends, AppendsUnits, join, join_behind, join_text};
 ghost use Rattle.vba_values.specs.Errors.{Answers};
 ghost use Rattle.vba_values.specs.Val.{text};
 ghost use Rattle.vba_values.specs.View.{view};
@@ -158,7 +158,8 @@ fn join_text(alloc: Global, value: &Value) -> Result<Units, OrMemory<Bad>>
     }
 }
 
-/// `&`: both as texts, joined. Null and Null give Null, and what no operator takes raises 13.
+/// `&`: both as texts, joined. Null and Null give Null, and what no operator takes raises 13. A text isn't copied before it
+/// is joined.
 #[tactic(auto, unfolding(crate::specs::Operators::join))]
 pub fn join(alloc: Global, left: &Value, right: &Value) -> Result<Value, OrMemory<Bad>>
     ensures { Gives view result (join (view left.now) (view right.now)) }
@@ -169,7 +170,52 @@ pub fn join(alloc: Global, left: &Value, right: &Value) -> Result<Value, OrMemor
     if is_null(left) && is_null(right) {
         return Ok(Value::Null);
     }
-    let left = join_text(alloc, left)?;
-    let right = join_text(alloc, right)?;
-    joined(alloc, left.units(), right.units())
+    match left {
+        Value::Text(left) => join_behind(alloc, left.units(), right),
+        _ => {
+            let left = join_text(alloc, left)?;
+            join_behind(alloc, left.units(), right)
+        }
+    }
+}
+
+/// A text, and the text of an operand behind it.
+fn join_behind(alloc: Global, left: &[u16], right: &Value) -> Result<Value, OrMemory<Bad>>
+    ensures { Gives view result (join_behind left.now (view right.now)) }
+{
+    match right {
+        Value::Text(right) => joined(alloc, left, right.units()),
+        _ => {
+            let right = join_text(alloc, right)?;
+            joined(alloc, left, right.units())
+        }
+    }
+}
+
+/// `&` of a text and an operand, in the text's own room. Where the operator gives no text the text stays as it was.
+#[tactic(auto, unfolding(crate::specs::Operators::join))]
+pub fn append(alloc: Global, text: &mut Units, right: &Value) -> Result<(), OrMemory<Bad>>
+    ensures { Appends result text.old (view right.now) text.new }
+{
+    if is_no_operand(right) {
+        return Err(OrMemory::Fault(Bad::TYPE_MISMATCH));
+    }
+    match right {
+        Value::Text(right) => append_units(text, right.units()),
+        _ => {
+            let right = join_text(alloc, right)?;
+            append_units(text, right.units())
+        }
+    }
+}
+
+/// Adds units to a text that doesn't get too long by them.
+fn append_units(text: &mut Units, units: &[u16]) -> Result<(), OrMemory<Bad>>
+    ensures { AppendsUnits result text.old units.now text.new }
+{
+    if text.units().len() + units.len() > LONGEST_TEXT {
+        return Err(OrMemory::Fault(Bad::Outside(OutKind::TextLength)));
+    }
+    push_all(text, units)?;
+    Ok(())
 }

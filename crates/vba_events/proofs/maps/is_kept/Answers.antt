@@ -4,7 +4,8 @@ use Rattle.std.specs.Map.{lookup}
 use Rattle.vba_events.specs.Kept.{same_sink_key, same_source_key, by_sink}
 use Rattle.vba_events.proofs.Changes.{stands_found, at_sink}
 use Rattle.vba_events.proofs.Entries.{finds}
-use Rattle.vba_events.proofs.Keys.{sink_alike, object_equal}
+use Rattle.vba_values.proofs.SameObjects.{object_equal}
+use Rattle.vba_events.proofs.Keys.{sink_alike}
 use Rattle.vba_events.proofs.maps.is_kept.Goals as goal
 
 pub returns-in-Some : goal.returns-in-Some

@@ -1,5 +1,5 @@
--- The descriptions of errors.
-use Rattle.std.specs.Prelude.{ℕ, ℤ, pos, negsuc, ◌==◌, List, codes, if◌then◌else◌}
+-- The messages of errors.
+use Rattle.std.specs.Prelude.{ℤ, pos, negsuc, ◌==◌, List, ℕ, codes, if◌then◌else◌}
 
 -- the message of an error's number
 abbrev pub message_of : ℤ → List ℕ

@@ -1,9 +1,12 @@
--- Whether two references are to the same object.
-use Rattle.std.specs.Prelude.{Bool, true, false, ◌&&◌, nat_eq}
+-- References to objects: whether two are to the same object, and which ones a value has.
+use Rattle.std.specs.Prelude.{Bool, true, false, ◌&&◌, nat_eq, List, [], ◌∷◌, ◌++◌, Result, Ok, Err}
+use Rattle.vba_values.specs.declared.fault.Bad.{Bad}
+use Rattle.vba_values.specs.declared.fault.Bad.TheVariants.{Raise}
 use Rattle.vba_values.specs.declared.object.HostRef.{HostRef}
 use Rattle.vba_values.specs.declared.object.HostRef.TheVariants.{Application, Workbook, Sheets, ErrObject, Sheet, Area, RowsOf, ColumnsOf}
 use Rattle.vba_values.specs.declared.object.ObjRef.{ObjRef}
 use Rattle.vba_values.specs.declared.object.ObjRef.TheVariants.{Nothing, Heap, Host}
+use Rattle.vba_values.specs.Val.{Val, Vals, object, array, udt, no_vals, val}
 
 -- whether two references to the host name the same
 abbrev pub same_host : HostRef → HostRef → Bool
@@ -24,3 +27,24 @@ same_object Nothing Nothing = true
 same_object (Heap id) (Heap id') = nat_eq id.0 id'.0
 same_object (Host host) (Host host') = same_host host host'
 same_object _ _ = false
+
+-- Object required
+abbrev pub object_required : Bad
+object_required = Raise 424
+
+-- Is: whether two references are to the same object; Nothing is the same as Nothing
+abbrev pub compared_by_is : Val → Val → Result Bool Bad
+compared_by_is (object left) (object right) = Ok (same_object left right)
+compared_by_is left right = Err object_required
+
+abbrev mutual
+  -- the references that a value has, in the order of its places
+  pub references_of : Val → List ObjRef
+  references_of (object reference) = reference ∷ []
+  references_of (array bounds element items) = references_in items
+  references_of (udt place fields) = references_in fields
+  references_of value = []
+
+  pub references_in : Vals → List ObjRef
+  references_in no_vals = []
+  references_in (val v vs) = references_of v ++ references_in vs

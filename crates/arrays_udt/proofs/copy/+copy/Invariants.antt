@@ -1,6 +1,0 @@
-use Rattle.std.proofs.Common.{◌≡◌, take, map}
-use Rattle.vba_values.specs.View.{view}
-use Rattle.arrays_udt.proofs.copy.+copy.Given as goal
-
-abbrev pub invariant-copy_items-loop-item : goal.invariant-copy_items-loop-item
-invariant-copy_items-loop-item l = map view l.copies.items ≡ map view (take l.item-index l.item-items)
