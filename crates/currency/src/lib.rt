@@ -3,6 +3,7 @@
 
 mod compare;
 mod cut;
+mod laws;
 mod mark;
 mod numeral;
 mod printing;
@@ -11,6 +12,7 @@ mod text;
 mod value;
 
 pub use compare::compare_text;
+pub use laws::{number_texts_are_read, rounding_gives_the_nearest};
 pub use printing::{print, printed_differs, printed_parses};
 pub use text::{ParseFault, parse, parse_whole};
 pub use value::{

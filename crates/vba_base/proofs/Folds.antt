@@ -1,5 +1,9 @@
 -- How the fold of a text goes on from its first character.
-use Rattle.std.proofs.Common.{◌≡◌, ℕ, ◌-◌, ◌<◌, ◌≤◌, Bool, true, false, ◌&&◌, if◌then◌else◌, List, [], ◌∷◌, ◌++◌, length, take, drop, slice_index, take_all, length-drop, append-nil, append_assoc, Some, None, refl, sym, ap, ◌∙◌, arith}
+use Rattle.std.proofs.Common.{◌≡◌, ℕ, zero, suc, nat_le, nat_lt, ◌-◌, ◌<◌, ◌≤◌, Bool, true, false, ◌&&◌, if◌then◌else◌, List, [], ◌∷◌, ◌++◌, length, take, drop, slice_index, take_all, length-drop, append-nil, append_assoc, Some, None, refl, sym, ap, ◌∙◌, arith}
+use Rattle.std.specs.Char.{to_ascii_lowercase}
+use Rattle.std.specs.List.{All}
+use Rattle.std.proofs.lemmas.Bool.Decides.{nat_tests}
+use Rattle.caseless.proofs.CaselessLemmas.{default_case_fold-ascii}
 use Rattle.std.specs.Char.Utf16.{is_high_surrogate, is_low_surrogate, surrogate_pair_char}
 use Rattle.vba_base.specs.Fold.{folded, folded_char, folded_unit}
 
@@ -15,6 +19,10 @@ begins_with_pair text = is_high_surrogate (slice_index text 0) && is_low_surroga
 -- the character of the pair that a text begins with
 abbrev pub first_pair_char : List ℕ → ℕ
 first_pair_char text = surrogate_pair_char (slice_index text 0) (slice_index text 1)
+
+all_one : (unit : ℕ) → unit < 128 → All (λ c. c < 128) (unit ∷ [])
+all_one unit h zero d lt = h
+all_one unit h (suc k) d lt = absurd (omega arith)
 
 rest_of : (n : ℕ) (text : List ℕ) → take (length text - n) (drop n text) ≡ drop n text
 rest_of n text = take_all (length text - n) (drop n text) (omega (arith, length-drop n text))
@@ -42,6 +50,24 @@ module _ (text old new : List ℕ) where
   after_lone some apart made =
       ap (λ rest. new ++ folded rest) (rest_of 1 text) ∙ ap (λ units. units ++ folded (drop 1 text)) made
       ∙ append_assoc old _ _ ∙ ap (λ units. old ++ units) (sym (folded_lone text some apart))
+
+-- a unit of ASCII
+fold_of_ascii : (unit : ℕ) → unit < 128 → folded_unit unit ≡ to_ascii_lowercase unit ∷ []
+fold_of_ascii unit h =
+    let low : nat_le 0xD800 unit ≡ false = grind (arith, nat_tests) in
+    let short : nat_lt (to_ascii_lowercase unit) 0x1_0000 ≡ true = grind (arith, nat_tests) in
+    rw (low, default_case_fold-ascii (unit ∷ []) (all_one unit h), short) refl
+
+no_high : (unit : ℕ) → unit < 128 → is_high_surrogate unit ≡ false
+no_high unit h = grind (arith, nat_tests)
+
+apart : (text : List ℕ) → slice_index text 0 < 128 → begins_with_pair text ≡ false
+apart text h = rw (no_high (slice_index text 0) h) refl
+
+-- the fold goes on after a unit of ASCII
+pub after_ascii : (text old new : List ℕ) → 0 < length text → slice_index text 0 < 128 → new ≡ old ++ to_ascii_lowercase (slice_index text 0) ∷ [] → new ++ folded (take (length text - 1) (drop 1 text)) ≡ old ++ folded text
+after_ascii text old new some h made =
+    after_lone text old new some (apart text h) (made ∙ ap (λ units. old ++ units) (sym (fold_of_ascii (slice_index text 0) h)))
 
 -- what an optional character says of its test
 pub some_where : (b : Bool) (x y : ℕ) → Some y ≡ (if b then Some x else None) → (b ≡ true) × (y ≡ x)

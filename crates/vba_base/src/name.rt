@@ -1,4 +1,5 @@
 ghost use Rattle.std.specs.Prelude.{◌≡◌, ◌↔◌, IsTrue, ◌<◌, ◌≤◌, ◌&&◌, ◌∷◌, [], ◌++◌, length, slice_index, bytes_eq, IfOk, OnOk, OnSome, Some, None, if◌then◌else◌};
+ghost use Rattle.std.specs.Char.{to_ascii_lowercase};
 ghost use Rattle.std.specs.Cmp.{partial_equiv_from_equiv};
 ghost use Rattle.std.specs.Cmp.Lexicographic.{nat_list_eq_equiv};
 ghost use Rattle.std.specs.Char.Utf16.{is_high_surrogate, is_low_surrogate, surrogate_pair_char};
@@ -63,7 +64,7 @@ impl Eq for Name {
 pub fn name_of(alloc: Global, text: &[u16]) -> Result<Name, NoMemory>
     ensures { IfOk result (λ name. name ≡ folded text.now) }
 {
-    let mut units = Units::new(alloc);
+    let mut units = Units::with_capacity(alloc, text.len())?;
     let mut rest = text;
     while !rest.is_empty() {
         rest = fold_first(&mut units, rest)?;
@@ -74,6 +75,30 @@ pub fn name_of(alloc: Global, text: &[u16]) -> Result<Name, NoMemory>
 /// Adds the fold of the first character, or the first unit where that is a lone surrogate. Gives
 /// what stands after it.
 fn fold_first<'a>(units: &mut Units, text: &'a [u16]) -> Result<&'a [u16], NoMemory>
+    requires { 0 < length text.now }
+    ensures shorter { IfOk result (λ rest. length rest.now < length text.now) }
+    ensures folds { IfOk result (λ rest. units.new ++ folded rest.now ≡ units.old ++ folded text.now) }
+{
+    if text[0] < 0x80 {
+        units.push(lowered(text[0]))?;
+        return Ok(&text[1..]);
+    }
+    fold_beyond(units, text)
+}
+
+/// The fold of a character of ASCII.
+fn lowered(unit: u16) -> u16
+    requires { unit < 128 }
+    ensures { result ≡ to_ascii_lowercase unit }
+{
+    match unit {
+        0x41..=0x5a => unit + 0x20,
+        _ => unit,
+    }
+}
+
+/// The same of any character.
+fn fold_beyond<'a>(units: &mut Units, text: &'a [u16]) -> Result<&'a [u16], NoMemory>
     requires { 0 < length text.now }
     ensures shorter { IfOk result (λ rest. length rest.now < length text.now) }
     ensures folds { IfOk result (λ rest. units.new ++ folded rest.now ≡ units.old ++ folded text.now) }

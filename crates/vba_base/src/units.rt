@@ -29,6 +29,14 @@ impl Units {
         }
     }
 
+    /// The text without units, with room for so many.
+    pub fn with_capacity(alloc: Global, capacity: usize) -> Result<Units, NoMemory>
+        ensures { IfOk result (λ text. text ≡ []) }
+    {
+        let units = Vec::with_capacity(alloc, capacity)?;
+        Ok(Units { units })
+    }
+
     /// A text of these units.
     pub fn from_units(alloc: Global, units: &[u16]) -> Result<Units, NoMemory>
         ensures { IfOk result (λ text. text ≡ units.now) }
@@ -44,6 +52,22 @@ impl Units {
     {
         self.units.push(unit)?;
         Ok(())
+    }
+
+    /// Adds units at the end. Without memory the text stays as it was.
+    pub fn extend(&mut self, units: &[u16]) -> Result<(), NoMemory>
+        ensures ok { OnOk result (self.new ≡ self.old ++ units.now) }
+        ensures err { OnErr result (self.new ≡ self.old) }
+    {
+        self.units.extend_from_slice(units)?;
+        Ok(())
+    }
+
+    /// A copy of the text.
+    pub fn copy(&self, alloc: Global) -> Result<Units, NoMemory>
+        ensures { IfOk result (λ copy. copy ≡ self.now) }
+    {
+        Units::from_units(alloc, self.units())
     }
 
     /// Adds the one or two units of a character. Without memory the text stays as it was.
