@@ -8,4 +8,3 @@ mod spelling;
 pub use expression::{Expression, Sum, TextLiteral, WholeLiteral};
 pub use line::{LineTree, PrintStatement, ProcedureEnd, ProcedureHeader};
 pub use spelling::spell;
-

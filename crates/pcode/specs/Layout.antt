@@ -42,13 +42,13 @@ nexts_of bs = map (λ b. map (λ l. l.next) b.statements) bs
 
 abbrev pub code_in : List (List ℕ) → Project → Code
 code_in t pr = record {
-    instrs = Leave ∷ bodies_code t 0 pr.bodies;
-    starts = starts_of t;
-    nexts = nexts_of pr.bodies;
-    entries = t;
-    declared = pr.declared;
-    startup = pr.startup
-  }
+  instrs = Leave ∷ bodies_code t 0 pr.bodies;
+  starts = starts_of t;
+  nexts = nexts_of pr.bodies;
+  entries = t;
+  declared = pr.declared;
+  startup = pr.startup;
+}
 
 -- the code of a project
 abbrev pub code_of : Project → Code

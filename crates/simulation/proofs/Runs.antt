@@ -595,12 +595,12 @@ module _ (pr : Project) (code : Code) (entry : ℕ → Entry) (laid : Laid pr en
       let m : Move = enters code false pr.startup empty [] [] s in
       let r : Res (Unit {0}) = enter pr (doing pr bound) false pr.startup empty [] s >>= λ v s1. close (doing pr bound) (first_values pr.declared pr.declared.shared) 0 s1 in
       let runs : Runs code bound bound m (λ u s1. Ends Ended s1) (λ e s1. Ends (Faulted e) s1) r =
-          bind {mid = returned_by looking code []} (enter pr (doing pr bound) false pr.startup empty [] s)
-          (stands_runs pr code entry laid bound bound (doing pr bound) (works bound) false pr.startup empty [] [] s (omega arith))
-          (λ v s1 g1. subst (λ t. Runs code bound bound (closing (first_values t t.shared) 0 s1) (λ u s2. Ends Ended s2) (λ e s2. Ends (Faulted e) s2) (close (doing pr bound) (first_values pr.declared pr.declared.shared) 0 s1)) (sym laid.declared)
-          (close_runs bound (first_values pr.declared pr.declared.shared) 0 s1 (λ e s2. Ends (Faulted e) s2) g1)) in
+      bind {mid = returned_by looking code []} (enter pr (doing pr bound) false pr.startup empty [] s)
+      (stands_runs pr code entry laid bound bound (doing pr bound) (works bound) false pr.startup empty [] [] s (omega arith))
+      (λ v s1 g1. subst (λ t. Runs code bound bound (closing (first_values t t.shared) 0 s1) (λ u s2. Ends Ended s2) (λ e s2. Ends (Faulted e) s2) (close (doing pr bound) (first_values pr.declared pr.declared.shared) 0 s1)) (sym laid.declared)
+      (close_runs bound (first_values pr.declared pr.declared.shared) 0 s1 (λ e s2. Ends (Faulted e) s2) g1)) in
       let first : first_move code ≡ m = first_is in
       let p = last bound m r runs in
       (p.0, ap (λ x. follow bound x (machine code bound p.0)) first ∙ p.1) where
-    first_is : first_move code ≡ enters code false pr.startup empty [] [] (first_state pr)
-    first_is = ap (λ i. enters code false i empty [] [] (record { memory = opening code.declared; begun = 0 })) laid.startup ∙ ap (λ d. enters code false pr.startup empty [] [] (record { memory = opening d; begun = 0 })) laid.declared
+        first_is : first_move code ≡ enters code false pr.startup empty [] [] (first_state pr)
+        first_is = ap (λ i. enters code false i empty [] [] (record { memory = opening code.declared; begun = 0 })) laid.startup ∙ ap (λ d. enters code false pr.startup empty [] [] (record { memory = opening d; begun = 0 })) laid.declared

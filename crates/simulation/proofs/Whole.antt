@@ -62,10 +62,10 @@ ended_so pr bound k final =
 
 pub means : (pr : Project) (bound : ℕ) → Means pr bound (code_of pr)
 means pr bound = record {
-    ends = ends pr bound;
-    only = λ k e s es h. sym h ∙ ended_so pr bound k (is_final (run_code (code_of pr) bound k) (Done e s es) tt h);
-    never_stuck = λ k h. (let e = sym h ∙ ended_so pr bound k (is_final (run_code (code_of pr) bound k) Stuck tt h) in absurd cc);
-  }
+  ends = ends pr bound;
+  only = λ k e s es h. sym h ∙ ended_so pr bound k (is_final (run_code (code_of pr) bound k) (Done e s es) tt h);
+  never_stuck = λ k h. (let e = sym h ∙ ended_so pr bound k (is_final (run_code (code_of pr) bound k) Stuck tt h) in absurd cc);
+}
 
 -- ---- fewer turns
 

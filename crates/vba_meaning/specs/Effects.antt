@@ -368,12 +368,12 @@ given_text v = None
 
 abbrev pub raised_by : List Slot → Memory → Error
 raised_by xs m = record {
-    number = raised_number (slot_value (slice_index_or xs 0 (value missing)));
-    source = given_text (slot_value (slice_index_or xs 1 (value missing)));
-    description = given_text (slot_value (slice_index_or xs 2 (value missing)));
-    procedure = (top m).procedure;
-    statement = (top m).statement
-  }
+  number = raised_number (slot_value (slice_index_or xs 0 (value missing)));
+  source = given_text (slot_value (slice_index_or xs 1 (value missing)));
+  description = given_text (slot_value (slice_index_or xs 2 (value missing)));
+  procedure = (top m).procedure;
+  statement = (top m).statement;
+}
 
 abbrev pub no_module : Module
 no_module = record { name = no_name; compare = Binary; base = 0 }
