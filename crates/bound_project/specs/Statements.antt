@@ -46,6 +46,11 @@ pub data Action : Type 0 where
   -- Case of the Select Case with this number, whose value has this type as an operand: into its block, or to the next
   -- arm
   case_of : Tests → (header : ℕ) → Declared → Compare → (first other : ℕ) → Action
+  -- With over a place, and over a value
+  with_place : Lvalue → Action
+  with_value : Expr → Action
+  -- End With of the With with this number
+  end_with : (header : ℕ) → Action
   go_sub : ℕ → Action
   return_sub : Action
   -- Exit Sub, Exit Function, Exit Property

@@ -1,5 +1,5 @@
 -- Worked rows: small programs, and what they tell.
-use Rattle.std.specs.Prelude.{◌≡◌, ℕ, suc, pos, List, [], ◌∷◌, codes, true, refl, Some, None}
+use Rattle.std.specs.Prelude.{◌≡◌, ℕ, suc, pos, List, [], ◌∷◌, codes, true, false, refl, Some, None}
 use Rattle.std.specs.Fmt.{digits}
 use Rattle.vba_values.specs.Arithmetic.{division}
 use Rattle.vba_values.specs.declared.types.OpKind.{OpKind}
@@ -37,16 +37,16 @@ abbrev half : Expr
 half = two op.IntDiv type.integer (n 1) (n 0)
 
 abbrev long : ℕ → Variable
-long i = record { storage = local i; of = type.long }
+long i = record { storage = local i; of = type.long; bounded = false }
 
 abbrev byte : ℕ → Variable
-byte i = record { storage = local i; of = type.byte }
+byte i = record { storage = local i; of = type.byte; bounded = false }
 
 abbrev any : ℕ → Variable
-any i = record { storage = local i; of = type.variant }
+any i = record { storage = local i; of = type.variant; bounded = false }
 
 abbrev global : ℕ → Variable
-global i = record { storage = shared i; of = type.long }
+global i = record { storage = shared i; of = type.long; bounded = false }
 
 abbrev v : Variable → Expr
 v x = e x.of (load (variable x))

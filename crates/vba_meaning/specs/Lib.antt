@@ -1,5 +1,7 @@
+pub mod Paths
 pub mod Memory
 pub mod References
 pub mod Messages
 pub mod Effects
+pub mod Arrays
 pub mod Meaning
