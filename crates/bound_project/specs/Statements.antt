@@ -6,7 +6,7 @@ use Rattle.vba_base.specs.declared.place.Place.{Place}
 use Rattle.vba_values.specs.declared.types.OpKind.{OpKind}
 use Rattle.vba_values.specs.declared.types.Compare.{Compare}
 use Rattle.vba_values.specs.Types.{Declared}
-use Rattle.bound_project.specs.Expressions.{Variable, Expr, Lvalue, Args, Prints}
+use Rattle.bound_project.specs.Expressions.{Variable, Expr, Exprs, Lvalue, Args, Prints}
 
 -- the tests of a Case: `Is o e`, of which `e` alone is `Is = e`, and `e To e`
 pub data Tests : Type 0 where
@@ -19,6 +19,17 @@ pub data Handling : Type 0 where
   passed_on : Handling
   skipped : Handling
   handled_at : ℕ → Handling
+
+-- the arrays of a ReDim: a place, the low and high bound of each dimension, and the type of the elements where that is
+-- written
+pub data Resizes : Type 0 where
+  no_resizes : Resizes
+  resize : Lvalue → (bounds : Exprs) → Option Declared → Resizes → Resizes
+
+-- the arrays of an Erase
+pub data Arrays : Type 0 where
+  no_arrays : Arrays
+  an_array : Lvalue → Arrays → Arrays
 
 -- what a statement does. Where a statement can go on in two ways it has the numbers of both
 pub data Action : Type 0 where
@@ -46,6 +57,9 @@ pub data Action : Type 0 where
   -- Case of the Select Case with this number, whose value has this type as an operand: into its block, or to the next
   -- arm
   case_of : Tests → (header : ℕ) → Declared → Compare → (first other : ℕ) → Action
+  -- ReDim and ReDim Preserve
+  redim : (preserve : Bool) → Resizes → Action
+  erase : Arrays → Action
   -- With over a place, and over a value
   with_place : Lvalue → Action
   with_value : Expr → Action

@@ -1,12 +1,12 @@
 -- Serves the code: the code of expressions and statements.
-use Rattle.std.specs.Prelude.{ℕ, suc, true, List, [], ◌∷◌, ◌++◌, length}
+use Rattle.std.specs.Prelude.{ℕ, suc, Bool, true, List, [], ◌∷◌, ◌++◌, length}
 use Rattle.vba_values.specs.declared.types.Compare.{Compare}
 use Rattle.vba_values.specs.Types.{Declared}
 use Rattle.vba_values.specs.Val.{missing, empty}
 use Rattle.bound_project.specs.Expressions.{Expr, expr, Node, not_given, constant, load, element_value, field_value, unary, binary, call, err_value, default_of, Lvalue, variable, item, element, field, kept_place, Args, no_args, by_place, by_copy, by_default, by_list, in_order, Exprs, no_exprs, also, Prints, no_prints, shown, zone, operand_type}
-use Rattle.bound_project.specs.Statements.{Tests, no_tests, test_is, test_range, Action, assign, evaluate, let_property, print, raise, test, go_to, for_to, next, select, case_of, with_place, with_value, end_with, go_sub, return_sub, exit_to, on_error, end_handler, clear_err, resume_again, resume_next, resume_at, stop, end_run, Statement}
+use Rattle.bound_project.specs.Statements.{Resizes, no_resizes, resize, Arrays, no_arrays, an_array, Tests, no_tests, test_is, test_range, Action, assign, evaluate, let_property, print, raise, test, go_to, for_to, next, select, case_of, redim, erase, with_place, with_value, end_with, go_sub, return_sub, exit_to, on_error, end_handler, clear_err, resume_again, resume_next, resume_at, stop, end_run, Statement}
 use Rattle.vba_meaning.specs.Effects.{policy_of}
-use Rattle.pcode.specs.Instructions.{Instr, Begin, Push, LoadErr, PathOf, ReadThrough, ElementOf, ElementIn, FieldOf, Dot, Index, PartOf, Operate, OperateAlone, Plain, Fit, Drop, Lend, Pack, Reorder, Lift, Call, Store, ShowText, Show, Throw, LoopOff, LoopOn, NextRound, Keep, Selected, IfFits, IfBetween, KeepPath, DropKept, PutReturn, TakeReturn, SetPolicy, HandlerOff, ErrOff, Again, Behind, Resumes, Finish, Branch, Halt, StopHere}
+use Rattle.pcode.specs.Instructions.{Instr, Begin, Push, LoadErr, PathOf, ReadThrough, ElementOf, ElementIn, FieldOf, Dot, Index, PartOf, Operate, OperateAlone, Plain, Fit, Drop, Lend, Pack, Reorder, Lift, Call, Store, ShowText, Show, Throw, LoopOff, LoopOn, NextRound, Keep, Selected, IfFits, IfBetween, Redim, EraseAt, KeepPath, DropKept, PutReturn, TakeReturn, SetPolicy, HandlerOff, ErrOff, Again, Behind, Resumes, Finish, Branch, Halt, StopHere}
 
 -- how many slots arguments are
 abbrev pub count : Args → ℕ
@@ -77,6 +77,14 @@ tests_code entry (test_is o e ts) header of compare first other =
 tests_code entry (test_range a b ts) header of compare first other =
     Selected header ∷ Plain ∷ (expr_code a ++ (expr_code b ++ IfBetween compare of (operand_type a) (operand_type b) (entry first) ∷ tests_code entry ts header of compare first other))
 
+abbrev pub resizes_code : Bool → Resizes → List Instr
+resizes_code preserve no_resizes = []
+resizes_code preserve (resize x bounds of rs) = place_code x ++ (list_code bounds ++ Redim preserve of (list_count bounds) ∷ resizes_code preserve rs)
+
+abbrev pub erases_code : Arrays → List Instr
+erases_code no_arrays = []
+erases_code (an_array x xs) = place_code x ++ EraseAt ∷ erases_code xs
+
 -- the code of a statement: the operands, what is done with them, and where it goes on
 abbrev pub action_code : Entry → (procedure statement following : ℕ) → Action → List Instr
 action_code entry p i k (assign x e) = expr_code e ++ (place_code x ++ (Store ∷ Finish (entry k) ∷ []))
@@ -91,6 +99,8 @@ action_code entry p i k (for_to x compare a b c first behind) =
 action_code entry p i k (next x header first) = NextRound x header ∷ Branch true (entry first) (entry k) ∷ []
 action_code entry p i k (select e first) = expr_code e ++ (Keep i ∷ Finish (entry first) ∷ [])
 action_code entry p i k (case_of ts header of compare first other) = tests_code entry ts header of compare first other
+action_code entry p i k (redim preserve rs) = resizes_code preserve rs ++ Finish (entry k) ∷ []
+action_code entry p i k (erase xs) = erases_code xs ++ Finish (entry k) ∷ []
 action_code entry p i k (with_place x) = place_code x ++ (KeepPath i ∷ Finish (entry k) ∷ [])
 action_code entry p i k (with_value e) = expr_code e ++ (Keep i ∷ Finish (entry k) ∷ [])
 action_code entry p i k (end_with header) = DropKept header ∷ Finish (entry k) ∷ []

@@ -10,17 +10,17 @@ use Rattle.error_frames.specs.declared.frame.ResumeKind.TheVariants as kind
 use Rattle.error_frames.specs.declared.frame.Taken.{Taken}
 use Rattle.error_frames.specs.declared.frame.Taken.TheVariants as taken
 use Rattle.bound_project.specs.Expressions.{Expr, expr, Node, not_given, constant, load, element_value, field_value, unary, binary, call, err_value, default_of, Lvalue, variable, item, element, field, kept_place, Args, no_args, by_place, by_copy, by_default, by_list, in_order, Exprs, no_exprs, also, Prints, no_prints, shown, zone, operand_type}
-use Rattle.bound_project.specs.Statements.{Tests, no_tests, test_is, test_range, Action, assign, evaluate, let_property, print, raise, test, go_to, for_to, next, select, case_of, with_place, with_value, end_with, go_sub, return_sub, exit_to, on_error, end_handler, clear_err, resume_again, resume_next, resume_at, stop, end_run, Statement}
+use Rattle.bound_project.specs.Statements.{Resizes, no_resizes, resize, Arrays, no_arrays, an_array, Tests, no_tests, test_is, test_range, Action, assign, evaluate, let_property, print, raise, test, go_to, for_to, next, select, case_of, redim, erase, with_place, with_value, end_with, go_sub, return_sub, exit_to, on_error, end_handler, clear_err, resume_again, resume_next, resume_at, stop, end_run, Statement}
 use Rattle.bound_project.specs.Project.{Project, class_at, statement_at, next_of, first_values}
 use Rattle.vba_meaning.specs.Paths.{Path, field_path}
 use Rattle.vba_meaning.specs.Memory.{Error, Ended, Faulted, Going, opening, Slot, value, path, Memory, Object, top, at_statement, frame_left, path_of, result, entered, error_here, number_or}
 use Rattle.vba_meaning.specs.References.{objects_in, objects_in_values, is_last, hold, next_waiting, taken_off, let_held, held_by, let_frame, object_at, as_told, gone, closed}
 use Rattle.vba_meaning.specs.Effects.{Raised, Term, Effect, operated, operated_alone, fitted, plain, condition, read_path, assigned, lent, unlent, slot_values, packed, reordered, show_value, printed, loop_off, loop_on, next_round, keep, selected, fits, fits_between, gone_sub, returned_sub, policy_of, err_off, policy_on, handler_off, failed_statement, resumed, taken_by, with_taken, raised_by, err_of, stop_here}
-use Rattle.vba_meaning.specs.Arrays.{indexed, part_of, element_at, keep_path, block_over, dot_at}
-use Rattle.vba_meaning.specs.Meaning.{State, Res, Got, Failed, Over, Told, Turn, ◌>>=◌, turn, turned, with_memory, raise_error, perform, Callee, eval, eval_node, eval_place, evals, eval_list, eval_prints, tested, cases, exec, Doing, nowhere, enter, called_by, callees, terminate_by, tell, finish, end_of, one, let_go, lets_held, lets_frame, leave, left, pass_on, next_here, decide_by, decide, settle, at_statement_or, level, doing, close, Run, run_of, first_state, meaning}
-use Rattle.pcode.specs.Instructions.{Instr, Begin, Push, LoadErr, PathOf, ReadThrough, ElementOf, ElementIn, FieldOf, Dot, Index, PartOf, Operate, OperateAlone, Plain, Fit, Drop, Lend, Pack, Reorder, Lift, Call, Store, ShowText, Show, Throw, LoopOff, LoopOn, NextRound, Keep, Selected, IfFits, IfBetween, KeepPath, DropKept, PutReturn, TakeReturn, SetPolicy, HandlerOff, ErrOff, Again, Behind, Resumes, Finish, Branch, Halt, StopHere, Leave, Code}
-use Rattle.pcode.specs.Machine.{After, Goes-on, Decide, Return, Pass, Close, Back, Caller, EndOf, Move, Goes, Ends, Turns, at, failing, letting, lets_all, finishes, raises_then, raised, done_then, then_at, then_test, then_jump, then_branch, take_args, pushed, enters, enter_by, calls, then_statement, looking, act, finished_by, terminates_by, ends_by, lets_one_by, closing, returned_by, passed_on, takes, decides, comes_by, Fin, Done, tells, follow, machine, first_move, run_code}
-use Rattle.pcode.specs.Code.{count, list_count, prints_count, expr_code, node_code, place_code, args_code, list_code, prints_code, Entry, tests_code, action_code}
+use Rattle.vba_meaning.specs.Arrays.{indexed, part_of, element_at, redimmed, erased, keep_path, block_over, dot_at}
+use Rattle.vba_meaning.specs.Meaning.{State, Res, Got, Failed, Over, Told, Turn, ◌>>=◌, turn, turned, with_memory, raise_error, perform, Callee, eval, eval_node, eval_place, evals, eval_list, eval_prints, tested, cases, resizes, erases, exec, Doing, nowhere, enter, called_by, callees, terminate_by, tell, finish, end_of, one, let_go, lets_held, lets_frame, leave, left, pass_on, next_here, decide_by, decide, settle, at_statement_or, level, doing, close, Run, run_of, first_state, meaning}
+use Rattle.pcode.specs.Instructions.{Instr, Begin, Push, LoadErr, PathOf, ReadThrough, ElementOf, ElementIn, FieldOf, Dot, Index, PartOf, Operate, OperateAlone, Plain, Fit, Drop, Lend, Pack, Reorder, Lift, Call, Store, ShowText, Show, Throw, LoopOff, LoopOn, NextRound, Keep, Selected, IfFits, IfBetween, Redim, EraseAt, KeepPath, DropKept, PutReturn, TakeReturn, SetPolicy, HandlerOff, ErrOff, Again, Behind, Resumes, Finish, Branch, Halt, StopHere, Leave, Code}
+use Rattle.pcode.specs.Machine.{After, Goes-on, Decide, Return, Back-to, Pass, Close, Back, Caller, EndOf, Move, Goes, Ends, Turns, at, failing, letting, lets_all, finishes, raises_then, raised, done_then, then_at, then_let_go, then_test, then_jump, then_branch, take_args, pushed, enters, enter_by, calls, then_statement, looking, act, finished_by, terminates_by, ends_by, lets_one_by, closing, returned_by, passed_on, takes, decides, comes_by, Fin, Done, tells, follow, machine, first_move, run_code}
+use Rattle.pcode.specs.Code.{count, list_count, prints_count, expr_code, node_code, place_code, args_code, list_code, prints_code, resizes_code, erases_code, Entry, tests_code, action_code}
 use Rattle.pcode.specs.Layout.{HasStatement, Laid}
 use Rattle.pcode.proofs.Stands.{UpTo, up_split, up_to}
 use Rattle.simulation.specs.Meant.{fin_of}
@@ -384,6 +384,36 @@ module _ (pr : Project) (code : Code) (entry : ℕ → Entry) (laid : Laid pr en
       instr (IfBetween compare of (operand_type a) (operand_type b) (entry p most)) mid (value y ∷ value x ∷ value v ∷ []) bs s3 h.0
       (jumps (fits_between compare of (operand_type a) (operand_type b) v x y) most (mid + 1) bs s3 (λ s4. cases ts callee pr header of compare most none s4) g3 (λ s4 g4. cases_runs ts header of compare most none (mid + 1) to bs s4 h.1 g4)))))
 
+  -- so many waiting references are let go in the middle of a statement
+  let_go_runs : (k pc : ℕ) (st : List Slot) (bs : List Back) (s : State) → Enough bound n s
+      → Runs code bound n (Goes (letting k (Back-to pc st) bs s)) (then_at pc st bs) (failed bs) (callee.go k s)
+  let_go_runs k pc st bs s good = all_go code bound n callee.go known.go k (Back-to pc st) bs s (failed bs) good
+
+  resizes_run : (preserve : Bool) (rs : Resizes) (pc to : ℕ) (bs : List Back) (s : State) → UpTo code.instrs pc (resizes_code preserve rs) to → Enough bound n s
+      → Runs code bound n (Goes (at pc [] bs s)) (then_at to [] bs) (failed bs) (resizes preserve rs callee pr s)
+  resizes_run preserve no_resizes pc to bs s has good = subst (λ i. Runs code bound n (Goes (at pc [] bs s)) (then_at i [] bs) (failed bs) (Got tt s)) has (here {got = then_at pc [] bs} tt s good)
+  resizes_run preserve (resize x bounds of rs) pc to bs s has good =
+      then_place pr code bound n callee known laid.declared x _ pc to [] bs s has good (λ q s1 g1 i h1.
+      first_each pr code bound n callee known laid.declared (on_args (path q ∷ []) bs) (eval_list bounds callee pr s1) (list_code bounds) _ i to _ h1 (list_counts bounds callee pr s1)
+      (λ mid h. list_runs pr code bound n callee known laid.declared bounds i mid (path q ∷ []) bs s1 h g1) (λ xs s2 len g2 j h2.
+      instr (Redim preserve of (length xs)) j (pushed xs (path q ∷ [])) bs s2 (h2.0 ∙ ap (λ m. Some (Redim preserve of m)) (sym len))
+      (subst (λ m. Runs code bound n m (then_at to [] bs) (failed bs) (perform (redimmed pr.declared preserve of q (slot_values xs)) s2 >>= λ k s3. callee.go k s3 >>= λ u s4. resizes preserve rs callee pr s4)) (sym (all_taken xs (path q ∷ []) _))
+      (subst (λ d. Runs code bound n (done_then (redimmed d preserve of q (slot_values xs) s2.memory) bs s2 (then_let_go (j + 1) [] bs)) (then_at to [] bs) (failed bs)
+      (perform (redimmed pr.declared preserve of q (slot_values xs)) s2 >>= λ k s3. callee.go k s3 >>= λ u s4. resizes preserve rs callee pr s4)) (sym laid.declared)
+      (bind (perform (redimmed pr.declared preserve of q (slot_values xs)) s2) (performs {got = then_let_go (j + 1) [] bs} (redimmed pr.declared preserve of q (slot_values xs)) bs s2 g2) (λ k s3 g3.
+      bind (callee.go k s3) (let_go_runs k (j + 1) [] bs s3 g3) (λ u s4 g4. resizes_run preserve rs (j + 1) to bs s4 h2.1 g4)))))))
+
+  erases_run : (xs : Arrays) (pc to : ℕ) (bs : List Back) (s : State) → UpTo code.instrs pc (erases_code xs) to → Enough bound n s
+      → Runs code bound n (Goes (at pc [] bs s)) (then_at to [] bs) (failed bs) (erases xs callee pr s)
+  erases_run no_arrays pc to bs s has good = subst (λ i. Runs code bound n (Goes (at pc [] bs s)) (then_at i [] bs) (failed bs) (Got tt s)) has (here {got = then_at pc [] bs} tt s good)
+  erases_run (an_array x xs) pc to bs s has good =
+      then_place pr code bound n callee known laid.declared x _ pc to [] bs s has good (λ q s1 g1 j h.
+      instr EraseAt j (path q ∷ []) bs s1 h.0
+      (subst (λ d. Runs code bound n (done_then (erased d q s1.memory) bs s1 (then_let_go (j + 1) [] bs)) (then_at to [] bs) (failed bs)
+      (perform (erased pr.declared q) s1 >>= λ k s2. callee.go k s2 >>= λ u s3. erases xs callee pr s3)) (sym laid.declared)
+      (bind (perform (erased pr.declared q) s1) (performs {got = then_let_go (j + 1) [] bs} (erased pr.declared q) bs s1 g1) (λ k s2 g2.
+      bind (callee.go k s2) (let_go_runs k (j + 1) [] bs s2 g2) (λ u s3 g3. erases_run xs (j + 1) to bs s3 h.1 g3)))))
+
   pub action_runs : (a : Action) (i k pc to : ℕ) (bs : List Back) (s : State) → UpTo code.instrs pc (action_code (entry p) p i k a) to → Enough bound n s
       → Ends-well pc [] bs s (exec a callee pr p i k s)
   action_runs (assign x e) i k pc to bs s has good =
@@ -430,6 +460,12 @@ module _ (pr : Project) (code : Code) (entry : ℕ → Entry) (laid : Laid pr en
       then_value pr code bound n callee known laid.declared e _ pc to [] bs s has good (λ v s1 g1 mid h.
       instr (Keep i) mid (value v ∷ []) bs s1 h.0 (used (keep i v) x (mid + 1) bs s1 h.1.0 g1))
   action_runs (case_of ts header of compare most none) i k pc to bs s has good = cases_runs ts header of compare most none pc to bs s has good
+  action_runs (redim preserve rs) i k pc to bs s has good =
+      first pr code bound n callee known laid.declared (λ mid. then_at mid [] bs) (resizes preserve rs callee pr s) (resizes_code preserve rs) _ pc to _ has
+      (λ mid h. resizes_run preserve rs pc mid bs s h good) (λ u s1 g1 mid h. ends_here k mid bs s1 h.0 g1)
+  action_runs (erase xs) i k pc to bs s has good =
+      first pr code bound n callee known laid.declared (λ mid. then_at mid [] bs) (erases xs callee pr s) (erases_code xs) _ pc to _ has
+      (λ mid h. erases_run xs pc mid bs s h good) (λ u s1 g1 mid h. ends_here k mid bs s1 h.0 g1)
   action_runs (with_place x) i k pc to bs s has good =
       then_place pr code bound n callee known laid.declared x _ pc to [] bs s has good (λ q s1 g1 mid h.
       instr (KeepPath i) mid (path q ∷ []) bs s1 h.0 (used (keep_path i q) k (mid + 1) bs s1 h.1.0 g1))

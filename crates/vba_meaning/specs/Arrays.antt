@@ -1,20 +1,23 @@
 -- What is done in one go with arrays, Types and With blocks.
-use Rattle.std.specs.Prelude.{ℕ, ℤ, pos, List, [], ◌∷◌, length, false, Option, Some, None}
+use Rattle.std.specs.Prelude.{ℕ, ℤ, pos, List, [], ◌∷◌, length, Bool, false, if◌then◌else◌, Option, Some, None}
 use Rattle.vba_values.specs.declared.object.ObjRef.{ObjRef}
 use Rattle.vba_values.specs.declared.object.ObjRef.TheVariants.{Nothing, Host}
 use Rattle.vba_values.specs.declared.object.HostRef.TheVariants.{ErrObject}
 use Rattle.vba_values.specs.declared.value.Bound.{Bound}
+use Rattle.vba_values.specs.Types.{Declared}
 use Rattle.vba_values.specs.Types as type
-use Rattle.vba_values.specs.Val.{Val, whole, object, array}
-use Rattle.vba_values.specs.Coerce.{coerce_of}
+use Rattle.vba_values.specs.Val.{Val, Vals, no_vals, whole, object, array}
+use Rattle.vba_values.specs.Coerce.{coerce_of, is_same_type}
 use Rattle.arrays_udt.specs.declared.paths.PathStep.TheVariants.{Field}
-use Rattle.arrays_udt.specs.Shapes.{offset_of}
-use Rattle.arrays_udt.specs.Resize.{item_at}
+use Rattle.arrays_udt.specs.Shapes.{offset_of, shape_of}
+use Rattle.arrays_udt.specs.Resize.{item_at, can_resize, resized}
+use Rattle.arrays_udt.specs.Fresh.{filled, initial}
 use Rattle.arrays_udt.specs.Paths.{path_value}
+use Rattle.bound_project.specs.Project.{Declarations, types_of}
 use Rattle.vba_meaning.specs.Paths.{in_block, Path, element_path}
-use Rattle.vba_meaning.specs.Memory.{Kept, only, at_path, Memory, top, with_top, rest, found, without, put, value_at}
-use Rattle.vba_meaning.specs.References.{displaced}
-use Rattle.vba_meaning.specs.Effects.{Effect, Fine, Bad-at, on_fine, done, answered, read_value, kept_at}
+use Rattle.vba_meaning.specs.Memory.{Kept, only, at_path, Memory, top, with_top, rest, found, without, put, value_at, with_value}
+use Rattle.vba_meaning.specs.References.{objects_in, displaced, waits}
+use Rattle.vba_meaning.specs.Effects.{Effect, Fine, Bad-at, on_fine, done, answered, read_value, replaceable, kept_at}
 
 -- ---- elements and fields ([MS-VBAL] 5.6.12, 5.6.13)
 
@@ -55,6 +58,70 @@ indexed v vs m = on_fine (numbers vs m) (λ zs m1. Bad-at 13 m1)
 
 abbrev pub part_of : (field : ℕ) → Val → Memory → Effect Val
 part_of i v m = read_value (path_value v (Field i ∷ [])) m
+
+-- ---- ReDim and Erase ([MS-VBAL] 5.4.3.3, 5.4.3.4)
+
+-- the bounds of dimensions, from the low and the high one of each
+abbrev pub bounds_of : List ℤ → List Bound
+bounds_of [] = []
+bounds_of (low ∷ []) = []
+bounds_of (low ∷ high ∷ zs) = record { low = low; high = high } ∷ bounds_of zs
+
+-- the type of the elements: that of the array, which another one that is written doesn't change; a Variant takes an
+-- array of any
+abbrev pub element_type : Declared → (written : Option Declared) → Memory → Effect Declared
+element_type (type.array_of of) None m = Fine of m
+element_type (type.array_of of) (Some t) m = if is_same_type of t then Fine of m else Bad-at 13 m
+element_type type.variant None m = Fine type.variant m
+element_type type.variant (Some t) m = Fine t m
+element_type other t m = Bad-at 13 m
+
+-- a new array, each element with its first value
+abbrev pub new_array : Declarations → List Bound → Declared → Val
+new_array d bounds of = filled bounds of (initial (types_of d) of)
+
+-- an array with new bounds: 9 where more than the last upper bound would differ; one without storage gets new elements
+abbrev pub resized_array : Declarations → (shape bounds : List Bound) → Declared → Vals → Memory → Effect Val
+resized_array d shape [] of items m = Fine (new_array d shape of) m
+resized_array d shape bounds of items m =
+    let old = array bounds of items in
+    if can_resize shape old then Fine (resized shape (initial (types_of d) of) old) m else Bad-at 9 m
+
+-- Preserve: the array that is there keeps its elements
+abbrev pub preserved : Declarations → (written : Option Declared) → (shape : List Bound) → Val → Memory → Effect Val
+preserved d t shape (array bounds of items) m = on_fine (element_type (type.array_of of) t m) (λ u m1. resized_array d shape bounds of items m1)
+preserved d t shape v m = Bad-at 13 m
+
+abbrev pub redim_value : Declarations → (preserve : Bool) → (written : Option Declared) → (shape : List Bound) → Path → Val → Memory → Effect Val
+redim_value d preserve t shape p old m =
+    if preserve then preserved d t shape old m
+    else on_fine (element_type p.of t m) (λ of m1. Fine (new_array d shape of) m1)
+
+-- a value is stored, and what was there waits to be let go: so many references
+abbrev pub exchanged : Path → (old new : Val) → Memory → Effect ℕ
+exchanged p old v m = Fine (length (objects_in old)) (waits (objects_in old) (with_value m p v))
+
+-- an array that is declared with bounds keeps them
+abbrev pub resizable : Path → Memory → Effect Val
+resizable p m = on_fine (replaceable p m) (λ old m1. if p.bounded then Bad-at 10 m1 else Fine old m1)
+
+abbrev pub redimmed : Declarations → (preserve : Bool) → (written : Option Declared) → Path → List Val → Memory → Effect ℕ
+redimmed d preserve t p vs m =
+    on_fine (numbers vs m) (λ zs m1.
+    on_fine (resizable p m1) (λ old m2.
+    on_fine (answered (shape_of (bounds_of zs)) m2) (λ shape m3.
+    on_fine (redim_value d preserve t shape p old m3) (λ v m4. exchanged p old v m4))))
+
+-- an array that is declared with bounds gets new elements, any other is without storage then
+abbrev pub erased_value : Declarations → (bounded : Bool) → Option Val → Memory → Effect Val
+erased_value d bounded None m = Bad-at 9 m
+erased_value d bounded (Some (array bounds of items)) m = Fine (if bounded then new_array d bounds of else array [] of no_vals) m
+erased_value d bounded (Some v) m = Bad-at 13 m
+
+abbrev pub erased : Declarations → Path → Memory → Effect ℕ
+erased d p m =
+    on_fine (erased_value d p.bounded (value_at m p) m) (λ v m1.
+    on_fine (replaceable p m1) (λ old m2. exchanged p old v m2))
 
 -- ---- With ([MS-VBAL] 5.4.2.21)
 
