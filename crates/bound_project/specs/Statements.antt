@@ -35,6 +35,8 @@ pub data Arrays : Type 0 where
 pub data Action : Type 0 where
   -- [Let] target = value
   assign : Lvalue → Expr → Action
+  -- the same where nothing has the target, as an element of the array that a function gives: nothing is stored
+  assign_none : (target value : Expr) → Action
   -- a call whose value isn't used
   evaluate : Expr → Action
   -- an assignment to a property of a standard module: its Property Let, that one's other arguments, the value and its
@@ -52,6 +54,12 @@ pub data Action : Type 0 where
   for_to : Variable → Compare → (start last step : Expr) → (first behind : ℕ) → Action
   -- Next of the For with this number: into its block again, or on
   next : Variable → (header first : ℕ) → Action
+  -- For Each: into its block, or behind it
+  for_each : Variable → Expr → (first behind : ℕ) → Action
+  -- Next of the For Each with this number: into its block again, or on
+  next_each : Variable → (header first : ℕ) → Action
+  -- Exit For of the For Each with this number
+  exit_each : (header to : ℕ) → Action
   -- Select Case: to its first Case
   select : Expr → (first : ℕ) → Action
   -- Case of the Select Case with this number, whose value has this type as an operand: into its block, or to the next

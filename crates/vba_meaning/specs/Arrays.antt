@@ -1,5 +1,5 @@
 -- What is done in one go with arrays, Types and With blocks.
-use Rattle.std.specs.Prelude.{ℕ, ℤ, pos, List, [], ◌∷◌, length, Bool, false, if◌then◌else◌, Option, Some, None}
+use Rattle.std.specs.Prelude.{ℕ, suc, ℤ, pos, List, [], ◌∷◌, length, Bool, true, false, if◌then◌else◌, Option, Some, None}
 use Rattle.vba_values.specs.declared.object.ObjRef.{ObjRef}
 use Rattle.vba_values.specs.declared.object.ObjRef.TheVariants.{Nothing, Host}
 use Rattle.vba_values.specs.declared.object.HostRef.TheVariants.{ErrObject}
@@ -8,16 +8,17 @@ use Rattle.vba_values.specs.Types.{Declared}
 use Rattle.vba_values.specs.Types as type
 use Rattle.vba_values.specs.Val.{Val, Vals, no_vals, whole, object, array}
 use Rattle.vba_values.specs.Coerce.{coerce_of, is_same_type}
-use Rattle.arrays_udt.specs.declared.paths.PathStep.TheVariants.{Field}
+use Rattle.arrays_udt.specs.declared.paths.PathStep.TheVariants.{Field, Element}
 use Rattle.arrays_udt.specs.Shapes.{offset_of, shape_of}
 use Rattle.arrays_udt.specs.Resize.{item_at, can_resize, resized}
 use Rattle.arrays_udt.specs.Fresh.{filled, initial}
 use Rattle.arrays_udt.specs.Paths.{path_value}
+use Rattle.bound_project.specs.Expressions.{Variable}
 use Rattle.bound_project.specs.Project.{Declarations, types_of}
 use Rattle.vba_meaning.specs.Paths.{in_block, Path, element_path}
-use Rattle.vba_meaning.specs.Memory.{Kept, only, at_path, Memory, top, with_top, rest, found, without, put, value_at, with_value}
+use Rattle.vba_meaning.specs.Memory.{Kept, only, at_path, walk, Memory, top, with_top, rest, found, without, put, value_at, with_value, path_of}
 use Rattle.vba_meaning.specs.References.{objects_in, displaced, waits}
-use Rattle.vba_meaning.specs.Effects.{Effect, Fine, Bad-at, on_fine, done, answered, read_value, replaceable, kept_at}
+use Rattle.vba_meaning.specs.Effects.{Effect, Fine, Bad-at, on_fine, done, answered, fitted, read_value, replaceable, stored, kept_at}
 
 -- ---- elements and fields ([MS-VBAL] 5.6.12, 5.6.13)
 
@@ -141,6 +142,48 @@ abbrev pub place_kept : ℕ → Option Kept → Memory → Effect Path
 place_kept i None m = Bad-at 91 m
 place_kept i (Some (only v)) m = Fine (record { root = in_block (length (rest m.frames)) i; steps = []; of = type.variant; bounded = false }) m
 place_kept i (Some (at_path p)) m = Fine p m
+place_kept i (Some (walk begun v k)) m = Bad-at 91 m
 
 abbrev pub dot_at : ℕ → Memory → Effect Path
 dot_at i m = place_kept i (found (top m).keeps i) m
+
+-- ---- For Each ([MS-VBAL] 5.4.2.4)
+
+abbrev pub walking : ℕ → (begun : Bool) → Val → (next : ℕ) → Memory → Memory
+walking i begun v k m = with_top m (record (top m) { keeps = put i (walk begun v k) (top m).keeps })
+
+-- a header begins: the loop counts as not begun, but what it walked stays
+abbrev pub not_walking : ℕ → Option Kept → Memory → Memory
+not_walking i (Some (walk begun v k)) m = walking i false v k m
+not_walking i other m = m
+
+abbrev pub each_off : ℕ → Memory → Effect (Unit {0})
+each_off i m = done (not_walking i (found (top m).keeps i) m)
+
+-- what can be walked: an array
+abbrev pub walkable : Val → Memory → Effect (Unit {0})
+walkable (array bounds of items) m = done m
+walkable (object Nothing) m = Bad-at 91 m
+walkable (object o) m = Bad-at 438 m
+walkable v m = Bad-at 13 m
+
+-- the loop is begun, and what it walked before waits to be let go: so many references
+abbrev pub each_begun : ℕ → Val → Memory → Effect ℕ
+each_begun i v m = on_fine (walkable v m) (λ u m1. Fine (length (objects_in (kept_at i m1))) (waits (objects_in (kept_at i m1)) (walking i true v 0 m1)))
+
+-- a control variable takes an item, one of an object type by the test of Set
+abbrev pub item_stored : Variable → Val → Memory → Effect (Unit {0})
+item_stored x v m = on_fine (fitted (path_of m x).of v m) (λ w m1. stored (path_of m1 x) w m1)
+
+-- an item that can't be stored counts as walked; behind the last one the loop is over
+abbrev pub next_item : Variable → ℕ → Val → (next : ℕ) → Option Val → Memory → Effect Bool
+next_item x i v k None m = on_fine (block_over i m) (λ u m1. Fine false m1)
+next_item x i v k (Some w) m = on_fine (item_stored x w (walking i true v (suc k) m)) (λ u m1. Fine true m1)
+
+abbrev pub each_by : Variable → ℕ → Option Kept → Memory → Effect Bool
+each_by x i (Some (walk true v k)) m = next_item x i v k (path_value v (Element k ∷ [])) m
+each_by x i other m = Bad-at 92 m
+
+-- whether there was a further item
+abbrev pub each_next : Variable → ℕ → Memory → Effect Bool
+each_next x i m = each_by x i (found (top m).keeps i) m

@@ -55,6 +55,8 @@ pub data Kept : Type 0 where
   only : Val → Kept
   -- where the place of a With is
   at_path : Path → Kept
+  -- what a For Each walks, whether the loop counts as begun, and the number of its next item
+  walk : (begun : Bool) → Val → (next : ℕ) → Kept
 
 -- a counted object
 pub record Object : Type 0 where
@@ -164,6 +166,7 @@ abbrev pub value_kept : Option Kept → Option Val
 value_kept None = None
 value_kept (Some (only v)) = Some v
 value_kept (Some (at_path p)) = None
+value_kept (Some (walk begun v k)) = None
 
 abbrev pub root_value : Memory → Root → Option Val
 root_value m (in_frame k x) = value_in (slice_get (frame_at m.frames k).slots x)
@@ -216,6 +219,7 @@ paths_kept (e ∷ es) = kept_path e.1 ++ paths_kept es where
   kept_path : Kept → List Path
   kept_path (only v) = []
   kept_path (at_path p) = p ∷ []
+  kept_path (walk begun v k) = []
 
 abbrev pub paths_held : List Frame → List Path
 paths_held [] = []

@@ -4,7 +4,7 @@ use Rattle.vba_values.specs.declared.object.ObjRef.{ObjRef}
 use Rattle.vba_values.specs.declared.object.ObjRef.TheVariants.{Nothing, Heap, Host}
 use Rattle.vba_values.specs.Val.{Val, Vals, empty, object, array, udt, no_vals, val}
 use Rattle.vba_meaning.specs.Paths.{Path}
-use Rattle.vba_meaning.specs.Memory.{Memory, Frame, Object, Slot, value, path, Kept, only, at_path, top, with_top, rest, value_at, with_value, value_or_empty}
+use Rattle.vba_meaning.specs.Memory.{Memory, Frame, Object, Slot, value, path, Kept, only, at_path, walk, top, with_top, rest, value_at, with_value, value_or_empty}
 
 abbrev pub objects_of_reference : ObjRef → List ℕ
 objects_of_reference Nothing = []
@@ -39,6 +39,7 @@ objects_in_slots (x ∷ xs) = objects_in_slot x ++ objects_in_slots xs
 abbrev pub kept_value : Kept → Val
 kept_value (only v) = v
 kept_value (at_path p) = empty
+kept_value (walk begun v k) = v
 
 abbrev pub objects_kept : List (ℕ × Kept) → List ℕ
 objects_kept [] = []
