@@ -1,12 +1,12 @@
 -- Worked rows of arrays, Types, With and For Each.
-use Rattle.std.specs.Prelude.{◌≡◌, pos, [], ◌∷◌, codes, true, false, refl, Some, None}
+use Rattle.std.specs.Prelude.{◌≡◌, ℕ, pos, List, [], ◌∷◌, codes, true, false, refl, Some, None}
 use Rattle.std.specs.Fmt.{digits}
 use Rattle.vba_values.specs.declared.fault.OutKind.TheVariants.{Elements}
 use Rattle.vba_values.specs.Types as type
 use Rattle.vba_values.specs.Val.{boolean}
 use Rattle.bound_project.specs.Expressions.{shared, Variable, constant, element_value, field_value, call, Lvalue, variable, item, element, field, kept_place, no_args, by_place, by_copy, by_list, no_exprs, also, no_prints, shown}
 use Rattle.bound_project.specs.Statements.{skipped, assign, assign_none, print, for_each, next_each, exit_each, redim, no_resizes, resize, erase, no_arrays, an_array, with_place, with_value, end_with, go_to, on_error}
-use Rattle.bound_project.specs.Project.{Project}
+use Rattle.bound_project.specs.Project.{Project, Declaration}
 use Rattle.vba_meaning.specs.Memory.{Ended, Stopped, outside}
 use Rattle.vba_meaning.specs.Effects.{Raised}
 use Rattle.vba_meaning.specs.Meaning.{meaning}
@@ -70,7 +70,8 @@ pub pending_is : told (meaning pending 50) ≡ (Ended, Raised (pos 10) ∷ line 
 unfolding digits
 pending_is = refl
 
--- Dim v: ReDim v(1) ¶ Work v(1), where Work(ByRef x) writes v: the Variant would lose the array of a place that is held
+-- Dim v: ReDim v(1) ¶ Work v(1), where Work(ByRef x) writes v: the Variant would lose the array of a place that x
+-- leads to
 abbrev shared_variant : Variable
 shared_variant = record { storage = shared 0; of = type.variant; bounded = false }
 
@@ -83,8 +84,8 @@ pub overwritten_is : told (meaning overwritten 50) ≡ (Ended, Raised (pos 10) �
 unfolding digits
 overwritten_is = refl
 
--- Dim f(1) As Long: ReDim f(2) raises 10, also through a parameter, and so does a whole array written through a Variant
--- parameter; Erase gives it new elements
+-- Dim f(1) As Long: ReDim f(2) raises 10, also through a parameter, and so does a whole array that is written through
+-- a Variant parameter; Erase gives it new elements
 abbrev bounded_longs : Variable
 bounded_longs = fixed 1 type.long
 
@@ -101,8 +102,8 @@ pub bounds_stay_is : told (meaning bounds_stay 50) ≡ (Ended, Raised (pos 10) �
 unfolding digits
 bounds_stay_is = refl
 
--- 9: no storage, outside the bounds, too few numbers, a high bound below its low one, Preserve of another bound than the last
--- upper one, and with each Err is 9; 13: no array
+-- 9: no storage, outside the bounds, too many numbers, a high bound below its low one, Preserve with other bounds than
+-- the last upper one; 13: no array
 abbrev outside_bounds : Project
 outside_bounds = main (long_array ∷ type.variant ∷ []) (flat 0 (
     on_error skipped ∷ show (el (longs 1) 0) ∷ redim_to (longs 1) 2 ∷ show (el (longs 1) 3) ∷ el_becomes (longs 1) 3 (n 1) ∷
@@ -265,3 +266,43 @@ several = program [] (
 pub several_are : told (meaning several 50) ≡ (fault 9 0 4, line (codes " 0 ") ∷ Raised (pos 9) ∷ [])
 unfolding digits
 several_are = refl
+
+-- Type Q: N As Long, R() As Long; Dim q As Q, w As Q (of the module): while an element of q.R is lent q can't be
+-- written whole; q.N can. A field of the module's Type is lent, and q is written whole
+abbrev q_type : List Declaration
+q_type = declare type.long ∷ declare long_array ∷ []
+
+abbrev shared_type : ℕ → Lvalue
+shared_type i = variable (record { storage = shared i; of = type.udt 0; bounded = false })
+
+abbrev r_of : Lvalue → Lvalue
+r_of place = field place 1 long_array false
+
+abbrev types_lock : Project
+types_lock = with_types (q_type ∷ []) (program (type.udt 0 ∷ type.udt 0 ∷ []) (
+    (sub [], flat 0 (
+    on_error skipped ∷ redim false (resize (r_of (shared_type 0)) (from_0 2) None no_resizes) ∷
+    do_call 1 (by_place (element (r_of (shared_type 0)) (one 2)) no_args) ∷ show err ∷ show (at_place type.long (x_of (shared_type 0))) ∷
+    do_call 2 (by_place (x_of (shared_type 0)) no_args) ∷ show (at_place type.long (element (r_of (shared_type 0)) (one 2))) ∷ [])) ∷
+    (sub [], flat 0 (becomes (long 1) (n 6) ∷ assign (x_of (shared_type 0)) (n 4) ∷ assign (shared_type 0) (at_place (type.udt 0) (shared_type 1)) ∷ [])) ∷
+    (sub [], flat 0 (assign (shared_type 0) (at_place (type.udt 0) (shared_type 1)) ∷ show (v (long 1)) ∷ [])) ∷ []))
+
+pub types_lock_is : told (meaning types_lock 50) ≡ (Ended, Raised (pos 10) ∷ line (codes " 10 ") ∷ line (codes " 4 ") ∷ line (codes " 0 ") ∷ Raised (pos 9) ∷ [])
+unfolding digits
+types_lock_is = refl
+
+-- ReDim u(1).R(F()), where F does ReDim u(0): the place is gone, 9; Erase while an element is lent: 10
+abbrev q_array : Variable
+q_array = record { storage = shared 0; of = type.array_of (type.udt 0); bounded = false }
+
+abbrev place_gone : Project
+place_gone = with_types (q_type ∷ []) (program (type.array_of (type.udt 0) ∷ []) (
+    (sub [], flat 0 (
+    on_error skipped ∷ redim_to q_array 1 ∷ redim false (resize (r_of (item q_array (one 1))) (also (n 0) (also (e type.variant (call 1 no_args)) no_exprs)) None no_resizes) ∷
+    show err ∷ do_call 2 (by_place (item q_array (one 0)) no_args) ∷ show err ∷ [])) ∷
+    (sub [], flat 0 (redim_to q_array 0 ∷ becomes (any 0) (n 3) ∷ [])) ∷
+    (sub [], flat 0 (erase (an_array (variable q_array) no_arrays) ∷ [])) ∷ []))
+
+pub place_gone_is : told (meaning place_gone 50) ≡ (Ended, Raised (pos 9) ∷ line (codes " 9 ") ∷ Raised (pos 10) ∷ line (codes " 10 ") ∷ [])
+unfolding digits
+place_gone_is = refl

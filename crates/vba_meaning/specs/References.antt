@@ -101,12 +101,18 @@ let_held m = waits (top m).held (with_top m (record (top m) { held = [] }))
 abbrev pub held_by : Frame → List ℕ
 held_by f = f.held ++ (objects_kept f.keeps ++ (if f.called then objects_in_slots (rest f.slots) ++ objects_in f.me else objects_in_slots f.slots))
 
-abbrev pub first_slot : List Slot → List Slot
-first_slot [] = []
-first_slot (x ∷ xs) = x ∷ []
+-- ByRef parameters lead where they led until the frame is gone
+abbrev pub without_values : List Slot → List Slot
+without_values [] = []
+without_values (value v ∷ xs) = value empty ∷ without_values xs
+without_values (path p ∷ xs) = path p ∷ without_values xs
+
+abbrev pub but_result : List Slot → List Slot
+but_result [] = []
+but_result (x ∷ xs) = x ∷ without_values xs
 
 abbrev pub emptied : Frame → Frame
-emptied f = record f { slots = if f.called then first_slot f.slots else []; me = if f.called then empty else f.me; keeps = []; held = [] }
+emptied f = record f { slots = if f.called then but_result f.slots else without_values f.slots; me = if f.called then empty else f.me; keeps = []; held = [] }
 
 abbrev pub let_frame : Memory → Memory
 let_frame m = waits (held_by (top m)) (with_top m (emptied (top m)))
