@@ -18,7 +18,7 @@ use Rattle.bound_project.specs.Project.{Declarations, types_of}
 use Rattle.vba_meaning.specs.Paths.{in_block, Path, element_path}
 use Rattle.vba_meaning.specs.Memory.{Kept, only, at_path, walk, Memory, top, with_top, rest, found, without, put, value_at, with_value, path_of}
 use Rattle.vba_meaning.specs.References.{objects_in, displaced, waits}
-use Rattle.vba_meaning.specs.Effects.{Effect, Fine, Bad-at, on_fine, done, answered, fitted, read_value, replaceable, stored, kept_at}
+use Rattle.vba_meaning.specs.Effects.{Effect, Fine, Bad-at, on_fine, done, answered, fitted, read_value, replaceable, assignable, stored, kept_at}
 
 -- ---- elements and fields ([MS-VBAL] 5.6.12, 5.6.13)
 
@@ -102,14 +102,11 @@ redim_value d preserve t shape p old m =
 abbrev pub exchanged : Path → (old new : Val) → Memory → Effect ℕ
 exchanged p old v m = Fine (length (objects_in old)) (waits (objects_in old) (with_value m p v))
 
--- an array that is declared with bounds keeps them
-abbrev pub resizable : Path → Memory → Effect Val
-resizable p m = on_fine (replaceable p m) (λ old m1. if p.bounded then Bad-at 10 m1 else Fine old m1)
-
+-- ReDim of one array: 10 first, then the new bounds, then what Preserve refuses
 abbrev pub redimmed : Declarations → (preserve : Bool) → (written : Option Declared) → Path → List Val → Memory → Effect ℕ
 redimmed d preserve t p vs m =
     on_fine (numbers vs m) (λ zs m1.
-    on_fine (resizable p m1) (λ old m2.
+    on_fine (assignable p m1) (λ old m2.
     on_fine (answered (shape_of (bounds_of zs)) m2) (λ shape m3.
     on_fine (redim_value d preserve t shape p old m3) (λ v m4. exchanged p old v m4))))
 

@@ -158,14 +158,17 @@ replaceable_by p (Some old) m = if has_parts old && is_locked m p then Bad-at 10
 abbrev pub replaceable : Path → Memory → Effect Val
 replaceable p m = replaceable_by p (value_at m p) m
 
+-- an array that is declared with bounds is never replaced by another one
+abbrev pub assignable : Path → Memory → Effect Val
+assignable p m = on_fine (replaceable p m) (λ old m1. if p.bounded then Bad-at 10 m1 else Fine old m1)
+
 -- a value is stored; what was there gives way
 abbrev pub stored : Path → Val → Memory → Effect (Unit {0})
-stored p v m = on_fine (replaceable p m) (λ old m1. done (replaced p v m1))
+stored p v m = on_fine (assignable p m) (λ old m1. done (replaced p v m1))
 
--- Let: the value becomes one of the type of what it is assigned to; an array that is declared with bounds takes none
--- ([MS-VBAL] 5.4.3.8)
+-- Let: the value becomes one of the type of what it is assigned to ([MS-VBAL] 5.4.3.8)
 abbrev pub assigned : Path → Val → Memory → Effect (Unit {0})
-assigned p v m = on_fine (answered (coerce_of v p.of) m) (λ w m1. if p.bounded then Bad-at 10 m1 else stored p w m1)
+assigned p v m = on_fine (answered (coerce_of v p.of) m) (λ w m1. stored p w m1)
 
 -- a path is bound to a ByRef parameter of a call that doesn't stand yet
 abbrev pub lent : Path → Memory → Effect (Unit {0})
