@@ -1,10 +1,12 @@
 -- The parts of statements with more behind them.
-use Rattle.std.proofs.Common.{◌≡◌, List, [], ◌∷◌, ◌++◌, Option, refl, sym, ap, ◌∙◌, append_assoc}
+use Rattle.std.proofs.Common.{◌≡◌, List, [], ◌∷◌, ◌++◌, Option, Some, None, refl, sym, ap, ◌∙◌, append_assoc}
 use Rattle.std.proofs.lemmas.List.{append-nil, map-append}
 use Rattle.std.specs.Prelude.{Result, Ok, Err, OnOk}
 use Rattle.vba_tree.specs.declared.line.LineLabel.{LineLabel}
+use Rattle.vba_tree.specs.declared.line.LineTree.{LineTree}
+use Rattle.vba_tree.specs.declared.line.LineTree.TheVariants as line
 use Rattle.vba_tree.specs.Tree.{Stmt, Stmts}
-use Rattle.vba_tree.specs.View.{Next, written, missing, put, put_all}
+use Rattle.vba_tree.specs.View.{view, Next, written, missing, put, put_all, statement_in, statement_line_in}
 use Rattle.vba_module.specs.Parts as parts
 use Rattle.vba_module.specs.Parts.{label_part, statement, statements_in, as_parts}
 use Rattle.module_parts.specs.declared.part.Part.{Part}
@@ -13,6 +15,29 @@ use Rattle.module_parts.specs.View.{part_view, parts_view}
 
 pub parts_push : (before : List Part) (part : Part) → parts_view (before ++ part ∷ []) ≡ parts_view before ++ part_view part ∷ []
 parts_push before part = map-append part_view before (part ∷ [])
+
+-- a statement behind a colon, and none
+pub some_written : (next : Next) (s : Stmt) → Some s ≡ statement_in next → written_in (next ∷ []) ≡ s ∷ []
+some_written (written colon t) s h = cc
+some_written (missing colon) s h = absurd cc
+
+pub none_written : (next : Next) → None ≡ statement_in next → written_in (next ∷ []) ≡ []
+none_written (written colon t) h = absurd cc
+none_written (missing colon) h = refl
+
+-- a line that is no statements
+pub whole_parts : (tree : LineTree) → statement_line_in tree ≡ None → parts.parts_of (view tree) ≡ parts.whole_line (view tree) ∷ []
+whole_parts (line.Statements statements) h = absurd cc
+whole_parts (line.Option x) h = refl
+whole_parts (line.Attribute x) h = refl
+whole_parts (line.EnumHeader x) h = refl
+whole_parts (line.EnumEnd x y) h = refl
+whole_parts (line.TypeHeader x) h = refl
+whole_parts (line.TypeMember x) h = refl
+whole_parts (line.TypeEnd x y) h = refl
+whole_parts (line.Event x) h = refl
+whole_parts (line.ProcedureHeader x) h = refl
+whole_parts (line.ProcedureEnd x) h = refl
 
 as_parts_append : (ss us : List Stmt) → as_parts (ss ++ us) ≡ as_parts ss ++ as_parts us
 as_parts_append [] us = refl

@@ -40,14 +40,13 @@ fn push_first(parts: &mut Vec<Part>, first: Option<Statement>) -> Result<(), NoM
 }
 
 /// Adds a statement behind its colon, where one is written.
+#[tactic(auto, using(crate::proofs::Splits::some_written, crate::proofs::Splits::none_written))]
 fn push_next(parts: &mut Vec<Part>, next: NextStatement) -> Result<(), NoMemory>
     ensures { OnOk result (parts_view parts.new.items ≡ parts_view parts.old.items ++ as_parts (written_in (views.next_view next ∷ []))) }
 {
-    match next {
-        NextStatement::Written { statement, .. } => {
-            push_part(parts, Part::Statement(Box::into_inner(statement)))
-        }
-        NextStatement::Missing { .. } => Ok(()),
+    match next.into_statement() {
+        Some(written) => push_part(parts, Part::Statement(written)),
+        None => Ok(()),
     }
 }
 
@@ -66,11 +65,7 @@ fn push_statements(parts: &mut Vec<Part>, line: StatementLine) -> Result<(), NoM
     ensures { OnOk result (parts_view parts.new.items ≡ parts_view parts.old.items
         ++ parts_of (tree.statement_line line.label (views.put_all (views.front line.first) (map views.next_view line.others.items)))) }
 {
-    let StatementLine {
-        label,
-        first,
-        others,
-    } = line;
+    let (label, first, others) = line.into_parts();
     push_label(parts, label)?;
     push_first(parts, first)?;
     push_others(parts, others)
@@ -79,11 +74,12 @@ fn push_statements(parts: &mut Vec<Part>, line: StatementLine) -> Result<(), NoM
 /// Adds the parts of a line: its label and each statement between its colons, or the line, where it is no statements.
 ///
 /// It fails only for want of memory.
+#[tactic(auto, using(crate::proofs::Splits::whole_parts))]
 pub fn push_parts(parts: &mut Vec<Part>, line: LineTree) -> Result<(), NoMemory>
     ensures { OnOk result (parts_view parts.new.items ≡ parts_view parts.old.items ++ parts_of (views.view line)) }
 {
-    match line {
-        LineTree::Statements(statements) => push_statements(parts, statements),
-        whole => push_part(parts, Part::WholeLine(whole)),
+    match line.into_statements() {
+        Ok(statements) => push_statements(parts, statements),
+        Err(whole) => push_part(parts, Part::WholeLine(whole)),
     }
 }

@@ -9,16 +9,24 @@ pub struct ModuleTree<P> {
 
 /// A part of a module by itself, or what an opening and an end bracket.
 #[cycle(node)]
-#[derive(Drop)]
 pub enum Node<P> {
     /// A part that brackets nothing.
     Alone(P),
     Block(Block<P>),
 }
 
+impl<P: Drop> Drop for Node<P> {
+    #[cycle(node)]
+    fn drop(self) {
+        match self {
+            Node::Alone(_part) => {}
+            Node::Block(_block) => {}
+        }
+    }
+}
+
 /// A block, a procedure, an Enum or a Type.
 #[cycle(node)]
-#[derive(Drop)]
 pub struct Block<P> {
     pub kind: BlockKind,
     pub opening: P,
@@ -28,13 +36,36 @@ pub struct Block<P> {
     pub ending: P,
 }
 
+impl<P: Drop> Drop for Block<P> {
+    #[cycle(node)]
+    fn drop(self) {
+        let Block {
+            kind: _kind,
+            opening: _opening,
+            body: _body,
+            arms: _arms,
+            ending: _ending,
+        } = self;
+    }
+}
+
 /// An arm of an If or of a Select Case.
 #[cycle(node)]
-#[derive(Drop)]
 pub struct Arm<P> {
     /// It is an `Else` or a `Case Else`, behind which no arm may stand.
     pub is_last: bool,
     pub line: P,
     /// What stands behind the line, up to the next arm.
     pub body: Vec<Node<P>>,
+}
+
+impl<P: Drop> Drop for Arm<P> {
+    #[cycle(node)]
+    fn drop(self) {
+        let Arm {
+            is_last: _is_last,
+            line: _line,
+            body: _body,
+        } = self;
+    }
 }

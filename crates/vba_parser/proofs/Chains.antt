@@ -5,7 +5,7 @@ use Rattle.vba_words.specs.declared.reading.ReadToken.{ReadToken}
 use Rattle.vba_grammar.specs.Front.{Found, ◌>>=◌, found_as, whole_line}
 
 -- what stands alone on a line, made into something else
-whole_as : {A B : Type 0} (make : A → B) (found : Found A) → whole_line (found_as make found) ≡ option_map make (whole_line found)
+pub whole_as : {A B : Type 0} (make : A → B) (found : Found A) → whole_line (found_as make found) ≡ option_map make (whole_line found)
 whole_as make None = refl
 whole_as make (Some (part, [])) = refl
 whole_as make (Some (part, t ∷ ts)) = refl

@@ -6,7 +6,7 @@ use Rattle.vba_lexer.specs.declared.token.Token.{Token}
 use Rattle.vba_expression.specs.View.{view as expression_view}
 use Rattle.vba_tree.specs.Forms.{begins}
 use Rattle.vba_tree.specs.Tree.{if_then, if_else, Stmts}
-use Rattle.vba_grammar.specs.Lists.{in_list, put, Frame, then_frame, else_frame, State, need, with_else, closed}
+use Rattle.vba_grammar.specs.Lists.{in_list, Frame, then_frame, else_frame, State, need, with_else, closed}
 use Rattle.vba_parser.specs.Begun.{ended, AreBegun}
 use Rattle.vba_parser.specs.Seen.{head_place, else_view, frame_view, stack}
 use Rattle.vba_parser.specs.declared.frame.Frame as declared

@@ -1,12 +1,12 @@
 -- Statements and one more, and as a list whose first is written.
-use Rattle.std.proofs.Common.{◌≡◌, true, false, List, [], ◌∷◌, ◌++◌, Some, None, refl, ap, ◌∙◌}
+use Rattle.std.proofs.Common.{◌≡◌, true, false, List, [], ◌∷◌, ◌++◌, Some, None, refl, ◌∙◌}
 use Rattle.std.specs.Prelude.{map}
 use Rattle.vba_tree.specs.declared.statement.Statement.{Statement}
 use Rattle.vba_tree.specs.declared.statement.NextStatement.{NextStatement}
 use Rattle.vba_tree.specs.declared.statement.StatementList.{StatementList, StatementList-F, roll-StatementList, fold_out-StatementList}
 use Rattle.vba_tree.specs.Forms.{begins}
-use Rattle.vba_tree.specs.Tree.{Stmts, one}
-use Rattle.vba_tree.specs.View.{Next, written, missing, put, put_all, front, statement_view, list_view, next_view}
+use Rattle.vba_tree.specs.Tree.{Stmts}
+use Rattle.vba_tree.specs.View.{Next, written, missing, put, put_all, front, list_view, next_view}
 
 pub statements_push : (before : Stmts) (others : List NextStatement) (next : NextStatement)
     → put_all before (map next_view (others ++ next ∷ [])) ≡ put (put_all before (map next_view others)) (next_view next)

@@ -3,7 +3,7 @@ use Rattle.std.proofs.Common.{◌≡◌, ℕ, suc, ◌+◌, ◌-◌, ◌<◌, �
 use Rattle.vba_words.specs.declared.reading.ReadToken.{ReadToken}
 use Rattle.vba_tree.specs.Tree.{Stmts}
 use Rattle.vba_grammar.specs.Front.{◌>>=◌}
-use Rattle.vba_grammar.specs.Lists.{at_line, Frame, State, need, turn, run, statements_of}
+use Rattle.vba_grammar.specs.Lists.{at_line, Frame, State, need, run, statements_of}
 use Rattle.vba_parser.specs.Begun.{IsBegun}
 use Rattle.vba_parser.specs.Turns.{cut_at, turn_by}
 use Rattle.vba_parser.specs.Seen.{stack}

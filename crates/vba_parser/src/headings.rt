@@ -2,7 +2,7 @@
 
 ghost use Rattle.std.specs.Prelude.{◌≡◌, IfOk, option_map};
 ghost use Rattle.vba_grammar.specs.Clauses.{parameters_at, result_type_at};
-ghost use Rattle.vba_grammar.specs.Front.{is_as, is_left, part_if, whole_line};
+ghost use Rattle.vba_grammar.specs.Front.{is_as, is_left, name_at, part_if, whole_line};
 ghost use Rattle.vba_grammar.specs.Lines as lines;
 ghost use Rattle.vba_parser.specs.Headers.{event_of, procedure_of};
 ghost use Rattle.vba_parser.specs.Seen.{header_view};
@@ -18,7 +18,7 @@ use vba_tree::{
     Access, AccessWord, EnumHeader, EventLine, LineTree, Parameters, ProcedureHeader,
     ProcedureWords, ResultType, TypeHeader,
 };
-use vba_words::ReadToken;
+use vba_words::{Identifier, ReadToken};
 
 /// May a word of access, or none, stand before `Enum` and `Type`?
 fn may_precede_type(access: Option<AccessWord>) -> bool
@@ -50,7 +50,22 @@ fn may_precede_procedure(access: Option<AccessWord>) -> bool
     }
 }
 
+/// A name at the end of a line.
+fn read_last_name(alloc: Global, tokens: &[ReadToken]) -> Result<Option<Identifier>, NoMemory>
+    ensures { IfOk result (λ found. found ≡ whole_line (name_at tokens.now)) }
+{
+    let Some((name, rest)) = read_name(alloc, tokens)? else {
+        return Ok(None);
+    };
+    if rest.is_empty() {
+        Ok(Some(name))
+    } else {
+        Ok(None)
+    }
+}
+
 /// `[Public|Private] Enum name`, behind `Enum`.
+#[tactic(auto, using(crate::proofs::Chains::whole_as))]
 fn read_enum_header(
     alloc: Global,
     access: Option<AccessWord>,
@@ -63,7 +78,7 @@ fn read_enum_header(
     if !may_precede_type(access) || static_word.is_some() {
         return Ok(None);
     }
-    let Some((name, [])) = read_name(alloc, tokens)? else {
+    let Some(name) = read_last_name(alloc, tokens)? else {
         return Ok(None);
     };
     Ok(Some(LineTree::EnumHeader(EnumHeader {
@@ -74,6 +89,7 @@ fn read_enum_header(
 }
 
 /// `[Public|Private] Type name`, behind `Type`.
+#[tactic(auto, using(crate::proofs::Chains::whole_as))]
 fn read_type_header(
     alloc: Global,
     access: Option<AccessWord>,
@@ -86,7 +102,7 @@ fn read_type_header(
     if !may_precede_type(access) || static_word.is_some() {
         return Ok(None);
     }
-    let Some((name, [])) = read_name(alloc, tokens)? else {
+    let Some(name) = read_last_name(alloc, tokens)? else {
         return Ok(None);
     };
     Ok(Some(LineTree::TypeHeader(TypeHeader {
