@@ -1,6 +1,6 @@
 -- Expressions whose names are replaced by what they stand for. A place in the source is Place; what can be written or
 -- lent is an Lvalue.
-use Rattle.std.specs.Prelude.{ℕ, List}
+use Rattle.std.specs.Prelude.{ℕ, List, Bool}
 use Rattle.vba_base.specs.declared.place.Place.{Place}
 use Rattle.vba_values.specs.declared.types.OpKind.{OpKind}
 use Rattle.vba_values.specs.declared.types.Compare.{Compare}
@@ -14,10 +14,11 @@ pub data Storage : Type 0 where
   local : ℕ → Storage
   shared : ℕ → Storage
 
--- a variable and its declared type
+-- a variable, its declared type, and whether it is an array that is declared with bounds
 pub record Variable : Type 0 where
   pub storage : Storage
   pub of : Declared
+  pub bounded : Bool
 
 -- what Err tells
 pub data ErrMember : Type 0 where
@@ -35,8 +36,11 @@ mutual
     -- no expression stands there, as where an argument isn't given
     not_given : Node
     constant : Val → Node
-    -- the value of a variable
+    -- the value at a place
     load : Lvalue → Node
+    -- an element and a field of a value that no variable has
+    element_value : Expr → Exprs → Node
+    field_value : Expr → (field : ℕ) → Node
     unary : OpKind → Expr → Node
     binary : OpKind → Compare → (left right : Expr) → Node
     -- a procedure or a Property Get of a standard module
@@ -45,14 +49,21 @@ mutual
     -- the value itself, but of an object the value of its default member
     default_of : Expr → Node
 
-  -- what can be written and lent: a variable
+  -- what can be written and lent: a variable, a part of one, or what a With block keeps
   pub data Lvalue : Type 0 where
     variable : Variable → Lvalue
+    -- an element of a plain variable, and of another place, by its numbers
+    item : Variable → Exprs → Lvalue
+    element : Lvalue → Exprs → Lvalue
+    -- a field, its declared type, and whether it is an array that is declared with bounds
+    field : Lvalue → (field : ℕ) → Declared → (bounded : Bool) → Lvalue
+    -- what stands before a dot that begins a place: the place or value of the With block with this number
+    kept_place : (header : ℕ) → Lvalue
 
   -- arguments, each by the way in which its parameter takes it
   pub data Args : Type 0 where
     no_args : Args
-    -- the variable itself: a ByRef parameter
+    -- the place itself: a ByRef parameter
     by_place : Lvalue → Args → Args
     -- the value, made one of the parameter's type
     by_copy : Expr → Declared → Args → Args

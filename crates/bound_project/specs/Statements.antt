@@ -6,7 +6,7 @@ use Rattle.vba_base.specs.declared.place.Place.{Place}
 use Rattle.vba_values.specs.declared.types.OpKind.{OpKind}
 use Rattle.vba_values.specs.declared.types.Compare.{Compare}
 use Rattle.vba_values.specs.Types.{Declared}
-use Rattle.bound_project.specs.Expressions.{Variable, Expr, Lvalue, Args, Prints}
+use Rattle.bound_project.specs.Expressions.{Variable, Expr, Exprs, Lvalue, Args, Prints}
 
 -- the tests of a Case: `Is o e`, of which `e` alone is `Is = e`, and `e To e`
 pub data Tests : Type 0 where
@@ -20,10 +20,23 @@ pub data Handling : Type 0 where
   skipped : Handling
   handled_at : ℕ → Handling
 
+-- the arrays of a ReDim: a place, the low and high bound of each dimension, and the type of the elements where that is
+-- written
+pub data Resizes : Type 0 where
+  no_resizes : Resizes
+  resize : Lvalue → (bounds : Exprs) → Option Declared → Resizes → Resizes
+
+-- the arrays of an Erase
+pub data Arrays : Type 0 where
+  no_arrays : Arrays
+  an_array : Lvalue → Arrays → Arrays
+
 -- what a statement does. Where a statement can go on in two ways it has the numbers of both
 pub data Action : Type 0 where
   -- [Let] target = value
   assign : Lvalue → Expr → Action
+  -- the same where nothing has the target, as an element of the array that a function gives: nothing is stored
+  assign_none : (target value : Expr) → Action
   -- a call whose value isn't used
   evaluate : Expr → Action
   -- an assignment to a property of a standard module: its Property Let, that one's other arguments, the value and its
@@ -41,11 +54,25 @@ pub data Action : Type 0 where
   for_to : Variable → Compare → (start last step : Expr) → (first behind : ℕ) → Action
   -- Next of the For with this number: into its block again, or on
   next : Variable → (header first : ℕ) → Action
+  -- For Each: into its block, or behind it
+  for_each : Variable → Expr → (first behind : ℕ) → Action
+  -- Next of the For Each with this number: into its block again, or on
+  next_each : Variable → (header first : ℕ) → Action
+  -- Exit For of the For Each with this number
+  exit_each : (header to : ℕ) → Action
   -- Select Case: to its first Case
   select : Expr → (first : ℕ) → Action
   -- Case of the Select Case with this number, whose value has this type as an operand: into its block, or to the next
   -- arm
   case_of : Tests → (header : ℕ) → Declared → Compare → (first other : ℕ) → Action
+  -- ReDim and ReDim Preserve
+  redim : (preserve : Bool) → Resizes → Action
+  erase : Arrays → Action
+  -- With over a place, and over a value
+  with_place : Lvalue → Action
+  with_value : Expr → Action
+  -- End With of the With with this number
+  end_with : (header : ℕ) → Action
   go_sub : ℕ → Action
   return_sub : Action
   -- Exit Sub, Exit Function, Exit Property

@@ -1,12 +1,12 @@
 -- Serves the code: the code of expressions and statements.
-use Rattle.std.specs.Prelude.{ℕ, suc, true, List, [], ◌∷◌, ◌++◌, length}
+use Rattle.std.specs.Prelude.{ℕ, suc, Bool, true, List, [], ◌∷◌, ◌++◌, length}
 use Rattle.vba_values.specs.declared.types.Compare.{Compare}
 use Rattle.vba_values.specs.Types.{Declared}
 use Rattle.vba_values.specs.Val.{missing, empty}
-use Rattle.bound_project.specs.Expressions.{Expr, expr, Node, not_given, constant, load, unary, binary, call, err_value, default_of, Lvalue, variable, Args, no_args, by_place, by_copy, by_default, by_list, in_order, Exprs, no_exprs, also, Prints, no_prints, shown, zone, operand_type}
-use Rattle.bound_project.specs.Statements.{Tests, no_tests, test_is, test_range, Action, assign, evaluate, let_property, print, raise, test, go_to, for_to, next, select, case_of, go_sub, return_sub, exit_to, on_error, end_handler, clear_err, resume_again, resume_next, resume_at, stop, end_run, Statement}
+use Rattle.bound_project.specs.Expressions.{Expr, expr, Node, not_given, constant, load, element_value, field_value, unary, binary, call, err_value, default_of, Lvalue, variable, item, element, field, kept_place, Args, no_args, by_place, by_copy, by_default, by_list, in_order, Exprs, no_exprs, also, Prints, no_prints, shown, zone, operand_type}
+use Rattle.bound_project.specs.Statements.{Resizes, no_resizes, resize, Arrays, no_arrays, an_array, Tests, no_tests, test_is, test_range, Action, assign, assign_none, evaluate, let_property, print, raise, test, go_to, for_to, next, for_each, next_each, exit_each, select, case_of, redim, erase, with_place, with_value, end_with, go_sub, return_sub, exit_to, on_error, end_handler, clear_err, resume_again, resume_next, resume_at, stop, end_run, Statement}
 use Rattle.vba_meaning.specs.Effects.{policy_of}
-use Rattle.pcode.specs.Instructions.{Instr, Begin, Push, LoadErr, PathOf, ReadThrough, Operate, OperateAlone, Plain, Fit, Drop, Lend, Pack, Reorder, Lift, Call, Store, ShowText, Show, Throw, LoopOff, LoopOn, NextRound, Keep, Selected, IfFits, IfBetween, PutReturn, TakeReturn, SetPolicy, HandlerOff, ErrOff, Again, Behind, Resumes, Finish, Branch, Halt, StopHere}
+use Rattle.pcode.specs.Instructions.{Instr, Begin, Push, LoadErr, PathOf, ReadThrough, ElementOf, ElementIn, FieldOf, Dot, Index, PartOf, Operate, OperateAlone, Plain, Fit, Drop, Lend, Pack, Reorder, Lift, Call, Store, ShowText, Show, Throw, LoopOff, LoopOn, NextRound, EachOff, EachOn, NextItem, Keep, Selected, IfFits, IfBetween, Redim, EraseAt, KeepPath, DropKept, PutReturn, TakeReturn, SetPolicy, HandlerOff, ErrOff, Again, Behind, Resumes, Finish, Branch, Halt, StopHere}
 
 -- how many slots arguments are
 abbrev pub count : Args → ℕ
@@ -34,6 +34,8 @@ abbrev mutual
   node_code not_given = Push missing ∷ []
   node_code (constant v) = Push v ∷ []
   node_code (load x) = place_code x ++ ReadThrough ∷ []
+  node_code (element_value e es) = expr_code e ++ (list_code es ++ Index (list_count es) ∷ [])
+  node_code (field_value e i) = expr_code e ++ PartOf i ∷ []
   node_code (unary o a) = expr_code a ++ OperateAlone o (operand_type a) ∷ []
   node_code (binary o compare a b) = expr_code a ++ (expr_code b ++ Operate o compare (operand_type a) (operand_type b) ∷ [])
   node_code (call p args) = args_code args ++ Call p (count args) ∷ []
@@ -42,6 +44,10 @@ abbrev mutual
 
   pub place_code : Lvalue → List Instr
   place_code (variable x) = PathOf x ∷ []
+  place_code (item x es) = list_code es ++ PathOf x ∷ ElementOf (list_count es) ∷ []
+  place_code (element x es) = place_code x ++ (list_code es ++ ElementIn (list_count es) ∷ [])
+  place_code (field x i of bounded) = place_code x ++ FieldOf i of bounded ∷ []
+  place_code (kept_place i) = Dot i ∷ []
 
   pub args_code : Args → List Instr
   args_code no_args = []
@@ -71,9 +77,18 @@ tests_code entry (test_is o e ts) header of compare first other =
 tests_code entry (test_range a b ts) header of compare first other =
     Selected header ∷ Plain ∷ (expr_code a ++ (expr_code b ++ IfBetween compare of (operand_type a) (operand_type b) (entry first) ∷ tests_code entry ts header of compare first other))
 
+abbrev pub resizes_code : Bool → Resizes → List Instr
+resizes_code preserve no_resizes = []
+resizes_code preserve (resize x bounds of rs) = place_code x ++ (list_code bounds ++ Redim preserve of (list_count bounds) ∷ resizes_code preserve rs)
+
+abbrev pub erases_code : Arrays → List Instr
+erases_code no_arrays = []
+erases_code (an_array x xs) = place_code x ++ EraseAt ∷ erases_code xs
+
 -- the code of a statement: the operands, what is done with them, and where it goes on
 abbrev pub action_code : Entry → (procedure statement following : ℕ) → Action → List Instr
 action_code entry p i k (assign x e) = expr_code e ++ (place_code x ++ (Store ∷ Finish (entry k) ∷ []))
+action_code entry p i k (assign_none x e) = expr_code e ++ (expr_code x ++ (Drop ∷ Drop ∷ Finish (entry k) ∷ []))
 action_code entry p i k (evaluate e) = expr_code e ++ (Drop ∷ Finish (entry k) ∷ [])
 action_code entry p i k (let_property q args e of) = expr_code e ++ (args_code args ++ (Lift (count args) ∷ Plain ∷ Fit of ∷ Call q (suc (count args)) ∷ Drop ∷ Finish (entry k) ∷ []))
 action_code entry p i k (print ps ends) = prints_code ps ++ (Show ends (prints_count ps) ∷ Finish (entry k) ∷ [])
@@ -83,8 +98,16 @@ action_code entry p i k (go_to to) = Finish (entry to) ∷ []
 action_code entry p i k (for_to x compare a b c first behind) =
     LoopOff i ∷ (expr_code a ++ (expr_code b ++ (expr_code c ++ (LoopOn x i compare (operand_type b) (operand_type c) ∷ Branch true (entry first) (entry behind) ∷ []))))
 action_code entry p i k (next x header first) = NextRound x header ∷ Branch true (entry first) (entry k) ∷ []
+action_code entry p i k (for_each x e first behind) = EachOff i ∷ (expr_code e ++ (EachOn i ∷ NextItem x i ∷ Branch true (entry first) (entry behind) ∷ []))
+action_code entry p i k (next_each x header first) = NextItem x header ∷ Branch true (entry first) (entry k) ∷ []
+action_code entry p i k (exit_each header to) = DropKept header ∷ Finish (entry to) ∷ []
 action_code entry p i k (select e first) = expr_code e ++ (Keep i ∷ Finish (entry first) ∷ [])
 action_code entry p i k (case_of ts header of compare first other) = tests_code entry ts header of compare first other
+action_code entry p i k (redim preserve rs) = resizes_code preserve rs ++ Finish (entry k) ∷ []
+action_code entry p i k (erase xs) = erases_code xs ++ Finish (entry k) ∷ []
+action_code entry p i k (with_place x) = place_code x ++ (KeepPath i ∷ Finish (entry k) ∷ [])
+action_code entry p i k (with_value e) = expr_code e ++ (Keep i ∷ Finish (entry k) ∷ [])
+action_code entry p i k (end_with header) = DropKept header ∷ Finish (entry k) ∷ []
 action_code entry p i k (go_sub to) = PutReturn k ∷ Finish (entry to) ∷ []
 action_code entry p i k return_sub = TakeReturn p ∷ []
 action_code entry p i k (exit_to end) = ErrOff ∷ Finish (entry end) ∷ []

@@ -9,16 +9,18 @@ use Rattle.vba_values.specs.Val.{Val, boolean, empty, missing, object}
 use Rattle.error_frames.specs.declared.frame.ResumeKind.TheVariants as kind
 use Rattle.error_frames.specs.declared.frame.Taken.{Taken}
 use Rattle.error_frames.specs.declared.frame.Taken.TheVariants as taken
-use Rattle.bound_project.specs.Expressions.{Expr, expr, Node, not_given, constant, load, unary, binary, call, err_value, default_of, Lvalue, variable, Args, no_args, by_place, by_copy, by_default, by_list, in_order, Exprs, no_exprs, also, Prints, no_prints, shown, zone, operand_type}
-use Rattle.bound_project.specs.Statements.{Tests, no_tests, test_is, test_range, Action, assign, evaluate, let_property, print, raise, test, go_to, for_to, next, select, case_of, go_sub, return_sub, exit_to, on_error, end_handler, clear_err, resume_again, resume_next, resume_at, stop, end_run, Statement}
+use Rattle.bound_project.specs.Expressions.{Expr, expr, Node, not_given, constant, load, element_value, field_value, unary, binary, call, err_value, default_of, Lvalue, variable, item, element, field, kept_place, Args, no_args, by_place, by_copy, by_default, by_list, in_order, Exprs, no_exprs, also, Prints, no_prints, shown, zone, operand_type}
+use Rattle.bound_project.specs.Statements.{Resizes, no_resizes, resize, Arrays, no_arrays, an_array, Tests, no_tests, test_is, test_range, Action, assign, assign_none, evaluate, let_property, print, raise, test, go_to, for_to, next, for_each, next_each, exit_each, select, case_of, redim, erase, with_place, with_value, end_with, go_sub, return_sub, exit_to, on_error, end_handler, clear_err, resume_again, resume_next, resume_at, stop, end_run, Statement}
 use Rattle.bound_project.specs.Project.{Project, class_at, statement_at, next_of, first_values}
-use Rattle.vba_meaning.specs.Memory.{Error, Ended, Faulted, Going, opening, Path, Slot, value, path, Memory, Object, top, at_statement, frame_left, path_of, result, entered, error_here, number_or}
+use Rattle.vba_meaning.specs.Paths.{Path, field_path}
+use Rattle.vba_meaning.specs.Memory.{Error, Ended, Faulted, Going, opening, Slot, value, path, Memory, Object, top, at_statement, frame_left, path_of, result, entered, error_here, number_or}
 use Rattle.vba_meaning.specs.References.{objects_in, objects_in_values, is_last, hold, next_waiting, taken_off, let_held, held_by, let_frame, object_at, as_told, gone, closed}
-use Rattle.vba_meaning.specs.Effects.{Raised, Term, Effect, operated, operated_alone, fitted, plain, condition, read_path, assigned, lent, unlent, packed, reordered, show_value, printed, loop_off, loop_on, next_round, keep, selected, fits, fits_between, gone_sub, returned_sub, policy_of, err_off, policy_on, handler_off, failed_statement, resumed, taken_by, with_taken, raised_by, err_of, stop_here}
-use Rattle.vba_meaning.specs.Meaning.{State, Res, Got, Failed, Over, Told, Turn, ◌>>=◌, turn, turned, with_memory, raise_error, perform, Callee, eval, eval_node, eval_place, evals, eval_list, eval_prints, tested, cases, exec, Doing, nowhere, enter, called_by, callees, terminate_by, tell, finish, end_of, one, let_go, lets_held, lets_frame, leave, left, pass_on, next_here, decide_by, decide, settle, at_statement_or, level, doing, close, Run, run_of, first_state, meaning}
-use Rattle.pcode.specs.Instructions.{Instr, Begin, Push, LoadErr, PathOf, ReadThrough, Operate, OperateAlone, Plain, Fit, Drop, Lend, Pack, Reorder, Lift, Call, Store, ShowText, Show, Throw, LoopOff, LoopOn, NextRound, Keep, Selected, IfFits, IfBetween, PutReturn, TakeReturn, SetPolicy, HandlerOff, ErrOff, Again, Behind, Resumes, Finish, Branch, Halt, StopHere, Leave, Code}
-use Rattle.pcode.specs.Machine.{After, Goes-on, Decide, Return, Pass, Close, Back, Caller, EndOf, Move, Goes, Ends, Turns, at, failing, letting, lets_all, finishes, raises_then, raised, done_then, then_at, then_test, then_jump, then_branch, take_args, pushed, enters, enter_by, calls, then_statement, looking, act, finished_by, terminates_by, ends_by, lets_one_by, closing, returned_by, passed_on, takes, decides, comes_by, Fin, Done, tells, follow, machine, first_move, run_code}
-use Rattle.pcode.specs.Code.{count, list_count, prints_count, expr_code, node_code, place_code, args_code, list_code, prints_code, Entry, tests_code, action_code}
+use Rattle.vba_meaning.specs.Effects.{Raised, Term, Effect, operated, operated_alone, fitted, plain, condition, read_path, assigned, lent, unlent, slot_values, packed, reordered, show_value, printed, loop_off, loop_on, next_round, keep, selected, fits, fits_between, gone_sub, returned_sub, policy_of, err_off, policy_on, handler_off, failed_statement, resumed, taken_by, with_taken, raised_by, err_of, stop_here}
+use Rattle.vba_meaning.specs.Arrays.{indexed, part_of, element_at, redimmed, erased, keep_path, block_over, dot_at, each_off, each_begun, each_next}
+use Rattle.vba_meaning.specs.Meaning.{State, Res, Got, Failed, Over, Told, Turn, ◌>>=◌, turn, turned, with_memory, raise_error, perform, Callee, eval, eval_node, eval_place, evals, eval_list, eval_prints, tested, cases, resizes, erases, exec, Doing, nowhere, enter, called_by, callees, terminate_by, tell, finish, end_of, one, let_go, lets_held, lets_frame, leave, left, pass_on, next_here, decide_by, decide, settle, at_statement_or, level, doing, close, Run, run_of, first_state, meaning}
+use Rattle.pcode.specs.Instructions.{Instr, Begin, Push, LoadErr, PathOf, ReadThrough, ElementOf, ElementIn, FieldOf, Dot, Index, PartOf, Operate, OperateAlone, Plain, Fit, Drop, Lend, Pack, Reorder, Lift, Call, Store, ShowText, Show, Throw, LoopOff, LoopOn, NextRound, EachOff, EachOn, NextItem, Keep, Selected, IfFits, IfBetween, Redim, EraseAt, KeepPath, DropKept, PutReturn, TakeReturn, SetPolicy, HandlerOff, ErrOff, Again, Behind, Resumes, Finish, Branch, Halt, StopHere, Leave, Code}
+use Rattle.pcode.specs.Machine.{After, Goes-on, Decide, Return, Back-to, Pass, Close, Back, Caller, EndOf, Move, Goes, Ends, Turns, at, failing, letting, lets_all, finishes, raises_then, raised, done_then, then_at, then_let_go, then_test, then_jump, then_branch, take_args, pushed, enters, enter_by, calls, then_statement, looking, act, finished_by, terminates_by, ends_by, lets_one_by, closing, returned_by, passed_on, takes, decides, comes_by, Fin, Done, tells, follow, machine, first_move, run_code}
+use Rattle.pcode.specs.Code.{count, list_count, prints_count, expr_code, node_code, place_code, args_code, list_code, prints_code, resizes_code, erases_code, Entry, tests_code, action_code}
 use Rattle.pcode.specs.Layout.{HasStatement, Laid}
 use Rattle.pcode.proofs.Stands.{UpTo, up_split, up_to}
 use Rattle.simulation.specs.Meant.{fin_of}
@@ -176,6 +178,15 @@ module _ (pr : Project) (code : Code) (bound n : ℕ) (callee : Callee) (known :
     node_runs (load x) pc to st bs s has good =
         first (on_path st bs) (eval_place x callee pr s) (place_code x) _ pc to _ has (λ mid h. place_runs x pc mid st bs s h good) (λ q s1 g1 mid h.
         instr ReadThrough mid (path q ∷ st) bs s1 h.0 (ends_at (on_value st bs) h.1 (performs (read_path q) bs s1 g1)))
+    node_runs (element_value e es) pc to st bs s has good =
+        first (on_value st bs) (eval e callee pr s) (expr_code e) _ pc to _ has (λ mid h. expr_runs e pc mid st bs s h good) (λ v s1 g1 i h1.
+        first_each (on_args (value v ∷ st) bs) (eval_list es callee pr s1) (list_code es) _ i to _ h1 (list_counts es callee pr s1) (λ mid h. list_runs es i mid (value v ∷ st) bs s1 h g1) (λ xs s2 len g2 j h2.
+        instr (Index (length xs)) j (pushed xs (value v ∷ st)) bs s2 (h2.0 ∙ ap (λ m. Some (Index m)) (sym len))
+        (subst (λ m. Runs code bound n m (on_value st bs to) (failed bs) (perform (indexed v (slot_values xs)) s2)) (sym (all_taken xs (value v ∷ st) _))
+        (ends_at (on_value st bs) h2.1 (performs (indexed v (slot_values xs)) bs s2 g2)))))
+    node_runs (field_value e i) pc to st bs s has good =
+        first (on_value st bs) (eval e callee pr s) (expr_code e) _ pc to _ has (λ mid h. expr_runs e pc mid st bs s h good) (λ v s1 g1 j h.
+        instr (PartOf i) j (value v ∷ st) bs s1 h.0 (ends_at (on_value st bs) h.1 (performs (part_of i v) bs s1 g1)))
     node_runs (unary o a) pc to st bs s has good =
         first (on_value st bs) (eval a callee pr s) (expr_code a) _ pc to _ has (λ mid h. expr_runs a pc mid st bs s h good) (λ v s1 g1 i h.
         instr (OperateAlone o (operand_type a)) i (value v ∷ st) bs s1 h.0 (ends_at (on_value st bs) h.1 (performs (operated_alone o (operand_type a) v) bs s1 g1)))
@@ -200,6 +211,22 @@ module _ (pr : Project) (code : Code) (bound n : ℕ) (callee : Callee) (known :
     pub place_runs : (x : Lvalue) (pc to : ℕ) (st : List Slot) (bs : List Back) (s : State) → UpTo code.instrs pc (place_code x) to → Enough bound n s
         → Runs code bound n (Goes (at pc st bs s)) (on_path st bs to) (failed bs) (eval_place x callee pr s)
     place_runs (variable x) pc to st bs s has good = instr (PathOf x) pc st bs s has.0 (ends_at (on_path st bs) has.1 (here (path_of s.memory x) s good))
+    place_runs (item x es) pc to st bs s has good =
+        first_each (on_args st bs) (eval_list es callee pr s) (list_code es) _ pc to _ has (list_counts es callee pr s) (λ mid h. list_runs es pc mid st bs s h good) (λ xs s1 len g1 j h.
+        instr (PathOf x) j (pushed xs st) bs s1 h.0
+        (instr (ElementOf (length xs)) (j + 1) (path (path_of s1.memory x) ∷ pushed xs st) bs s1 (h.1.0 ∙ ap (λ m. Some (ElementOf m)) (sym len))
+        (subst (λ m. Runs code bound n m (on_path st bs to) (failed bs) (perform (element_at (path_of s1.memory x) (slot_values xs)) s1)) (sym (all_taken xs st _))
+        (ends_at (on_path st bs) h.1.1 (performs (element_at (path_of s1.memory x) (slot_values xs)) bs s1 g1)))))
+    place_runs (element x es) pc to st bs s has good =
+        first (on_path st bs) (eval_place x callee pr s) (place_code x) _ pc to _ has (λ mid h. place_runs x pc mid st bs s h good) (λ q s1 g1 i h1.
+        first_each (on_args (path q ∷ st) bs) (eval_list es callee pr s1) (list_code es) _ i to _ h1 (list_counts es callee pr s1) (λ mid h. list_runs es i mid (path q ∷ st) bs s1 h g1) (λ xs s2 len g2 j h2.
+        instr (ElementIn (length xs)) j (pushed xs (path q ∷ st)) bs s2 (h2.0 ∙ ap (λ m. Some (ElementIn m)) (sym len))
+        (subst (λ m. Runs code bound n m (on_path st bs to) (failed bs) (perform (element_at q (slot_values xs)) s2)) (sym (all_taken xs (path q ∷ st) _))
+        (ends_at (on_path st bs) h2.1 (performs (element_at q (slot_values xs)) bs s2 g2)))))
+    place_runs (field x i of bounded) pc to st bs s has good =
+        first (on_path st bs) (eval_place x callee pr s) (place_code x) _ pc to _ has (λ mid h. place_runs x pc mid st bs s h good) (λ q s1 g1 j h.
+        instr (FieldOf i of bounded) j (path q ∷ st) bs s1 h.0 (ends_at (on_path st bs) h.1 (here (field_path q i of bounded) s1 g1)))
+    place_runs (kept_place i) pc to st bs s has good = instr (Dot i) pc st bs s has.0 (ends_at (on_path st bs) has.1 (performs (dot_at i) bs s good))
 
     pub args_runs : (args : Args) (pc to : ℕ) (st : List Slot) (bs : List Back) (s : State) → UpTo code.instrs pc (args_code args) to → Enough bound n s
         → Runs code bound n (Goes (at pc st bs s)) (on_args st bs to) (failed bs) (evals args callee pr s)
@@ -357,12 +384,46 @@ module _ (pr : Project) (code : Code) (entry : ℕ → Entry) (laid : Laid pr en
       instr (IfBetween compare of (operand_type a) (operand_type b) (entry p most)) mid (value y ∷ value x ∷ value v ∷ []) bs s3 h.0
       (jumps (fits_between compare of (operand_type a) (operand_type b) v x y) most (mid + 1) bs s3 (λ s4. cases ts callee pr header of compare most none s4) g3 (λ s4 g4. cases_runs ts header of compare most none (mid + 1) to bs s4 h.1 g4)))))
 
+  -- so many waiting references are let go in the middle of a statement
+  let_go_runs : (k pc : ℕ) (st : List Slot) (bs : List Back) (s : State) → Enough bound n s
+      → Runs code bound n (Goes (letting k (Back-to pc st) bs s)) (then_at pc st bs) (failed bs) (callee.go k s)
+  let_go_runs k pc st bs s good = all_go code bound n callee.go known.go k (Back-to pc st) bs s (failed bs) good
+
+  resizes_run : (preserve : Bool) (rs : Resizes) (pc to : ℕ) (bs : List Back) (s : State) → UpTo code.instrs pc (resizes_code preserve rs) to → Enough bound n s
+      → Runs code bound n (Goes (at pc [] bs s)) (then_at to [] bs) (failed bs) (resizes preserve rs callee pr s)
+  resizes_run preserve no_resizes pc to bs s has good = subst (λ i. Runs code bound n (Goes (at pc [] bs s)) (then_at i [] bs) (failed bs) (Got tt s)) has (here {got = then_at pc [] bs} tt s good)
+  resizes_run preserve (resize x bounds of rs) pc to bs s has good =
+      then_place pr code bound n callee known laid.declared x _ pc to [] bs s has good (λ q s1 g1 i h1.
+      first_each pr code bound n callee known laid.declared (on_args (path q ∷ []) bs) (eval_list bounds callee pr s1) (list_code bounds) _ i to _ h1 (list_counts bounds callee pr s1)
+      (λ mid h. list_runs pr code bound n callee known laid.declared bounds i mid (path q ∷ []) bs s1 h g1) (λ xs s2 len g2 j h2.
+      instr (Redim preserve of (length xs)) j (pushed xs (path q ∷ [])) bs s2 (h2.0 ∙ ap (λ m. Some (Redim preserve of m)) (sym len))
+      (subst (λ m. Runs code bound n m (then_at to [] bs) (failed bs) (perform (redimmed pr.declared preserve of q (slot_values xs)) s2 >>= λ k s3. callee.go k s3 >>= λ u s4. resizes preserve rs callee pr s4)) (sym (all_taken xs (path q ∷ []) _))
+      (subst (λ d. Runs code bound n (done_then (redimmed d preserve of q (slot_values xs) s2.memory) bs s2 (then_let_go (j + 1) [] bs)) (then_at to [] bs) (failed bs)
+      (perform (redimmed pr.declared preserve of q (slot_values xs)) s2 >>= λ k s3. callee.go k s3 >>= λ u s4. resizes preserve rs callee pr s4)) (sym laid.declared)
+      (bind (perform (redimmed pr.declared preserve of q (slot_values xs)) s2) (performs {got = then_let_go (j + 1) [] bs} (redimmed pr.declared preserve of q (slot_values xs)) bs s2 g2) (λ k s3 g3.
+      bind (callee.go k s3) (let_go_runs k (j + 1) [] bs s3 g3) (λ u s4 g4. resizes_run preserve rs (j + 1) to bs s4 h2.1 g4)))))))
+
+  erases_run : (xs : Arrays) (pc to : ℕ) (bs : List Back) (s : State) → UpTo code.instrs pc (erases_code xs) to → Enough bound n s
+      → Runs code bound n (Goes (at pc [] bs s)) (then_at to [] bs) (failed bs) (erases xs callee pr s)
+  erases_run no_arrays pc to bs s has good = subst (λ i. Runs code bound n (Goes (at pc [] bs s)) (then_at i [] bs) (failed bs) (Got tt s)) has (here {got = then_at pc [] bs} tt s good)
+  erases_run (an_array x xs) pc to bs s has good =
+      then_place pr code bound n callee known laid.declared x _ pc to [] bs s has good (λ q s1 g1 j h.
+      instr EraseAt j (path q ∷ []) bs s1 h.0
+      (subst (λ d. Runs code bound n (done_then (erased d q s1.memory) bs s1 (then_let_go (j + 1) [] bs)) (then_at to [] bs) (failed bs)
+      (perform (erased pr.declared q) s1 >>= λ k s2. callee.go k s2 >>= λ u s3. erases xs callee pr s3)) (sym laid.declared)
+      (bind (perform (erased pr.declared q) s1) (performs {got = then_let_go (j + 1) [] bs} (erased pr.declared q) bs s1 g1) (λ k s2 g2.
+      bind (callee.go k s2) (let_go_runs k (j + 1) [] bs s2 g2) (λ u s3 g3. erases_run xs (j + 1) to bs s3 h.1 g3)))))
+
   pub action_runs : (a : Action) (i k pc to : ℕ) (bs : List Back) (s : State) → UpTo code.instrs pc (action_code (entry p) p i k a) to → Enough bound n s
       → Ends-well pc [] bs s (exec a callee pr p i k s)
   action_runs (assign x e) i k pc to bs s has good =
       then_value pr code bound n callee known laid.declared e _ pc to [] bs s has good (λ v s1 g1 mid h.
       then_place pr code bound n callee known laid.declared x _ mid to (value v ∷ []) bs s1 h g1 (λ q s2 g2 j h2.
       instr Store j (path q ∷ value v ∷ []) bs s2 h2.0 (used (assigned q v) k (j + 1) bs s2 h2.1.0 g2)))
+  action_runs (assign_none x e) i k pc to bs s has good =
+      then_value pr code bound n callee known laid.declared e _ pc to [] bs s has good (λ v s1 g1 i1 h1.
+      then_value pr code bound n callee known laid.declared x _ i1 to (value v ∷ []) bs s1 h1 g1 (λ w s2 g2 j h.
+      instr Drop j (value w ∷ value v ∷ []) bs s2 h.0 (instr Drop (j + 1) (value v ∷ []) bs s2 h.1.0 (ends_here k (j + 1 + 1) bs s2 h.1.1.0 g2))))
   action_runs (evaluate e) i k pc to bs s has good =
       then_value pr code bound n callee known laid.declared e _ pc to [] bs s has good (λ v s1 g1 mid h.
       instr Drop mid (value v ∷ []) bs s1 h.0 (ends_here k (mid + 1) bs s1 h.1.0 g1))
@@ -399,10 +460,33 @@ module _ (pr : Project) (code : Code) (entry : ℕ → Entry) (laid : Laid pr en
       instr (LoopOn x i compare (operand_type b) (operand_type c)) mid4 (value step ∷ value end ∷ value start ∷ []) bs s4 h4.0
       (decided (loop_on x i compare (operand_type b) (operand_type c) start end step) most none (mid4 + 1) bs s4 h4.1.0 g4))))))
   action_runs (next x header most) i k pc to bs s has good = instr (NextRound x header) pc [] bs s has.0 (decided (next_round x header) most k (pc + 1) bs s has.1.0 good)
+  action_runs (for_each x e most none) i k pc to bs s has good =
+      instr (EachOff i) pc [] bs s has.0
+      (bind (perform (each_off i) s) (performs {got = then_at (pc + 1) [] bs} (each_off i) bs s good) (λ u s1 g1.
+      then_value pr code bound n callee known laid.declared e _ (pc + 1) to [] bs s1 has.1 g1 (λ v s2 g2 j h.
+      instr (EachOn i) j (value v ∷ []) bs s2 h.0
+      (bind (perform (each_begun i v) s2) (performs {got = then_let_go (j + 1) [] bs} (each_begun i v) bs s2 g2) (λ l s3 g3.
+      bind (callee.go l s3) (let_go_runs l (j + 1) [] bs s3 g3) (λ w s4 g4.
+      instr (NextItem x i) (j + 1) [] bs s4 h.1.0 (decided (each_next x i) most none (j + 1 + 1) bs s4 h.1.1.0 g4)))))))
+  action_runs (next_each x header most) i k pc to bs s has good = instr (NextItem x header) pc [] bs s has.0 (decided (each_next x header) most k (pc + 1) bs s has.1.0 good)
+  action_runs (exit_each header x) i k pc to bs s has good = instr (DropKept header) pc [] bs s has.0 (used (block_over header) x (pc + 1) bs s has.1.0 good)
   action_runs (select e x) i k pc to bs s has good =
       then_value pr code bound n callee known laid.declared e _ pc to [] bs s has good (λ v s1 g1 mid h.
       instr (Keep i) mid (value v ∷ []) bs s1 h.0 (used (keep i v) x (mid + 1) bs s1 h.1.0 g1))
   action_runs (case_of ts header of compare most none) i k pc to bs s has good = cases_runs ts header of compare most none pc to bs s has good
+  action_runs (redim preserve rs) i k pc to bs s has good =
+      first pr code bound n callee known laid.declared (λ mid. then_at mid [] bs) (resizes preserve rs callee pr s) (resizes_code preserve rs) _ pc to _ has
+      (λ mid h. resizes_run preserve rs pc mid bs s h good) (λ u s1 g1 mid h. ends_here k mid bs s1 h.0 g1)
+  action_runs (erase xs) i k pc to bs s has good =
+      first pr code bound n callee known laid.declared (λ mid. then_at mid [] bs) (erases xs callee pr s) (erases_code xs) _ pc to _ has
+      (λ mid h. erases_run xs pc mid bs s h good) (λ u s1 g1 mid h. ends_here k mid bs s1 h.0 g1)
+  action_runs (with_place x) i k pc to bs s has good =
+      then_place pr code bound n callee known laid.declared x _ pc to [] bs s has good (λ q s1 g1 mid h.
+      instr (KeepPath i) mid (path q ∷ []) bs s1 h.0 (used (keep_path i q) k (mid + 1) bs s1 h.1.0 g1))
+  action_runs (with_value e) i k pc to bs s has good =
+      then_value pr code bound n callee known laid.declared e _ pc to [] bs s has good (λ v s1 g1 mid h.
+      instr (Keep i) mid (value v ∷ []) bs s1 h.0 (used (keep i v) k (mid + 1) bs s1 h.1.0 g1))
+  action_runs (end_with header) i k pc to bs s has good = instr (DropKept header) pc [] bs s has.0 (used (block_over header) k (pc + 1) bs s has.1.0 good)
   action_runs (go_sub x) i k pc to bs s has good = instr (PutReturn k) pc [] bs s has.0 (used (gone_sub k) x (pc + 1) bs s has.1.0 good)
   action_runs return_sub i k pc to bs s has good = instr (TakeReturn p) pc [] bs s has.0 (found_statement returned_sub bs s good)
   action_runs (exit_to x) i k pc to bs s has good = instr ErrOff pc [] bs s has.0 (used err_off x (pc + 1) bs s has.1.0 good)

@@ -1,111 +1,21 @@
--- Worked rows: small programs, and what they tell.
-use Rattle.std.specs.Prelude.{◌≡◌, ℕ, suc, pos, List, [], ◌∷◌, codes, true, refl, Some, None}
+-- Worked rows: what small programs tell.
+use Rattle.std.specs.Prelude.{◌≡◌, pos, [], ◌∷◌, codes, true, refl, Some}
 use Rattle.std.specs.Fmt.{digits}
 use Rattle.vba_values.specs.Arithmetic.{division}
-use Rattle.vba_values.specs.declared.types.OpKind.{OpKind}
 use Rattle.vba_values.specs.declared.types.OpKind.TheVariants as op
 use Rattle.vba_values.specs.declared.types.Compare.TheVariants.{Binary}
 use Rattle.vba_values.specs.declared.types.WholeKind.TheVariants as kind
 use Rattle.vba_values.specs.declared.fault.OutKind.TheVariants.{DoubleResult}
 use Rattle.vba_values.specs.Types.{Declared}
 use Rattle.vba_values.specs.Types as type
-use Rattle.vba_values.specs.Val.{null, whole, text, missing}
-use Rattle.bound_project.specs.Expressions.{local, shared, Variable, Expr, expr, Node, constant, load, binary, call, err_value, err_number, err_source, err_description, variable, no_args, by_place, by_copy, by_default, no_prints, shown, zone}
-use Rattle.bound_project.specs.Statements.{no_tests, test_is, test_range, Action, skipped, handled_at, assign, evaluate, print, raise, test, go_to, for_to, next, select, case_of, go_sub, return_sub, exit_to, on_error, resume_again, stop, end_run, Statement}
-use Rattle.bound_project.specs.Project.{Project, Declaration, Procedure, Body, is_sub, no_name, nowhere, no_declaration}
-use Rattle.vba_meaning.specs.Memory.{Ending, Ended, Faulted, Stopped, Going, stop_said, outside}
-use Rattle.vba_meaning.specs.Effects.{Event, Printed, Raised}
-use Rattle.vba_meaning.specs.Meaning.{Run, meaning}
-
-abbrev e : Declared → Node → Expr
-e of node = expr node nowhere of of
-
--- an Integer literal
-abbrev n : ℕ → Expr
-n k = e type.integer (constant (whole kind.Integer (pos k)))
-
-abbrev words : List ℕ → Expr
-words units = e type.text (constant (text units))
-
-abbrev two : OpKind → Declared → Expr → Expr → Expr
-two o of a b = e of (binary o Binary a b)
-
-abbrev plus : Expr → Expr → Expr
-plus a b = two op.Add type.integer a b
-
-abbrev half : Expr
-half = two op.IntDiv type.integer (n 1) (n 0)
-
-abbrev long : ℕ → Variable
-long i = record { storage = local i; of = type.long }
-
-abbrev byte : ℕ → Variable
-byte i = record { storage = local i; of = type.byte }
-
-abbrev any : ℕ → Variable
-any i = record { storage = local i; of = type.variant }
-
-abbrev global : ℕ → Variable
-global i = record { storage = shared i; of = type.long }
-
-abbrev v : Variable → Expr
-v x = e x.of (load (variable x))
-
-abbrev err : Expr
-err = e type.long (err_value err_number)
-
-abbrev show : Expr → Action
-show a = print (shown a no_prints) true
-
-abbrev becomes : Variable → Expr → Action
-becomes x a = assign (variable x) a
-
-abbrev declare : Declared → Declaration
-declare of = record no_declaration { of = of }
-
-abbrev sub : List Declared → Procedure
-sub locals = record { name = no_name; kind = is_sub; in_module = 0; place = nowhere; result = no_declaration; locals = declarations locals; parameters = [] } where
-  declarations : List Declared → List Declaration
-  declarations [] = []
-  declarations (of ∷ ofs) = declare of ∷ declarations ofs
-
--- statements whose next ones are those behind them, from a number on
-abbrev flat : ℕ → List Action → List Statement
-flat i [] = []
-flat i (a ∷ more) = record { action = a; place = nowhere; next = suc i } ∷ flat (suc i) more
-
-abbrev jumping : ℕ → Action → Statement
-jumping k a = record { action = a; place = nowhere; next = k }
-
-abbrev program : List Declared → List (Procedure × List Statement) → Project
-program globals procedures = record {
-  declared = record { modules = record { name = record { spelling = codes "M"; fold = codes "m" }; compare = Binary; base = 0 } ∷ []; types = []; classes = []; shared = declarations globals; procedures = heads procedures };
-  bodies = bodies_of procedures;
-  startup = 0;
-} where
-  declarations : List Declared → List Declaration
-  declarations [] = []
-  declarations (of ∷ ofs) = declare of ∷ declarations ofs
-
-  heads : List (Procedure × List Statement) → List Procedure
-  heads [] = []
-  heads (p ∷ ps) = p.0 ∷ heads ps
-
-  bodies_of : List (Procedure × List Statement) → List Body
-  bodies_of [] = []
-  bodies_of (p ∷ ps) = record { statements = p.1; blocks = [] } ∷ bodies_of ps
-
-abbrev main : List Declared → List Statement → Project
-main locals statements = program [] ((sub locals, statements) ∷ [])
-
-abbrev told : Run → Ending × List Event
-told r = (r.ending, r.events)
-
-abbrev line : List ℕ → Event
-line units = Printed units true
-
-abbrev fault : ℕ → (procedure statement : ℕ) → Ending
-fault k p i = Faulted (record { number = pos k; source = None; description = None; procedure = p; statement = Some i })
+use Rattle.vba_values.specs.Val.{null, whole, missing}
+use Rattle.bound_project.specs.Expressions.{constant, call, err_value, err_source, err_description, variable, no_args, by_place, by_copy, by_default, no_prints, shown, zone}
+use Rattle.bound_project.specs.Statements.{no_tests, test_is, test_range, skipped, handled_at, evaluate, print, raise, test, go_to, for_to, next, select, case_of, go_sub, return_sub, exit_to, on_error, resume_again, stop, end_run}
+use Rattle.bound_project.specs.Project.{Project}
+use Rattle.vba_meaning.specs.Memory.{Ended, Stopped, Going, stop_said, outside}
+use Rattle.vba_meaning.specs.Effects.{Raised}
+use Rattle.vba_meaning.specs.Meaning.{meaning}
+use Rattle.vba_meaning.proofs.Programs.{e, n, words, two, plus, half, long, byte, any, global, v, err, show, becomes, declare, sub, flat, jumping, program, main, told, line, fault}
 
 -- Debug.Print 2 + 3: entering is the first turn, printing the second
 abbrev sum : Project
@@ -173,11 +83,9 @@ again_is = refl
 -- Function F(a, b): a = a + 1 ¶ b = b + 10 ¶ F = a * b
 abbrev by_ref : Project
 by_ref = program (type.long ∷ []) (
-    (sub [], flat 0 (becomes (global 0) (n 1) ∷ show (e type.long (call 1 (by_place (variable (global 0)) (by_copy (v (global 0)) type.long no_args)))) ∷ show (v (global 0)) ∷ [])) ∷ (
-      record (sub []) { result = declare type.long },
-      flat 0 (
-          becomes (long 1) (plus (v (long 1)) (n 1)) ∷ becomes (long 2) (plus (v (long 2)) (n 10)) ∷ becomes (long 0) (two op.Mul type.long (v (long 1)) (v (long 2))) ∷ []),
-    ) ∷ [])
+    (sub [], flat 0 (becomes (global 0) (n 1) ∷ show (e type.long (call 1 (by_place (variable (global 0)) (by_copy (v (global 0)) type.long no_args)))) ∷ show (v (global 0)) ∷ [])) ∷
+    (record (sub []) { result = declare type.long }, flat 0 (
+    becomes (long 1) (plus (v (long 1)) (n 1)) ∷ becomes (long 2) (plus (v (long 2)) (n 10)) ∷ becomes (long 0) (two op.Mul type.long (v (long 1)) (v (long 2))) ∷ [])) ∷ [])
 
 pub by_ref_is : told (meaning by_ref 50) ≡ (Ended, line (codes " 22 ") ∷ line (codes " 2 ") ∷ [])
 unfolding digits
@@ -186,11 +94,9 @@ by_ref_is = refl
 -- an error leaves its procedure, and Err tells where it was raised: On Error Resume Next ¶ Work ¶ Debug.Print
 -- Err.Number; Err.Source; Err.Description
 abbrev passed : Project
-passed = program [] ((
-  sub [],
-  flat 0 (on_error skipped ∷ evaluate (e type.variant (call 1 no_args)) ∷
-      print (shown err (shown (e type.text (err_value err_source)) (shown (e type.text (err_value err_description)) no_prints))) true ∷ []),
-) ∷
+passed = program [] (
+    (sub [], flat 0 (on_error skipped ∷ evaluate (e type.variant (call 1 no_args)) ∷
+    print (shown err (shown (e type.text (err_value err_source)) (shown (e type.text (err_value err_description)) no_prints))) true ∷ [])) ∷
     (sub [], flat 0 (raise (by_copy (n 13) type.long (by_default missing (by_copy (words (codes "so")) type.text no_args))) ∷ show (n 1) ∷ [])) ∷ [])
 
 pub passed_is : told (meaning passed 50) ≡ (Ended, Raised (pos 13) ∷ line (codes " 13 Mso") ∷ [])

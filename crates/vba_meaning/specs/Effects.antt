@@ -1,6 +1,6 @@
 -- What a statement does in one go: each effect changes the memory and gives a value, raises an error, or stops the
 -- run. The tables of values, operators, arrays and error frames say what is computed.
-use Rattle.std.specs.Prelude.{ℕ, zero, ◌+◌, ◌-◌, ◌%◌, ◌==◌, nat_lt, ℤ, pos, ◌-ℤ◌, List, [], ◌∷◌, ◌++◌, length, replicate, codes, Bool, true, false, not, ◌&&◌, if◌then◌else◌, Option, Some, None, Result, Ok, Err, slice_index_or}
+use Rattle.std.specs.Prelude.{ℕ, zero, ◌+◌, ◌-◌, ◌%◌, ◌==◌, ℤ, pos, ◌-ℤ◌, List, [], ◌∷◌, ◌++◌, length, replicate, codes, Bool, true, false, not, ◌&&◌, if◌then◌else◌, Option, Some, None, Result, Ok, Err, slice_index_or}
 use Rattle.std.specs.Fmt.{signed_decimal}
 use Rattle.vba_values.specs.declared.fault.Bad.{Bad}
 use Rattle.vba_values.specs.declared.fault.Bad.TheVariants.{Raise, Outside}
@@ -14,7 +14,7 @@ use Rattle.vba_values.specs.declared.types.Compare.TheVariants.{Binary}
 use Rattle.vba_values.specs.declared.types.WholeKind.TheVariants as kind
 use Rattle.vba_values.specs.Types.{Declared}
 use Rattle.vba_values.specs.Types as type
-use Rattle.vba_values.specs.Val.{Val, empty, null, missing, boolean, whole, currency, text, object, array, vals_of}
+use Rattle.vba_values.specs.Val.{Val, empty, null, missing, boolean, whole, currency, text, object, array, udt, vals_of}
 use Rattle.vba_values.specs.Coerce.{coerce_of, text_of, to_boolean}
 use Rattle.vba_values.specs.Operators.{binary_of, unary_of}
 use Rattle.error_frames.specs.declared.frame.At.{At}
@@ -27,7 +27,8 @@ use Rattle.error_frames.specs.Resume as resumption
 use Rattle.bound_project.specs.Expressions.{Variable, ErrMember, err_number, err_source, err_description}
 use Rattle.bound_project.specs.Statements.{Handling, passed_on, skipped, handled_at}
 use Rattle.bound_project.specs.Project.{Declarations, Module, no_name, procedure_at}
-use Rattle.vba_meaning.specs.Memory.{Error, Why, stop_said, outside, Path, Slot, value, path, Loop, Kept, only, Memory, top, with_top, value_at, path_of, no_error, number_or}
+use Rattle.vba_meaning.specs.Paths.{Path}
+use Rattle.vba_meaning.specs.Memory.{Error, Why, stop_said, outside, Slot, value, path, Loop, Kept, only, Memory, top, with_top, found, without, put, value_at, path_of, is_locked, no_error, number_or}
 use Rattle.vba_meaning.specs.References.{hold, displaced, replaced, kept_value, object_at}
 use Rattle.vba_values.specs.Messages.{message_of}
 
@@ -144,13 +145,26 @@ read_value (Some v) m = Fine v (hold v m)
 abbrev pub read_path : Path → Memory → Effect Val
 read_path p m = read_value (value_at m p) m
 
-abbrev pub stored_by : Path → Option Val → Val → Memory → Effect (Unit {0})
-stored_by p None v m = Bad-at 9 m
-stored_by p (Some old) v m = done (replaced p v m)
+-- whether a value may be replaced: there is one, and no frame holds a path through an array there
+abbrev pub has_parts : Val → Bool
+has_parts (array bounds of items) = true
+has_parts (udt number fields) = true
+has_parts v = false
+
+abbrev pub replaceable_by : Path → Option Val → Memory → Effect Val
+replaceable_by p None m = Bad-at 9 m
+replaceable_by p (Some old) m = if has_parts old && is_locked m p then Bad-at 10 m else Fine old m
+
+abbrev pub replaceable : Path → Memory → Effect Val
+replaceable p m = replaceable_by p (value_at m p) m
+
+-- an array that is declared with bounds is never replaced by another one
+abbrev pub assignable : Path → Memory → Effect Val
+assignable p m = on_fine (replaceable p m) (λ old m1. if p.bounded then Bad-at 10 m1 else Fine old m1)
 
 -- a value is stored; what was there gives way
 abbrev pub stored : Path → Val → Memory → Effect (Unit {0})
-stored p v m = stored_by p (value_at m p) v m
+stored p v m = on_fine (assignable p m) (λ old m1. done (replaced p v m1))
 
 -- Let: the value becomes one of the type of what it is assigned to ([MS-VBAL] 5.4.3.8)
 abbrev pub assigned : Path → Val → Memory → Effect (Unit {0})
@@ -224,14 +238,6 @@ printed ends xs m =
 -- ---- For ([MS-VBAL] 5.4.2.3)
 
 -- the header of a For begins: the loop counts as not begun
-abbrev pub found : {A : Type 0} → List (ℕ × A) → ℕ → Option A
-found [] i = None
-found (e ∷ es) i = if e.0 == i then Some e.1 else found es i
-
-abbrev pub without : {A : Type 0} → List (ℕ × A) → ℕ → List (ℕ × A)
-without [] i = []
-without (e ∷ es) i = if e.0 == i then without es i else e ∷ without es i
-
 abbrev pub loop_off : ℕ → Memory → Effect (Unit {0})
 loop_off i m = done (with_top m (record (top m) { loops = without (top m).loops i }))
 
@@ -270,11 +276,6 @@ abbrev pub next_round : Variable → ℕ → Memory → Effect Bool
 next_round x i m = stepped (found (top m).loops i) x m
 
 -- ---- Select Case ([MS-VBAL] 5.4.2.10)
-
--- what a block keeps, in the order of the text
-abbrev pub put : {A : Type 0} → ℕ → A → List (ℕ × A) → List (ℕ × A)
-put i v [] = (i, v) ∷ []
-put i v (e ∷ es) = if e.0 == i then (i, v) ∷ es else if nat_lt i e.0 then (i, v) ∷ e ∷ es else e ∷ put i v es
 
 -- a Select Case that wasn't begun tests Empty
 abbrev pub kept_or : Option Kept → Kept

@@ -1,4 +1,6 @@
+pub mod Paths
 pub mod Memory
 pub mod References
 pub mod Effects
+pub mod Arrays
 pub mod Meaning

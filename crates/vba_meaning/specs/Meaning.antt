@@ -8,12 +8,14 @@ use Rattle.vba_values.specs.Val.{Val, empty, missing, object}
 use Rattle.error_frames.specs.declared.frame.ResumeKind.TheVariants as kind
 use Rattle.error_frames.specs.declared.frame.Taken.{Taken}
 use Rattle.error_frames.specs.declared.frame.Taken.TheVariants as taken
-use Rattle.bound_project.specs.Expressions.{Expr, expr, Node, not_given, constant, load, unary, binary, call, err_value, default_of, Lvalue, variable, Args, no_args, by_place, by_copy, by_default, by_list, in_order, Exprs, no_exprs, also, Prints, no_prints, shown, zone, operand_type}
-use Rattle.bound_project.specs.Statements.{Tests, no_tests, test_is, test_range, Action, assign, evaluate, let_property, print, raise, test, go_to, for_to, next, select, case_of, go_sub, return_sub, exit_to, on_error, end_handler, clear_err, resume_again, resume_next, resume_at, stop, end_run, Statement}
+use Rattle.bound_project.specs.Expressions.{Expr, expr, Node, not_given, constant, load, element_value, field_value, unary, binary, call, err_value, default_of, Lvalue, variable, item, element, field, kept_place, Args, no_args, by_place, by_copy, by_default, by_list, in_order, Exprs, no_exprs, also, Prints, no_prints, shown, zone, operand_type}
+use Rattle.bound_project.specs.Statements.{Resizes, no_resizes, resize, Arrays, no_arrays, an_array, Tests, no_tests, test_is, test_range, Action, assign, assign_none, evaluate, let_property, print, raise, test, go_to, for_to, next, for_each, next_each, exit_each, select, case_of, redim, erase, with_place, with_value, end_with, go_sub, return_sub, exit_to, on_error, end_handler, clear_err, resume_again, resume_next, resume_at, stop, end_run, Statement}
 use Rattle.bound_project.specs.Project.{Project, class_at, statement_at, next_of, first_values}
-use Rattle.vba_meaning.specs.Memory.{Error, Ending, Ended, Faulted, Stopped, Going, Path, Slot, value, path, Memory, Object, top, at_statement, frame_left, path_of, result, entered, error_here, number_or, opening}
+use Rattle.vba_meaning.specs.Paths.{Path, field_path}
+use Rattle.vba_meaning.specs.Memory.{Error, Ending, Ended, Faulted, Stopped, Going, Slot, value, path, Memory, Object, top, at_statement, frame_left, path_of, result, entered, error_here, number_or, opening}
 use Rattle.vba_meaning.specs.References.{objects_in, objects_in_values, is_last, hold, next_waiting, taken_off, let_held, held_by, let_frame, object_at, as_told, gone, closed}
-use Rattle.vba_meaning.specs.Effects.{Event, Raised, Term, Effect, Fine, Bad-at, Out, Tell, operated, operated_alone, fitted, plain, condition, read_path, assigned, lent, unlent, packed, reordered, show_value, printed, loop_off, loop_on, next_round, keep, selected, fits, fits_between, gone_sub, returned_sub, policy_of, err_off, policy_on, handler_off, failed_statement, resumed, taken_by, with_taken, raised_by, err_of, stop_here}
+use Rattle.vba_meaning.specs.Effects.{Event, Raised, Term, Effect, Fine, Bad-at, Out, Tell, operated, operated_alone, fitted, plain, condition, read_path, assigned, lent, unlent, slot_values, packed, reordered, show_value, printed, loop_off, loop_on, next_round, keep, selected, fits, fits_between, gone_sub, returned_sub, policy_of, err_off, policy_on, handler_off, failed_statement, resumed, taken_by, with_taken, raised_by, err_of, stop_here}
+use Rattle.vba_meaning.specs.Arrays.{indexed, part_of, element_at, redimmed, erased, keep_path, block_over, dot_at, each_off, each_begun, each_next}
 
 -- the memory, and how many turns were begun
 pub record State : Type 0 where
@@ -85,6 +87,8 @@ abbrev mutual
   eval_node not_given callee pr s = Got missing s
   eval_node (constant v) callee pr s = Got v s
   eval_node (load x) callee pr s = eval_place x callee pr s >>= λ p s1. perform (read_path p) s1
+  eval_node (element_value e es) callee pr s = eval e callee pr s >>= λ v s1. eval_list es callee pr s1 >>= λ xs s2. perform (indexed v (slot_values xs)) s2
+  eval_node (field_value e i) callee pr s = eval e callee pr s >>= λ v s1. perform (part_of i v) s1
   eval_node (unary o a) callee pr s = eval a callee pr s >>= λ v s1. perform (operated_alone o (operand_type a) v) s1
   eval_node (binary o compare a b) callee pr s =
       eval a callee pr s >>= λ v s1. eval b callee pr s1 >>= λ w s2. perform (operated o compare (operand_type a) (operand_type b) v w) s2
@@ -95,6 +99,11 @@ abbrev mutual
   -- where a place leads
   pub eval_place : Lvalue → Callee → Project → State → Res Path
   eval_place (variable x) callee pr s = Got (path_of s.memory x) s
+  -- a variable is found once the numbers are evaluated; any other place before, and its path waits
+  eval_place (item x es) callee pr s = eval_list es callee pr s >>= λ xs s1. perform (element_at (path_of s1.memory x) (slot_values xs)) s1
+  eval_place (element x es) callee pr s = eval_place x callee pr s >>= λ q s1. eval_list es callee pr s1 >>= λ xs s2. perform (element_at q (slot_values xs)) s2
+  eval_place (field x i of bounded) callee pr s = eval_place x callee pr s >>= λ q s1. Got (field_path q i of bounded) s1
+  eval_place (kept_place i) callee pr s = perform (dot_at i) s
 
   -- arguments in the order of the text, each made what its parameter takes before the next ([MS-VBAL] 5.3.1.11)
   pub evals : Args → Callee → Project → State → Res (List Slot)
@@ -134,9 +143,22 @@ cases (test_range a b ts) callee pr header of compare first other s =
     tested header s >>= λ v s1. eval a callee pr s1 >>= λ x s2. eval b callee pr s2 >>= λ y s3.
     perform (fits_between compare of (operand_type a) (operand_type b) v x y) s3 >>= λ b s4. if b then Got first s4 else cases ts callee pr header of compare first other s4
 
+-- the arrays of a ReDim and of an Erase, one by one: what each replaces is let go before the next
+abbrev pub resizes : Bool → Resizes → Callee → Project → State → Res (Unit {0})
+resizes preserve no_resizes callee pr s = Got tt s
+resizes preserve (resize x bounds of rs) callee pr s =
+    eval_place x callee pr s >>= λ q s1. eval_list bounds callee pr s1 >>= λ xs s2.
+    perform (redimmed pr.declared preserve of q (slot_values xs)) s2 >>= λ k s3. callee.go k s3 >>= λ u s4. resizes preserve rs callee pr s4
+
+abbrev pub erases : Arrays → Callee → Project → State → Res (Unit {0})
+erases no_arrays callee pr s = Got tt s
+erases (an_array x xs) callee pr s =
+    eval_place x callee pr s >>= λ q s1. perform (erased pr.declared q) s1 >>= λ k s2. callee.go k s2 >>= λ u s3. erases xs callee pr s3
+
 -- a statement's effect and the number of the statement to go on at, for the statement of this number in this procedure
 abbrev pub exec : Action → Callee → Project → (procedure statement following : ℕ) → State → Res ℕ
 exec (assign x e) callee pr p i k s = eval e callee pr s >>= λ v s1. eval_place x callee pr s1 >>= λ q s2. perform (assigned q v) s2 >>= λ u s3. Got k s3
+exec (assign_none x e) callee pr p i k s = eval e callee pr s >>= λ v s1. eval x callee pr s1 >>= λ w s2. Got k s2
 exec (evaluate e) callee pr p i k s = eval e callee pr s >>= λ v s1. Got k s1
 exec (let_property q args e of) callee pr p i k s =
     eval e callee pr s >>= λ v s1. evals args callee pr s1 >>= λ xs s2. perform (plain v) s2 >>= λ w s3. perform (fitted of w) s3 >>= λ x s4.
@@ -149,8 +171,18 @@ exec (for_to x compare a b c first behind) callee pr p i k s =
     perform (loop_off i) s >>= λ u s1. eval a callee pr s1 >>= λ start s2. eval b callee pr s2 >>= λ end s3. eval c callee pr s3 >>= λ by s4.
     perform (loop_on x i compare (operand_type b) (operand_type c) start end by) s4 >>= λ on s5. Got (if on then first else behind) s5
 exec (next x header first) callee pr p i k s = perform (next_round x header) s >>= λ on s1. Got (if on then first else k) s1
+exec (for_each x e first behind) callee pr p i k s =
+    perform (each_off i) s >>= λ u s1. eval e callee pr s1 >>= λ v s2. perform (each_begun i v) s2 >>= λ n s3. callee.go n s3 >>= λ w s4.
+    perform (each_next x i) s4 >>= λ on s5. Got (if on then first else behind) s5
+exec (next_each x header first) callee pr p i k s = perform (each_next x header) s >>= λ on s1. Got (if on then first else k) s1
+exec (exit_each header to) callee pr p i k s = perform (block_over header) s >>= λ u s1. Got to s1
 exec (select e first) callee pr p i k s = eval e callee pr s >>= λ v s1. perform (keep i v) s1 >>= λ u s2. Got first s2
 exec (case_of ts header of compare first other) callee pr p i k s = cases ts callee pr header of compare first other s
+exec (redim preserve rs) callee pr p i k s = resizes preserve rs callee pr s >>= λ u s1. Got k s1
+exec (erase xs) callee pr p i k s = erases xs callee pr s >>= λ u s1. Got k s1
+exec (with_place x) callee pr p i k s = eval_place x callee pr s >>= λ q s1. perform (keep_path i q) s1 >>= λ u s2. Got k s2
+exec (with_value e) callee pr p i k s = eval e callee pr s >>= λ v s1. perform (keep i v) s1 >>= λ u s2. Got k s2
+exec (end_with header) callee pr p i k s = perform (block_over header) s >>= λ u s1. Got k s1
 exec (go_sub to) callee pr p i k s = perform (gone_sub k) s >>= λ u s1. Got to s1
 exec return_sub callee pr p i k s = perform returned_sub s
 exec (exit_to end) callee pr p i k s = perform err_off s >>= λ u s1. Got end s1

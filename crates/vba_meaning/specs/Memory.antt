@@ -1,5 +1,5 @@
 -- What a run remembers: frames, variables, objects and Err. Turns and events are counted and told outside of it.
-use Rattle.std.specs.Prelude.{ℕ, ◌==◌, ℤ, pos, List, [], ◌∷◌, ◌++◌, length, map, Bool, true, if◌then◌else◌, Option, Some, None, slice_get, slice_set}
+use Rattle.std.specs.Prelude.{ℕ, ◌==◌, nat_lt, ℤ, pos, List, [], ◌∷◌, ◌++◌, length, map, Bool, true, if◌then◌else◌, Option, Some, None, slice_get, slice_set}
 use Rattle.vba_values.specs.declared.types.Compare.{Compare}
 use Rattle.vba_values.specs.declared.fault.OutKind.{OutKind}
 use Rattle.vba_values.specs.Types.{Declared}
@@ -9,6 +9,7 @@ use Rattle.arrays_udt.specs.Paths.{path_value, with_path}
 use Rattle.error_frames.specs.declared.frame.FrameErrors.{FrameErrors}
 use Rattle.error_frames.specs.Decision as decision
 use Rattle.bound_project.specs.Expressions.{Storage, local, shared, Variable}
+use Rattle.vba_meaning.specs.Paths.{Root, in_frame, in_project, in_block, Path, plain_steps, any_below}
 use Rattle.bound_project.specs.Project.{Declarations, Procedure, procedure_at, first_value, first_values}
 
 -- an error on its way, and what Err keeps of the last one: its number, a source and a description where they were
@@ -32,18 +33,6 @@ pub data Ending : Type 0 where
   Stopped : Why → (procedure : ℕ) → Option ℕ → Ending
   Going : Ending
 
--- the variable where a path begins: of a frame, whose number is that of the frames below it, or of the project
-pub data Root : Type 0 where
-  in_frame : (frame variable : ℕ) → Root
-  in_project : ℕ → Root
-
--- a path leads to a value: to a variable, then to fields and elements inside it. It has the declared type of what is
--- there
-pub record Path : Type 0 where
-  pub root : Root
-  pub steps : List PathStep
-  pub of : Declared
-
 -- what a variable of a frame contains: its value, or where a ByRef parameter leads
 pub data Slot : Type 0 where
   value : Val → Slot
@@ -62,8 +51,12 @@ pub record Loop : Type 0 where
 
 -- what a block keeps for its statements
 pub data Kept : Type 0 where
-  -- the value of a Select Case
+  -- the value of a Select Case, or of a With over a value
   only : Val → Kept
+  -- where the place of a With is
+  at_path : Path → Kept
+  -- what a For Each walks, whether the loop counts as begun, and the number of its next item
+  walk : (begun : Bool) → Val → (next : ℕ) → Kept
 
 -- a counted object
 pub record Object : Type 0 where
@@ -151,13 +144,39 @@ value_in None = None
 value_in (Some (value v)) = Some v
 value_in (Some (path p)) = None
 
+-- what stands at a number
+abbrev pub found : {A : Type 0} → List (ℕ × A) → ℕ → Option A
+found [] i = None
+found (e ∷ es) i = if e.0 == i then Some e.1 else found es i
+
+abbrev pub without : {A : Type 0} → List (ℕ × A) → ℕ → List (ℕ × A)
+without [] i = []
+without (e ∷ es) i = if e.0 == i then without es i else e ∷ without es i
+
+-- the numbers rise
+abbrev pub put : {A : Type 0} → ℕ → A → List (ℕ × A) → List (ℕ × A)
+put i v [] = (i, v) ∷ []
+put i v (e ∷ es) = if e.0 == i then (i, v) ∷ es else if nat_lt i e.0 then (i, v) ∷ e ∷ es else e ∷ put i v es
+
+abbrev pub with_kept : List Frame → (frame header : ℕ) → Kept → List Frame
+with_kept [] k i v = []
+with_kept (f ∷ fs) k i v = if length fs == k then record f { keeps = put i v f.keeps } ∷ fs else f ∷ with_kept fs k i v
+
+abbrev pub value_kept : Option Kept → Option Val
+value_kept None = None
+value_kept (Some (only v)) = Some v
+value_kept (Some (at_path p)) = None
+value_kept (Some (walk begun v k)) = None
+
 abbrev pub root_value : Memory → Root → Option Val
 root_value m (in_frame k x) = value_in (slice_get (frame_at m.frames k).slots x)
 root_value m (in_project x) = slice_get m.shared x
+root_value m (in_block k i) = value_kept (found (frame_at m.frames k).keeps i)
 
 abbrev pub with_root : Memory → Root → Val → Memory
 with_root m (in_frame k x) v = record m { frames = with_slot m.frames k x (value v) }
 with_root m (in_project x) v = record m { shared = slice_set m.shared x v }
+with_root m (in_block k i) v = record m { frames = with_kept m.frames k i (only v) }
 
 abbrev pub inner_or_none : Option Val → List PathStep → Option Val
 inner_or_none None steps = None
@@ -165,11 +184,11 @@ inner_or_none (Some v) steps = path_value v steps
 
 -- the value at a path, where there still is one
 abbrev pub value_at : Memory → Path → Option Val
-value_at m p = inner_or_none (root_value m p.root) p.steps
+value_at m p = inner_or_none (root_value m p.root) (plain_steps p.steps)
 
 abbrev pub written : Memory → Path → Option Val → Val → Memory
 written m p None v = m
-written m p (Some old) v = with_root m p.root (with_path old p.steps v)
+written m p (Some old) v = with_root m p.root (with_path old (plain_steps p.steps) v)
 
 -- the memory with another value at a path
 abbrev pub with_value : Memory → Path → Val → Memory
@@ -184,8 +203,31 @@ path_or (Some (path q)) p = q
 abbrev pub path_of : Memory → Variable → Path
 path_of m x = path_by x.storage where
   path_by : Storage → Path
-  path_by (local i) = path_or (slice_get (top m).slots i) (record { root = in_frame (length (rest m.frames)) i; steps = []; of = x.of })
-  path_by (shared i) = record { root = in_project i; steps = []; of = x.of }
+  path_by (local i) = path_or (slice_get (top m).slots i) (record { root = in_frame (length (rest m.frames)) i; steps = []; of = x.of; bounded = x.bounded })
+  path_by (shared i) = record { root = in_project i; steps = []; of = x.of; bounded = x.bounded }
+
+-- ---- paths that frames hold
+
+abbrev pub paths_in_slots : List Slot → List Path
+paths_in_slots [] = []
+paths_in_slots (value v ∷ xs) = paths_in_slots xs
+paths_in_slots (path p ∷ xs) = p ∷ paths_in_slots xs
+
+abbrev pub paths_kept : List (ℕ × Kept) → List Path
+paths_kept [] = []
+paths_kept (e ∷ es) = kept_path e.1 ++ paths_kept es where
+  kept_path : Kept → List Path
+  kept_path (only v) = []
+  kept_path (at_path p) = p ∷ []
+  kept_path (walk begun v k) = []
+
+abbrev pub paths_held : List Frame → List Path
+paths_held [] = []
+paths_held (f ∷ fs) = f.pending ++ paths_in_slots f.slots ++ paths_kept f.keeps ++ paths_held fs
+
+-- what is at a path can't be replaced: a frame holds a path through an array there
+abbrev pub is_locked : Memory → Path → Bool
+is_locked m p = any_below (paths_held m.frames) p
 
 -- the value that a call gives
 abbrev pub value_or_empty : Option Val → Val

@@ -3,7 +3,8 @@ use Rattle.std.specs.Prelude.{ℕ, ◌+◌, ◌==◌, List, [], ◌∷◌, ◌++
 use Rattle.vba_values.specs.declared.object.ObjRef.{ObjRef}
 use Rattle.vba_values.specs.declared.object.ObjRef.TheVariants.{Nothing, Heap, Host}
 use Rattle.vba_values.specs.Val.{Val, Vals, empty, object, array, udt, no_vals, val}
-use Rattle.vba_meaning.specs.Memory.{Memory, Frame, Object, Slot, value, path, Kept, only, Path, top, with_top, rest, value_at, with_value, value_or_empty}
+use Rattle.vba_meaning.specs.Paths.{Path}
+use Rattle.vba_meaning.specs.Memory.{Memory, Frame, Object, Slot, value, path, Kept, only, at_path, walk, top, with_top, rest, value_at, with_value, value_or_empty}
 
 abbrev pub objects_of_reference : ObjRef → List ℕ
 objects_of_reference Nothing = []
@@ -37,6 +38,8 @@ objects_in_slots (x ∷ xs) = objects_in_slot x ++ objects_in_slots xs
 
 abbrev pub kept_value : Kept → Val
 kept_value (only v) = v
+kept_value (at_path p) = empty
+kept_value (walk begun v k) = v
 
 abbrev pub objects_kept : List (ℕ × Kept) → List ℕ
 objects_kept [] = []
@@ -98,12 +101,18 @@ let_held m = waits (top m).held (with_top m (record (top m) { held = [] }))
 abbrev pub held_by : Frame → List ℕ
 held_by f = f.held ++ (objects_kept f.keeps ++ (if f.called then objects_in_slots (rest f.slots) ++ objects_in f.me else objects_in_slots f.slots))
 
-abbrev pub first_slot : List Slot → List Slot
-first_slot [] = []
-first_slot (x ∷ xs) = x ∷ []
+-- ByRef parameters lead where they led until the frame is gone
+abbrev pub without_values : List Slot → List Slot
+without_values [] = []
+without_values (value v ∷ xs) = value empty ∷ without_values xs
+without_values (path p ∷ xs) = path p ∷ without_values xs
+
+abbrev pub but_result : List Slot → List Slot
+but_result [] = []
+but_result (x ∷ xs) = x ∷ without_values xs
 
 abbrev pub emptied : Frame → Frame
-emptied f = record f { slots = if f.called then first_slot f.slots else []; me = if f.called then empty else f.me; keeps = []; held = [] }
+emptied f = record f { slots = if f.called then but_result f.slots else without_values f.slots; me = if f.called then empty else f.me; keeps = []; held = [] }
 
 abbrev pub let_frame : Memory → Memory
 let_frame m = waits (held_by (top m)) (with_top m (emptied (top m)))

@@ -1,0 +1,61 @@
+-- Paths: where values are. A path is no value; frames hold paths, and what they lead through can't be replaced.
+use Rattle.std.specs.Prelude.{ℕ, ◌==◌, List, [], ◌∷◌, ◌++◌, Bool, false, not, ◌&&◌, ◌||◌}
+use Rattle.vba_values.specs.Types.{Declared}
+use Rattle.arrays_udt.specs.declared.paths.PathStep.{PathStep}
+use Rattle.arrays_udt.specs.declared.paths.PathStep.TheVariants.{Field, Element}
+use Rattle.arrays_udt.specs.Paths.{same_step}
+
+-- where a path begins: a variable of a frame, whose number is that of the frames below it, or of the project; or the
+-- value that a With block of a frame keeps
+pub data Root : Type 0 where
+  in_frame : (frame variable : ℕ) → Root
+  in_project : ℕ → Root
+  in_block : (frame header : ℕ) → Root
+
+-- a step, and whether it leads into an array that can be replaced: one that isn't declared with bounds
+pub record Step : Type 0 where
+  pub step : PathStep
+  pub moves : Bool
+
+-- a path leads to a value: to a variable, then to fields and elements inside it. It has the declared type of what is
+-- there, and whether that is an array declared with bounds
+pub record Path : Type 0 where
+  pub root : Root
+  pub steps : List Step
+  pub of : Declared
+  pub bounded : Bool
+
+abbrev pub plain_steps : List Step → List PathStep
+plain_steps [] = []
+plain_steps (s ∷ steps) = s.step ∷ plain_steps steps
+
+-- the path of an element, and of a field
+abbrev pub element_path : Path → (offset : ℕ) → Declared → Path
+element_path p offset of = record { root = p.root; steps = p.steps ++ record { step = Element offset; moves = not p.bounded } ∷ []; of = of; bounded = false }
+
+abbrev pub field_path : Path → (field : ℕ) → Declared → (bounded : Bool) → Path
+field_path p i of bounded = record { root = p.root; steps = p.steps ++ record { step = Field i; moves = false } ∷ []; of = of; bounded = bounded }
+
+abbrev pub same_root : Root → Root → Bool
+same_root (in_frame k x) (in_frame j y) = k == j && x == y
+same_root (in_project x) (in_project y) = x == y
+same_root (in_block k i) (in_block j h) = k == j && i == h
+same_root a b = false
+
+abbrev pub any_moves : List Step → Bool
+any_moves [] = false
+any_moves (s ∷ steps) = s.moves || any_moves steps
+
+-- steps lead to a place and from there through an array that can be replaced
+abbrev pub leads_through : List Step → (place : List Step) → Bool
+leads_through steps [] = any_moves steps
+leads_through [] (t ∷ place) = false
+leads_through (s ∷ steps) (t ∷ place) = same_step s.step t.step && leads_through steps place
+
+-- a path would lead nowhere where what is at a place is replaced
+abbrev pub is_below : Path → (place : Path) → Bool
+is_below p q = same_root p.root q.root && leads_through p.steps q.steps
+
+abbrev pub any_below : List Path → (place : Path) → Bool
+any_below [] q = false
+any_below (p ∷ ps) q = is_below p q || any_below ps q
