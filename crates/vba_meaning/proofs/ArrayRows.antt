@@ -18,10 +18,12 @@ long_array = type.array_of type.long
 -- Dim a() As Long (of the module): On Error Resume Next ¶ ReDim a(3) ¶ Work a(1) ¶ Debug.Print Err.Number ¶ ReDim a(9)
 -- ¶ a(9) = 9 ¶ Debug.Print a(9); and Work(ByRef x As Long): ReDim a(9)
 abbrev lent_element : Project
-lent_element = program (long_array ∷ []) (
-    (sub [], flat 0 (
-    on_error skipped ∷ redim_to (shared_longs 0) 3 ∷ do_call 1 (by_place (item (shared_longs 0) (one 1)) no_args) ∷ show err ∷
-    redim_to (shared_longs 0) 9 ∷ el_becomes (shared_longs 0) 9 (n 9) ∷ show (el (shared_longs 0) 9) ∷ [])) ∷
+lent_element = program (long_array ∷ []) ((
+  sub [],
+  flat 0 (
+      on_error skipped ∷ redim_to (shared_longs 0) 3 ∷ do_call 1 (by_place (item (shared_longs 0) (one 1)) no_args) ∷ show err ∷
+      redim_to (shared_longs 0) 9 ∷ el_becomes (shared_longs 0) 9 (n 9) ∷ show (el (shared_longs 0) 9) ∷ []),
+) ∷
     (sub [], flat 0 (redim_to (shared_longs 0) 9 ∷ [])) ∷ [])
 
 pub lent_element_is : told (meaning lent_element 50) ≡ (Ended, Raised (pos 10) ∷ line (codes " 10 ") ∷ line (codes " 9 ") ∷ [])
@@ -59,10 +61,12 @@ with_locks_is = refl
 
 -- Work a(1), F(): while F runs the path to a(1) is pending, so its ReDim raises 10; the error drops the path
 abbrev pending : Project
-pending = program (long_array ∷ []) (
-    (sub [], flat 0 (
-    on_error skipped ∷ redim_to (shared_longs 0) 3 ∷ do_call 1 (by_place (item (shared_longs 0) (one 1)) (by_copy (e type.variant (call 2 no_args)) type.long no_args)) ∷
-    redim_to (shared_longs 0) 7 ∷ show (el (shared_longs 0) 7) ∷ [])) ∷
+pending = program (long_array ∷ []) ((
+  sub [],
+  flat 0 (
+      on_error skipped ∷ redim_to (shared_longs 0) 3 ∷ do_call 1 (by_place (item (shared_longs 0) (one 1)) (by_copy (e type.variant (call 2 no_args)) type.long no_args)) ∷
+      redim_to (shared_longs 0) 7 ∷ show (el (shared_longs 0) 7) ∷ []),
+) ∷
     (sub [], flat 0 (show (n 1) ∷ [])) ∷
     (sub [], flat 0 (redim_to (shared_longs 0) 9 ∷ [])) ∷ [])
 
@@ -90,11 +94,13 @@ abbrev bounded_longs : Variable
 bounded_longs = fixed 1 type.long
 
 abbrev bounds_stay : Project
-bounds_stay = program [] (
-    (record (sub []) { locals = declared_array type.long (up_to 1 ∷ []) ∷ declare long_array ∷ [] }, flat 0 (
-    on_error skipped ∷ redim_to bounded_longs 2 ∷ do_call 1 (by_place (variable bounded_longs) no_args) ∷ redim_to (longs 2) 1 ∷
-    do_call 2 (by_place (variable bounded_longs) (by_place (variable (longs 2)) no_args)) ∷
-    el_becomes bounded_longs 1 (n 4) ∷ show (el bounded_longs 1) ∷ erase (an_array (variable bounded_longs) no_arrays) ∷ show (el bounded_longs 1) ∷ [])) ∷
+bounds_stay = program [] ((
+  record (sub []) { locals = declared_array type.long (up_to 1 ∷ []) ∷ declare long_array ∷ [] },
+  flat 0 (
+      on_error skipped ∷ redim_to bounded_longs 2 ∷ do_call 1 (by_place (variable bounded_longs) no_args) ∷ redim_to (longs 2) 1 ∷
+      do_call 2 (by_place (variable bounded_longs) (by_place (variable (longs 2)) no_args)) ∷
+      el_becomes bounded_longs 1 (n 4) ∷ show (el bounded_longs 1) ∷ erase (an_array (variable bounded_longs) no_arrays) ∷ show (el bounded_longs 1) ∷ []),
+) ∷
     (sub [], flat 0 (redim_to (longs 1) 2 ∷ [])) ∷
     (sub [], flat 0 (assign (variable (any 1)) (at_place long_array (variable (longs 2))) ∷ [])) ∷ [])
 
@@ -119,11 +125,13 @@ outside_bounds_is = refl
 
 -- Dim v: ReDim v(1) ¶ ReDim v(1)(5) ¶ v(1)(5) = 7 ¶ Debug.Print v(1)(5) ¶ v(1)(F()) = 8, where F makes v a number: 9
 abbrev gone : Project
-gone = program (type.variant ∷ []) (
-    (sub [], flat 0 (
-    on_error skipped ∷ redim_to shared_variant 1 ∷ redim false (resize (item shared_variant (one 1)) (from_0 5) None no_resizes) ∷
-    assign (element (item shared_variant (one 1)) (one 5)) (n 7) ∷ show (at_place type.variant (element (item shared_variant (one 1)) (one 5))) ∷
-    assign (element (item shared_variant (one 1)) (also (e type.variant (call 1 no_args)) no_exprs)) (n 8) ∷ show (v shared_variant) ∷ [])) ∷
+gone = program (type.variant ∷ []) ((
+  sub [],
+  flat 0 (
+      on_error skipped ∷ redim_to shared_variant 1 ∷ redim false (resize (item shared_variant (one 1)) (from_0 5) None no_resizes) ∷
+      assign (element (item shared_variant (one 1)) (one 5)) (n 7) ∷ show (at_place type.variant (element (item shared_variant (one 1)) (one 5))) ∷
+      assign (element (item shared_variant (one 1)) (also (e type.variant (call 1 no_args)) no_exprs)) (n 8) ∷ show (v shared_variant) ∷ []),
+) ∷
     (sub [], flat 0 (becomes shared_variant (n 4) ∷ [])) ∷ [])
 
 pub gone_is : told (meaning gone 50) ≡ (Ended, line (codes " 7 ") ∷ Raised (pos 9) ∷ line (codes " 4 ") ∷ [])
@@ -208,13 +216,15 @@ dots_are = refl
 -- With F() ¶ .X = .X + 1 ¶ Debug.Print .X ¶ End With, where F gives a Type: the block keeps a copy, which is written;
 -- Debug.Print F().X; G()(1); G()(1) = 3 and G()(7) = 3, where G gives an array
 abbrev results : Project
-results = with_types ((declare type.long ∷ []) ∷ []) (program [] (
-    (sub [], flat 0 (
-    on_error skipped ∷ with_value (e (type.udt 0) (call 1 no_args)) ∷ assign (x_of (kept_place 1)) (plus (at_place type.long (x_of (kept_place 1))) (n 1)) ∷
-    show (at_place type.long (x_of (kept_place 1))) ∷ end_with 1 ∷ show (e type.long (field_value (e (type.udt 0) (call 1 no_args)) 0)) ∷
-    show (e type.long (element_value (e long_array (call 2 no_args)) (one 1))) ∷
-    assign_none (e type.long (element_value (e long_array (call 2 no_args)) (one 1))) (n 3) ∷
-    assign_none (e type.long (element_value (e long_array (call 2 no_args)) (one 7))) (n 3) ∷ [])) ∷
+results = with_types ((declare type.long ∷ []) ∷ []) (program [] ((
+  sub [],
+  flat 0 (
+      on_error skipped ∷ with_value (e (type.udt 0) (call 1 no_args)) ∷ assign (x_of (kept_place 1)) (plus (at_place type.long (x_of (kept_place 1))) (n 1)) ∷
+      show (at_place type.long (x_of (kept_place 1))) ∷ end_with 1 ∷ show (e type.long (field_value (e (type.udt 0) (call 1 no_args)) 0)) ∷
+      show (e type.long (element_value (e long_array (call 2 no_args)) (one 1))) ∷
+      assign_none (e type.long (element_value (e long_array (call 2 no_args)) (one 1))) (n 3) ∷
+      assign_none (e type.long (element_value (e long_array (call 2 no_args)) (one 7))) (n 3) ∷ []),
+) ∷
     (record (sub []) { result = declare (type.udt 0) }, flat 0 (assign (x_of (variable (of_type 0 (type.udt 0)))) (n 4) ∷ [])) ∷
     (record (sub []) { result = declare long_array }, flat 0 (redim_to (longs 0) 1 ∷ el_becomes (longs 0) 1 (n 8) ∷ [])) ∷ []))
 
@@ -227,12 +237,14 @@ abbrev three : type.Declared
 three = type.fixed_text 3
 
 abbrev fixed_texts : Project
-fixed_texts = with_types ((declare three ∷ []) ∷ []) (program [] (
-    (record (sub []) { locals = declare three ∷ declare (type.udt 0) ∷ declared_array three (up_to 0 ∷ []) ∷ [] }, flat 0 (
-    assign (variable (of_type 1 three)) (words (codes "a")) ∷
-    assign (field (variable (of_type 2 (type.udt 0))) 0 three false) (words (codes "bcde")) ∷
-    assign (item (fixed 3 three) (one 0)) (n 12) ∷
-    print (shown (at_place three (variable (of_type 1 three))) (shown (at_place three (field (variable (of_type 2 (type.udt 0))) 0 three false)) (shown (at_place three (item (fixed 3 three) (one 0))) (shown (words (codes "|")) no_prints)))) true ∷ [])) ∷ []))
+fixed_texts = with_types ((declare three ∷ []) ∷ []) (program [] ((
+  record (sub []) { locals = declare three ∷ declare (type.udt 0) ∷ declared_array three (up_to 0 ∷ []) ∷ [] },
+  flat 0 (
+      assign (variable (of_type 1 three)) (words (codes "a")) ∷
+      assign (field (variable (of_type 2 (type.udt 0))) 0 three false) (words (codes "bcde")) ∷
+      assign (item (fixed 3 three) (one 0)) (n 12) ∷
+      print (shown (at_place three (variable (of_type 1 three))) (shown (at_place three (field (variable (of_type 2 (type.udt 0))) 0 three false)) (shown (at_place three (item (fixed 3 three) (one 0))) (shown (words (codes "|")) no_prints)))) true ∷ []),
+) ∷ []))
 
 pub fixed_texts_are : told (meaning fixed_texts 50) ≡ (Ended, line (codes "a  bcd12 |") ∷ [])
 unfolding digits
@@ -241,10 +253,12 @@ fixed_texts_are = refl
 -- a ParamArray is an array of copies: Work 4, g, where Work(ParamArray xs()) writes xs(1)
 abbrev many : Project
 many = program (type.long ∷ []) (
-    (sub [], flat 0 (becomes (global 0) (n 1) ∷ do_call 1 (by_list (also (n 4) (also (v (global 0)) no_exprs)) no_args) ∷ show (v (global 0)) ∷ [])) ∷
-    (sub [], flat 0 (
-    el_becomes (of_type 1 (type.array_of type.variant)) 1 (n 8) ∷ show (el (of_type 1 (type.array_of type.variant)) 0) ∷ show (el (of_type 1 (type.array_of type.variant)) 1) ∷
-    show (el (of_type 1 (type.array_of type.variant)) 2) ∷ [])) ∷ [])
+    (sub [], flat 0 (becomes (global 0) (n 1) ∷ do_call 1 (by_list (also (n 4) (also (v (global 0)) no_exprs)) no_args) ∷ show (v (global 0)) ∷ [])) ∷ (
+      sub [],
+      flat 0 (
+          el_becomes (of_type 1 (type.array_of type.variant)) 1 (n 8) ∷ show (el (of_type 1 (type.array_of type.variant)) 0) ∷ show (el (of_type 1 (type.array_of type.variant)) 1) ∷
+          show (el (of_type 1 (type.array_of type.variant)) 2) ∷ []),
+    ) ∷ [])
 
 pub many_are : told (meaning many 50) ≡ (fault 9 1 3, line (codes " 4 ") ∷ line (codes " 8 ") ∷ Raised (pos 9) ∷ [])
 unfolding digits
@@ -256,11 +270,13 @@ too_many_is = refl
 
 -- ReDim a(1), b(2): one after the other; a ReDim through a Variant parameter keeps the type of the elements
 abbrev several : Project
-several = program [] (
-    (sub (long_array ∷ type.variant ∷ []), flat 0 (
-    redim false (resize (variable (longs 1)) (from_0 1) None (resize (variable (any 2)) (from_0 2) None no_resizes)) ∷
-    do_call 1 (by_place (variable (longs 1)) no_args) ∷ show (el (longs 1) 4) ∷ erase (an_array (variable (longs 1)) (an_array (variable (any 2)) no_arrays)) ∷
-    show (el (any 2) 0) ∷ [])) ∷
+several = program [] ((
+  sub (long_array ∷ type.variant ∷ []),
+  flat 0 (
+      redim false (resize (variable (longs 1)) (from_0 1) None (resize (variable (any 2)) (from_0 2) None no_resizes)) ∷
+      do_call 1 (by_place (variable (longs 1)) no_args) ∷ show (el (longs 1) 4) ∷ erase (an_array (variable (longs 1)) (an_array (variable (any 2)) no_arrays)) ∷
+      show (el (any 2) 0) ∷ []),
+) ∷
     (sub [], flat 0 (redim_to (any 1) 4 ∷ [])) ∷ [])
 
 pub several_are : told (meaning several 50) ≡ (fault 9 0 4, line (codes " 0 ") ∷ Raised (pos 9) ∷ [])
@@ -279,11 +295,13 @@ abbrev r_of : Lvalue → Lvalue
 r_of place = field place 1 long_array false
 
 abbrev types_lock : Project
-types_lock = with_types (q_type ∷ []) (program (type.udt 0 ∷ type.udt 0 ∷ []) (
-    (sub [], flat 0 (
-    on_error skipped ∷ redim false (resize (r_of (shared_type 0)) (from_0 2) None no_resizes) ∷
-    do_call 1 (by_place (element (r_of (shared_type 0)) (one 2)) no_args) ∷ show err ∷ show (at_place type.long (x_of (shared_type 0))) ∷
-    do_call 2 (by_place (x_of (shared_type 0)) no_args) ∷ show (at_place type.long (element (r_of (shared_type 0)) (one 2))) ∷ [])) ∷
+types_lock = with_types (q_type ∷ []) (program (type.udt 0 ∷ type.udt 0 ∷ []) ((
+  sub [],
+  flat 0 (
+      on_error skipped ∷ redim false (resize (r_of (shared_type 0)) (from_0 2) None no_resizes) ∷
+      do_call 1 (by_place (element (r_of (shared_type 0)) (one 2)) no_args) ∷ show err ∷ show (at_place type.long (x_of (shared_type 0))) ∷
+      do_call 2 (by_place (x_of (shared_type 0)) no_args) ∷ show (at_place type.long (element (r_of (shared_type 0)) (one 2))) ∷ []),
+) ∷
     (sub [], flat 0 (becomes (long 1) (n 6) ∷ assign (x_of (shared_type 0)) (n 4) ∷ assign (shared_type 0) (at_place (type.udt 0) (shared_type 1)) ∷ [])) ∷
     (sub [], flat 0 (assign (shared_type 0) (at_place (type.udt 0) (shared_type 1)) ∷ show (v (long 1)) ∷ [])) ∷ []))
 
@@ -296,10 +314,12 @@ abbrev q_array : Variable
 q_array = record { storage = shared 0; of = type.array_of (type.udt 0); bounded = false }
 
 abbrev place_gone : Project
-place_gone = with_types (q_type ∷ []) (program (type.array_of (type.udt 0) ∷ []) (
-    (sub [], flat 0 (
-    on_error skipped ∷ redim_to q_array 1 ∷ redim false (resize (r_of (item q_array (one 1))) (also (n 0) (also (e type.variant (call 1 no_args)) no_exprs)) None no_resizes) ∷
-    show err ∷ do_call 2 (by_place (item q_array (one 0)) no_args) ∷ show err ∷ [])) ∷
+place_gone = with_types (q_type ∷ []) (program (type.array_of (type.udt 0) ∷ []) ((
+  sub [],
+  flat 0 (
+      on_error skipped ∷ redim_to q_array 1 ∷ redim false (resize (r_of (item q_array (one 1))) (also (n 0) (also (e type.variant (call 1 no_args)) no_exprs)) None no_resizes) ∷
+      show err ∷ do_call 2 (by_place (item q_array (one 0)) no_args) ∷ show err ∷ []),
+) ∷
     (sub [], flat 0 (redim_to q_array 0 ∷ becomes (any 0) (n 3) ∷ [])) ∷
     (sub [], flat 0 (erase (an_array (variable q_array) no_arrays) ∷ [])) ∷ []))
 

@@ -77,16 +77,18 @@ jumping k a = record { action = a; place = nowhere; next = k }
 
 abbrev pub program : List Declared → List (Procedure × List Statement) → Project
 program globals procedures = record {
-    declared = record { modules = record { name = record { spelling = codes "M"; fold = codes "m" }; compare = Binary; base = 0 } ∷ []; types = []; classes = []; shared = declarations globals; procedures = heads procedures };
-    bodies = bodies_of procedures;
-    startup = 0
-  } where
+  declared = record { modules = record { name = record { spelling = codes "M"; fold = codes "m" }; compare = Binary; base = 0 } ∷ []; types = []; classes = []; shared = declarations globals; procedures = heads procedures };
+  bodies = bodies_of procedures;
+  startup = 0;
+} where
   declarations : List Declared → List Declaration
   declarations [] = []
   declarations (of ∷ ofs) = declare of ∷ declarations ofs
+
   heads : List (Procedure × List Statement) → List Procedure
   heads [] = []
   heads (p ∷ ps) = p.0 ∷ heads ps
+
   bodies_of : List (Procedure × List Statement) → List Body
   bodies_of [] = []
   bodies_of (p ∷ ps) = record { statements = p.1; blocks = [] } ∷ bodies_of ps

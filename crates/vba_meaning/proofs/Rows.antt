@@ -83,9 +83,11 @@ again_is = refl
 -- Function F(a, b): a = a + 1 ¶ b = b + 10 ¶ F = a * b
 abbrev by_ref : Project
 by_ref = program (type.long ∷ []) (
-    (sub [], flat 0 (becomes (global 0) (n 1) ∷ show (e type.long (call 1 (by_place (variable (global 0)) (by_copy (v (global 0)) type.long no_args)))) ∷ show (v (global 0)) ∷ [])) ∷
-    (record (sub []) { result = declare type.long }, flat 0 (
-    becomes (long 1) (plus (v (long 1)) (n 1)) ∷ becomes (long 2) (plus (v (long 2)) (n 10)) ∷ becomes (long 0) (two op.Mul type.long (v (long 1)) (v (long 2))) ∷ [])) ∷ [])
+    (sub [], flat 0 (becomes (global 0) (n 1) ∷ show (e type.long (call 1 (by_place (variable (global 0)) (by_copy (v (global 0)) type.long no_args)))) ∷ show (v (global 0)) ∷ [])) ∷ (
+      record (sub []) { result = declare type.long },
+      flat 0 (
+          becomes (long 1) (plus (v (long 1)) (n 1)) ∷ becomes (long 2) (plus (v (long 2)) (n 10)) ∷ becomes (long 0) (two op.Mul type.long (v (long 1)) (v (long 2))) ∷ []),
+    ) ∷ [])
 
 pub by_ref_is : told (meaning by_ref 50) ≡ (Ended, line (codes " 22 ") ∷ line (codes " 2 ") ∷ [])
 unfolding digits
@@ -94,9 +96,11 @@ by_ref_is = refl
 -- an error leaves its procedure, and Err tells where it was raised: On Error Resume Next ¶ Work ¶ Debug.Print
 -- Err.Number; Err.Source; Err.Description
 abbrev passed : Project
-passed = program [] (
-    (sub [], flat 0 (on_error skipped ∷ evaluate (e type.variant (call 1 no_args)) ∷
-    print (shown err (shown (e type.text (err_value err_source)) (shown (e type.text (err_value err_description)) no_prints))) true ∷ [])) ∷
+passed = program [] ((
+  sub [],
+  flat 0 (on_error skipped ∷ evaluate (e type.variant (call 1 no_args)) ∷
+      print (shown err (shown (e type.text (err_value err_source)) (shown (e type.text (err_value err_description)) no_prints))) true ∷ []),
+) ∷
     (sub [], flat 0 (raise (by_copy (n 13) type.long (by_default missing (by_copy (words (codes "so")) type.text no_args))) ∷ show (n 1) ∷ [])) ∷ [])
 
 pub passed_is : told (meaning passed 50) ≡ (Ended, Raised (pos 13) ∷ line (codes " 13 Mso") ∷ [])
