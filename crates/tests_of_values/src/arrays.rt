@@ -4,12 +4,12 @@ ghost use Rattle.arrays_udt.specs.Fields.{field_of, types_of};
 ghost use Rattle.tests_of_values.specs.Lines.{line_fields, line_types, point_fields, rest_of_line, y_of_point};
 
 use arrays_udt::{
-    PathStep, UdtField, UdtType, copy_value, fresh, fresh_array, has_path, path_read, path_write,
-    resize_kept, shape_of,
+    PathStep, UdtField, UdtType, fresh, fresh_array, has_path, path_read, path_write, resize_kept,
+    shape_of,
 };
 use std::alloc::Global;
 use vba_base::{NoMemory, OrMemory};
-use vba_values::{Bad, Bound, VType, Value};
+use vba_values::{Bad, Bound, VType, Value, copy_value};
 
 fn to(low: i32, high: i32) -> Bound
     ensures { result ≡ record { low = low; high = high } }
