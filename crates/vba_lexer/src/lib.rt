@@ -23,6 +23,7 @@ pub use laws::{
 };
 pub use lexer::{lex, slice_of};
 pub use line::Line;
+pub use lines::{Ending, first_line};
 pub use number::{
     Number, NumberFault, NumberKind, TypeSuffix, number_value, suffix_of, without_suffix,
 };
