@@ -48,6 +48,10 @@ mutual
     err_value : ErrMember → Node
     -- the value itself, but of an object the value of its default member
     default_of : Expr → Node
+    -- Is: whether both are the same object
+    same : (left right : Expr) → Node
+    -- TypeOf e Is type
+    is_type : Expr → Declared → Node
 
   -- what can be written and lent: a variable, a part of one, or what a With block keeps
   pub data Lvalue : Type 0 where
