@@ -4,4 +4,5 @@ pub mod References
 pub mod Effects
 pub mod Arrays
 pub mod Objects
+pub mod Library
 pub mod Meaning

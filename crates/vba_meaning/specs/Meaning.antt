@@ -8,7 +8,7 @@ use Rattle.vba_values.specs.Val.{Val, empty, missing, object}
 use Rattle.error_frames.specs.declared.frame.ResumeKind.TheVariants as kind
 use Rattle.error_frames.specs.declared.frame.Taken.{Taken}
 use Rattle.error_frames.specs.declared.frame.Taken.TheVariants as taken
-use Rattle.bound_project.specs.Expressions.{Expr, expr, Node, not_given, constant, load, element_value, field_value, unary, binary, call, err_value, default_of, same, is_type, Lvalue, variable, item, element, field, kept_place, Args, no_args, by_place, by_copy, by_default, by_list, in_order, Exprs, no_exprs, also, Prints, no_prints, shown, zone, operand_type}
+use Rattle.bound_project.specs.Expressions.{Expr, expr, Node, not_given, constant, load, element_value, field_value, unary, binary, call, err_value, default_of, default_if_any, same, is_type, library, bound_of, Lvalue, variable, item, element, field, kept_place, Args, no_args, by_place, by_copy, by_default, by_list, in_order, Exprs, no_exprs, also, Prints, no_prints, shown, zone, operand_type}
 use Rattle.bound_project.specs.Statements.{Resizes, no_resizes, resize, Arrays, no_arrays, an_array, Tests, no_tests, test_is, test_range, Action, assign, assign_none, set, assign_default, evaluate, let_property, set_property, print, raise, test, go_to, for_to, next, for_each, next_each, exit_each, select, case_of, redim, erase, with_place, with_value, end_with, go_sub, return_sub, exit_to, on_error, end_handler, clear_err, resume_again, resume_next, resume_at, stop, end_run, Statement}
 use Rattle.bound_project.specs.Project.{Project, class_at, statement_at, next_of, first_values}
 use Rattle.vba_meaning.specs.Paths.{Path, field_path}
@@ -17,6 +17,7 @@ use Rattle.vba_meaning.specs.References.{objects_in, objects_in_values, is_last,
 use Rattle.vba_meaning.specs.Effects.{Event, Raised, Term, Effect, Fine, Bad-at, Out, Tell, operated, operated_alone, fitted, plain, condition, read_path, assigned, lent, unlent, slot_values, packed, reordered, show_value, printed, loop_off, loop_on, next_round, keep, selected, fits, fits_between, gone_sub, returned_sub, policy_of, err_off, policy_on, handler_off, failed_statement, resumed, taken_by, with_taken, raised_by, err_of, set_object, stop_here}
 use Rattle.vba_meaning.specs.Arrays.{indexed, part_of, element_at, redimmed, erased, keep_path, block_over, dot_at, each_off, each_begun, each_next}
 use Rattle.vba_meaning.specs.Objects.{compared, typed_as, set_at, default_written}
+use Rattle.vba_meaning.specs.Library.{library_called, bound_at, plain_if_any}
 
 -- the memory, and how many turns were begun
 pub record State : Type 0 where
@@ -96,8 +97,12 @@ abbrev mutual
   eval_node (call p args) callee pr s = evals args callee pr s >>= λ xs s1. callee.call p empty xs s1
   eval_node (err_value member) callee pr s = Got (err_of pr.declared member s.memory.err) s
   eval_node (default_of e) callee pr s = eval e callee pr s >>= λ v s1. perform (plain v) s1
+  eval_node (default_if_any e) callee pr s = eval e callee pr s >>= λ v s1. perform (plain_if_any v) s1
   eval_node (same a b) callee pr s = eval a callee pr s >>= λ v s1. eval b callee pr s1 >>= λ w s2. perform (compared v w) s2
   eval_node (is_type e of) callee pr s = eval e callee pr s >>= λ v s1. perform (typed_as of v) s1
+  eval_node (library f text_form es compare base) callee pr s =
+      eval_list es callee pr s >>= λ xs s1. perform (library_called pr.declared f text_form compare base (slot_values xs)) s1
+  eval_node (bound_of upper x z) callee pr s = eval_place x callee pr s >>= λ q s1. perform (bound_at upper z q) s1
 
   -- where a place leads
   pub eval_place : Lvalue → Callee → Project → State → Res Path
