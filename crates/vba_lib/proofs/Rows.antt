@@ -1,0 +1,1 @@
+-- The definitions, checked on rows that are written out.
