@@ -4,6 +4,7 @@ use Rattle.std.specs.Prelude.{ℕ, ℤ, List, Bool}
 use Rattle.vba_base.specs.declared.place.Place.{Place}
 use Rattle.vba_values.specs.declared.types.OpKind.{OpKind}
 use Rattle.vba_values.specs.declared.types.Compare.{Compare}
+use Rattle.vba_values.specs.declared.object.HostRef.{HostRef}
 use Rattle.vba_values.specs.Types.{Declared}
 use Rattle.vba_values.specs.Val.{Val}
 use Rattle.vba_lib.specs.declared.function.LibraryFunction.{LibraryFunction}
@@ -51,6 +52,8 @@ mutual
     default_of : Expr → Node
     -- the value itself, but of an object whose default member needs no argument the value of that; Nothing stays
     default_if_any : Expr → Node
+    -- an object of the host that is always there, as Err
+    host_object : HostRef → Node
     -- Is: whether both are the same object
     same : (left right : Expr) → Node
     -- TypeOf e Is type

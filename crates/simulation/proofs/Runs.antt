@@ -2,14 +2,14 @@
 use Rattle.std.proofs.Common.{◌≡◌, ℕ, zero, suc, ◌+◌, ◌≤◌, Bool, true, false, List, [], ◌∷◌, ◌++◌, length, Option, Some, None, refl, sym, ap, ◌∙◌, subst, arith}
 use Rattle.std.specs.Prelude.{slice_get, slice_index, slice_index_or, nat_lt, if◌then◌else◌}
 use Rattle.std.proofs.lemmas.List.{append-nil}
-use Rattle.vba_values.specs.declared.object.ObjRef.TheVariants.{Heap}
+use Rattle.vba_values.specs.declared.object.ObjRef.TheVariants.{Heap, Host}
 use Rattle.vba_values.specs.declared.types.Compare.{Compare}
 use Rattle.vba_values.specs.Types.{Declared}
 use Rattle.vba_values.specs.Val.{Val, boolean, empty, missing, object}
 use Rattle.error_frames.specs.declared.frame.ResumeKind.TheVariants as kind
 use Rattle.error_frames.specs.declared.frame.Taken.{Taken}
 use Rattle.error_frames.specs.declared.frame.Taken.TheVariants as taken
-use Rattle.bound_project.specs.Expressions.{Expr, expr, Node, not_given, constant, load, element_value, field_value, unary, binary, call, err_value, default_of, default_if_any, same, is_type, library, bound_of, Lvalue, variable, item, element, field, kept_place, Args, no_args, by_place, by_copy, by_default, by_list, in_order, Exprs, no_exprs, also, Prints, no_prints, shown, zone, operand_type}
+use Rattle.bound_project.specs.Expressions.{Expr, expr, Node, not_given, constant, load, element_value, field_value, unary, binary, call, err_value, default_of, default_if_any, same, is_type, library, bound_of, host_object, Lvalue, variable, item, element, field, kept_place, Args, no_args, by_place, by_copy, by_default, by_list, in_order, Exprs, no_exprs, also, Prints, no_prints, shown, zone, operand_type}
 use Rattle.bound_project.specs.Statements.{Resizes, no_resizes, resize, Arrays, no_arrays, an_array, Tests, no_tests, test_is, test_range, Action, assign, assign_none, set, assign_default, evaluate, let_property, set_property, print, raise, test, go_to, for_to, next, for_each, next_each, exit_each, select, case_of, redim, erase, with_place, with_value, end_with, go_sub, return_sub, exit_to, on_error, end_handler, clear_err, resume_again, resume_next, resume_at, stop, end_run, Statement}
 use Rattle.bound_project.specs.Project.{Project, class_at, statement_at, next_of, first_values}
 use Rattle.vba_meaning.specs.Paths.{Path, field_path}
@@ -20,7 +20,7 @@ use Rattle.vba_meaning.specs.Arrays.{indexed, part_of, element_at, redimmed, era
 use Rattle.vba_meaning.specs.Objects.{compared, typed_as, set_at, default_written}
 use Rattle.vba_meaning.specs.Library.{library_called, bound_at, plain_if_any}
 use Rattle.vba_meaning.specs.Meaning.{State, Res, Got, Failed, Over, Told, Turn, ◌>>=◌, turn, turned, with_memory, raise_error, perform, Callee, eval, eval_node, eval_place, evals, eval_list, eval_prints, tested, cases, resizes, erases, exec, Doing, nowhere, enter, called_by, callees, terminate_by, tell, finish, end_of, one, let_go, lets_held, lets_frame, leave, left, pass_on, next_here, decide_by, decide, settle, at_statement_or, level, doing, close, Run, run_of, first_state, meaning}
-use Rattle.pcode.specs.Instructions.{Instr, Begin, Push, LoadErr, PathOf, ReadThrough, ElementOf, ElementIn, FieldOf, Dot, Index, PartOf, Operate, OperateAlone, Plain, PlainIfAny, Same, IsType, Library, BoundAt, Fit, FitObject, Drop, Lend, Pack, Reorder, Lift, Call, Store, SetAt, StoreDefault, ShowText, Show, Throw, LoopOff, LoopOn, NextRound, EachOff, EachOn, NextItem, Keep, Selected, IfFits, IfBetween, Redim, EraseAt, KeepPath, DropKept, PutReturn, TakeReturn, SetPolicy, HandlerOff, ErrOff, Again, Behind, Resumes, Finish, Branch, Halt, StopHere, Leave, Code}
+use Rattle.pcode.specs.Instructions.{Instr, Begin, Push, LoadErr, PathOf, ReadThrough, ElementOf, ElementIn, FieldOf, Dot, Index, PartOf, Operate, OperateAlone, Plain, PlainIfAny, PushHost, Same, IsType, Library, BoundAt, Fit, FitObject, Drop, Lend, Pack, Reorder, Lift, Call, Store, SetAt, StoreDefault, ShowText, Show, Throw, LoopOff, LoopOn, NextRound, EachOff, EachOn, NextItem, Keep, Selected, IfFits, IfBetween, Redim, EraseAt, KeepPath, DropKept, PutReturn, TakeReturn, SetPolicy, HandlerOff, ErrOff, Again, Behind, Resumes, Finish, Branch, Halt, StopHere, Leave, Code}
 use Rattle.pcode.specs.Machine.{After, Goes-on, Decide, Return, Back-to, Pass, Close, Back, Caller, EndOf, Move, Goes, Ends, Turns, at, failing, letting, lets_all, finishes, raises_then, raised, done_then, then_at, then_let_go, then_test, then_jump, then_branch, take_args, pushed, enters, enter_by, calls, then_statement, looking, act, finished_by, terminates_by, ends_by, lets_one_by, closing, returned_by, passed_on, takes, decides, comes_by, Fin, Done, tells, follow, machine, first_move, run_code}
 use Rattle.pcode.specs.Code.{count, list_count, prints_count, expr_code, node_code, place_code, args_code, list_code, prints_code, resizes_code, erases_code, Entry, tests_code, action_code}
 use Rattle.pcode.specs.Layout.{HasStatement, Laid}
@@ -223,6 +223,8 @@ module _ (pr : Project) (code : Code) (bound n : ℕ) (callee : Callee) (known :
     node_runs (bound_of upper x z) pc to st bs s has good =
         first (on_path st bs) (eval_place x callee pr s) (place_code x) _ pc to _ has (λ mid h. place_runs x pc mid st bs s h good) (λ q s1 g1 mid h.
         instr (BoundAt upper z) mid (path q ∷ st) bs s1 h.0 (ends_at (on_value st bs) h.1 (performs (bound_at upper z q) bs s1 g1)))
+    node_runs (host_object reference) pc to st bs s has good =
+        instr (PushHost reference) pc st bs s has.0 (ends_at (on_value st bs) has.1 (here (object (Host reference)) s good))
     node_runs (same a b) pc to st bs s has good =
         first (on_value st bs) (eval a callee pr s) (expr_code a) _ pc to _ has (λ mid h. expr_runs a pc mid st bs s h good) (λ v s1 g1 i h1.
         first (on_value (value v ∷ st) bs) (eval b callee pr s1) (expr_code b) _ i to _ h1 (λ mid h. expr_runs b i mid (value v ∷ st) bs s1 h g1) (λ w s2 g2 j h2.

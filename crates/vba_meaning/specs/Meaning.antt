@@ -1,14 +1,14 @@
 -- What a project does. A result is a value with the state that is left, an error on its way, or the end of the run;
 -- before it may stand events, which are told first, and turns, which the bound on turns may refuse.
 use Rattle.std.specs.Prelude.{ℕ, zero, suc, ◌+◌, nat_lt, List, [], ◌∷◌, ◌++◌, length, Bool, true, false, Option, Some, None, if◌then◌else◌, slice_index_or}
-use Rattle.vba_values.specs.declared.object.ObjRef.TheVariants.{Heap}
+use Rattle.vba_values.specs.declared.object.ObjRef.TheVariants.{Heap, Host}
 use Rattle.vba_values.specs.declared.types.Compare.{Compare}
 use Rattle.vba_values.specs.Types.{Declared}
 use Rattle.vba_values.specs.Val.{Val, empty, missing, object}
 use Rattle.error_frames.specs.declared.frame.ResumeKind.TheVariants as kind
 use Rattle.error_frames.specs.declared.frame.Taken.{Taken}
 use Rattle.error_frames.specs.declared.frame.Taken.TheVariants as taken
-use Rattle.bound_project.specs.Expressions.{Expr, expr, Node, not_given, constant, load, element_value, field_value, unary, binary, call, err_value, default_of, default_if_any, same, is_type, library, bound_of, Lvalue, variable, item, element, field, kept_place, Args, no_args, by_place, by_copy, by_default, by_list, in_order, Exprs, no_exprs, also, Prints, no_prints, shown, zone, operand_type}
+use Rattle.bound_project.specs.Expressions.{Expr, expr, Node, not_given, constant, load, element_value, field_value, unary, binary, call, err_value, default_of, default_if_any, same, is_type, library, bound_of, host_object, Lvalue, variable, item, element, field, kept_place, Args, no_args, by_place, by_copy, by_default, by_list, in_order, Exprs, no_exprs, also, Prints, no_prints, shown, zone, operand_type}
 use Rattle.bound_project.specs.Statements.{Resizes, no_resizes, resize, Arrays, no_arrays, an_array, Tests, no_tests, test_is, test_range, Action, assign, assign_none, set, assign_default, evaluate, let_property, set_property, print, raise, test, go_to, for_to, next, for_each, next_each, exit_each, select, case_of, redim, erase, with_place, with_value, end_with, go_sub, return_sub, exit_to, on_error, end_handler, clear_err, resume_again, resume_next, resume_at, stop, end_run, Statement}
 use Rattle.bound_project.specs.Project.{Project, class_at, statement_at, next_of, first_values}
 use Rattle.vba_meaning.specs.Paths.{Path, field_path}
@@ -98,6 +98,7 @@ abbrev mutual
   eval_node (err_value member) callee pr s = Got (err_of pr.declared member s.memory.err) s
   eval_node (default_of e) callee pr s = eval e callee pr s >>= λ v s1. perform (plain v) s1
   eval_node (default_if_any e) callee pr s = eval e callee pr s >>= λ v s1. perform (plain_if_any v) s1
+  eval_node (host_object reference) callee pr s = Got (object (Host reference)) s
   eval_node (same a b) callee pr s = eval a callee pr s >>= λ v s1. eval b callee pr s1 >>= λ w s2. perform (compared v w) s2
   eval_node (is_type e of) callee pr s = eval e callee pr s >>= λ v s1. perform (typed_as of v) s1
   eval_node (library f text_form es compare base) callee pr s =
