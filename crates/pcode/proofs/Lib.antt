@@ -1,2 +1,4 @@
 pub mod Stands
 pub mod Lays
+pub mod OneEnd
+pub mod Ways
