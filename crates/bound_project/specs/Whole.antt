@@ -102,7 +102,7 @@ abbrev mutual
   pub WholeArgs : Project → (procedure : ℕ) → Args → Type 0
   WholeArgs pr p no_args = Unit {0}
   WholeArgs pr p (by_place x args) = WholePlace pr p x × WholeArgs pr p args
-  WholeArgs pr p (by_copy e of args) = WholeExpr pr p e × HasType pr.declared of × WholeArgs pr p args
+  WholeArgs pr p (by_copy e of args) = WholeExpr pr p e × (HasType pr.declared of × WholeArgs pr p args)
   WholeArgs pr p (by_default v args) = IsConstant v × WholeArgs pr p args
   WholeArgs pr p (by_list es args) = WholeExprs pr p es × WholeArgs pr p args
   WholeArgs pr p (in_order order args) = WholeArgs pr p args × All (λ i. i < argument_count args) order
@@ -121,11 +121,11 @@ WholePrints pr p (zone ps) = WholePrints pr p ps
 abbrev pub WholeTests : Project → (procedure : ℕ) → Tests → Type 0
 WholeTests pr p no_tests = Unit {0}
 WholeTests pr p (test_is o e ts) = WholeExpr pr p e × WholeTests pr p ts
-WholeTests pr p (test_range a b ts) = WholeExpr pr p a × WholeExpr pr p b × WholeTests pr p ts
+WholeTests pr p (test_range a b ts) = WholeExpr pr p a × (WholeExpr pr p b × WholeTests pr p ts)
 
 abbrev pub WholeResizes : Project → (procedure : ℕ) → Resizes → Type 0
 WholeResizes pr p no_resizes = Unit {0}
-WholeResizes pr p (resize x bounds of rs) = WholePlace pr p x × WholeExprs pr p bounds × IfThere (HasType pr.declared) of × WholeResizes pr p rs
+WholeResizes pr p (resize x bounds of rs) = WholePlace pr p x × (WholeExprs pr p bounds × (IfThere (HasType pr.declared) of × WholeResizes pr p rs))
 
 abbrev pub WholeArrays : Project → (procedure : ℕ) → Arrays → Type 0
 WholeArrays pr p no_arrays = Unit {0}
@@ -142,20 +142,20 @@ WholeAction pr p (assign_none x e) = WholeExpr pr p e × WholeExpr pr p x
 WholeAction pr p (set x e) = WholeExpr pr p e × WholePlace pr p x
 WholeAction pr p (assign_default x e) = WholeExpr pr p e × WholeExpr pr p x
 WholeAction pr p (evaluate e) = WholeExpr pr p e
-WholeAction pr p (let_property q args e of) = WholeExpr pr p e × WholeArgs pr p args × HasType pr.declared of × HasProcedure pr.declared q (suc (argument_count args))
-WholeAction pr p (set_property q args e of) = WholeExpr pr p e × WholeArgs pr p args × HasType pr.declared of × HasProcedure pr.declared q (suc (argument_count args))
+WholeAction pr p (let_property q args e of) = WholeExpr pr p e × (WholeArgs pr p args × (HasType pr.declared of × HasProcedure pr.declared q (suc (argument_count args))))
+WholeAction pr p (set_property q args e of) = WholeExpr pr p e × (WholeArgs pr p args × (HasType pr.declared of × HasProcedure pr.declared q (suc (argument_count args))))
 WholeAction pr p (print ps ends) = WholePrints pr p ps
 WholeAction pr p (raise args) = WholeArgs pr p args
-WholeAction pr p (test sense e to other) = WholeExpr pr p e × HasTarget pr p to × HasTarget pr p other
+WholeAction pr p (test sense e to other) = WholeExpr pr p e × (HasTarget pr p to × HasTarget pr p other)
 WholeAction pr p (go_to to) = HasTarget pr p to
 WholeAction pr p (for_to x compare a b c first behind) =
-    WholeExpr pr p a × WholeExpr pr p b × WholeExpr pr p c × HasVariable pr.declared p x × HasTarget pr p first × HasTarget pr p behind
-WholeAction pr p (next x header first) = HasVariable pr.declared p x × HasStatement pr p header × HasTarget pr p first
-WholeAction pr p (for_each x e first behind) = WholeExpr pr p e × HasVariable pr.declared p x × HasTarget pr p first × HasTarget pr p behind
-WholeAction pr p (next_each x header first) = HasVariable pr.declared p x × HasStatement pr p header × HasTarget pr p first
+    WholeExpr pr p a × (WholeExpr pr p b × (WholeExpr pr p c × (HasVariable pr.declared p x × (HasTarget pr p first × HasTarget pr p behind))))
+WholeAction pr p (next x header first) = HasVariable pr.declared p x × (HasStatement pr p header × HasTarget pr p first)
+WholeAction pr p (for_each x e first behind) = WholeExpr pr p e × (HasVariable pr.declared p x × (HasTarget pr p first × HasTarget pr p behind))
+WholeAction pr p (next_each x header first) = HasVariable pr.declared p x × (HasStatement pr p header × HasTarget pr p first)
 WholeAction pr p (exit_each header to) = HasStatement pr p header × HasTarget pr p to
 WholeAction pr p (select e first) = WholeExpr pr p e × HasTarget pr p first
-WholeAction pr p (case_of ts header of compare first other) = WholeTests pr p ts × HasStatement pr p header × HasTarget pr p first × HasTarget pr p other
+WholeAction pr p (case_of ts header of compare first other) = WholeTests pr p ts × (HasStatement pr p header × (HasTarget pr p first × HasTarget pr p other))
 WholeAction pr p (redim preserve rs) = WholeResizes pr p rs
 WholeAction pr p (erase xs) = WholeArrays pr p xs
 WholeAction pr p (with_place x) = WholePlace pr p x

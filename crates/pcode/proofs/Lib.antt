@@ -2,3 +2,5 @@ pub mod Stands
 pub mod Lays
 pub mod OneEnd
 pub mod Ways
+pub mod Sounds
+pub mod Steady

@@ -3,3 +3,4 @@ pub mod Machine
 pub mod Code
 pub mod Layout
 pub mod WellFormed
+pub mod Steady

@@ -1,6 +1,6 @@
 -- Serves the code: what it is that a code is well-formed. Each instruction finds its operands, on every way to it the
 -- same ones; jumps lead to statements of their procedure, or to its end; and each number names what is there.
-use Rattle.std.specs.Prelude.{◌≡◌, ℕ, zero, suc, ◌<◌, ◌≤◌, Bool, true, false, List, [], ◌∷◌, ◌++◌, length, Option, Some, None, slice_get, slice_index, slice_index_or}
+use Rattle.std.specs.Prelude.{◌≡◌, ℕ, zero, suc, ◌<◌, ◌≤◌, Bool, List, [], ◌∷◌, ◌++◌, length, Option, Some, None, slice_get, slice_index, slice_index_or}
 use Rattle.error_frames.specs.declared.frame.Policy.{Policy}
 use Rattle.error_frames.specs.declared.frame.Policy.TheVariants as policy
 use Rattle.bound_project.specs.Whole.{All, IfThere, IsConstant, HasType, HasVariable, HasProcedure, WholeClass}
@@ -182,11 +182,10 @@ Sound code p (Branch sense to other) = Leads code p to × Leads code p other
 Sound code p Leave = ⊥
 Sound code p other = Unit {0}
 
--- a statement begins here, or procedures end here
-abbrev pub lands : Option Instr → Bool
-lands (Some (Begin i)) = true
-lands (Some Leave) = true
-lands other = false
+-- a statement begins at an address, or procedures end there
+pub data Lands (code : Code) (pc : ℕ) : Type 0 where
+  begins : (i : ℕ) → slice_get code.instrs pc ≡ Some (Begin i) → Lands code pc
+  leaves : slice_get code.instrs pc ≡ Some Leave → Lands code pc
 
 -- the instructions of procedures, one procedure behind the other
 abbrev pub joined : List (List Instr) → List Instr
@@ -204,7 +203,7 @@ pub record WellFormed (code : Code) : Type 0 where
   pub whole : code.instrs ≡ Leave ∷ joined pieces
   pub sound : SoundFrom code 0 pieces
   pub operands : along_all code.instrs no_way ≡ Some no_way
-  pub entries : (p i : ℕ) → lands (slice_get code.instrs (entry_of code p i)) ≡ true
+  pub entries : (p i : ℕ) → Lands code (entry_of code p i)
   pub starts : (p : ℕ) → slice_index code.starts p ≡ entry_of code p 0
   pub nexts : (p i : ℕ) → IsStatement code p i → IsTarget code p (next_statement code p i)
   pub counted : length code.entries ≡ length code.declared.procedures
