@@ -5,20 +5,21 @@ use Rattle.std.proofs.Common.{◌≡◌, ℕ, zero, suc, ◌+◌, ◌<◌, ◌�
 use Rattle.std.specs.Prelude.{slice_get, slice_index, slice_index_or, nat_lt, if◌then◌else◌}
 use Rattle.std.proofs.lemmas.Bool.{ltb-true}
 use Rattle.std.proofs.lemmas.Option.{slice_get_past}
-use Rattle.vba_values.specs.declared.object.ObjRef.TheVariants.{Heap}
+use Rattle.vba_values.specs.declared.object.ObjRef.TheVariants.{Heap, Host}
 use Rattle.vba_values.specs.Val.{Val, boolean, empty, missing, object}
 use Rattle.error_frames.specs.declared.frame.Taken.{Taken}
 use Rattle.error_frames.specs.declared.frame.Taken.TheVariants as taken
 use Rattle.bound_project.specs.Whole.{All}
 use Rattle.bound_project.specs.Project.{class_at, first_values}
-use Rattle.vba_meaning.specs.Paths.{Path}
-use Rattle.vba_meaning.specs.Memory.{Error, Ending, Ended, Faulted, Going, Slot, value, path, Memory, Object, top, entered, error_here, frame_left, result, opening}
-use Rattle.vba_meaning.specs.References.{objects_in, objects_in_values, held_by, is_last, next_waiting, taken_off, let_held, let_frame, object_at, as_told, gone, closed}
-use Rattle.vba_meaning.specs.Effects.{Event, Raised, Term, Effect, Fine, Bad-at, Out, Tell, reordered, unlent, taken_by, with_taken}
+use Rattle.vba_meaning.specs.Paths.{Path, field_path}
+use Rattle.vba_meaning.specs.Memory.{Error, Ending, Ended, Faulted, Going, Slot, value, path, Memory, Object, top, path_of, entered, error_here, frame_left, result, opening}
+use Rattle.vba_meaning.specs.References.{objects_in, objects_in_values, hold, held_by, is_last, next_waiting, taken_off, let_held, let_frame, object_at, as_told, gone, closed}
+use Rattle.vba_meaning.specs.Effects.{Event, Raised, Term, Effect, Fine, Bad-at, Out, Tell, lent, packed, reordered, unlent, printed, loop_off, keep, selected, gone_sub, policy_on, handler_off, err_off, stop_here, taken_by, err_of}
+use Rattle.vba_meaning.specs.Arrays.{each_off, block_over, keep_path}
 use Rattle.vba_meaning.specs.Meaning.{State, with_memory, turned, left}
 use Rattle.pcode.specs.Instructions.{Instr, Begin, Push, PushHost, LoadErr, PathOf, ReadThrough, ElementOf, ElementIn, FieldOf, Dot, Index, PartOf, Operate, OperateAlone, Plain, PlainIfAny, Same, IsType, Library, BoundAt, Fit, FitObject, Drop, Lend, Pack, Reorder, Lift, Call, Store, SetAt, StoreDefault, ShowText, Show, Throw, LoopOff, LoopOn, NextRound, EachOff, EachOn, NextItem, Keep, Selected, IfFits, IfBetween, Redim, EraseAt, KeepPath, DropKept, PutReturn, TakeReturn, SetPolicy, HandlerOff, ErrOff, Again, Behind, Resumes, Finish, Branch, Halt, StopHere, Leave, Code, entry_of}
-use Rattle.pcode.specs.Machine.{After, Goes-on, Decide, Return, Back-to, Pass, Close, Back, Caller, EndOf, Config, Move, Goes, Ends, Sticks, Tells, Turns, at, failing, letting, lets, lets_all, finishes, raises_then, raised, done_then, then_let_go, then_jump, then_branch, pops, pops_path, take_args, pushed, enters, enter_by, calls, looking, act, finished_by, terminates_by, ends_by, lets_one_by, closing, returned_by, passed_on, next_by, takes, decides, comes_by, step, Fin, Done, Unfinished, Stuck, tells, follow, machine, first_move, run_code}
-use Rattle.pcode.specs.WellFormed.{Kind, a_value, a_path, Way, no_way, brings, value_off, path_off, taken_off as kinds_off, brings_value, statement_over, kinds_pushed, kinds_reordered, behind, along, along_rest, along_all, Sound, SoundFrom, joined, Lands, begins, leaves, WellFormed}
+use Rattle.pcode.specs.Machine.{After, Goes-on, Decide, Return, Back-to, Pass, Close, Back, Caller, EndOf, Config, Move, Goes, Ends, Sticks, Tells, Turns, at, failing, letting, lets, lets_all, finishes, raises_then, raised, done_then, then_at, then_push, then_branch, pops, pops_path, take_args, pushed, enters, enter_by, calls, looking, act, finished_by, terminates_by, ends_by, lets_one_by, closing, returned_by, passed_on, next_by, takes, decides, comes_by, step, Fin, Done, Unfinished, Stuck, tells, follow, machine, first_move, run_code}
+use Rattle.pcode.specs.WellFormed.{Kind, a_value, a_path, Way, no_way, brings, value_off, path_off, taken_off as kinds_off, brings_value, statement_over, kinds_pushed, kinds_reordered, behind, along, along_rest, along_all, Leads, Sound, SoundFrom, joined, Lands, begins, leaves, WellFormed}
 use Rattle.pcode.specs.Steady.{HasEnded, Steady}
 use Rattle.pcode.proofs.OneEnd.{Final, one_end}
 
@@ -282,3 +283,195 @@ module _ (code : Code) (well : WellFormed code) (bound : ℕ) where
 
       failing_stops : (e : Error) (s : State) → Enough bound n s → Stops code bound (Goes (failing e bs s))
       failing_stops e s good = stepped (failing e bs s) (letting_stops bs (Decide e) l.good tt (λ s1 g1. taking e (taken_by (next_by code s1.memory) s1.memory) s1 g1) _ _ good)
+
+      -- ---- instructions inside of statements
+
+      value_off_stops : (st : List Slot) (go : Val → List Slot → Move) (kinds : List Kind → Option Way) (u : Way) → value_off (kinds_of st) kinds ≡ Some u
+          → ((v : Val) (st1 : List Slot) → kinds (kinds_of st1) ≡ Some u → Stops code bound (go v st1)) → Stops code bound (pops st go)
+      value_off_stops [] go kinds u e h = absurd cc
+      value_off_stops (value v ∷ st) go kinds u e h = h v st e
+      value_off_stops (path q ∷ st) go kinds u e h = absurd cc
+
+      path_off_stops : (st : List Slot) (go : Path → List Slot → Move) (kinds : List Kind → Option Way) (u : Way) → path_off (kinds_of st) kinds ≡ Some u
+          → ((q : Path) (st1 : List Slot) → kinds (kinds_of st1) ≡ Some u → Stops code bound (go q st1)) → Stops code bound (pops_path st go)
+      path_off_stops [] go kinds u e h = absurd cc
+      path_off_stops (value v ∷ st) go kinds u e h = absurd cc
+      path_off_stops (path q ∷ st) go kinds u e h = h q st e
+
+      off_stops : (k : ℕ) (st ys : List Slot) (go : List Slot → List Slot → Move) (kinds : List Kind → List Kind → Option Way) (u : Way) → kinds_off k (kinds_of st) (kinds_of ys) kinds ≡ Some u
+          → ((xs st1 : List Slot) → kinds (kinds_of xs) (kinds_of st1) ≡ Some u → Stops code bound (go xs st1)) → Stops code bound (take_args k st ys go)
+      off_stops zero st ys go kinds u e h = h ys st e
+      off_stops (suc k) [] ys go kinds u e h = absurd cc
+      off_stops (suc k) (x ∷ st) ys go kinds u e h = off_stops k st (x ∷ ys) go kinds u e h
+
+      branching : (b : Bool) (to other : ℕ) (s : State) → Lands code to → Lands code other → Enough bound n s → Stops code bound (then_branch to other bs b s)
+      branching true to other s h h' good = finishing to s h good
+      branching false to other s h h' good = finishing other s h' good
+
+      leads_there : (p to : ℕ) → Leads code p to → Lands code to
+      leads_there p to h = subst (Lands code) (sym h.2) (well.entries p h.0)
+
+      -- one instruction, with what is known of the next one
+      acts : (i : Instr) (pc : ℕ) (st : List Slot) (s : State) (u : Way) → Enough bound n s → before code.instrs no_way (pc + 1) ≡ Some u
+          → ((st1 : List Slot) (s1 : State) → Enough bound n s1 → Some (brings (kinds_of st1)) ≡ Some u → Stops code bound (Goes (at (pc + 1) st1 bs s1)))
+          → along i (brings (kinds_of st)) ≡ Some u → (q : ℕ) → Sound code q i → Stops code bound (act looking code (Some i) pc st bs s)
+      acts (Begin i) pc st s u good after on e q h = absurd cc
+      acts (Push v) pc st s u good after on e q h = on (value v ∷ st) s good e
+      acts (PushHost reference) pc st s u good after on e q h = on (value (object (Host reference)) ∷ st) s good e
+      acts (LoadErr member) pc st s u good after on e q h = on (value (err_of code.declared member s.memory.err) ∷ st) s good e
+      acts (PathOf x) pc st s u good after on e q h = on (path (path_of s.memory x) ∷ st) s good e
+      acts ReadThrough pc st s u good after on e q h = path_off_stops st _ _ u e (λ q st1 e1. does _ bs s _ l.good good (λ v s1 g1. on (value v ∷ st1) s1 g1 e1))
+      acts (ElementOf k) pc st s u good after on e q h =
+          path_off_stops st _ _ u e (λ q st1 e1. off_stops k st1 [] _ _ u e1 (λ xs st2 e2. does _ bs s _ l.good good (λ p s1 g1. on (path p ∷ st2) s1 g1 e2)))
+      acts (ElementIn k) pc st s u good after on e q h =
+          off_stops k st [] _ _ u e (λ xs st1 e1. path_off_stops st1 _ _ u e1 (λ q st2 e2. does _ bs s _ l.good good (λ p s1 g1. on (path p ∷ st2) s1 g1 e2)))
+      acts (FieldOf i of bounded) pc st s u good after on e q h = path_off_stops st _ _ u e (λ q st1 e1. on (path (field_path q i of bounded) ∷ st1) s good e1)
+      acts (Dot i) pc st s u good after on e q h = does _ bs s _ l.good good (λ p s1 g1. on (path p ∷ st) s1 g1 e)
+      acts (Index k) pc st s u good after on e q h =
+          off_stops k st [] _ _ u e (λ xs st1 e1. value_off_stops st1 _ _ u e1 (λ v st2 e2. does _ bs s _ l.good good (λ w s1 g1. on (value w ∷ st2) s1 g1 e2)))
+      acts (PartOf i) pc st s u good after on e q h = value_off_stops st _ _ u e (λ v st1 e1. does _ bs s _ l.good good (λ w s1 g1. on (value w ∷ st1) s1 g1 e1))
+      acts (OperateAlone o of) pc st s u good after on e q h = value_off_stops st _ _ u e (λ v st1 e1. does _ bs s _ l.good good (λ w s1 g1. on (value w ∷ st1) s1 g1 e1))
+      acts Plain pc st s u good after on e q h = value_off_stops st _ _ u e (λ v st1 e1. does _ bs s _ l.good good (λ w s1 g1. on (value w ∷ st1) s1 g1 e1))
+      acts PlainIfAny pc st s u good after on e q h = value_off_stops st _ _ u e (λ v st1 e1. does _ bs s _ l.good good (λ w s1 g1. on (value w ∷ st1) s1 g1 e1))
+      acts (IsType of) pc st s u good after on e q h = value_off_stops st _ _ u e (λ v st1 e1. does _ bs s _ l.good good (λ w s1 g1. on (value w ∷ st1) s1 g1 e1))
+      acts (Fit of) pc st s u good after on e q h = value_off_stops st _ _ u e (λ v st1 e1. does _ bs s _ l.good good (λ w s1 g1. on (value w ∷ st1) s1 g1 e1))
+      acts (FitObject of) pc st s u good after on e q h = value_off_stops st _ _ u e (λ v st1 e1. does _ bs s _ l.good good (λ w s1 g1. on (value w ∷ st1) s1 g1 e1))
+      acts ShowText pc st s u good after on e q h = value_off_stops st _ _ u e (λ v st1 e1. does _ bs s _ l.good good (λ w s1 g1. on (value w ∷ st1) s1 g1 e1))
+      acts (Operate o compare a b) pc st s u good after on e q h =
+          value_off_stops st _ _ u e (λ w st1 e1. value_off_stops st1 _ _ u e1 (λ v st2 e2. does _ bs s _ l.good good (λ x s1 g1. on (value x ∷ st2) s1 g1 e2)))
+      acts Same pc st s u good after on e q h =
+          value_off_stops st _ _ u e (λ w st1 e1. value_off_stops st1 _ _ u e1 (λ v st2 e2. does _ bs s _ l.good good (λ x s1 g1. on (value x ∷ st2) s1 g1 e2)))
+      acts (Library f text_form compare base k) pc st s u good after on e q h = off_stops k st [] _ _ u e (λ xs st1 e1. does _ bs s _ l.good good (λ v s1 g1. on (value v ∷ st1) s1 g1 e1))
+      acts (BoundAt upper z) pc st s u good after on e q h = path_off_stops st _ _ u e (λ q st1 e1. does _ bs s _ l.good good (λ v s1 g1. on (value v ∷ st1) s1 g1 e1))
+      acts Drop pc st s u good after on e q h = value_off_stops st _ _ u e (λ v st1 e1. on st1 s good e1)
+      acts Lend pc st s u good after on e q h = path_off_stops st _ _ u e (λ q st1 e1. does (lent q s.memory) bs s (then_at (pc + 1) (path q ∷ st1) bs) l.good good (λ v s1 g1. on (path q ∷ st1) s1 g1 e1))
+      acts (Pack k) pc st s u good after on e q h = off_stops k st [] _ _ u e (λ xs st1 e1. on (value (packed xs) ∷ st1) s good e1)
+      acts (Reorder order k) pc st s u good after on e q h =
+          off_stops k st [] _ _ u e (λ xs st1 e1. on (pushed (reordered order xs) st1) s good (ap (λ ks. Some (brings ks)) (pushed_kinds (reordered order xs) st1 ∙ ap (λ ks. kinds_pushed ks (kinds_of st1)) (reordered_kinds order xs)) ∙ e1))
+      acts (Lift k) pc st s u good after on e q h =
+          off_stops k st [] _ _ u e (λ xs st1 e1. value_off_stops st1 _ _ u e1 (λ v st2 e2. on (value v ∷ pushed xs st2) s good (ap (λ ks. Some (brings (a_value ∷ ks))) (pushed_kinds xs st2) ∙ e2)))
+      acts (Call p k) pc st s u good after on e q h =
+          off_stops k st [] _ _ u e (λ xs st1 e1.
+          either (nat_lt (length s.memory.frames) 2000)
+          (by_turn code bound n later _ _ good (λ d known g. known.start (slice_index code.starts p) (Caller (pc + 1) st1 ∷ bs) _ (start_lands p) (after ∙ sym e1, l.good) g))
+          (raises (error_here 28 s.memory) bs s l.good good))
+      acts Store pc st s u good after on e q h = path_off_stops st _ _ u e (λ q st1 e1. value_off_stops st1 _ _ u e1 (λ v st2 e2. does _ bs s _ l.good good (λ x s1 g1. on st2 s1 g1 e2)))
+      acts SetAt pc st s u good after on e q h = path_off_stops st _ _ u e (λ q st1 e1. value_off_stops st1 _ _ u e1 (λ v st2 e2. does _ bs s _ l.good good (λ x s1 g1. on st2 s1 g1 e2)))
+      acts StoreDefault pc st s u good after on e q h =
+          value_off_stops st _ _ u e (λ w st1 e1. value_off_stops st1 _ _ u e1 (λ v st2 e2. does _ bs s _ l.good good (λ x s1 g1. on st2 s1 g1 e2)))
+      acts (Show ends k) pc st s u good after on e q h = off_stops k st [] _ _ u e (λ xs st1 e1. does (printed ends xs s.memory) bs s (then_at (pc + 1) st1 bs) l.good good (λ x s1 g1. on st1 s1 g1 e1))
+      acts (Throw k) pc st s u good after on e q h = off_stops k st [] _ _ u e (λ xs st1 e1. raises _ bs s l.good good)
+      acts (LoopOff i) pc st s u good after on e q h = does (loop_off i s.memory) bs s (then_at (pc + 1) st bs) l.good good (λ x s1 g1. on st s1 g1 e)
+      acts (EachOff i) pc st s u good after on e q h = does (each_off i s.memory) bs s (then_at (pc + 1) st bs) l.good good (λ x s1 g1. on st s1 g1 e)
+      acts (DropKept i) pc st s u good after on e q h = does (block_over i s.memory) bs s (then_at (pc + 1) st bs) l.good good (λ x s1 g1. on st s1 g1 e)
+      acts (PutReturn i) pc st s u good after on e q h = does (gone_sub i s.memory) bs s (then_at (pc + 1) st bs) l.good good (λ x s1 g1. on st s1 g1 e)
+      acts (SetPolicy b) pc st s u good after on e q h = does (policy_on b s.memory) bs s (then_at (pc + 1) st bs) l.good good (λ x s1 g1. on st s1 g1 e)
+      acts HandlerOff pc st s u good after on e q h = does (handler_off s.memory) bs s (then_at (pc + 1) st bs) l.good good (λ x s1 g1. on st s1 g1 e)
+      acts ErrOff pc st s u good after on e q h = does (err_off s.memory) bs s (then_at (pc + 1) st bs) l.good good (λ x s1 g1. on st s1 g1 e)
+      acts StopHere pc st s u good after on e q h = does (stop_here s.memory) bs s (then_at (pc + 1) st bs) l.good good (λ x s1 g1. on st s1 g1 e)
+      acts (LoopOn x i compare a b) pc st s u good after on e q h =
+          value_off_stops st _ _ u e (λ v st1 e1. value_off_stops st1 _ _ u e1 (λ w st2 e2. value_off_stops st2 _ _ u e2 (λ y st3 e3. does _ bs s _ l.good good (λ b s1 g1. on (value (boolean b) ∷ st3) s1 g1 e3))))
+      acts (NextRound x i) pc st s u good after on e q h = does _ bs s _ l.good good (λ b s1 g1. on (value (boolean b) ∷ st) s1 g1 e)
+      acts (NextItem x i) pc st s u good after on e q h = does _ bs s _ l.good good (λ b s1 g1. on (value (boolean b) ∷ st) s1 g1 e)
+      acts (EachOn i) pc st s u good after on e q h =
+          value_off_stops st _ _ u e (λ v st1 e1. does _ bs s _ l.good good (λ k s1 g1. letting_stops bs (Back-to (pc + 1) st1) l.good (after ∙ sym e1) (λ s2 g2. on st1 s2 g2 e1) k s1 g1))
+      acts (Keep i) pc st s u good after on e q h = value_off_stops st _ _ u e (λ v st1 e1. does (keep i v s.memory) bs s (then_at (pc + 1) st1 bs) l.good good (λ x s1 g1. on st1 s1 g1 e1))
+      acts (Selected i) pc st s u good after on e q h = does (selected i s.memory) bs s (then_push (pc + 1) st bs) l.good good (λ v s1 g1. on (value v ∷ st) s1 g1 e)
+      acts (IfFits o compare of t to) pc st s u good after on e q h =
+          value_off_stops st _ _ u e (λ w st1 e1. value_off_stops st1 _ _ u e1 (λ v st2 e2. does _ bs s _ l.good good (λ b s1 g1.
+          either b (finishing to s1 (leads_there q to h) g1) (on st2 s1 g1 e2))))
+      acts (IfBetween compare of t t1 to) pc st s u good after on e q h =
+          value_off_stops st _ _ u e (λ y st1 e1. value_off_stops st1 _ _ u e1 (λ x st2 e2. value_off_stops st2 _ _ u e2 (λ v st3 e3. does _ bs s _ l.good good (λ b s1 g1.
+          either b (finishing to s1 (leads_there q to h) g1) (on st3 s1 g1 e3)))))
+      acts (Redim preserve of k) pc st s u good after on e q h =
+          off_stops k st [] _ _ u e (λ xs st1 e1. path_off_stops st1 _ _ u e1 (λ p st2 e2. does _ bs s _ l.good good (λ j s1 g1.
+          letting_stops bs (Back-to (pc + 1) st2) l.good (after ∙ sym e2) (λ s2 g2. on st2 s2 g2 e2) j s1 g1)))
+      acts EraseAt pc st s u good after on e q h =
+          path_off_stops st _ _ u e (λ p st1 e1. does _ bs s _ l.good good (λ j s1 g1. letting_stops bs (Back-to (pc + 1) st1) l.good (after ∙ sym e1) (λ s2 g2. on st1 s2 g2 e1) j s1 g1))
+      acts (KeepPath i) pc st s u good after on e q h = path_off_stops st _ _ u e (λ p st1 e1. does (keep_path i p s.memory) bs s (then_at (pc + 1) st1 bs) l.good good (λ x s1 g1. on st1 s1 g1 e1))
+      acts (TakeReturn p) pc st s u good after on e q h = does _ bs s _ l.good good (λ i s1 g1. finishing (entry_of code p i) s1 (well.entries p i) g1)
+      acts (Again p) pc st s u good after on e q h = does _ bs s _ l.good good (λ i s1 g1. finishing (entry_of code p i) s1 (well.entries p i) g1)
+      acts (Behind p) pc st s u good after on e q h = does _ bs s _ l.good good (λ i s1 g1. finishing (entry_of code p i) s1 (well.entries p i) g1)
+      acts (Resumes p to) pc st s u good after on e q h = does _ bs s _ l.good good (λ i s1 g1. finishing (entry_of code p i) s1 (well.entries p i) g1)
+      acts (Finish to) pc st s u good after on e q h = finishing to s (leads_there q to h) good
+      acts (Branch sense to other) pc st s u good after on e q h =
+          value_off_stops st _ _ u e (λ v st1 e1. does _ bs s _ l.good good (λ b s1 g1. branching b to other s1 (leads_there q to h.0) (leads_there q other h.1) g1))
+      acts Halt pc st s u good after on e q h = over Ended s
+      acts Leave pc st s u good after on e q h = absurd cc
+
+      -- so many addresses are left at most
+      inside_stops : (d pc : ℕ) (st : List Slot) (s : State) → length code.instrs ≤ pc + d → Here code pc st → Enough bound n s → Stops code bound (Goes (at pc st bs s))
+      inside_stops zero pc st s far way good =
+          let i = some_instr code.instrs no_way pc (kinds_of st) well.operands way in
+          absurd (let e = sym (slice_get_past code.instrs pc (omega (arith, far))) ∙ i.1 in cc)
+      inside_stops (suc d) pc st s far way good =
+          let i = some_instr code.instrs no_way pc (kinds_of st) well.operands way in
+          let r = on_from code.instrs no_way (brings (kinds_of st)) no_way pc i.0 well.operands way i.1 in
+          let k : suc pc ≡ pc + 1 = omega arith in
+          let after = subst (λ m. before code.instrs no_way m ≡ Some r.0) k r.1.1 in
+          let sound = sound_behind code well.pieces pc i.0 (kinds_of st) r.0 well.sound (ap (λ is. slice_get is pc) (sym well.whole) ∙ i.1) r.1.0 in
+          instr_stops i.0 pc st s i.1
+          (acts i.0 pc st s r.0 good after (λ st1 s1 g1 e1. inside_stops d (pc + 1) st1 s1 (omega (arith, far)) (after ∙ sym e1) g1) r.1.0 sound.0 sound.1)
+
+      inside_code : (pc : ℕ) (st : List Slot) (s : State) → Here code pc st → Enough bound n s → Stops code bound (Goes (at pc st bs s))
+      inside_code pc st s way good = inside_stops (length code.instrs) pc st s (omega arith) way good
+
+      coming : (after : After) (s : State) → GoodAfter code after → Enough bound n s → Stops code bound (comes_by looking code after bs s)
+      coming (Goes-on pc) s h good = starts pc s h good
+      coming (Decide e) s h good = taking e (taken_by (next_by code s.memory) s.memory) s good
+      coming (Back-to pc st) s h good = inside_code pc st s h good
+      coming Return s h good = l.returns (result s.memory) (with_memory s (frame_left s.memory)) good
+      coming (Pass e) s h good = l.passes e (with_memory s (left s.memory)) good
+      coming (Close vs g) s h good = closes vs g s good
+
+      let_all : (k : ℕ) (after : After) (s : State) → GoodAfter code after → Enough bound n s → Stops code bound (Goes (letting k after bs s))
+      let_all k after s h good = letting_stops bs after l.good h (λ s1 g1. coming after s1 h g1) k s good
+
+    left_well : (bs : List Back) → All (GoodBack code) bs → Left-well code bound n bs
+    left_well [] g = record { good = tt; returns = λ v s good. closes (first_values code.declared code.declared.shared) 0 s good; passes = λ e s good. over (Faulted e) s }
+    left_well (Caller ret st ∷ bs) g =
+        let l = left_well bs g.1 in
+        record {
+          good = g;
+          returns = λ v s good. inside_code bs l ret (value v ∷ st) (with_memory s (hold v s.memory)) g.0 good;
+          passes = λ e s good. failing_stops bs l e s good;
+        }
+    left_well (EndOf o k after ∷ bs) g =
+        let l = left_well bs g.1 in
+        record {
+          good = g;
+          returns = λ v s good. either (is_last s.memory o)
+          (let_all bs l (length (objects_in_values (object_at s.memory o).fields) + k) after (with_memory s (gone o s.memory)) g.0 good) (let_all bs l k after s g.0 good);
+          passes = λ e s good. over (Faulted e) s;
+        }
+
+    known_now : Known code bound n
+    known_now = record {
+      inside = λ pc st bs s way g good. inside_code bs (left_well bs g) pc st s way good;
+      start = λ pc bs s h g good. starts bs (left_well bs g) pc s h good;
+      fails = λ e bs s g good. failing_stops bs (left_well bs g) e s good;
+      lets_go = λ k after bs s h g good. let_all bs (left_well bs g) k after s h good;
+    }
+
+  known_all : (n : ℕ) → Known code bound n
+  known_all zero = known_now 0 (λ m e. absurd cc)
+  known_all (suc n) = known_now (suc n) (λ m e. (let k : n ≡ m = omega (arith, e) in subst (Known code bound) k (known_all n)))
+
+  first_stops : Stops code bound (first_move code)
+  first_stops = turning _ _ (λ lt. (known_all bound).start (slice_index code.starts code.startup) [] _ (start_lands code.startup) tt (omega arith))
+
+ended_final : (x : Fin) → HasEnded x → Final x
+ended_final (Done e s es) h = tt
+ended_final Unfinished h = h
+ended_final Stuck h = tt
+
+-- each run of a well-formed code ends, and none sticks
+pub steady : (code : Code) → WellFormed code → Steady code
+steady code well = record {
+  ends = λ bound. (let h = first_stops code well bound in (h.steps, h.ends));
+  never_stuck = λ bound k e. (
+  let h = first_stops code well bound in
+  let final = ended_final (run_code code bound h.steps) h.ends in
+  let same = one_end code bound h.steps k final (subst Final (sym e) tt) ∙ e in
+  subst HasEnded same h.ends);
+}
