@@ -1,14 +1,14 @@
 -- The numbers in the code of a whole project name what is there, and so that code is well-formed.
-use Rattle.std.proofs.Common.{◌≡◌, ℕ, zero, suc, ◌+◌, ◌<◌, ◌≤◌, Bool, true, List, [], ◌∷◌, ◌++◌, length, Option, Some, None, refl, sym, ap, ◌∙◌, subst, arith}
+use Rattle.std.proofs.Common.{◌≡◌, ℕ, zero, suc, ◌+◌, ◌<◌, ◌≤◌, Bool, List, [], ◌∷◌, ◌++◌, length, Option, Some, None, refl, sym, ap, ◌∙◌, subst, arith}
 use Rattle.std.specs.Prelude.{slice_get}
 use Rattle.vba_values.specs.declared.types.Compare.{Compare}
 use Rattle.vba_values.specs.Types.{Declared}
 use Rattle.bound_project.specs.Expressions.{Expr, expr, Node, not_given, constant, load, element_value, field_value, unary, binary, call, err_value, default_of, default_if_any, same, is_type, library, bound_of, host_object, Lvalue, variable, item, element, field, kept_place, Args, no_args, by_place, by_copy, by_default, by_list, in_order, Exprs, no_exprs, also, Prints, no_prints, shown, zone}
 use Rattle.bound_project.specs.Statements.{Handling, passed_on, skipped, handled_at, Resizes, no_resizes, resize, Arrays, no_arrays, an_array, Tests, no_tests, test_is, test_range, Action, assign, assign_none, set, assign_default, evaluate, let_property, set_property, print, raise, test, go_to, for_to, next, for_each, next_each, exit_each, select, case_of, redim, erase, with_place, with_value, end_with, go_sub, return_sub, exit_to, on_error, end_handler, clear_err, resume_again, resume_next, resume_at, stop, end_run, Statement}
-use Rattle.bound_project.specs.Project.{Declarations, Project, Body, statement_at, statements_at, statements_or, next_or}
+use Rattle.bound_project.specs.Project.{Project, Body, statement_at, statements_at, statements_or, next_or}
 use Rattle.bound_project.specs.Whole.{All, HasProcedure, HasStatement, HasTarget, argument_count, WholeExpr, WholeNode, WholePlace, WholeArgs, WholeExprs, WholePrints, WholeTests, WholeResizes, WholeArrays, WholeHandling, WholeAction, WholeStatement, WholeBodies, IsWhole}
 use Rattle.vba_meaning.specs.Effects.{policy_of}
-use Rattle.pcode.specs.Instructions.{Instr, Leave, Code, list_or, entry_of}
+use Rattle.pcode.specs.Instructions.{Instr, Leave, Code, list_or}
 use Rattle.pcode.specs.Code.{count, expr_code, node_code, place_code, args_code, list_code, prints_code, resizes_code, erases_code, Entry, tests_code, action_code, statement_code}
 use Rattle.pcode.specs.Layout.{addresses, statement_length, body_length, body_code, bodies_code, entries_of, entry_in, code_of, HasStatement as Stands-at}
 use Rattle.pcode.specs.WellFormed.{IsStatement, IsTarget, Leads, HasPolicy, Sound, Lands, begins, leaves, joined, SoundFrom, WellFormed}
@@ -148,9 +148,11 @@ module _ (pr : Project) (p : ℕ) where
   action_sound (raise args) i k own on h = both (args_code args) _ (args_sound args h) (tt, tt)
   action_sound (test sense e to other) i k own on h = both (expr_code e) _ (expr_sound e h.0) ((leads to h.1.0, leads other h.1.1), tt)
   action_sound (go_to to) i k own on h = (leads to h, tt)
-  action_sound (for_to x compare a b c most none) i k own on h =
-      (own, both (expr_code a) _ (expr_sound a h.0) (both (expr_code b) _ (expr_sound b h.1.0) (both (expr_code c) _ (expr_sound c h.1.1.0)
-      ((h.1.1.1.0, own), ((leads most h.1.1.1.1.0, leads none h.1.1.1.1.1), tt)))))
+  action_sound (for_to x compare a b c most none) i k own on h = (
+    own,
+    both (expr_code a) _ (expr_sound a h.0) (both (expr_code b) _ (expr_sound b h.1.0) (both (expr_code c) _ (expr_sound c h.1.1.0)
+        ((h.1.1.1.0, own), ((leads most h.1.1.1.1.0, leads none h.1.1.1.1.1), tt)))),
+  )
   action_sound (next x header most) i k own on h = ((h.0, statement_is header h.1.0), ((leads most h.1.1, leads k on), tt))
   action_sound (for_each x e most none) i k own on h =
       (own, both (expr_code e) _ (expr_sound e h.0) (own, ((h.1.0, own), ((leads most h.1.1.0, leads none h.1.1.1), tt))))
@@ -200,9 +202,10 @@ pieces_sound pr p [] found h = tt
 pieces_sound pr p (b ∷ bs) found h =
     let z : p + 0 ≡ p = omega arith in
     let e : slice_get pr.bodies p ≡ Some b = ap (slice_get pr.bodies) (sym z) ∙ found 0 in
-    let len : length b.statements ≡ length (statements_at pr p) = ap (λ o. length (statements_or o)) (sym e) in
-    (body_sound pr p b.statements 0 (omega (arith, len)) h.0,
-      pieces_sound pr (suc p) bs (λ q. (let s : suc p + q ≡ p + suc q = omega arith in ap (slice_get pr.bodies) s ∙ found (suc q))) h.1)
+    let len : length b.statements ≡ length (statements_at pr p) = ap (λ o. length (statements_or o)) (sym e) in (
+      body_sound pr p b.statements 0 (omega (arith, len)) h.0,
+      pieces_sound pr (suc p) bs (λ q. (let s : suc p + q ≡ p + suc q = omega arith in ap (slice_get pr.bodies) s ∙ found (suc q))) h.1,
+    )
 
 bodies_at : (pr : Project) (q : ℕ) (bs : List Body) (p : ℕ) → WholeBodies pr q bs → All (WholeStatement pr (q + p)) (statements_or (slice_get bs p))
 bodies_at pr q [] p h = tt
@@ -228,7 +231,7 @@ well_formed pr whole =
       entries = λ p i. entry_lands code (entry_in t p) p i (statement_at pr p i) (lays.statement p i);
       starts = λ p. lays.start p;
       nexts = λ p i h. subst (λ n. IsTarget code p n) (sym (lays.next p i))
-      (target_is pr p _ (next_fits pr p (statements_at pr p) i i (all_whole p) (let k : i < length (statements_at pr p) = subst (λ n. i < n) (sym (counted pr p)) h in omega (arith, k))));
+          (target_is pr p _ (next_fits pr p (statements_at pr p) i i (all_whole p) (let k : i < length (statements_at pr p) = subst (λ n. i < n) (sym (counted pr p)) h in omega (arith, k))));
       counted = tables_count 1 pr.bodies ∙ whole.bodies;
       ends = whole.ends;
       begin = whole.begin;

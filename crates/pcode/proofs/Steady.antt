@@ -5,21 +5,21 @@ use Rattle.std.proofs.Common.{◌≡◌, ℕ, zero, suc, ◌+◌, ◌<◌, ◌�
 use Rattle.std.specs.Prelude.{slice_get, slice_index, slice_index_or, nat_lt, if◌then◌else◌}
 use Rattle.std.proofs.lemmas.Bool.{ltb-true}
 use Rattle.std.proofs.lemmas.Option.{slice_get_past}
-use Rattle.vba_values.specs.declared.object.ObjRef.TheVariants.{Heap, Host}
+use Rattle.vba_values.specs.declared.object.ObjRef.TheVariants.{Host}
 use Rattle.vba_values.specs.Val.{Val, boolean, empty, missing, object}
 use Rattle.error_frames.specs.declared.frame.Taken.{Taken}
 use Rattle.error_frames.specs.declared.frame.Taken.TheVariants as taken
 use Rattle.bound_project.specs.Whole.{All}
 use Rattle.bound_project.specs.Project.{class_at, first_values}
 use Rattle.vba_meaning.specs.Paths.{Path, field_path}
-use Rattle.vba_meaning.specs.Memory.{Error, Ending, Ended, Faulted, Going, Slot, value, path, Memory, Object, top, path_of, entered, error_here, frame_left, result, opening}
-use Rattle.vba_meaning.specs.References.{objects_in, objects_in_values, hold, held_by, is_last, next_waiting, taken_off, let_held, let_frame, object_at, as_told, gone, closed}
-use Rattle.vba_meaning.specs.Effects.{Event, Raised, Term, Effect, Fine, Bad-at, Out, Tell, lent, packed, reordered, unlent, printed, loop_off, keep, selected, gone_sub, policy_on, handler_off, err_off, stop_here, taken_by, err_of}
+use Rattle.vba_meaning.specs.Memory.{Error, Ending, Ended, Faulted, Going, Slot, value, path, Object, top, path_of, error_here, frame_left, result}
+use Rattle.vba_meaning.specs.References.{objects_in, objects_in_values, hold, held_by, is_last, next_waiting, taken_off, let_frame, object_at, as_told, gone, closed}
+use Rattle.vba_meaning.specs.Effects.{Event, Effect, Fine, Bad-at, Out, Tell, lent, packed, reordered, printed, loop_off, keep, selected, gone_sub, policy_on, handler_off, err_off, stop_here, taken_by, err_of}
 use Rattle.vba_meaning.specs.Arrays.{each_off, block_over, keep_path}
 use Rattle.vba_meaning.specs.Meaning.{State, with_memory, turned, left}
 use Rattle.pcode.specs.Instructions.{Instr, Begin, Push, PushHost, LoadErr, PathOf, ReadThrough, ElementOf, ElementIn, FieldOf, Dot, Index, PartOf, Operate, OperateAlone, Plain, PlainIfAny, Same, IsType, Library, BoundAt, Fit, FitObject, Drop, Lend, Pack, Reorder, Lift, Call, Store, SetAt, StoreDefault, ShowText, Show, Throw, LoopOff, LoopOn, NextRound, EachOff, EachOn, NextItem, Keep, Selected, IfFits, IfBetween, Redim, EraseAt, KeepPath, DropKept, PutReturn, TakeReturn, SetPolicy, HandlerOff, ErrOff, Again, Behind, Resumes, Finish, Branch, Halt, StopHere, Leave, Code, entry_of}
-use Rattle.pcode.specs.Machine.{After, Goes-on, Decide, Return, Back-to, Pass, Close, Back, Caller, EndOf, Config, Move, Goes, Ends, Sticks, Tells, Turns, at, failing, letting, lets, lets_all, finishes, raises_then, raised, done_then, then_at, then_push, then_branch, pops, pops_path, take_args, pushed, enters, enter_by, calls, looking, act, finished_by, terminates_by, ends_by, lets_one_by, closing, returned_by, passed_on, next_by, takes, decides, comes_by, step, Fin, Done, Unfinished, Stuck, tells, follow, machine, first_move, run_code}
-use Rattle.pcode.specs.WellFormed.{Kind, a_value, a_path, Way, no_way, brings, value_off, path_off, taken_off as kinds_off, brings_value, statement_over, kinds_pushed, kinds_reordered, behind, along, along_rest, along_all, Leads, Sound, SoundFrom, joined, Lands, begins, leaves, WellFormed}
+use Rattle.pcode.specs.Machine.{After, Goes-on, Decide, Return, Back-to, Pass, Close, Back, Caller, EndOf, Config, Move, Goes, Ends, Tells, Turns, at, failing, letting, lets_all, finishes, raised, done_then, then_at, then_push, then_branch, pops, pops_path, take_args, pushed, looking, act, finished_by, terminates_by, ends_by, closing, returned_by, passed_on, next_by, takes, comes_by, step, Fin, Done, Unfinished, Stuck, tells, follow, machine, first_move, run_code}
+use Rattle.pcode.specs.WellFormed.{Kind, a_value, a_path, Way, no_way, brings, value_off, path_off, taken_off as kinds_off, kinds_pushed, kinds_reordered, along, along_rest, along_all, Leads, Sound, SoundFrom, joined, Lands, begins, leaves, WellFormed}
 use Rattle.pcode.specs.Steady.{HasEnded, Steady}
 use Rattle.pcode.proofs.OneEnd.{Final, one_end}
 
@@ -441,7 +441,7 @@ module _ (code : Code) (well : WellFormed code) (bound : ℕ) where
         record {
           good = g;
           returns = λ v s good. either (is_last s.memory o)
-          (let_all bs l (length (objects_in_values (object_at s.memory o).fields) + k) after (with_memory s (gone o s.memory)) g.0 good) (let_all bs l k after s g.0 good);
+              (let_all bs l (length (objects_in_values (object_at s.memory o).fields) + k) after (with_memory s (gone o s.memory)) g.0 good) (let_all bs l k after s g.0 good);
           passes = λ e s good. over (Faulted e) s;
         }
 
@@ -470,8 +470,8 @@ pub steady : (code : Code) → WellFormed code → Steady code
 steady code well = record {
   ends = λ bound. (let h = first_stops code well bound in (h.steps, h.ends));
   never_stuck = λ bound k e. (
-  let h = first_stops code well bound in
-  let final = ended_final (run_code code bound h.steps) h.ends in
-  let same = one_end code bound h.steps k final (subst Final (sym e) tt) ∙ e in
-  subst HasEnded same h.ends);
+      let h = first_stops code well bound in
+      let final = ended_final (run_code code bound h.steps) h.ends in
+      let same = one_end code bound h.steps k final (subst Final (sym e) tt) ∙ e in
+      subst HasEnded same h.ends);
 }

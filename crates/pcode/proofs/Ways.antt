@@ -1,16 +1,15 @@
 -- The code of every whole project is well-formed.
-use Rattle.std.proofs.Common.{◌≡◌, ℕ, zero, suc, ◌+◌, ◌<◌, ◌≤◌, Bool, true, List, [], ◌∷◌, ◌++◌, length, Option, Some, None, refl, sym, ap, ◌∙◌, subst, arith, append_assoc}
-use Rattle.std.specs.Prelude.{slice_get, slice_index}
+use Rattle.std.proofs.Common.{◌≡◌, ℕ, suc, ◌+◌, Bool, List, [], ◌∷◌, ◌++◌, length, Option, Some, refl, ap, ◌∙◌, arith, append_assoc}
 use Rattle.std.proofs.lemmas.List.{append-nil}
 use Rattle.vba_values.specs.declared.types.Compare.{Compare}
 use Rattle.vba_values.specs.Types.{Declared}
 use Rattle.bound_project.specs.Expressions.{Expr, expr, Node, not_given, constant, load, element_value, field_value, unary, binary, call, err_value, default_of, default_if_any, same, is_type, library, bound_of, host_object, Lvalue, variable, item, element, field, kept_place, Args, no_args, by_place, by_copy, by_default, by_list, in_order, Exprs, no_exprs, also, Prints, no_prints, shown, zone}
-use Rattle.bound_project.specs.Statements.{Handling, passed_on, skipped, handled_at, Resizes, no_resizes, resize, Arrays, no_arrays, an_array, Tests, no_tests, test_is, test_range, Action, assign, assign_none, set, assign_default, evaluate, let_property, set_property, print, raise, test, go_to, for_to, next, for_each, next_each, exit_each, select, case_of, redim, erase, with_place, with_value, end_with, go_sub, return_sub, exit_to, on_error, end_handler, clear_err, resume_again, resume_next, resume_at, stop, end_run, Statement}
-use Rattle.bound_project.specs.Project.{Project, Body, statement_at, statements_at, statements_or, next_or, next_of}
-use Rattle.pcode.specs.Instructions.{Instr, Begin, Leave, Plain, Fit, FitObject, Call, Drop, Finish, Code, list_or, entry_of}
+use Rattle.bound_project.specs.Statements.{Resizes, no_resizes, resize, Arrays, no_arrays, an_array, Tests, no_tests, test_is, test_range, Action, assign, assign_none, set, assign_default, evaluate, let_property, set_property, print, raise, test, go_to, for_to, next, for_each, next_each, exit_each, select, case_of, redim, erase, with_place, with_value, end_with, go_sub, return_sub, exit_to, on_error, end_handler, clear_err, resume_again, resume_next, resume_at, stop, end_run, Statement}
+use Rattle.bound_project.specs.Project.{Project, Body}
+use Rattle.pcode.specs.Instructions.{Instr, Plain, Fit, FitObject, Call, Drop, Finish}
 use Rattle.pcode.specs.Code.{count, list_count, prints_count, expr_code, node_code, place_code, args_code, list_code, prints_code, resizes_code, erases_code, Entry, tests_code, action_code, statement_code}
 use Rattle.pcode.specs.Layout.{body_code, bodies_code, entries_of, entry_in, code_of}
-use Rattle.pcode.specs.WellFormed.{Kind, a_value, a_path, Way, no_way, brings, taken_off, brings_value, kinds_pushed, kinds_reordered, along, along_rest, along_all}
+use Rattle.pcode.specs.WellFormed.{Kind, a_value, a_path, Way, no_way, brings, taken_off, brings_value, kinds_pushed, kinds_reordered, along_rest, along_all}
 
 -- ---- operands that are taken off
 

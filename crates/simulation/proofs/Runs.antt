@@ -209,7 +209,6 @@ module _ (pr : Project) (code : Code) (bound n : ℕ) (callee : Callee) (known :
     node_runs (default_of e) pc to st bs s has good =
         first (on_value st bs) (eval e callee pr s) (expr_code e) _ pc to _ has (λ mid h. expr_runs e pc mid st bs s h good) (λ v s1 g1 i h.
         instr Plain i (value v ∷ st) bs s1 h.0 (ends_at (on_value st bs) h.1 (performs (plain v) bs s1 g1)))
-
     node_runs (default_if_any e) pc to st bs s has good =
         first (on_value st bs) (eval e callee pr s) (expr_code e) _ pc to _ has (λ mid h. expr_runs e pc mid st bs s h good) (λ v s1 g1 i h.
         instr PlainIfAny i (value v ∷ st) bs s1 h.0 (ends_at (on_value st bs) h.1 (performs (plain_if_any v) bs s1 g1)))

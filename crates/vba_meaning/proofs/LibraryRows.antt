@@ -1,8 +1,10 @@
 -- Worked rows of library calls, Set, Is and TypeOf.
-use Rattle.std.specs.Prelude.{◌≡◌, ℕ, zero, suc, ◌+◌, ℤ, pos, List, [], ◌∷◌, ◌++◌, codes, Bool, true, false, refl, Some, None}
+use Rattle.std.specs.Prelude.{◌≡◌, ℕ, zero, suc, ◌+◌, pos, List, [], ◌∷◌, ◌++◌, codes, true, false, refl, Some, None}
 use Rattle.std.specs.Fmt.{digits, signed_decimal}
+use Rattle.caseless.proofs.Computing.{caseless}
 use Rattle.currency.specs.HalfEven.{nearest}
 use Rattle.currency.specs.NumberText.{read, read_digits}
+use Rattle.vba_base.specs.Fold.{folded}
 use Rattle.vba_values.specs.declared.object.ObjRef.TheVariants.{Nothing}
 use Rattle.vba_values.specs.declared.object.HostRef.TheVariants.{ErrObject}
 use Rattle.vba_values.specs.declared.types.OpKind.TheVariants as op
@@ -14,13 +16,13 @@ use Rattle.vba_values.specs.Types as type
 use Rattle.vba_values.specs.Val.{null, whole, object}
 use Rattle.vba_lib.specs.declared.function.LibraryFunction.{LibraryFunction}
 use Rattle.vba_lib.specs.declared.function.LibraryFunction.TheVariants as function
-use Rattle.bound_project.specs.Expressions.{shared, Variable, Expr, not_given, constant, call, default_of, default_if_any, same, is_type, library, bound_of, host_object, variable, item, no_args, by_place, no_exprs, also, Exprs, kept_place, no_prints, shown}
-use Rattle.bound_project.specs.Statements.{skipped, assign, set, assign_default, set_property, print, redim, no_resizes, resize, with_place, end_with, for_to, next, on_error}
+use Rattle.bound_project.specs.Expressions.{Variable, Expr, not_given, constant, default_if_any, same, is_type, library, bound_of, host_object, variable, item, no_args, by_place, no_exprs, also, Exprs, kept_place, no_prints, shown}
+use Rattle.bound_project.specs.Statements.{Action, skipped, assign, set, assign_default, set_property, print, redim, no_resizes, resize, with_place, end_with, for_to, next, on_error}
 use Rattle.bound_project.specs.Project.{Project}
 use Rattle.vba_meaning.specs.Memory.{Ended, Stopped, outside}
 use Rattle.vba_meaning.specs.Effects.{Event, Raised}
 use Rattle.vba_meaning.specs.Meaning.{meaning}
-use Rattle.vba_meaning.proofs.Programs.{e, n, words, two, long, byte, any, v, err, show, becomes, declare, sub, flat, jumping, program, main, told, line, fault, longs, shared_longs, of_type, one, from_0, at_place, redim_to, do_call, with_types}
+use Rattle.vba_meaning.proofs.Programs.{e, n, words, two, byte, any, v, err, show, becomes, declare, sub, flat, jumping, program, main, told, line, fault, longs, shared_longs, of_type, one, redim_to, do_call, with_types}
 use Rattle.vba_meaning.proofs.ArrayRows.{long_array, p_array, x_of}
 
 -- a call of a function of the library
@@ -79,16 +81,32 @@ with_element_is : told (meaning with_element 50) ≡ (Ended, line (codes " 2 ") 
 unfolding digits
 with_element_is = refl
 
--- Debug.Print CLng("2.5"); CLng(" -3.5 ") ¶ Debug.Print CLng("1e3")
+-- Debug.Print CLng("2.5"); CLng(" -3.5 ") ¶ Debug.Print StrComp("STRASSE", "straße", 1) ¶ Debug.Print CLng("1e3")
 abbrev c_lng : List ℕ → Expr
 c_lng units = use_of function.CLng type.long (also (words units) no_exprs)
 
 abbrev number_texts : Project
-number_texts = main [] (flat 0 (print (shown (c_lng (codes "2.5")) (shown (c_lng (codes " -3.5 ")) no_prints)) true ∷ show (c_lng (codes "1e3")) ∷ []))
+number_texts = main [] (flat 0 (print (shown (c_lng (codes "2.5")) (shown (c_lng (codes " -3.5 ")) no_prints)) true ∷
+    show (use_of function.StrComp type.variant (also (words (codes "STRASSE")) (also (words (codes "straße")) (also (n 1) no_exprs)))) ∷
+    show (c_lng (codes "1e3")) ∷ []))
 
-number_texts_are : told (meaning number_texts 50) ≡ (Stopped (outside NumberText) 0 (Some 1), line (codes " 2 -4 ") ∷ [])
-unfolding digits nearest read read_digits
+number_texts_are : told (meaning number_texts 50) ≡ (Stopped (outside NumberText) 0 (Some 2), line (codes " 2 -4 ") ∷ line (codes " 0 ") ∷ [])
+unfolding digits nearest read read_digits folded caseless
 number_texts_are = refl
+
+-- Dim a() As Byte ¶ ReDim a(1048575) ¶ Debug.Print UBound(a) ¶ ReDim a(1048576)
+abbrev byte_array : Variable
+byte_array = of_type 1 (type.array_of type.byte)
+
+abbrev byte_redim : ℕ → Action
+byte_redim k = redim false (resize (variable byte_array) (also (n 0) (also (e type.long (constant (whole kind.Long (pos k)))) no_exprs)) None no_resizes)
+
+abbrev largest : Project
+largest = main (type.array_of type.byte ∷ []) (flat 0 (byte_redim 1048575 ∷ show (u_bound_of byte_array) ∷ byte_redim 1048576 ∷ []))
+
+largest_is : told (meaning largest 50) ≡ (Stopped (outside Elements) 0 (Some 2), line (codes " 1048575 ") ∷ [])
+unfolding digits
+largest_is = refl
 
 -- UBound of an array without storage raises 9, of a number 13; Mid("abc", 2, ) raises 13, and Left("abc", Null) is Null
 abbrev bad_uses : Project

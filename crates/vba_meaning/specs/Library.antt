@@ -12,29 +12,25 @@ use Rattle.vba_lib.specs.declared.function.LibraryFunction.{LibraryFunction}
 use Rattle.vba_lib.specs.declared.function.LibraryFunction.TheVariants as function
 use Rattle.vba_lib.specs.Kinds.{type_name}
 use Rattle.vba_lib.specs.Library.{library_of}
-use Rattle.bound_project.specs.Project.{Declarations, UserType, class_at, no_name}
+use Rattle.bound_project.specs.Project.{Declarations, class_at, no_name}
 use Rattle.vba_meaning.specs.Paths.{Path}
 use Rattle.vba_meaning.specs.Memory.{Memory, value_at}
 use Rattle.vba_meaning.specs.Effects.{Effect, Fine, Bad-at, on_fine, answered, class_of, read_value}
 
--- ---- names of types ([MS-VBAL] 6.1.2.11.2)
-
+-- a class by its number: 0 is that of Collection
 abbrev pub class_name : Declarations → ℕ → List ℕ
 class_name d zero = codes "Collection"
 class_name d (suc c) = (class_at d (suc c)).name.spelling
 
-abbrev pub no_type : UserType
-no_type = record { name = no_name; fields = [] }
-
 -- TypeName: of a counted object its class, of an array of a class or a Type that one's name with () behind it
+-- ([MS-VBAL] 6.1.2.7)
 abbrev pub name_of_type : Declarations → Val → Memory → List ℕ
 name_of_type d (object (Heap id)) m = class_name d (class_of (Heap id) m)
 name_of_type d (array bounds (type.class c) items) m = class_name d c ++ codes "()"
-name_of_type d (array bounds (type.udt t) items) m = (slice_index_or d.types t no_type).name.spelling ++ codes "()"
+name_of_type d (array bounds (type.udt t) items) m = (slice_index_or d.types t (record { name = no_name; fields = [] })).name.spelling ++ codes "()"
 name_of_type d v m = type_name v
 
--- ---- calls ([MS-VBAL] 6.1.2)
-
+-- what a function answers ([MS-VBAL] 6.1.2)
 abbrev pub library_answer : Declarations → LibraryFunction → (text_form : Bool) → Compare → (base : ℤ) → List Val → Memory → Result Val Bad
 library_answer d function.TypeName text_form compare base (v ∷ []) m = Ok (text (name_of_type d v m))
 library_answer d f text_form compare base vs m = library_of f text_form vs compare base

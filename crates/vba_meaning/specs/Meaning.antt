@@ -101,8 +101,7 @@ abbrev mutual
   eval_node (host_object reference) callee pr s = Got (object (Host reference)) s
   eval_node (same a b) callee pr s = eval a callee pr s >>= λ v s1. eval b callee pr s1 >>= λ w s2. perform (compared v w) s2
   eval_node (is_type e of) callee pr s = eval e callee pr s >>= λ v s1. perform (typed_as of v) s1
-  eval_node (library f text_form es compare base) callee pr s =
-      eval_list es callee pr s >>= λ xs s1. perform (library_called pr.declared f text_form compare base (slot_values xs)) s1
+  eval_node (library f text_form es compare base) callee pr s = eval_list es callee pr s >>= λ xs s1. perform (library_called pr.declared f text_form compare base (slot_values xs)) s1
   eval_node (bound_of upper x z) callee pr s = eval_place x callee pr s >>= λ q s1. perform (bound_at upper z q) s1
 
   -- where a place leads
@@ -146,8 +145,7 @@ tested header s = perform (selected header) s >>= λ v s1. perform (plain v) s1
 abbrev pub cases : Tests → Callee → Project → (header : ℕ) → Declared → Compare → (first other : ℕ) → State → Res ℕ
 cases no_tests callee pr header of compare first other s = Got other s
 cases (test_is o e ts) callee pr header of compare first other s =
-    tested header s >>= λ v s1. eval e callee pr s1 >>= λ w s2.
-    perform (fits o compare of (operand_type e) v w) s2 >>= λ b s3. if b then Got first s3 else cases ts callee pr header of compare first other s3
+    tested header s >>= λ v s1. eval e callee pr s1 >>= λ w s2. perform (fits o compare of (operand_type e) v w) s2 >>= λ b s3. if b then Got first s3 else cases ts callee pr header of compare first other s3
 cases (test_range a b ts) callee pr header of compare first other s =
     tested header s >>= λ v s1. eval a callee pr s1 >>= λ x s2. eval b callee pr s2 >>= λ y s3.
     perform (fits_between compare of (operand_type a) (operand_type b) v x y) s3 >>= λ b s4. if b then Got first s4 else cases ts callee pr header of compare first other s4
@@ -156,8 +154,7 @@ cases (test_range a b ts) callee pr header of compare first other s =
 abbrev pub resizes : Bool → Resizes → Callee → Project → State → Res (Unit {0})
 resizes preserve no_resizes callee pr s = Got tt s
 resizes preserve (resize x bounds of rs) callee pr s =
-    eval_place x callee pr s >>= λ q s1. eval_list bounds callee pr s1 >>= λ xs s2.
-    perform (redimmed pr.declared preserve of q (slot_values xs)) s2 >>= λ k s3. callee.go k s3 >>= λ u s4. resizes preserve rs callee pr s4
+    eval_place x callee pr s >>= λ q s1. eval_list bounds callee pr s1 >>= λ xs s2. perform (redimmed pr.declared preserve of q (slot_values xs)) s2 >>= λ k s3. callee.go k s3 >>= λ u s4. resizes preserve rs callee pr s4
 
 abbrev pub erases : Arrays → Callee → Project → State → Res (Unit {0})
 erases no_arrays callee pr s = Got tt s
@@ -172,22 +169,18 @@ exec (set x e) callee pr p i k s = eval e callee pr s >>= λ v s1. eval_place x 
 exec (assign_default x e) callee pr p i k s = eval e callee pr s >>= λ v s1. eval x callee pr s1 >>= λ w s2. perform (default_written w) s2 >>= λ u s3. Got k s3
 exec (evaluate e) callee pr p i k s = eval e callee pr s >>= λ v s1. Got k s1
 exec (let_property q args e of) callee pr p i k s =
-    eval e callee pr s >>= λ v s1. evals args callee pr s1 >>= λ xs s2. perform (plain v) s2 >>= λ w s3. perform (fitted of w) s3 >>= λ x s4.
-    callee.call q empty (xs ++ value x ∷ []) s4 >>= λ r s5. Got k s5
+    eval e callee pr s >>= λ v s1. evals args callee pr s1 >>= λ xs s2. perform (plain v) s2 >>= λ w s3. perform (fitted of w) s3 >>= λ x s4. callee.call q empty (xs ++ value x ∷ []) s4 >>= λ r s5. Got k s5
 exec (set_property q args e of) callee pr p i k s =
-    eval e callee pr s >>= λ v s1. evals args callee pr s1 >>= λ xs s2. perform (set_object of v) s2 >>= λ x s3.
-    callee.call q empty (xs ++ value x ∷ []) s3 >>= λ r s4. Got k s4
+    eval e callee pr s >>= λ v s1. evals args callee pr s1 >>= λ xs s2. perform (set_object of v) s2 >>= λ x s3. callee.call q empty (xs ++ value x ∷ []) s3 >>= λ r s4. Got k s4
 exec (print ps ends) callee pr p i k s = eval_prints ps callee pr s >>= λ xs s1. perform (printed ends xs) s1 >>= λ u s2. Got k s2
 exec (raise args) callee pr p i k s = evals args callee pr s >>= λ xs s1. raise_error (raised_by xs s1.memory) s1
 exec (test sense e to other) callee pr p i k s = eval e callee pr s >>= λ v s1. perform (condition sense v) s1 >>= λ b s2. Got (if b then to else other) s2
 exec (go_to to) callee pr p i k s = Got to s
 exec (for_to x compare a b c first behind) callee pr p i k s =
-    perform (loop_off i) s >>= λ u s1. eval a callee pr s1 >>= λ start s2. eval b callee pr s2 >>= λ end s3. eval c callee pr s3 >>= λ by s4.
-    perform (loop_on x i compare (operand_type b) (operand_type c) start end by) s4 >>= λ on s5. Got (if on then first else behind) s5
+    perform (loop_off i) s >>= λ u s1. eval a callee pr s1 >>= λ start s2. eval b callee pr s2 >>= λ end s3. eval c callee pr s3 >>= λ by s4. perform (loop_on x i compare (operand_type b) (operand_type c) start end by) s4 >>= λ on s5. Got (if on then first else behind) s5
 exec (next x header first) callee pr p i k s = perform (next_round x header) s >>= λ on s1. Got (if on then first else k) s1
 exec (for_each x e first behind) callee pr p i k s =
-    perform (each_off i) s >>= λ u s1. eval e callee pr s1 >>= λ v s2. perform (each_begun i v) s2 >>= λ n s3. callee.go n s3 >>= λ w s4.
-    perform (each_next x i) s4 >>= λ on s5. Got (if on then first else behind) s5
+    perform (each_off i) s >>= λ u s1. eval e callee pr s1 >>= λ v s2. perform (each_begun i v) s2 >>= λ n s3. callee.go n s3 >>= λ w s4. perform (each_next x i) s4 >>= λ on s5. Got (if on then first else behind) s5
 exec (next_each x header first) callee pr p i k s = perform (each_next x header) s >>= λ on s1. Got (if on then first else k) s1
 exec (exit_each header to) callee pr p i k s = perform (block_over header) s >>= λ u s1. Got to s1
 exec (select e first) callee pr p i k s = eval e callee pr s >>= λ v s1. perform (keep i v) s1 >>= λ u s2. Got first s2

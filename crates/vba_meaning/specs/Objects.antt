@@ -21,8 +21,7 @@ typed_as of v m = Bad-at 424 m
 abbrev pub set_at : Path → Val → Memory → Effect (Unit {0})
 set_at p v m = on_fine (set_object p.of v m) (λ w m1. stored p w m1)
 
--- an assignment without Set to what gives an object writes its default member, and no object of a standard module has
--- one that can be written ([MS-VBAL] 5.4.3.8)
+-- an assignment without Set to an object writes its default member: none here has one to write ([MS-VBAL] 5.4.3.8)
 abbrev pub default_written : (target : Val) → Memory → Effect (Unit {0})
 default_written (object Nothing) m = Bad-at 91 m
 default_written (object o) m = Bad-at 438 m
