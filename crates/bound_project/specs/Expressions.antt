@@ -1,11 +1,13 @@
 -- Expressions whose names are replaced by what they stand for. A place in the source is Place; what can be written or
 -- lent is an Lvalue.
-use Rattle.std.specs.Prelude.{ℕ, List, Bool}
+use Rattle.std.specs.Prelude.{ℕ, ℤ, List, Bool}
 use Rattle.vba_base.specs.declared.place.Place.{Place}
 use Rattle.vba_values.specs.declared.types.OpKind.{OpKind}
 use Rattle.vba_values.specs.declared.types.Compare.{Compare}
+use Rattle.vba_values.specs.declared.object.HostRef.{HostRef}
 use Rattle.vba_values.specs.Types.{Declared}
 use Rattle.vba_values.specs.Val.{Val}
+use Rattle.vba_lib.specs.declared.function.LibraryFunction.{LibraryFunction}
 
 -- where a variable is kept: in its procedure's frame (the result first, then its own variables, then its parameters),
 -- or among the module variables and statics of the project, which stand in one list, module by module, each module's
@@ -48,6 +50,19 @@ mutual
     err_value : ErrMember → Node
     -- the value itself, but of an object the value of its default member
     default_of : Expr → Node
+    -- the value itself, but of an object whose default member needs no argument the value of that; Nothing stays
+    default_if_any : Expr → Node
+    -- an object of the host that is always there, as Err
+    host_object : HostRef → Node
+    -- Is: whether both are the same object
+    same : (left right : Expr) → Node
+    -- TypeOf e Is type
+    is_type : Expr → Declared → Node
+    -- a function of the library: whether $ stands behind its name, its arguments, how its module compares texts, and
+    -- from where an Array counts: 0 where VBA. is written. An argument that takes no object is a default_of
+    library : LibraryFunction → (text_form : Bool) → Exprs → Compare → (base : ℤ) → Node
+    -- UBound, or LBound, of what is at a place, for the dimension of this number: no array is copied
+    bound_of : (upper : Bool) → Lvalue → (dimension : ℤ) → Node
 
   -- what can be written and lent: a variable, a part of one, or what a With block keeps
   pub data Lvalue : Type 0 where

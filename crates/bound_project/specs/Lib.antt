@@ -1,3 +1,4 @@
 pub mod Expressions
 pub mod Statements
 pub mod Project
+pub mod Whole

@@ -37,11 +37,19 @@ pub data Action : Type 0 where
   assign : Lvalue → Expr → Action
   -- the same where nothing has the target, as an element of the array that a function gives: nothing is stored
   assign_none : (target value : Expr) → Action
+  -- Set target = value
+  set : Lvalue → Expr → Action
+  -- [Let] target = value where the target gives an object, as a variable of an object type does: the default member of
+  -- that object is written
+  assign_default : (target value : Expr) → Action
   -- a call whose value isn't used
   evaluate : Expr → Action
   -- an assignment to a property of a standard module: its Property Let, that one's other arguments, the value and its
   -- parameter's type
   let_property : (procedure : ℕ) → Args → Expr → Declared → Action
+  -- the same where the property is given the object itself: a Property Set, or a Property Let whose value parameter has
+  -- an object type
+  set_property : (procedure : ℕ) → Args → Expr → Declared → Action
   -- Debug.Print, and whether the line is finished
   print : Prints → (ends : Bool) → Action
   -- Err.Raise and Error: a number, a source and a description

@@ -2,3 +2,5 @@ pub mod Instructions
 pub mod Machine
 pub mod Code
 pub mod Layout
+pub mod WellFormed
+pub mod Steady

@@ -3,4 +3,4 @@
 
 mod laws;
 
-pub use laws::codes_are_laid_out;
+pub use laws::{codes_are_laid_out, codes_are_well_formed, well_formed_codes_end};

@@ -2,23 +2,25 @@
 use Rattle.std.proofs.Common.{◌≡◌, ℕ, zero, suc, ◌+◌, ◌≤◌, Bool, true, false, List, [], ◌∷◌, ◌++◌, length, Option, Some, None, refl, sym, ap, ◌∙◌, subst, arith}
 use Rattle.std.specs.Prelude.{slice_get, slice_index, slice_index_or, nat_lt, if◌then◌else◌}
 use Rattle.std.proofs.lemmas.List.{append-nil}
-use Rattle.vba_values.specs.declared.object.ObjRef.TheVariants.{Heap}
+use Rattle.vba_values.specs.declared.object.ObjRef.TheVariants.{Heap, Host}
 use Rattle.vba_values.specs.declared.types.Compare.{Compare}
 use Rattle.vba_values.specs.Types.{Declared}
 use Rattle.vba_values.specs.Val.{Val, boolean, empty, missing, object}
 use Rattle.error_frames.specs.declared.frame.ResumeKind.TheVariants as kind
 use Rattle.error_frames.specs.declared.frame.Taken.{Taken}
 use Rattle.error_frames.specs.declared.frame.Taken.TheVariants as taken
-use Rattle.bound_project.specs.Expressions.{Expr, expr, Node, not_given, constant, load, element_value, field_value, unary, binary, call, err_value, default_of, Lvalue, variable, item, element, field, kept_place, Args, no_args, by_place, by_copy, by_default, by_list, in_order, Exprs, no_exprs, also, Prints, no_prints, shown, zone, operand_type}
-use Rattle.bound_project.specs.Statements.{Resizes, no_resizes, resize, Arrays, no_arrays, an_array, Tests, no_tests, test_is, test_range, Action, assign, assign_none, evaluate, let_property, print, raise, test, go_to, for_to, next, for_each, next_each, exit_each, select, case_of, redim, erase, with_place, with_value, end_with, go_sub, return_sub, exit_to, on_error, end_handler, clear_err, resume_again, resume_next, resume_at, stop, end_run, Statement}
+use Rattle.bound_project.specs.Expressions.{Expr, expr, Node, not_given, constant, load, element_value, field_value, unary, binary, call, err_value, default_of, default_if_any, same, is_type, library, bound_of, host_object, Lvalue, variable, item, element, field, kept_place, Args, no_args, by_place, by_copy, by_default, by_list, in_order, Exprs, no_exprs, also, Prints, no_prints, shown, zone, operand_type}
+use Rattle.bound_project.specs.Statements.{Resizes, no_resizes, resize, Arrays, no_arrays, an_array, Tests, no_tests, test_is, test_range, Action, assign, assign_none, set, assign_default, evaluate, let_property, set_property, print, raise, test, go_to, for_to, next, for_each, next_each, exit_each, select, case_of, redim, erase, with_place, with_value, end_with, go_sub, return_sub, exit_to, on_error, end_handler, clear_err, resume_again, resume_next, resume_at, stop, end_run, Statement}
 use Rattle.bound_project.specs.Project.{Project, class_at, statement_at, next_of, first_values}
 use Rattle.vba_meaning.specs.Paths.{Path, field_path}
 use Rattle.vba_meaning.specs.Memory.{Error, Ended, Faulted, Going, opening, Slot, value, path, Memory, Object, top, at_statement, frame_left, path_of, result, entered, error_here, number_or}
 use Rattle.vba_meaning.specs.References.{objects_in, objects_in_values, is_last, hold, next_waiting, taken_off, let_held, held_by, let_frame, object_at, as_told, gone, closed}
-use Rattle.vba_meaning.specs.Effects.{Raised, Term, Effect, operated, operated_alone, fitted, plain, condition, read_path, assigned, lent, unlent, slot_values, packed, reordered, show_value, printed, loop_off, loop_on, next_round, keep, selected, fits, fits_between, gone_sub, returned_sub, policy_of, err_off, policy_on, handler_off, failed_statement, resumed, taken_by, with_taken, raised_by, err_of, stop_here}
+use Rattle.vba_meaning.specs.Effects.{Raised, Term, Effect, operated, operated_alone, fitted, plain, condition, read_path, assigned, lent, unlent, slot_values, packed, reordered, show_value, printed, loop_off, loop_on, next_round, keep, selected, fits, fits_between, gone_sub, returned_sub, policy_of, err_off, policy_on, handler_off, failed_statement, resumed, taken_by, with_taken, raised_by, err_of, set_object, stop_here}
 use Rattle.vba_meaning.specs.Arrays.{indexed, part_of, element_at, redimmed, erased, keep_path, block_over, dot_at, each_off, each_begun, each_next}
+use Rattle.vba_meaning.specs.Objects.{compared, typed_as, set_at, default_written}
+use Rattle.vba_meaning.specs.Library.{library_called, bound_at, plain_if_any}
 use Rattle.vba_meaning.specs.Meaning.{State, Res, Got, Failed, Over, Told, Turn, ◌>>=◌, turn, turned, with_memory, raise_error, perform, Callee, eval, eval_node, eval_place, evals, eval_list, eval_prints, tested, cases, resizes, erases, exec, Doing, nowhere, enter, called_by, callees, terminate_by, tell, finish, end_of, one, let_go, lets_held, lets_frame, leave, left, pass_on, next_here, decide_by, decide, settle, at_statement_or, level, doing, close, Run, run_of, first_state, meaning}
-use Rattle.pcode.specs.Instructions.{Instr, Begin, Push, LoadErr, PathOf, ReadThrough, ElementOf, ElementIn, FieldOf, Dot, Index, PartOf, Operate, OperateAlone, Plain, Fit, Drop, Lend, Pack, Reorder, Lift, Call, Store, ShowText, Show, Throw, LoopOff, LoopOn, NextRound, EachOff, EachOn, NextItem, Keep, Selected, IfFits, IfBetween, Redim, EraseAt, KeepPath, DropKept, PutReturn, TakeReturn, SetPolicy, HandlerOff, ErrOff, Again, Behind, Resumes, Finish, Branch, Halt, StopHere, Leave, Code}
+use Rattle.pcode.specs.Instructions.{Instr, Begin, Push, LoadErr, PathOf, ReadThrough, ElementOf, ElementIn, FieldOf, Dot, Index, PartOf, Operate, OperateAlone, Plain, PlainIfAny, PushHost, Same, IsType, Library, BoundAt, Fit, FitObject, Drop, Lend, Pack, Reorder, Lift, Call, Store, SetAt, StoreDefault, ShowText, Show, Throw, LoopOff, LoopOn, NextRound, EachOff, EachOn, NextItem, Keep, Selected, IfFits, IfBetween, Redim, EraseAt, KeepPath, DropKept, PutReturn, TakeReturn, SetPolicy, HandlerOff, ErrOff, Again, Behind, Resumes, Finish, Branch, Halt, StopHere, Leave, Code}
 use Rattle.pcode.specs.Machine.{After, Goes-on, Decide, Return, Back-to, Pass, Close, Back, Caller, EndOf, Move, Goes, Ends, Turns, at, failing, letting, lets_all, finishes, raises_then, raised, done_then, then_at, then_let_go, then_test, then_jump, then_branch, take_args, pushed, enters, enter_by, calls, then_statement, looking, act, finished_by, terminates_by, ends_by, lets_one_by, closing, returned_by, passed_on, takes, decides, comes_by, Fin, Done, tells, follow, machine, first_move, run_code}
 use Rattle.pcode.specs.Code.{count, list_count, prints_count, expr_code, node_code, place_code, args_code, list_code, prints_code, resizes_code, erases_code, Entry, tests_code, action_code}
 use Rattle.pcode.specs.Layout.{HasStatement, Laid}
@@ -207,6 +209,28 @@ module _ (pr : Project) (code : Code) (bound n : ℕ) (callee : Callee) (known :
     node_runs (default_of e) pc to st bs s has good =
         first (on_value st bs) (eval e callee pr s) (expr_code e) _ pc to _ has (λ mid h. expr_runs e pc mid st bs s h good) (λ v s1 g1 i h.
         instr Plain i (value v ∷ st) bs s1 h.0 (ends_at (on_value st bs) h.1 (performs (plain v) bs s1 g1)))
+    node_runs (default_if_any e) pc to st bs s has good =
+        first (on_value st bs) (eval e callee pr s) (expr_code e) _ pc to _ has (λ mid h. expr_runs e pc mid st bs s h good) (λ v s1 g1 i h.
+        instr PlainIfAny i (value v ∷ st) bs s1 h.0 (ends_at (on_value st bs) h.1 (performs (plain_if_any v) bs s1 g1)))
+    node_runs (library f text_form es compare base) pc to st bs s has good =
+        first_each (on_args st bs) (eval_list es callee pr s) (list_code es) _ pc to _ has (list_counts es callee pr s) (λ mid h. list_runs es pc mid st bs s h good) (λ xs s1 len g1 j h.
+        instr (Library f text_form compare base (length xs)) j (pushed xs st) bs s1 (h.0 ∙ ap (λ m. Some (Library f text_form compare base m)) (sym len))
+        (subst (λ m. Runs code bound n m (on_value st bs to) (failed bs) (perform (library_called pr.declared f text_form compare base (slot_values xs)) s1)) (sym (all_taken xs st _))
+        (subst (λ d. Runs code bound n (done_then (library_called d f text_form compare base (slot_values xs) s1.memory) bs s1 (on_value st bs (j + 1))) (on_value st bs to) (failed bs)
+        (perform (library_called pr.declared f text_form compare base (slot_values xs)) s1)) (sym tables)
+        (ends_at (on_value st bs) h.1 (performs (library_called pr.declared f text_form compare base (slot_values xs)) bs s1 g1)))))
+    node_runs (bound_of upper x z) pc to st bs s has good =
+        first (on_path st bs) (eval_place x callee pr s) (place_code x) _ pc to _ has (λ mid h. place_runs x pc mid st bs s h good) (λ q s1 g1 mid h.
+        instr (BoundAt upper z) mid (path q ∷ st) bs s1 h.0 (ends_at (on_value st bs) h.1 (performs (bound_at upper z q) bs s1 g1)))
+    node_runs (host_object reference) pc to st bs s has good =
+        instr (PushHost reference) pc st bs s has.0 (ends_at (on_value st bs) has.1 (here (object (Host reference)) s good))
+    node_runs (same a b) pc to st bs s has good =
+        first (on_value st bs) (eval a callee pr s) (expr_code a) _ pc to _ has (λ mid h. expr_runs a pc mid st bs s h good) (λ v s1 g1 i h1.
+        first (on_value (value v ∷ st) bs) (eval b callee pr s1) (expr_code b) _ i to _ h1 (λ mid h. expr_runs b i mid (value v ∷ st) bs s1 h g1) (λ w s2 g2 j h2.
+        instr Same j (value w ∷ value v ∷ st) bs s2 h2.0 (ends_at (on_value st bs) h2.1 (performs (compared v w) bs s2 g2))))
+    node_runs (is_type e of) pc to st bs s has good =
+        first (on_value st bs) (eval e callee pr s) (expr_code e) _ pc to _ has (λ mid h. expr_runs e pc mid st bs s h good) (λ v s1 g1 i h.
+        instr (IsType of) i (value v ∷ st) bs s1 h.0 (ends_at (on_value st bs) h.1 (performs (typed_as of v) bs s1 g1)))
 
     pub place_runs : (x : Lvalue) (pc to : ℕ) (st : List Slot) (bs : List Back) (s : State) → UpTo code.instrs pc (place_code x) to → Enough bound n s
         → Runs code bound n (Goes (at pc st bs s)) (on_path st bs to) (failed bs) (eval_place x callee pr s)
@@ -424,6 +448,14 @@ module _ (pr : Project) (code : Code) (entry : ℕ → Entry) (laid : Laid pr en
       then_value pr code bound n callee known laid.declared e _ pc to [] bs s has good (λ v s1 g1 i1 h1.
       then_value pr code bound n callee known laid.declared x _ i1 to (value v ∷ []) bs s1 h1 g1 (λ w s2 g2 j h.
       instr Drop j (value w ∷ value v ∷ []) bs s2 h.0 (instr Drop (j + 1) (value v ∷ []) bs s2 h.1.0 (ends_here k (j + 1 + 1) bs s2 h.1.1.0 g2))))
+  action_runs (set x e) i k pc to bs s has good =
+      then_value pr code bound n callee known laid.declared e _ pc to [] bs s has good (λ v s1 g1 mid h.
+      then_place pr code bound n callee known laid.declared x _ mid to (value v ∷ []) bs s1 h g1 (λ q s2 g2 j h2.
+      instr SetAt j (path q ∷ value v ∷ []) bs s2 h2.0 (used (set_at q v) k (j + 1) bs s2 h2.1.0 g2)))
+  action_runs (assign_default x e) i k pc to bs s has good =
+      then_value pr code bound n callee known laid.declared e _ pc to [] bs s has good (λ v s1 g1 i1 h1.
+      then_value pr code bound n callee known laid.declared x _ i1 to (value v ∷ []) bs s1 h1 g1 (λ w s2 g2 j h.
+      instr StoreDefault j (value w ∷ value v ∷ []) bs s2 h.0 (used (default_written w) k (j + 1) bs s2 h.1.0 g2)))
   action_runs (evaluate e) i k pc to bs s has good =
       then_value pr code bound n callee known laid.declared e _ pc to [] bs s has good (λ v s1 g1 mid h.
       instr Drop mid (value v ∷ []) bs s1 h.0 (ends_here k (mid + 1) bs s1 h.1.0 g1))
@@ -439,6 +471,16 @@ module _ (pr : Project) (code : Code) (entry : ℕ → Entry) (laid : Laid pr en
       (subst (λ m. Runs code bound n m (with_end (entry p) bs) (failed bs) (callee.call q empty (xs ++ value x ∷ []) s4 >>= λ r s5. Got k s5)) (sym (one_more_taken xs [] (value x) _))
       (bind (callee.call q empty (xs ++ value x ∷ []) s4) (known.call q empty (xs ++ value x ∷ []) [] (j + 1 + 1 + 1 + 1) bs s4 g4) (λ r s5 g5.
       instr Drop (j + 1 + 1 + 1 + 1) (value r ∷ []) bs s5 h2.1.1.1.0 (ends_here k (j + 1 + 1 + 1 + 1 + 1) bs s5 h2.1.1.1.1.0 g5)))))))))))
+  action_runs (set_property q args e of) i k pc to bs s has good =
+      then_value pr code bound n callee known laid.declared e _ pc to [] bs s has good (λ v s1 g1 mid h.
+      then_args pr code bound n callee known laid.declared args _ Lift mid to (value v ∷ []) bs s1 h g1 (λ xs s2 len g2 j h2.
+      subst (λ m. Runs code bound n m (with_end (entry p) bs) (failed bs) (perform (set_object of v) s2 >>= λ x s3. callee.call q empty (xs ++ value x ∷ []) s3 >>= λ r s4. Got k s4)) (sym (all_taken xs (value v ∷ []) _))
+      (instr (FitObject of) (j + 1) (value v ∷ pushed xs []) bs s2 h2.0
+      (bind (perform (set_object of v) s2) (performs {got = on_value (pushed xs []) bs (j + 1 + 1)} (set_object of v) bs s2 g2) (λ x s3 g3.
+      instr (Call q (suc (length xs))) (j + 1 + 1) (value x ∷ pushed xs []) bs s3 (h2.1.0 ∙ ap (λ m. Some (Call q (suc m))) (sym len))
+      (subst (λ m. Runs code bound n m (with_end (entry p) bs) (failed bs) (callee.call q empty (xs ++ value x ∷ []) s3 >>= λ r s4. Got k s4)) (sym (one_more_taken xs [] (value x) _))
+      (bind (callee.call q empty (xs ++ value x ∷ []) s3) (known.call q empty (xs ++ value x ∷ []) [] (j + 1 + 1 + 1) bs s3 g3) (λ r s4 g4.
+      instr Drop (j + 1 + 1 + 1) (value r ∷ []) bs s4 h2.1.1.0 (ends_here k (j + 1 + 1 + 1 + 1) bs s4 h2.1.1.1.0 g4)))))))))
   action_runs (print ps ends) i k pc to bs s has good =
       then_prints pr code bound n callee known laid.declared ps _ (Show ends) pc to [] bs s has good (λ xs s1 g1 mid h.
       subst (λ m. Runs code bound n m (with_end (entry p) bs) (failed bs) (perform (printed ends xs) s1 >>= λ u s2. Got k s2)) (sym (all_taken xs [] _))

@@ -12,7 +12,7 @@ use Rattle.vba_meaning.specs.Effects.{Raised}
 use Rattle.vba_meaning.specs.Meaning.{meaning}
 use Rattle.vba_meaning.proofs.Programs.{e, n, words, plus, long, any, global, v, err, show, becomes, declare, sub, flat, jumping, program, main, told, line, fault, longs, shared_longs, of_type, fixed, up_to, declared_array, one, from_0, at_place, el, el_becomes, redim_to, do_call, with_types}
 
-abbrev long_array : type.Declared
+abbrev pub long_array : type.Declared
 long_array = type.array_of type.long
 
 -- Dim a() As Long (of the module): On Error Resume Next ¶ ReDim a(3) ¶ Work a(1) ¶ Debug.Print Err.Number ¶ ReDim a(9)
@@ -32,10 +32,10 @@ lent_element_is = refl
 
 -- Type P: X As Long; Dim a() As P ¶ ReDim a(1) ¶ With a(1) ¶ .X = 3 ¶ End With ¶ Debug.Print a(1).X ¶ ReDim a(2) ¶
 -- Debug.Print a(2).X
-abbrev p_array : Variable
+abbrev pub p_array : Variable
 p_array = of_type 1 (type.array_of (type.udt 0))
 
-abbrev x_of : Lvalue → Lvalue
+abbrev pub x_of : Lvalue → Lvalue
 x_of place = field place 0 type.long false
 
 abbrev with_element : Project

@@ -1,21 +1,23 @@
 -- What a project does. A result is a value with the state that is left, an error on its way, or the end of the run;
 -- before it may stand events, which are told first, and turns, which the bound on turns may refuse.
 use Rattle.std.specs.Prelude.{ℕ, zero, suc, ◌+◌, nat_lt, List, [], ◌∷◌, ◌++◌, length, Bool, true, false, Option, Some, None, if◌then◌else◌, slice_index_or}
-use Rattle.vba_values.specs.declared.object.ObjRef.TheVariants.{Heap}
+use Rattle.vba_values.specs.declared.object.ObjRef.TheVariants.{Heap, Host}
 use Rattle.vba_values.specs.declared.types.Compare.{Compare}
 use Rattle.vba_values.specs.Types.{Declared}
 use Rattle.vba_values.specs.Val.{Val, empty, missing, object}
 use Rattle.error_frames.specs.declared.frame.ResumeKind.TheVariants as kind
 use Rattle.error_frames.specs.declared.frame.Taken.{Taken}
 use Rattle.error_frames.specs.declared.frame.Taken.TheVariants as taken
-use Rattle.bound_project.specs.Expressions.{Expr, expr, Node, not_given, constant, load, element_value, field_value, unary, binary, call, err_value, default_of, Lvalue, variable, item, element, field, kept_place, Args, no_args, by_place, by_copy, by_default, by_list, in_order, Exprs, no_exprs, also, Prints, no_prints, shown, zone, operand_type}
-use Rattle.bound_project.specs.Statements.{Resizes, no_resizes, resize, Arrays, no_arrays, an_array, Tests, no_tests, test_is, test_range, Action, assign, assign_none, evaluate, let_property, print, raise, test, go_to, for_to, next, for_each, next_each, exit_each, select, case_of, redim, erase, with_place, with_value, end_with, go_sub, return_sub, exit_to, on_error, end_handler, clear_err, resume_again, resume_next, resume_at, stop, end_run, Statement}
+use Rattle.bound_project.specs.Expressions.{Expr, expr, Node, not_given, constant, load, element_value, field_value, unary, binary, call, err_value, default_of, default_if_any, same, is_type, library, bound_of, host_object, Lvalue, variable, item, element, field, kept_place, Args, no_args, by_place, by_copy, by_default, by_list, in_order, Exprs, no_exprs, also, Prints, no_prints, shown, zone, operand_type}
+use Rattle.bound_project.specs.Statements.{Resizes, no_resizes, resize, Arrays, no_arrays, an_array, Tests, no_tests, test_is, test_range, Action, assign, assign_none, set, assign_default, evaluate, let_property, set_property, print, raise, test, go_to, for_to, next, for_each, next_each, exit_each, select, case_of, redim, erase, with_place, with_value, end_with, go_sub, return_sub, exit_to, on_error, end_handler, clear_err, resume_again, resume_next, resume_at, stop, end_run, Statement}
 use Rattle.bound_project.specs.Project.{Project, class_at, statement_at, next_of, first_values}
 use Rattle.vba_meaning.specs.Paths.{Path, field_path}
 use Rattle.vba_meaning.specs.Memory.{Error, Ending, Ended, Faulted, Stopped, Going, Slot, value, path, Memory, Object, top, at_statement, frame_left, path_of, result, entered, error_here, number_or, opening}
 use Rattle.vba_meaning.specs.References.{objects_in, objects_in_values, is_last, hold, next_waiting, taken_off, let_held, held_by, let_frame, object_at, as_told, gone, closed}
-use Rattle.vba_meaning.specs.Effects.{Event, Raised, Term, Effect, Fine, Bad-at, Out, Tell, operated, operated_alone, fitted, plain, condition, read_path, assigned, lent, unlent, slot_values, packed, reordered, show_value, printed, loop_off, loop_on, next_round, keep, selected, fits, fits_between, gone_sub, returned_sub, policy_of, err_off, policy_on, handler_off, failed_statement, resumed, taken_by, with_taken, raised_by, err_of, stop_here}
+use Rattle.vba_meaning.specs.Effects.{Event, Raised, Term, Effect, Fine, Bad-at, Out, Tell, operated, operated_alone, fitted, plain, condition, read_path, assigned, lent, unlent, slot_values, packed, reordered, show_value, printed, loop_off, loop_on, next_round, keep, selected, fits, fits_between, gone_sub, returned_sub, policy_of, err_off, policy_on, handler_off, failed_statement, resumed, taken_by, with_taken, raised_by, err_of, set_object, stop_here}
 use Rattle.vba_meaning.specs.Arrays.{indexed, part_of, element_at, redimmed, erased, keep_path, block_over, dot_at, each_off, each_begun, each_next}
+use Rattle.vba_meaning.specs.Objects.{compared, typed_as, set_at, default_written}
+use Rattle.vba_meaning.specs.Library.{library_called, bound_at, plain_if_any}
 
 -- the memory, and how many turns were begun
 pub record State : Type 0 where
@@ -95,6 +97,12 @@ abbrev mutual
   eval_node (call p args) callee pr s = evals args callee pr s >>= λ xs s1. callee.call p empty xs s1
   eval_node (err_value member) callee pr s = Got (err_of pr.declared member s.memory.err) s
   eval_node (default_of e) callee pr s = eval e callee pr s >>= λ v s1. perform (plain v) s1
+  eval_node (default_if_any e) callee pr s = eval e callee pr s >>= λ v s1. perform (plain_if_any v) s1
+  eval_node (host_object reference) callee pr s = Got (object (Host reference)) s
+  eval_node (same a b) callee pr s = eval a callee pr s >>= λ v s1. eval b callee pr s1 >>= λ w s2. perform (compared v w) s2
+  eval_node (is_type e of) callee pr s = eval e callee pr s >>= λ v s1. perform (typed_as of v) s1
+  eval_node (library f text_form es compare base) callee pr s = eval_list es callee pr s >>= λ xs s1. perform (library_called pr.declared f text_form compare base (slot_values xs)) s1
+  eval_node (bound_of upper x z) callee pr s = eval_place x callee pr s >>= λ q s1. perform (bound_at upper z q) s1
 
   -- where a place leads
   pub eval_place : Lvalue → Callee → Project → State → Res Path
@@ -137,8 +145,7 @@ tested header s = perform (selected header) s >>= λ v s1. perform (plain v) s1
 abbrev pub cases : Tests → Callee → Project → (header : ℕ) → Declared → Compare → (first other : ℕ) → State → Res ℕ
 cases no_tests callee pr header of compare first other s = Got other s
 cases (test_is o e ts) callee pr header of compare first other s =
-    tested header s >>= λ v s1. eval e callee pr s1 >>= λ w s2.
-    perform (fits o compare of (operand_type e) v w) s2 >>= λ b s3. if b then Got first s3 else cases ts callee pr header of compare first other s3
+    tested header s >>= λ v s1. eval e callee pr s1 >>= λ w s2. perform (fits o compare of (operand_type e) v w) s2 >>= λ b s3. if b then Got first s3 else cases ts callee pr header of compare first other s3
 cases (test_range a b ts) callee pr header of compare first other s =
     tested header s >>= λ v s1. eval a callee pr s1 >>= λ x s2. eval b callee pr s2 >>= λ y s3.
     perform (fits_between compare of (operand_type a) (operand_type b) v x y) s3 >>= λ b s4. if b then Got first s4 else cases ts callee pr header of compare first other s4
@@ -147,8 +154,7 @@ cases (test_range a b ts) callee pr header of compare first other s =
 abbrev pub resizes : Bool → Resizes → Callee → Project → State → Res (Unit {0})
 resizes preserve no_resizes callee pr s = Got tt s
 resizes preserve (resize x bounds of rs) callee pr s =
-    eval_place x callee pr s >>= λ q s1. eval_list bounds callee pr s1 >>= λ xs s2.
-    perform (redimmed pr.declared preserve of q (slot_values xs)) s2 >>= λ k s3. callee.go k s3 >>= λ u s4. resizes preserve rs callee pr s4
+    eval_place x callee pr s >>= λ q s1. eval_list bounds callee pr s1 >>= λ xs s2. perform (redimmed pr.declared preserve of q (slot_values xs)) s2 >>= λ k s3. callee.go k s3 >>= λ u s4. resizes preserve rs callee pr s4
 
 abbrev pub erases : Arrays → Callee → Project → State → Res (Unit {0})
 erases no_arrays callee pr s = Got tt s
@@ -159,21 +165,22 @@ erases (an_array x xs) callee pr s =
 abbrev pub exec : Action → Callee → Project → (procedure statement following : ℕ) → State → Res ℕ
 exec (assign x e) callee pr p i k s = eval e callee pr s >>= λ v s1. eval_place x callee pr s1 >>= λ q s2. perform (assigned q v) s2 >>= λ u s3. Got k s3
 exec (assign_none x e) callee pr p i k s = eval e callee pr s >>= λ v s1. eval x callee pr s1 >>= λ w s2. Got k s2
+exec (set x e) callee pr p i k s = eval e callee pr s >>= λ v s1. eval_place x callee pr s1 >>= λ q s2. perform (set_at q v) s2 >>= λ u s3. Got k s3
+exec (assign_default x e) callee pr p i k s = eval e callee pr s >>= λ v s1. eval x callee pr s1 >>= λ w s2. perform (default_written w) s2 >>= λ u s3. Got k s3
 exec (evaluate e) callee pr p i k s = eval e callee pr s >>= λ v s1. Got k s1
 exec (let_property q args e of) callee pr p i k s =
-    eval e callee pr s >>= λ v s1. evals args callee pr s1 >>= λ xs s2. perform (plain v) s2 >>= λ w s3. perform (fitted of w) s3 >>= λ x s4.
-    callee.call q empty (xs ++ value x ∷ []) s4 >>= λ r s5. Got k s5
+    eval e callee pr s >>= λ v s1. evals args callee pr s1 >>= λ xs s2. perform (plain v) s2 >>= λ w s3. perform (fitted of w) s3 >>= λ x s4. callee.call q empty (xs ++ value x ∷ []) s4 >>= λ r s5. Got k s5
+exec (set_property q args e of) callee pr p i k s =
+    eval e callee pr s >>= λ v s1. evals args callee pr s1 >>= λ xs s2. perform (set_object of v) s2 >>= λ x s3. callee.call q empty (xs ++ value x ∷ []) s3 >>= λ r s4. Got k s4
 exec (print ps ends) callee pr p i k s = eval_prints ps callee pr s >>= λ xs s1. perform (printed ends xs) s1 >>= λ u s2. Got k s2
 exec (raise args) callee pr p i k s = evals args callee pr s >>= λ xs s1. raise_error (raised_by xs s1.memory) s1
 exec (test sense e to other) callee pr p i k s = eval e callee pr s >>= λ v s1. perform (condition sense v) s1 >>= λ b s2. Got (if b then to else other) s2
 exec (go_to to) callee pr p i k s = Got to s
 exec (for_to x compare a b c first behind) callee pr p i k s =
-    perform (loop_off i) s >>= λ u s1. eval a callee pr s1 >>= λ start s2. eval b callee pr s2 >>= λ end s3. eval c callee pr s3 >>= λ by s4.
-    perform (loop_on x i compare (operand_type b) (operand_type c) start end by) s4 >>= λ on s5. Got (if on then first else behind) s5
+    perform (loop_off i) s >>= λ u s1. eval a callee pr s1 >>= λ start s2. eval b callee pr s2 >>= λ end s3. eval c callee pr s3 >>= λ by s4. perform (loop_on x i compare (operand_type b) (operand_type c) start end by) s4 >>= λ on s5. Got (if on then first else behind) s5
 exec (next x header first) callee pr p i k s = perform (next_round x header) s >>= λ on s1. Got (if on then first else k) s1
 exec (for_each x e first behind) callee pr p i k s =
-    perform (each_off i) s >>= λ u s1. eval e callee pr s1 >>= λ v s2. perform (each_begun i v) s2 >>= λ n s3. callee.go n s3 >>= λ w s4.
-    perform (each_next x i) s4 >>= λ on s5. Got (if on then first else behind) s5
+    perform (each_off i) s >>= λ u s1. eval e callee pr s1 >>= λ v s2. perform (each_begun i v) s2 >>= λ n s3. callee.go n s3 >>= λ w s4. perform (each_next x i) s4 >>= λ on s5. Got (if on then first else behind) s5
 exec (next_each x header first) callee pr p i k s = perform (each_next x header) s >>= λ on s1. Got (if on then first else k) s1
 exec (exit_each header to) callee pr p i k s = perform (block_over header) s >>= λ u s1. Got to s1
 exec (select e first) callee pr p i k s = eval e callee pr s >>= λ v s1. perform (keep i v) s1 >>= λ u s2. Got first s2

@@ -1,0 +1,477 @@
+-- The run of a well-formed code ends, and never lacks an operand or an instruction. A run goes on by turns, which are
+-- bounded; between two turns each step leads nearer to the end of a statement, to fewer waiting references, or to fewer
+-- calls that stand.
+use Rattle.std.proofs.Common.{◌≡◌, ℕ, zero, suc, ◌+◌, ◌<◌, ◌≤◌, Bool, true, false, List, [], ◌∷◌, ◌++◌, length, Option, Some, None, refl, sym, ap, ◌∙◌, subst, arith}
+use Rattle.std.specs.Prelude.{slice_get, slice_index, slice_index_or, nat_lt, if◌then◌else◌}
+use Rattle.std.proofs.lemmas.Bool.{ltb-true}
+use Rattle.std.proofs.lemmas.Option.{slice_get_past}
+use Rattle.vba_values.specs.declared.object.ObjRef.TheVariants.{Host}
+use Rattle.vba_values.specs.Val.{Val, boolean, empty, missing, object}
+use Rattle.error_frames.specs.declared.frame.Taken.{Taken}
+use Rattle.error_frames.specs.declared.frame.Taken.TheVariants as taken
+use Rattle.bound_project.specs.Whole.{All}
+use Rattle.bound_project.specs.Project.{class_at, first_values}
+use Rattle.vba_meaning.specs.Paths.{Path, field_path}
+use Rattle.vba_meaning.specs.Memory.{Error, Ending, Ended, Faulted, Going, Slot, value, path, Object, top, path_of, error_here, frame_left, result}
+use Rattle.vba_meaning.specs.References.{objects_in, objects_in_values, hold, held_by, is_last, next_waiting, taken_off, let_frame, object_at, as_told, gone, closed}
+use Rattle.vba_meaning.specs.Effects.{Event, Effect, Fine, Bad-at, Out, Tell, lent, packed, reordered, printed, loop_off, keep, selected, gone_sub, policy_on, handler_off, err_off, stop_here, taken_by, err_of}
+use Rattle.vba_meaning.specs.Arrays.{each_off, block_over, keep_path}
+use Rattle.vba_meaning.specs.Meaning.{State, with_memory, turned, left}
+use Rattle.pcode.specs.Instructions.{Instr, Begin, Push, PushHost, LoadErr, PathOf, ReadThrough, ElementOf, ElementIn, FieldOf, Dot, Index, PartOf, Operate, OperateAlone, Plain, PlainIfAny, Same, IsType, Library, BoundAt, Fit, FitObject, Drop, Lend, Pack, Reorder, Lift, Call, Store, SetAt, StoreDefault, ShowText, Show, Throw, LoopOff, LoopOn, NextRound, EachOff, EachOn, NextItem, Keep, Selected, IfFits, IfBetween, Redim, EraseAt, KeepPath, DropKept, PutReturn, TakeReturn, SetPolicy, HandlerOff, ErrOff, Again, Behind, Resumes, Finish, Branch, Halt, StopHere, Leave, Code, entry_of}
+use Rattle.pcode.specs.Machine.{After, Goes-on, Decide, Return, Back-to, Pass, Close, Back, Caller, EndOf, Config, Move, Goes, Ends, Tells, Turns, at, failing, letting, lets_all, finishes, raised, done_then, then_at, then_push, then_branch, pops, pops_path, take_args, pushed, looking, act, finished_by, terminates_by, ends_by, closing, returned_by, passed_on, next_by, takes, comes_by, step, Fin, Done, Unfinished, Stuck, tells, follow, machine, first_move, run_code}
+use Rattle.pcode.specs.WellFormed.{Kind, a_value, a_path, Way, no_way, brings, value_off, path_off, taken_off as kinds_off, kinds_pushed, kinds_reordered, along, along_rest, along_all, Leads, Sound, SoundFrom, joined, Lands, begins, leaves, WellFormed}
+use Rattle.pcode.specs.Steady.{HasEnded, Steady}
+use Rattle.pcode.proofs.OneEnd.{Final, one_end}
+
+-- ---- the ways to an address
+
+-- what a way through instructions brings to one of them
+abbrev before : List Instr → Way → ℕ → Option Way
+before is w zero = Some w
+before [] w (suc pc) = None
+before (i ∷ is) w (suc pc) = along_rest (along i w) (λ v. before is v pc)
+
+abbrev way_or : Option Way → Way
+way_or None = no_way
+way_or (Some w) = w
+
+same_way : (v w : Way) → Some v ≡ Some w → v ≡ w
+same_way v w e = ap way_or e
+
+abbrev instr_or : Option Instr → Instr
+instr_or None = Leave
+instr_or (Some i) = i
+
+same_instr : (i j : Instr) → Some i ≡ Some j → i ≡ j
+same_instr i j e = ap instr_or e
+
+-- a way to an instruction leads on behind it
+abbrev OnFrom : List Instr → Way → ℕ → Instr → Way → Type 0
+OnFrom is w pc i v = (u : Way) × ((along i v ≡ Some u) × (before is w (suc pc) ≡ Some u))
+
+on_from_first : (i : Instr) (is : List Instr) (w end : Way) (o : Option Way) → along i w ≡ o → along_rest o (along_all is) ≡ Some end → OnFrom (i ∷ is) w zero i w
+on_from_first i is w end None e all = absurd cc
+on_from_first i is w end (Some u) e all = (u, (e, ap (λ x. along_rest x (λ v. before is v zero)) e))
+
+on_from : (is : List Instr) (w v end : Way) (pc : ℕ) (i : Instr) → along_all is w ≡ Some end → before is w pc ≡ Some v → slice_get is pc ≡ Some i → OnFrom is w pc i v
+on_from [] w v end pc i all b e = absurd cc
+on_from (j ∷ is) w v end zero i all b e =
+    let same-i : j ≡ i = same_instr j i e in
+    let same-w : w ≡ v = same_way w v b in
+    subst (λ x. OnFrom (j ∷ is) w zero x v) same-i (subst (λ x. OnFrom (j ∷ is) w zero j x) same-w (on_from_first j is w end (along j w) refl all))
+on_from (j ∷ is) w v end (suc pc) i all b e = deeper (λ x h k. on_from is x v end pc i h k e) (along j w) refl all b where
+  deeper : ((x : Way) → along_all is x ≡ Some end → before is x pc ≡ Some v → OnFrom is x pc i v) → (o : Option Way) → along j w ≡ o → along_rest o (along_all is) ≡ Some end
+      → along_rest o (λ x. before is x pc) ≡ Some v → OnFrom (j ∷ is) w (suc pc) i v
+  deeper further None eq all b = absurd cc
+  deeper further (Some x) eq all b =
+      let r = further x all b in
+      (r.0, (r.1.0, ap (λ y. along_rest y (λ z. before is z (suc pc))) eq ∙ r.1.1))
+
+-- to each instruction there is a way, and where a way brings operands there is an instruction
+some_way : (is : List Instr) (w end : Way) (pc : ℕ) (i : Instr) → along_all is w ≡ Some end → slice_get is pc ≡ Some i → (v : Way) × (before is w pc ≡ Some v)
+some_way [] w end pc i all e = absurd cc
+some_way (j ∷ is) w end zero i all e = (w, refl)
+some_way (j ∷ is) w end (suc pc) i all e = deeper (λ x h. some_way is x end pc i h e) (along j w) all where
+  deeper : ((x : Way) → along_all is x ≡ Some end → (v : Way) × (before is x pc ≡ Some v)) → (o : Option Way) → along_rest o (along_all is) ≡ Some end → (v : Way) × (along_rest o (λ x. before is x pc) ≡ Some v)
+  deeper further None all = absurd cc
+  deeper further (Some x) all = further x all
+
+some_instr : (is : List Instr) (w : Way) (pc : ℕ) (ks : List Kind) → along_all is w ≡ Some no_way → before is w pc ≡ Some (brings ks) → (i : Instr) × (slice_get is pc ≡ Some i)
+some_instr [] w zero ks all b = absurd (let e : no_way ≡ brings ks = same_way no_way (brings ks) (sym all ∙ b) in cc)
+some_instr [] w (suc pc) ks all b = absurd cc
+some_instr (j ∷ is) w zero ks all b = (j, refl)
+some_instr (j ∷ is) w (suc pc) ks all b = deeper (λ x h k. some_instr is x pc ks h k) (along j w) all b where
+  deeper : ((x : Way) → along_all is x ≡ Some no_way → before is x pc ≡ Some (brings ks) → (i : Instr) × (slice_get is pc ≡ Some i)) → (o : Option Way) → along_rest o (along_all is) ≡ Some no_way
+      → along_rest o (λ x. before is x pc) ≡ Some (brings ks) → (i : Instr) × (slice_get is pc ≡ Some i)
+  deeper further None all b = absurd cc
+  deeper further (Some x) all b = further x all b
+
+-- behind a statement's beginning the stack is empty
+begun : (i : ℕ) (v u : Way) → along (Begin i) v ≡ Some u → Some u ≡ Some (brings [])
+begun i no_way u e = sym e
+begun i (brings ks) u e = absurd cc
+
+-- the numbers of each instruction but Leave are sound
+sound_within : (code : Code) (p : ℕ) (is rest : List Instr) (pc : ℕ) (i : Instr) → All (Sound code p) is → ((m : ℕ) → slice_get rest m ≡ Some i → (q : ℕ) × Sound code q i) → slice_get (is ++ rest) pc ≡ Some i
+    → (q : ℕ) × Sound code q i
+sound_within code p [] rest pc i h further e = further pc e
+sound_within code p (j ∷ is) rest zero i h further e = (p, subst (Sound code p) (same_instr j i e) h.0)
+sound_within code p (j ∷ is) rest (suc pc) i h further e = sound_within code p is rest pc i h.1 further e
+
+sound_in : (code : Code) (p : ℕ) (iss : List (List Instr)) (pc : ℕ) (i : Instr) → SoundFrom code p iss → slice_get (joined iss) pc ≡ Some i → (q : ℕ) × Sound code q i
+sound_in code p [] pc i h e = absurd cc
+sound_in code p (is ∷ iss) pc i h e = sound_within code p is (joined iss) pc i h.0 (λ m k. sound_in code (suc p) iss m i h.1 k) e
+
+sound_behind : (code : Code) (iss : List (List Instr)) (pc : ℕ) (i : Instr) (ks : List Kind) (u : Way) → SoundFrom code 0 iss → slice_get (Leave ∷ joined iss) pc ≡ Some i → along i (brings ks) ≡ Some u → (q : ℕ) × Sound code q i
+sound_behind code iss zero i ks u h e a = absurd (let x : along Leave (brings ks) ≡ Some u = subst (λ j. along j (brings ks) ≡ Some u) (sym (same_instr Leave i e)) a in cc)
+sound_behind code iss (suc pc) i ks u h e a = sound_in code 0 iss pc i h e
+
+-- ---- kinds of operands
+
+abbrev kind_of : Slot → Kind
+kind_of (value v) = a_value
+kind_of (path q) = a_path
+
+abbrev kinds_of : List Slot → List Kind
+kinds_of [] = []
+kinds_of (x ∷ st) = kind_of x ∷ kinds_of st
+
+pushed_kinds : (xs st : List Slot) → kinds_of (pushed xs st) ≡ kinds_pushed (kinds_of xs) (kinds_of st)
+pushed_kinds [] st = refl
+pushed_kinds (x ∷ xs) st = pushed_kinds xs (x ∷ st)
+
+indexed_kind : (xs : List Slot) (i : ℕ) → kind_of (slice_index_or xs i (value missing)) ≡ slice_index_or (kinds_of xs) i a_value
+indexed_kind [] i = refl
+indexed_kind (x ∷ xs) zero = refl
+indexed_kind (x ∷ xs) (suc i) = indexed_kind xs i
+
+reordered_kinds : (order : List ℕ) (xs : List Slot) → kinds_of (reordered order xs) ≡ kinds_reordered order (kinds_of xs)
+reordered_kinds [] xs = refl
+reordered_kinds (i ∷ order) xs = ap (λ k. k ∷ kinds_of (reordered order xs)) (indexed_kind xs i) ∙ ap (λ ks. slice_index_or (kinds_of xs) i a_value ∷ ks) (reordered_kinds order xs)
+
+-- ---- moves that lead to an end
+
+record Stops (code : Code) (bound : ℕ) (m : Move) : Type 0 where
+  steps : ℕ
+  ends : HasEnded (follow bound m (machine code bound steps))
+
+told_ended : (es : List Event) (x : Fin) → HasEnded x → HasEnded (tells es x)
+told_ended es (Done e s more) h = tt
+told_ended es Unfinished h = h
+told_ended es Stuck h = h
+
+turn_ended : (x : ℕ → Fin) (z : Fin) (b : Bool) → (b ≡ true → (j : ℕ) × HasEnded (x j)) → HasEnded z → (j : ℕ) × HasEnded (if b then x j else z)
+turn_ended x z true h g = h refl
+turn_ended x z false h g = (0, g)
+
+module _ {code : Code} {bound : ℕ} where
+  stepped : (c : Config) → Stops code bound (step code c) → Stops code bound (Goes c)
+  stepped c h = record { steps = suc h.steps; ends = h.ends }
+
+  over : (e : Ending) (s : State) → Stops code bound (Ends e s)
+  over e s = record { steps = 0; ends = tt }
+
+  telling : (es : List Event) (m : Move) → Stops code bound m → Stops code bound (Tells es m)
+  telling es m h = record { steps = h.steps; ends = told_ended es (follow bound m (machine code bound h.steps)) h.ends }
+
+  turning : (s : State) (m : Move) → (s.begun < bound → Stops code bound m) → Stops code bound (Turns s m)
+  turning s m h =
+      let r = turn_ended (λ j. follow bound m (machine code bound j)) (Done Going s []) (nat_lt s.begun bound) (λ e. (let x = h (ltb-true s.begun bound e) in (x.steps, x.ends))) tt in
+      record { steps = r.0; ends = r.1 }
+
+  either : (b : Bool) {m m' : Move} → Stops code bound m → Stops code bound m' → Stops code bound (if b then m else m')
+  either true h h' = h
+  either false h h' = h'
+
+abbrev Enough : (bound n : ℕ) → State → Type 0
+Enough bound n s = bound ≤ s.begun + n
+
+-- a way leads to an address with this stack
+abbrev Here : Code → ℕ → List Slot → Type 0
+Here code pc st = before code.instrs no_way pc ≡ Some (brings (kinds_of st))
+
+abbrev GoodAfter : Code → After → Type 0
+GoodAfter code (Goes-on pc) = Lands code pc
+GoodAfter code (Decide e) = Unit {0}
+GoodAfter code Return = Unit {0}
+GoodAfter code (Back-to pc st) = Here code pc st
+GoodAfter code (Pass e) = Unit {0}
+GoodAfter code (Close vs g) = Unit {0}
+
+abbrev GoodBack : Code → Back → Type 0
+GoodBack code (Caller ret st) = before code.instrs no_way ret ≡ Some (brings (a_value ∷ kinds_of st))
+GoodBack code (EndOf o k after) = GoodAfter code after
+
+-- the machine comes to an end from wherever so many turns are left
+record Known (code : Code) (bound n : ℕ) : Type 0 where
+  inside : (pc : ℕ) (st : List Slot) (bs : List Back) (s : State) → Here code pc st → All (GoodBack code) bs → Enough bound n s → Stops code bound (Goes (at pc st bs s))
+  start : (pc : ℕ) (bs : List Back) (s : State) → Lands code pc → All (GoodBack code) bs → Enough bound n s → Stops code bound (Goes (at pc [] bs s))
+  fails : (e : Error) (bs : List Back) (s : State) → All (GoodBack code) bs → Enough bound n s → Stops code bound (Goes (failing e bs s))
+  lets_go : (k : ℕ) (after : After) (bs : List Back) (s : State) → GoodAfter code after → All (GoodBack code) bs → Enough bound n s → Stops code bound (Goes (letting k after bs s))
+
+-- what comes when the frame over these calls is left
+record Left-well (code : Code) (bound n : ℕ) (bs : List Back) : Type 0 where
+  good : All (GoodBack code) bs
+  returns : (v : Val) (s : State) → Enough bound n s → Stops code bound (returned_by looking code bs v s)
+  passes : (e : Error) (s : State) → Enough bound n s → Stops code bound (passed_on bs e s)
+
+by_turn : (code : Code) (bound n : ℕ) → ((m : ℕ) → n ≡ suc m → Known code bound m) → (m : Move) (s : State) → Enough bound n s
+    → ((d : ℕ) → Known code bound d → Enough bound d (turned s) → Stops code bound m) → Stops code bound (Turns s m)
+by_turn code bound zero later m s good h = turning s m (λ lt. absurd (let k : bound ≤ s.begun + 0 = good in omega arith))
+by_turn code bound (suc d) later m s good h = turning s m (λ lt. h d (later d refl) (let k : bound ≤ s.begun + suc d = good in omega arith))
+
+module _ (code : Code) (well : WellFormed code) (bound : ℕ) where
+  start_lands : (p : ℕ) → Lands code (slice_index code.starts p)
+  start_lands p = subst (Lands code) (sym (well.starts p)) (well.entries p 0)
+
+  module _ (d : ℕ) (known : Known code bound d) where
+    finished_stops : (o k : ℕ) (after : After) (bs : List Back) (s : State) → GoodAfter code after → All (GoodBack code) bs → Enough bound d s → Stops code bound (finished_by looking o k after bs s)
+    finished_stops o k after bs s h g good =
+        either (is_last s.memory o) (known.lets_go (length (objects_in_values (object_at s.memory o).fields) + k) after bs (with_memory s (gone o s.memory)) h g good) (known.lets_go k after bs s h g good)
+
+    terminates_stops : (t : Option ℕ) (o k : ℕ) (after : After) (bs : List Back) (s : State) → GoodAfter code after → All (GoodBack code) bs → Enough bound d s → Stops code bound (terminates_by looking code t o k after bs s)
+    terminates_stops None o k after bs s h g good = finished_stops o k after bs s h g good
+    terminates_stops (Some p) o k after bs s h g good =
+        either (nat_lt (length s.memory.frames) 2000)
+        (turning _ _ (λ lt. known.start (slice_index code.starts p) (EndOf o k after ∷ bs) _ (start_lands p) (h, g) (let e : bound ≤ s.begun + d = good in omega arith)))
+        (turning s _ (λ lt. telling _ _ (over (Faulted (error_here 28 s.memory)) (turned s))))
+
+    ends_stops : (b : Object) (o k : ℕ) (after : After) (bs : List Back) (s : State) → GoodAfter code after → All (GoodBack code) bs → Enough bound d s → Stops code bound (ends_by looking code b o k after bs s)
+    ends_stops b o k after bs s h g good =
+        either b.told (finished_stops o k after bs s h g good)
+        (telling _ _ (terminates_stops (class_at code.declared b.class).terminate o k after bs s h g good))
+
+  module _ (n : ℕ) (later : (m : ℕ) → n ≡ suc m → Known code bound m) where
+    raises : (e : Error) (bs : List Back) (s : State) → All (GoodBack code) bs → Enough bound n s → Stops code bound (raised e bs s)
+    raises e bs s g good = by_turn code bound n later _ s good (λ d known h. telling _ _ (known.fails e bs (turned s) g h))
+
+    does : {A : Type 0} (e : Effect A) (bs : List Back) (s : State) (go : A → State → Move) → All (GoodBack code) bs → Enough bound n s
+        → ((v : A) (s1 : State) → Enough bound n s1 → Stops code bound (go v s1)) → Stops code bound (done_then e bs s go)
+    does (Fine v m) bs s go g good h = h v (with_memory s m) good
+    does (Bad-at k m) bs s go g good h = raises (error_here k m) bs (with_memory s m) g good
+    does (Out w m) bs s go g good h = over _ (with_memory s m)
+    does (Tell es e) bs s go g good h = telling es _ (does e bs s go g good h)
+
+    -- references are let go, and what comes then
+    letting_stops : (bs : List Back) (after : After) → All (GoodBack code) bs → GoodAfter code after → ((s : State) → Enough bound n s → Stops code bound (comes_by looking code after bs s))
+        → (k : ℕ) (s : State) → Enough bound n s → Stops code bound (Goes (letting k after bs s))
+    letting_stops bs after g h go zero s good = stepped (letting 0 after bs s) (go s good)
+    letting_stops bs after g h go (suc k) s good =
+        let t : State = with_memory s (taken_off s.memory) in
+        let o : ℕ = next_waiting s.memory.waiting in
+        stepped (letting (suc k) after bs s)
+        (either (is_last t.memory o)
+        (by_turn code bound n later _ t good (λ d known e. ends_stops d known (object_at t.memory o) o k after bs (with_memory (turned t) (as_told o t.memory)) h g e))
+        (letting_stops bs after g h go k t good))
+
+    closes : (vs : List Val) (g : ℕ) (s : State) → Enough bound n s → Stops code bound (closing vs g s)
+    closes [] g s good = over Ended s
+    closes (v ∷ vs) g s good =
+        letting_stops [] (Close vs (g + 1)) tt tt (λ s1 g1. closes vs (g + 1) s1 g1) (length (objects_in (slice_index_or s.memory.shared g empty))) (with_memory s (closed g v s.memory)) good
+
+    module _ (bs : List Back) (l : Left-well code bound n bs) where
+      leaves_stops : (s : State) → Enough bound n s → Stops code bound (lets_all Return bs s)
+      leaves_stops s good =
+          letting_stops bs Return l.good tt (λ s1 g1. l.returns (result s1.memory) (with_memory s1 (frame_left s1.memory)) g1) (length (held_by (top s.memory))) (with_memory s (let_frame s.memory)) good
+
+      pass_stops : (e : Error) (s : State) → Enough bound n s → Stops code bound (lets_all (Pass e) bs s)
+      pass_stops e s good =
+          letting_stops bs (Pass e) l.good tt (λ s1 g1. l.passes e (with_memory s1 (left s1.memory)) g1) (length (held_by (top s.memory))) (with_memory s (let_frame s.memory)) good
+
+      instr_stops : (i : Instr) (pc : ℕ) (st : List Slot) (s : State) → slice_get code.instrs pc ≡ Some i → Stops code bound (act looking code (Some i) pc st bs s) → Stops code bound (Goes (at pc st bs s))
+      instr_stops i pc st s e h = stepped (at pc st bs s) (subst (λ o. Stops code bound (act looking code o pc st bs s)) (sym e) h)
+
+      behind_begin : (pc i : ℕ) → slice_get code.instrs pc ≡ Some (Begin i) → Here code (pc + 1) []
+      behind_begin pc i e =
+          let v = some_way code.instrs no_way no_way pc (Begin i) well.operands e in
+          let r = on_from code.instrs no_way v.0 no_way pc (Begin i) well.operands v.1 e in
+          let k : suc pc ≡ pc + 1 = omega arith in
+          subst (λ m. before code.instrs no_way m ≡ Some (brings [])) k (r.1.1 ∙ begun i v.0 r.0 r.1.0)
+
+      starts : (pc : ℕ) (s : State) → Lands code pc → Enough bound n s → Stops code bound (Goes (at pc [] bs s))
+      starts pc s (begins i e) good =
+          instr_stops (Begin i) pc [] s e (by_turn code bound n later _ s good (λ d known h. known.inside (pc + 1) [] bs _ (behind_begin pc i e) l.good h))
+      starts pc s (leaves e) good = instr_stops Leave pc [] s e (leaves_stops s good)
+
+      finishing : (to : ℕ) (s : State) → Lands code to → Enough bound n s → Stops code bound (finishes to bs s)
+      finishing to s h good = letting_stops bs (Goes-on to) l.good h (λ s1 g1. starts to s1 h g1) _ _ good
+
+      taking : (e : Error) (t : Taken) (s : State) → Enough bound n s → Stops code bound (takes code e t bs s)
+      taking e (taken.Next to) s good = starts _ _ (well.entries (top s.memory).procedure to.0) good
+      taking e (taken.Handler to) s good = starts _ _ (well.entries (top s.memory).procedure to.0) good
+      taking e taken.PassOn s good = pass_stops e s good
+
+      failing_stops : (e : Error) (s : State) → Enough bound n s → Stops code bound (Goes (failing e bs s))
+      failing_stops e s good = stepped (failing e bs s) (letting_stops bs (Decide e) l.good tt (λ s1 g1. taking e (taken_by (next_by code s1.memory) s1.memory) s1 g1) _ _ good)
+
+      -- ---- instructions inside of statements
+
+      value_off_stops : (st : List Slot) (go : Val → List Slot → Move) (kinds : List Kind → Option Way) (u : Way) → value_off (kinds_of st) kinds ≡ Some u
+          → ((v : Val) (st1 : List Slot) → kinds (kinds_of st1) ≡ Some u → Stops code bound (go v st1)) → Stops code bound (pops st go)
+      value_off_stops [] go kinds u e h = absurd cc
+      value_off_stops (value v ∷ st) go kinds u e h = h v st e
+      value_off_stops (path q ∷ st) go kinds u e h = absurd cc
+
+      path_off_stops : (st : List Slot) (go : Path → List Slot → Move) (kinds : List Kind → Option Way) (u : Way) → path_off (kinds_of st) kinds ≡ Some u
+          → ((q : Path) (st1 : List Slot) → kinds (kinds_of st1) ≡ Some u → Stops code bound (go q st1)) → Stops code bound (pops_path st go)
+      path_off_stops [] go kinds u e h = absurd cc
+      path_off_stops (value v ∷ st) go kinds u e h = absurd cc
+      path_off_stops (path q ∷ st) go kinds u e h = h q st e
+
+      off_stops : (k : ℕ) (st ys : List Slot) (go : List Slot → List Slot → Move) (kinds : List Kind → List Kind → Option Way) (u : Way) → kinds_off k (kinds_of st) (kinds_of ys) kinds ≡ Some u
+          → ((xs st1 : List Slot) → kinds (kinds_of xs) (kinds_of st1) ≡ Some u → Stops code bound (go xs st1)) → Stops code bound (take_args k st ys go)
+      off_stops zero st ys go kinds u e h = h ys st e
+      off_stops (suc k) [] ys go kinds u e h = absurd cc
+      off_stops (suc k) (x ∷ st) ys go kinds u e h = off_stops k st (x ∷ ys) go kinds u e h
+
+      branching : (b : Bool) (to other : ℕ) (s : State) → Lands code to → Lands code other → Enough bound n s → Stops code bound (then_branch to other bs b s)
+      branching true to other s h h' good = finishing to s h good
+      branching false to other s h h' good = finishing other s h' good
+
+      leads_there : (p to : ℕ) → Leads code p to → Lands code to
+      leads_there p to h = subst (Lands code) (sym h.2) (well.entries p h.0)
+
+      -- one instruction, with what is known of the next one
+      acts : (i : Instr) (pc : ℕ) (st : List Slot) (s : State) (u : Way) → Enough bound n s → before code.instrs no_way (pc + 1) ≡ Some u
+          → ((st1 : List Slot) (s1 : State) → Enough bound n s1 → Some (brings (kinds_of st1)) ≡ Some u → Stops code bound (Goes (at (pc + 1) st1 bs s1)))
+          → along i (brings (kinds_of st)) ≡ Some u → (q : ℕ) → Sound code q i → Stops code bound (act looking code (Some i) pc st bs s)
+      acts (Begin i) pc st s u good after on e q h = absurd cc
+      acts (Push v) pc st s u good after on e q h = on (value v ∷ st) s good e
+      acts (PushHost reference) pc st s u good after on e q h = on (value (object (Host reference)) ∷ st) s good e
+      acts (LoadErr member) pc st s u good after on e q h = on (value (err_of code.declared member s.memory.err) ∷ st) s good e
+      acts (PathOf x) pc st s u good after on e q h = on (path (path_of s.memory x) ∷ st) s good e
+      acts ReadThrough pc st s u good after on e q h = path_off_stops st _ _ u e (λ q st1 e1. does _ bs s _ l.good good (λ v s1 g1. on (value v ∷ st1) s1 g1 e1))
+      acts (ElementOf k) pc st s u good after on e q h =
+          path_off_stops st _ _ u e (λ q st1 e1. off_stops k st1 [] _ _ u e1 (λ xs st2 e2. does _ bs s _ l.good good (λ p s1 g1. on (path p ∷ st2) s1 g1 e2)))
+      acts (ElementIn k) pc st s u good after on e q h =
+          off_stops k st [] _ _ u e (λ xs st1 e1. path_off_stops st1 _ _ u e1 (λ q st2 e2. does _ bs s _ l.good good (λ p s1 g1. on (path p ∷ st2) s1 g1 e2)))
+      acts (FieldOf i of bounded) pc st s u good after on e q h = path_off_stops st _ _ u e (λ q st1 e1. on (path (field_path q i of bounded) ∷ st1) s good e1)
+      acts (Dot i) pc st s u good after on e q h = does _ bs s _ l.good good (λ p s1 g1. on (path p ∷ st) s1 g1 e)
+      acts (Index k) pc st s u good after on e q h =
+          off_stops k st [] _ _ u e (λ xs st1 e1. value_off_stops st1 _ _ u e1 (λ v st2 e2. does _ bs s _ l.good good (λ w s1 g1. on (value w ∷ st2) s1 g1 e2)))
+      acts (PartOf i) pc st s u good after on e q h = value_off_stops st _ _ u e (λ v st1 e1. does _ bs s _ l.good good (λ w s1 g1. on (value w ∷ st1) s1 g1 e1))
+      acts (OperateAlone o of) pc st s u good after on e q h = value_off_stops st _ _ u e (λ v st1 e1. does _ bs s _ l.good good (λ w s1 g1. on (value w ∷ st1) s1 g1 e1))
+      acts Plain pc st s u good after on e q h = value_off_stops st _ _ u e (λ v st1 e1. does _ bs s _ l.good good (λ w s1 g1. on (value w ∷ st1) s1 g1 e1))
+      acts PlainIfAny pc st s u good after on e q h = value_off_stops st _ _ u e (λ v st1 e1. does _ bs s _ l.good good (λ w s1 g1. on (value w ∷ st1) s1 g1 e1))
+      acts (IsType of) pc st s u good after on e q h = value_off_stops st _ _ u e (λ v st1 e1. does _ bs s _ l.good good (λ w s1 g1. on (value w ∷ st1) s1 g1 e1))
+      acts (Fit of) pc st s u good after on e q h = value_off_stops st _ _ u e (λ v st1 e1. does _ bs s _ l.good good (λ w s1 g1. on (value w ∷ st1) s1 g1 e1))
+      acts (FitObject of) pc st s u good after on e q h = value_off_stops st _ _ u e (λ v st1 e1. does _ bs s _ l.good good (λ w s1 g1. on (value w ∷ st1) s1 g1 e1))
+      acts ShowText pc st s u good after on e q h = value_off_stops st _ _ u e (λ v st1 e1. does _ bs s _ l.good good (λ w s1 g1. on (value w ∷ st1) s1 g1 e1))
+      acts (Operate o compare a b) pc st s u good after on e q h =
+          value_off_stops st _ _ u e (λ w st1 e1. value_off_stops st1 _ _ u e1 (λ v st2 e2. does _ bs s _ l.good good (λ x s1 g1. on (value x ∷ st2) s1 g1 e2)))
+      acts Same pc st s u good after on e q h =
+          value_off_stops st _ _ u e (λ w st1 e1. value_off_stops st1 _ _ u e1 (λ v st2 e2. does _ bs s _ l.good good (λ x s1 g1. on (value x ∷ st2) s1 g1 e2)))
+      acts (Library f text_form compare base k) pc st s u good after on e q h = off_stops k st [] _ _ u e (λ xs st1 e1. does _ bs s _ l.good good (λ v s1 g1. on (value v ∷ st1) s1 g1 e1))
+      acts (BoundAt upper z) pc st s u good after on e q h = path_off_stops st _ _ u e (λ q st1 e1. does _ bs s _ l.good good (λ v s1 g1. on (value v ∷ st1) s1 g1 e1))
+      acts Drop pc st s u good after on e q h = value_off_stops st _ _ u e (λ v st1 e1. on st1 s good e1)
+      acts Lend pc st s u good after on e q h = path_off_stops st _ _ u e (λ q st1 e1. does (lent q s.memory) bs s (then_at (pc + 1) (path q ∷ st1) bs) l.good good (λ v s1 g1. on (path q ∷ st1) s1 g1 e1))
+      acts (Pack k) pc st s u good after on e q h = off_stops k st [] _ _ u e (λ xs st1 e1. on (value (packed xs) ∷ st1) s good e1)
+      acts (Reorder order k) pc st s u good after on e q h =
+          off_stops k st [] _ _ u e (λ xs st1 e1. on (pushed (reordered order xs) st1) s good (ap (λ ks. Some (brings ks)) (pushed_kinds (reordered order xs) st1 ∙ ap (λ ks. kinds_pushed ks (kinds_of st1)) (reordered_kinds order xs)) ∙ e1))
+      acts (Lift k) pc st s u good after on e q h =
+          off_stops k st [] _ _ u e (λ xs st1 e1. value_off_stops st1 _ _ u e1 (λ v st2 e2. on (value v ∷ pushed xs st2) s good (ap (λ ks. Some (brings (a_value ∷ ks))) (pushed_kinds xs st2) ∙ e2)))
+      acts (Call p k) pc st s u good after on e q h =
+          off_stops k st [] _ _ u e (λ xs st1 e1.
+          either (nat_lt (length s.memory.frames) 2000)
+          (by_turn code bound n later _ _ good (λ d known g. known.start (slice_index code.starts p) (Caller (pc + 1) st1 ∷ bs) _ (start_lands p) (after ∙ sym e1, l.good) g))
+          (raises (error_here 28 s.memory) bs s l.good good))
+      acts Store pc st s u good after on e q h = path_off_stops st _ _ u e (λ q st1 e1. value_off_stops st1 _ _ u e1 (λ v st2 e2. does _ bs s _ l.good good (λ x s1 g1. on st2 s1 g1 e2)))
+      acts SetAt pc st s u good after on e q h = path_off_stops st _ _ u e (λ q st1 e1. value_off_stops st1 _ _ u e1 (λ v st2 e2. does _ bs s _ l.good good (λ x s1 g1. on st2 s1 g1 e2)))
+      acts StoreDefault pc st s u good after on e q h =
+          value_off_stops st _ _ u e (λ w st1 e1. value_off_stops st1 _ _ u e1 (λ v st2 e2. does _ bs s _ l.good good (λ x s1 g1. on st2 s1 g1 e2)))
+      acts (Show ends k) pc st s u good after on e q h = off_stops k st [] _ _ u e (λ xs st1 e1. does (printed ends xs s.memory) bs s (then_at (pc + 1) st1 bs) l.good good (λ x s1 g1. on st1 s1 g1 e1))
+      acts (Throw k) pc st s u good after on e q h = off_stops k st [] _ _ u e (λ xs st1 e1. raises _ bs s l.good good)
+      acts (LoopOff i) pc st s u good after on e q h = does (loop_off i s.memory) bs s (then_at (pc + 1) st bs) l.good good (λ x s1 g1. on st s1 g1 e)
+      acts (EachOff i) pc st s u good after on e q h = does (each_off i s.memory) bs s (then_at (pc + 1) st bs) l.good good (λ x s1 g1. on st s1 g1 e)
+      acts (DropKept i) pc st s u good after on e q h = does (block_over i s.memory) bs s (then_at (pc + 1) st bs) l.good good (λ x s1 g1. on st s1 g1 e)
+      acts (PutReturn i) pc st s u good after on e q h = does (gone_sub i s.memory) bs s (then_at (pc + 1) st bs) l.good good (λ x s1 g1. on st s1 g1 e)
+      acts (SetPolicy b) pc st s u good after on e q h = does (policy_on b s.memory) bs s (then_at (pc + 1) st bs) l.good good (λ x s1 g1. on st s1 g1 e)
+      acts HandlerOff pc st s u good after on e q h = does (handler_off s.memory) bs s (then_at (pc + 1) st bs) l.good good (λ x s1 g1. on st s1 g1 e)
+      acts ErrOff pc st s u good after on e q h = does (err_off s.memory) bs s (then_at (pc + 1) st bs) l.good good (λ x s1 g1. on st s1 g1 e)
+      acts StopHere pc st s u good after on e q h = does (stop_here s.memory) bs s (then_at (pc + 1) st bs) l.good good (λ x s1 g1. on st s1 g1 e)
+      acts (LoopOn x i compare a b) pc st s u good after on e q h =
+          value_off_stops st _ _ u e (λ v st1 e1. value_off_stops st1 _ _ u e1 (λ w st2 e2. value_off_stops st2 _ _ u e2 (λ y st3 e3. does _ bs s _ l.good good (λ b s1 g1. on (value (boolean b) ∷ st3) s1 g1 e3))))
+      acts (NextRound x i) pc st s u good after on e q h = does _ bs s _ l.good good (λ b s1 g1. on (value (boolean b) ∷ st) s1 g1 e)
+      acts (NextItem x i) pc st s u good after on e q h = does _ bs s _ l.good good (λ b s1 g1. on (value (boolean b) ∷ st) s1 g1 e)
+      acts (EachOn i) pc st s u good after on e q h =
+          value_off_stops st _ _ u e (λ v st1 e1. does _ bs s _ l.good good (λ k s1 g1. letting_stops bs (Back-to (pc + 1) st1) l.good (after ∙ sym e1) (λ s2 g2. on st1 s2 g2 e1) k s1 g1))
+      acts (Keep i) pc st s u good after on e q h = value_off_stops st _ _ u e (λ v st1 e1. does (keep i v s.memory) bs s (then_at (pc + 1) st1 bs) l.good good (λ x s1 g1. on st1 s1 g1 e1))
+      acts (Selected i) pc st s u good after on e q h = does (selected i s.memory) bs s (then_push (pc + 1) st bs) l.good good (λ v s1 g1. on (value v ∷ st) s1 g1 e)
+      acts (IfFits o compare of t to) pc st s u good after on e q h =
+          value_off_stops st _ _ u e (λ w st1 e1. value_off_stops st1 _ _ u e1 (λ v st2 e2. does _ bs s _ l.good good (λ b s1 g1.
+          either b (finishing to s1 (leads_there q to h) g1) (on st2 s1 g1 e2))))
+      acts (IfBetween compare of t t1 to) pc st s u good after on e q h =
+          value_off_stops st _ _ u e (λ y st1 e1. value_off_stops st1 _ _ u e1 (λ x st2 e2. value_off_stops st2 _ _ u e2 (λ v st3 e3. does _ bs s _ l.good good (λ b s1 g1.
+          either b (finishing to s1 (leads_there q to h) g1) (on st3 s1 g1 e3)))))
+      acts (Redim preserve of k) pc st s u good after on e q h =
+          off_stops k st [] _ _ u e (λ xs st1 e1. path_off_stops st1 _ _ u e1 (λ p st2 e2. does _ bs s _ l.good good (λ j s1 g1.
+          letting_stops bs (Back-to (pc + 1) st2) l.good (after ∙ sym e2) (λ s2 g2. on st2 s2 g2 e2) j s1 g1)))
+      acts EraseAt pc st s u good after on e q h =
+          path_off_stops st _ _ u e (λ p st1 e1. does _ bs s _ l.good good (λ j s1 g1. letting_stops bs (Back-to (pc + 1) st1) l.good (after ∙ sym e1) (λ s2 g2. on st1 s2 g2 e1) j s1 g1))
+      acts (KeepPath i) pc st s u good after on e q h = path_off_stops st _ _ u e (λ p st1 e1. does (keep_path i p s.memory) bs s (then_at (pc + 1) st1 bs) l.good good (λ x s1 g1. on st1 s1 g1 e1))
+      acts (TakeReturn p) pc st s u good after on e q h = does _ bs s _ l.good good (λ i s1 g1. finishing (entry_of code p i) s1 (well.entries p i) g1)
+      acts (Again p) pc st s u good after on e q h = does _ bs s _ l.good good (λ i s1 g1. finishing (entry_of code p i) s1 (well.entries p i) g1)
+      acts (Behind p) pc st s u good after on e q h = does _ bs s _ l.good good (λ i s1 g1. finishing (entry_of code p i) s1 (well.entries p i) g1)
+      acts (Resumes p to) pc st s u good after on e q h = does _ bs s _ l.good good (λ i s1 g1. finishing (entry_of code p i) s1 (well.entries p i) g1)
+      acts (Finish to) pc st s u good after on e q h = finishing to s (leads_there q to h) good
+      acts (Branch sense to other) pc st s u good after on e q h =
+          value_off_stops st _ _ u e (λ v st1 e1. does _ bs s _ l.good good (λ b s1 g1. branching b to other s1 (leads_there q to h.0) (leads_there q other h.1) g1))
+      acts Halt pc st s u good after on e q h = over Ended s
+      acts Leave pc st s u good after on e q h = absurd cc
+
+      -- so many addresses are left at most
+      inside_stops : (d pc : ℕ) (st : List Slot) (s : State) → length code.instrs ≤ pc + d → Here code pc st → Enough bound n s → Stops code bound (Goes (at pc st bs s))
+      inside_stops zero pc st s far way good =
+          let i = some_instr code.instrs no_way pc (kinds_of st) well.operands way in
+          absurd (let e = sym (slice_get_past code.instrs pc (omega (arith, far))) ∙ i.1 in cc)
+      inside_stops (suc d) pc st s far way good =
+          let i = some_instr code.instrs no_way pc (kinds_of st) well.operands way in
+          let r = on_from code.instrs no_way (brings (kinds_of st)) no_way pc i.0 well.operands way i.1 in
+          let k : suc pc ≡ pc + 1 = omega arith in
+          let after = subst (λ m. before code.instrs no_way m ≡ Some r.0) k r.1.1 in
+          let sound = sound_behind code well.pieces pc i.0 (kinds_of st) r.0 well.sound (ap (λ is. slice_get is pc) (sym well.whole) ∙ i.1) r.1.0 in
+          instr_stops i.0 pc st s i.1
+          (acts i.0 pc st s r.0 good after (λ st1 s1 g1 e1. inside_stops d (pc + 1) st1 s1 (omega (arith, far)) (after ∙ sym e1) g1) r.1.0 sound.0 sound.1)
+
+      inside_code : (pc : ℕ) (st : List Slot) (s : State) → Here code pc st → Enough bound n s → Stops code bound (Goes (at pc st bs s))
+      inside_code pc st s way good = inside_stops (length code.instrs) pc st s (omega arith) way good
+
+      coming : (after : After) (s : State) → GoodAfter code after → Enough bound n s → Stops code bound (comes_by looking code after bs s)
+      coming (Goes-on pc) s h good = starts pc s h good
+      coming (Decide e) s h good = taking e (taken_by (next_by code s.memory) s.memory) s good
+      coming (Back-to pc st) s h good = inside_code pc st s h good
+      coming Return s h good = l.returns (result s.memory) (with_memory s (frame_left s.memory)) good
+      coming (Pass e) s h good = l.passes e (with_memory s (left s.memory)) good
+      coming (Close vs g) s h good = closes vs g s good
+
+      let_all : (k : ℕ) (after : After) (s : State) → GoodAfter code after → Enough bound n s → Stops code bound (Goes (letting k after bs s))
+      let_all k after s h good = letting_stops bs after l.good h (λ s1 g1. coming after s1 h g1) k s good
+
+    left_well : (bs : List Back) → All (GoodBack code) bs → Left-well code bound n bs
+    left_well [] g = record { good = tt; returns = λ v s good. closes (first_values code.declared code.declared.shared) 0 s good; passes = λ e s good. over (Faulted e) s }
+    left_well (Caller ret st ∷ bs) g =
+        let l = left_well bs g.1 in
+        record {
+          good = g;
+          returns = λ v s good. inside_code bs l ret (value v ∷ st) (with_memory s (hold v s.memory)) g.0 good;
+          passes = λ e s good. failing_stops bs l e s good;
+        }
+    left_well (EndOf o k after ∷ bs) g =
+        let l = left_well bs g.1 in
+        record {
+          good = g;
+          returns = λ v s good. either (is_last s.memory o)
+              (let_all bs l (length (objects_in_values (object_at s.memory o).fields) + k) after (with_memory s (gone o s.memory)) g.0 good) (let_all bs l k after s g.0 good);
+          passes = λ e s good. over (Faulted e) s;
+        }
+
+    known_now : Known code bound n
+    known_now = record {
+      inside = λ pc st bs s way g good. inside_code bs (left_well bs g) pc st s way good;
+      start = λ pc bs s h g good. starts bs (left_well bs g) pc s h good;
+      fails = λ e bs s g good. failing_stops bs (left_well bs g) e s good;
+      lets_go = λ k after bs s h g good. let_all bs (left_well bs g) k after s h good;
+    }
+
+  known_all : (n : ℕ) → Known code bound n
+  known_all zero = known_now 0 (λ m e. absurd cc)
+  known_all (suc n) = known_now (suc n) (λ m e. (let k : n ≡ m = omega (arith, e) in subst (Known code bound) k (known_all n)))
+
+  first_stops : Stops code bound (first_move code)
+  first_stops = turning _ _ (λ lt. (known_all bound).start (slice_index code.starts code.startup) [] _ (start_lands code.startup) tt (omega arith))
+
+ended_final : (x : Fin) → HasEnded x → Final x
+ended_final (Done e s es) h = tt
+ended_final Unfinished h = h
+ended_final Stuck h = tt
+
+-- each run of a well-formed code ends, and none sticks
+pub steady : (code : Code) → WellFormed code → Steady code
+steady code well = record {
+  ends = λ bound. (let h = first_stops code well bound in (h.steps, h.ends));
+  never_stuck = λ bound k e. (
+      let h = first_stops code well bound in
+      let final = ended_final (run_code code bound h.steps) h.ends in
+      let same = one_end code bound h.steps k final (subst Final (sym e) tt) ∙ e in
+      subst HasEnded same h.ends);
+}

@@ -1,0 +1,9 @@
+pub mod Arguments
+pub mod Arrays
+pub mod Characters
+pub mod Kinds
+pub mod Library
+pub mod Names
+pub mod Numbers
+pub mod Searching
+pub mod Texts
