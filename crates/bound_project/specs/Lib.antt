@@ -1,3 +1,6 @@
 pub mod Expressions
 pub mod Statements
 pub mod Project
+pub mod View
+pub mod Pieces
+pub mod Bodies

@@ -2,6 +2,21 @@
 //! the code and the machine on the other. The definitions stand in `specs/`.
 #![tactic(auto)]
 
+mod declarations;
+mod declared_type;
 mod laws;
+mod node;
+mod project;
+mod statement;
+mod variable;
 
+pub use declarations::{
+    Class, Declaration, Declarations, Module, Parameter, Procedure, ProcedureKind, Spelled,
+    UserType,
+};
+pub use declared_type::{DeclaredType, ElementType};
 pub use laws::statements_past_the_end_are_next;
+pub use node::{Node, NodeKind};
+pub use project::{Block, Body, Project};
+pub use statement::{ActionKind, Handling, StatementNode};
+pub use variable::{ErrMember, Storage, Variable};
