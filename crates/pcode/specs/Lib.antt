@@ -2,3 +2,4 @@ pub mod Instructions
 pub mod Machine
 pub mod Code
 pub mod Layout
+pub mod View
