@@ -15,7 +15,7 @@ use Rattle.bound_project.specs.Statements.{no_tests, no_resizes, no_arrays, Acti
 use Rattle.bound_project.specs.Statements as plain
 use Rattle.bound_project.specs.Project as project
 use Rattle.bound_project.specs.View.{declared_view, variable_view, declarations_view}
-use Rattle.bound_project.specs.Pieces.{Piece, an_expr, a_place, Tables, order_in, arguments_off, prints_off, tests_off, resizes_off, arrays_off, pieces}
+use Rattle.bound_project.specs.Pieces.{Piece, an_expr, a_place, Tables, order_in, arguments_off, prints_off, tests_off, resizes_off, arrays_off, as_operand, pieces}
 
 abbrev pub handling_view : Handling → plain.Handling
 handling_view PassedOn = plain.passed_on
@@ -61,8 +61,9 @@ action_of t (kind.Print count ends) st = whole (prints_off count st no_prints) (
 action_of t (kind.Raise count) st = whole (arguments_off count st no_args) (λ args. raise args)
 action_of t (kind.Test sense to other) st = one_value st (λ e. test sense e to other)
 action_of t (kind.GoTo to) st = alone st (go_to to)
-action_of t (kind.For x compare first behind) (an_expr c ∷ an_expr b ∷ an_expr a ∷ []) = Some (for_to (variable_view x) compare a b c first behind)
-action_of t (kind.For x compare first behind) st = None
+action_of t (kind.For x compare last step first behind) (an_expr c ∷ an_expr b ∷ an_expr a ∷ []) =
+    Some (for_to (variable_view x) compare a (as_operand last b) (as_operand step c) first behind)
+action_of t (kind.For x compare last step first behind) st = None
 action_of t (kind.Next x header first) st = alone st (next (variable_view x) header first)
 action_of t (kind.ForEach x first behind) st = one_value st (λ e. for_each (variable_view x) e first behind)
 action_of t (kind.NextEach x header first) st = alone st (next_each (variable_view x) header first)

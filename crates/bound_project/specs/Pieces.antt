@@ -5,6 +5,7 @@ use Rattle.vba_base.specs.declared.place.Place.{Place}
 use Rattle.vba_values.specs.declared.types.OpKind.{OpKind}
 use Rattle.vba_values.specs.Types.{Declared}
 use Rattle.vba_values.specs.Val.{Val, empty}
+use Rattle.bound_project.specs.declared.declared_type.DeclaredType.{DeclaredType}
 use Rattle.bound_project.specs.declared.node.NodeKind.{NodeKind}
 use Rattle.bound_project.specs.declared.node.NodeKind.TheVariants as node
 use Rattle.bound_project.specs.declared.node.Node.{Node}
@@ -92,58 +93,84 @@ arrays_off zero st xs = Some (xs, st)
 arrays_off (suc n) (an_erased x ∷ st) xs = arrays_off n st (an_array x xs)
 arrays_off (suc n) st xs = None
 
--- what is made of the pieces that were found, if they were
-abbrev pub of_found : {A : Type 0} → Option (A × List Piece) → (A → List Piece → List Piece) → List Piece
-of_found None go = misfit
-of_found (Some found) go = go found.0 found.1
+-- ---- the piece that is made of one value, of a place, of two values
 
--- one value, and one place, off the stack
-abbrev pub of_value : List Piece → (Expr → List Piece → List Piece) → List Piece
-of_value (an_expr e ∷ st) go = go e st
-of_value st go = misfit
+abbrev pub of_value : (Expr → Piece) → List Piece → List Piece
+of_value make (an_expr e ∷ st) = make e ∷ st
+of_value make st = misfit
 
-abbrev pub of_place : List Piece → (Lvalue → List Piece → List Piece) → List Piece
-of_place (a_place x ∷ st) go = go x st
-of_place st go = misfit
+abbrev pub of_place : (Lvalue → Piece) → List Piece → List Piece
+of_place make (a_place x ∷ st) = make x ∷ st
+of_place make st = misfit
 
-abbrev pub of_test : List Piece → List Piece → List Piece
-of_test (a_test_begun ∷ st) go = go
-of_test st go = misfit
+abbrev pub of_both : (Expr → Expr → Piece) → List Piece → List Piece
+of_both make (an_expr b ∷ an_expr a ∷ st) = make a b ∷ st
+of_both make st = misfit
+
+-- of the value, and of the two values, of a test that was begun
+abbrev pub of_test : (Expr → Piece) → List Piece → List Piece
+of_test make (an_expr e ∷ a_test_begun ∷ st) = make e ∷ st
+of_test make st = misfit
+
+abbrev pub of_range : (Expr → Expr → Piece) → List Piece → List Piece
+of_range make (an_expr b ∷ an_expr a ∷ a_test_begun ∷ st) = make a b ∷ st
+of_range make st = misfit
+
+-- of values or arguments that were found, and of a place or value before them
+abbrev pub of_found : {A : Type 0} → (A → Piece) → Option (A × List Piece) → List Piece
+of_found make None = misfit
+of_found make (Some found) = make found.0 ∷ found.1
+
+abbrev pub of_place_found : (Lvalue → Exprs → Piece) → Option (Exprs × List Piece) → List Piece
+of_place_found make None = misfit
+of_place_found make (Some found) = of_place (λ x. make x found.0) found.1
+
+abbrev pub of_value_found : (Expr → Exprs → Piece) → Option (Exprs × List Piece) → List Piece
+of_value_found make None = misfit
+of_value_found make (Some found) = of_value (λ e. make e found.0) found.1
+
+-- ---- what a node makes of the pieces before it
+
+-- the expression that a node is
+abbrev pub expr_of : Node → plain.Node → Piece
+expr_of n made = an_expr (expr made n.place (declared_view n.of) (declared_view n.operand))
+
+-- an operand has the type that its operator says
+abbrev pub as_operand : DeclaredType → Expr → Expr
+as_operand of (expr node place written operand) = expr node place written (declared_view of)
+
+abbrev pub put_kind : Tables → Node → NodeKind → List Piece → List Piece
+put_kind t n node.NotGiven st = expr_of n not_given ∷ st
+put_kind t n (node.Constant i) st = expr_of n (constant (constant_in t i)) ∷ st
+put_kind t n (node.Variable x) st = a_place (variable (variable_view x)) ∷ st
+put_kind t n (node.Item x count) st = of_found (λ es. a_place (item (variable_view x) es)) (exprs_off count st no_exprs)
+put_kind t n (node.Element count) st = of_place_found (λ x es. a_place (element x es)) (exprs_off count st no_exprs)
+put_kind t n (node.Field i of bounded) st = of_place (λ x. a_place (field x i (declared_view of) bounded)) st
+put_kind t n (node.KeptPlace header) st = a_place (kept_place header) ∷ st
+put_kind t n node.Load st = of_place (λ x. expr_of n (load x)) st
+put_kind t n (node.ElementValue count) st = of_value_found (λ e es. expr_of n (element_value e es)) (exprs_off count st no_exprs)
+put_kind t n (node.FieldValue i) st = of_value (λ e. expr_of n (field_value e i)) st
+put_kind t n (node.Unary o of) st = of_value (λ a. expr_of n (unary o (as_operand of a))) st
+put_kind t n (node.Binary o compare left right) st = of_both (λ a b. expr_of n (binary o compare (as_operand left a) (as_operand right b))) st
+put_kind t n (node.Call p count) st = of_found (λ args. expr_of n (call p args)) (arguments_off count st no_args)
+put_kind t n (node.CallInOrder p count order) st = of_found (λ args. expr_of n (call p (in_order (order_in t order) args))) (arguments_off count st no_args)
+put_kind t n (node.ErrValue member) st = expr_of n (err_value (member_view member)) ∷ st
+put_kind t n node.DefaultOf st = of_value (λ e. expr_of n (default_of e)) st
+put_kind t n node.ByPlace st = of_place (λ x. an_argument (place_lent x)) st
+put_kind t n (node.ByCopy of) st = of_value (λ e. an_argument (value_copied e (declared_view of))) st
+put_kind t n (node.ByDefault i) st = an_argument (default_taken (constant_in t i)) ∷ st
+put_kind t n (node.ByList count) st = of_found (λ es. an_argument (values_listed es)) (exprs_off count st no_exprs)
+put_kind t n node.Shown st = of_value (λ e. a_value_shown e) st
+put_kind t n node.Zone st = a_zone ∷ st
+put_kind t n node.TestBegins st = a_test_begun ∷ st
+put_kind t n (node.TestIs o of) st = of_test (λ e. a_test_is o (as_operand of e)) st
+put_kind t n (node.TestRange low high) st = of_range (λ a b. a_test_range (as_operand low a) (as_operand high b)) st
+put_kind t n (node.Resize count of) st = of_place_found (λ x es. a_resize x es (option_map declared_view of)) (exprs_off count st no_exprs)
+put_kind t n node.Erased st = of_place (λ x. an_erased x) st
 
 -- the stack behind a node
 abbrev pub put : Tables → Node → List Piece → List Piece
-put t n st = put_kind n.kind st where
-  made : plain.Node → List Piece → List Piece
-  made of_node st1 = an_expr (expr of_node n.place (declared_view n.of) (declared_view n.operand)) ∷ st1
-
-  put_kind : NodeKind → List Piece → List Piece
-  put_kind node.NotGiven st0 = made not_given st0
-  put_kind (node.Constant i) st0 = made (constant (constant_in t i)) st0
-  put_kind (node.Variable x) st0 = a_place (variable (variable_view x)) ∷ st0
-  put_kind (node.Item x count) st0 = of_found (exprs_off count st0 no_exprs) (λ es st1. a_place (item (variable_view x) es) ∷ st1)
-  put_kind (node.Element count) st0 = of_found (exprs_off count st0 no_exprs) (λ es st1. of_place st1 (λ x st2. a_place (element x es) ∷ st2))
-  put_kind (node.Field i of bounded) st0 = of_place st0 (λ x st1. a_place (field x i (declared_view of) bounded) ∷ st1)
-  put_kind (node.KeptPlace header) st0 = a_place (kept_place header) ∷ st0
-  put_kind node.Load st0 = of_place st0 (λ x st1. made (load x) st1)
-  put_kind (node.ElementValue count) st0 = of_found (exprs_off count st0 no_exprs) (λ es st1. of_value st1 (λ e st2. made (element_value e es) st2))
-  put_kind (node.FieldValue i) st0 = of_value st0 (λ e st1. made (field_value e i) st1)
-  put_kind (node.Unary o) st0 = of_value st0 (λ a st1. made (unary o a) st1)
-  put_kind (node.Binary o compare) st0 = of_value st0 (λ b st1. of_value st1 (λ a st2. made (binary o compare a b) st2))
-  put_kind (node.Call p count) st0 = of_found (arguments_off count st0 no_args) (λ args st1. made (call p args) st1)
-  put_kind (node.CallInOrder p count order) st0 = of_found (arguments_off count st0 no_args) (λ args st1. made (call p (in_order (order_in t order) args)) st1)
-  put_kind (node.ErrValue member) st0 = made (err_value (member_view member)) st0
-  put_kind node.DefaultOf st0 = of_value st0 (λ e st1. made (default_of e) st1)
-  put_kind node.ByPlace st0 = of_place st0 (λ x st1. an_argument (place_lent x) ∷ st1)
-  put_kind (node.ByCopy of) st0 = of_value st0 (λ e st1. an_argument (value_copied e (declared_view of)) ∷ st1)
-  put_kind (node.ByDefault i) st0 = an_argument (default_taken (constant_in t i)) ∷ st0
-  put_kind (node.ByList count) st0 = of_found (exprs_off count st0 no_exprs) (λ es st1. an_argument (values_listed es) ∷ st1)
-  put_kind node.Shown st0 = of_value st0 (λ e st1. a_value_shown e ∷ st1)
-  put_kind node.Zone st0 = a_zone ∷ st0
-  put_kind node.TestBegins st0 = a_test_begun ∷ st0
-  put_kind (node.TestIs o) st0 = of_value st0 (λ e st1. of_test st1 (a_test_is o e ∷ drop 1 st1))
-  put_kind node.TestRange st0 = of_value st0 (λ b st1. of_value st1 (λ a st2. of_test st2 (a_test_range a b ∷ drop 1 st2)))
-  put_kind (node.Resize count of) st0 = of_found (exprs_off count st0 no_exprs) (λ es st1. of_place st1 (λ x st2. a_resize x es (option_map declared_view of) ∷ st2))
-  put_kind node.Erased st0 = of_place st0 (λ x st1. an_erased x ∷ st1)
+put t n st = put_kind t n n.kind st
 
 -- the pieces that stand when nodes are read in order
 abbrev pub read : Tables → List Piece → List Node → List Piece

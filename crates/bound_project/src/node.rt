@@ -43,8 +43,17 @@ pub enum NodeKind {
     FieldValue {
         field: u32,
     },
-    Unary(OpKind),
-    Binary(OpKind, Compare),
+    /// Operators say the types that their operands have as operands.
+    Unary {
+        operator: OpKind,
+        of: DeclaredType,
+    },
+    Binary {
+        operator: OpKind,
+        compare: Compare,
+        left: DeclaredType,
+        right: DeclaredType,
+    },
     /// A procedure, behind so many arguments.
     Call {
         procedure: u32,
@@ -73,9 +82,15 @@ pub enum NodeKind {
     Zone,
     /// A test of a Case begins.
     TestBegins,
-    /// `Is operator value`, and `low To high`.
-    TestIs(OpKind),
-    TestRange,
+    /// `Is operator value`, and `low To high`, with the types that the values have as operands.
+    TestIs {
+        operator: OpKind,
+        of: DeclaredType,
+    },
+    TestRange {
+        low: DeclaredType,
+        high: DeclaredType,
+    },
     /// An array of a ReDim: the place before so many bounds, and the type of its elements where that is written.
     Resize {
         bounds: u32,

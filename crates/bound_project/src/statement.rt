@@ -48,9 +48,12 @@ pub enum ActionKind {
     GoTo {
         to: u32,
     },
+    /// With the types that the last value and the step have as operands.
     For {
         counter: Variable,
         compare: Compare,
+        last: DeclaredType,
+        step: DeclaredType,
         first: u32,
         behind: u32,
     },
