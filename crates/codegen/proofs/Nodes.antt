@@ -30,10 +30,10 @@ same_code of (expr node place written operand) = refl
 operand_is : (of : DeclaredType) (e : Expr) → operand_type (as_operand of e) ≡ declared_view of
 operand_is of (expr node place written operand) = refl
 
-same_one : (of : DeclaredType) (e : Expr) (is : Declared → List plain.Instr) → expr_code (as_operand of e) ++ is (operand_type (as_operand of e)) ≡ expr_code e ++ is (declared_view of)
+pub same_one : (of : DeclaredType) (e : Expr) (is : Declared → List plain.Instr) → expr_code (as_operand of e) ++ is (operand_type (as_operand of e)) ≡ expr_code e ++ is (declared_view of)
 same_one of (expr node place written operand) is = refl
 
-same_two : (l r : DeclaredType) (a b : Expr) (is : Declared → Declared → List plain.Instr)
+pub same_two : (l r : DeclaredType) (a b : Expr) (is : Declared → Declared → List plain.Instr)
     → expr_code (as_operand l a) ++ (expr_code (as_operand r b) ++ is (operand_type (as_operand l a)) (operand_type (as_operand r b))) ≡ expr_code a ++ (expr_code b ++ is (declared_view l) (declared_view r))
 same_two l r (expr node place written operand) (expr node' place' written' operand') is = refl
 
@@ -78,7 +78,7 @@ node_emits t u added g around n (node.TestRange low high) st there =
 node_emits t u added g around n (node.Resize count of) st there = place_found_emits around count st _ (λ c. map (instr_view u) (node_instrs added t.orders around (node.Resize c of))) (λ x es. refl) there
 node_emits t u added g around n node.Erased st there = place_emits around _ _ (λ x. refl) st there
 
-map_append : {A B : Type 0} (f : A → B) (xs ys : List A) → map f (xs ++ ys) ≡ map f xs ++ map f ys
+pub map_append : {A B : Type 0} (f : A → B) (xs ys : List A) → map f (xs ++ ys) ≡ map f xs ++ map f ys
 map_append f [] ys = refl
 map_append f (x ∷ xs) ys = ap (λ r. f x ∷ r) (map_append f xs ys)
 

@@ -1,10 +1,11 @@
 -- Serves the code: the instructions of nodes and of statements, as they stand in memory.
-use Rattle.std.specs.Prelude.{ℕ, suc, ◌+◌, Bool, true, false, if◌then◌else◌, nat_lt, List, [], ◌∷◌, ◌++◌, length, map, slice_index, slice_index_or, Vec}
+use Rattle.std.specs.Prelude.{ℕ, suc, ◌+◌, Bool, true, false, if◌then◌else◌, nat_lt, List, [], ◌∷◌, ◌++◌, length, map, slice_index, slice_index_or, slice_get, Vec}
 use Rattle.std.specs.declared.alloc.Global.{Global}
 use Rattle.vba_values.specs.declared.types.Compare.TheVariants.{Binary as by_units}
 use Rattle.error_frames.specs.declared.frame.Policy.{Policy}
 use Rattle.error_frames.specs.declared.frame.Policy.TheVariants.{Default, Handler, ResumeNext}
 use Rattle.bound_project.specs.declared.declared_type.ElementType.TheVariants.{Variant}
+use Rattle.bound_project.specs.declared.declared_type.DeclaredType.{DeclaredType}
 use Rattle.bound_project.specs.declared.declared_type.DeclaredType.TheVariants.{Plain}
 use Rattle.bound_project.specs.declared.node.NodeKind.{NodeKind}
 use Rattle.bound_project.specs.declared.node.NodeKind.TheVariants as node
@@ -97,14 +98,22 @@ before_instrs i (kind.For x compare last step first behind) = instr.LoopOff i �
 before_instrs i (kind.ForEach x first behind) = instr.EachOff i ∷ []
 before_instrs i k = []
 
+abbrev pub policy_in : Handling → Policy
+policy_in PassedOn = Default
+policy_in Skipped = ResumeNext
+policy_in (HandledAt to) = Handler (record { 0 = to })
+
+-- the call of a property whose arguments stand on the stack above the value
+abbrev pub property_instrs : (procedure arguments : ℕ) → DeclaredType → List Instr
+property_instrs q count of = instr.Lift count ∷ instr.Plain ∷ instr.Fit of ∷ instr.Call q (suc count) ∷ instr.Drop ∷ []
+
 -- what is done behind its nodes
 abbrev pub work_instrs : List (List ℕ) → (statement next : ℕ) → ActionKind → List Instr
 work_instrs orders i next kind.Assign = instr.Store ∷ []
 work_instrs orders i next kind.AssignNone = instr.Drop ∷ instr.Drop ∷ []
 work_instrs orders i next kind.Evaluate = instr.Drop ∷ []
-work_instrs orders i next (kind.LetProperty q count of) = instr.Lift count ∷ instr.Plain ∷ instr.Fit of ∷ instr.Call q (count + 1) ∷ instr.Drop ∷ []
-work_instrs orders i next (kind.LetPropertyInOrder q count order of) =
-    instr.Reorder order count ∷ instr.Lift (order_length orders order) ∷ instr.Plain ∷ instr.Fit of ∷ instr.Call q (order_length orders order + 1) ∷ instr.Drop ∷ []
+work_instrs orders i next (kind.LetProperty q count of) = property_instrs q count of
+work_instrs orders i next (kind.LetPropertyInOrder q count order of) = instr.Reorder order count ∷ property_instrs q (order_length orders order) of
 work_instrs orders i next (kind.Print count ends) = instr.Show ends count ∷ []
 work_instrs orders i next (kind.For x compare last step first behind) = instr.LoopOn x i compare last step ∷ []
 work_instrs orders i next (kind.Next x header first) = instr.NextRound x header ∷ []
@@ -117,11 +126,7 @@ work_instrs orders i next kind.WithValue = instr.Keep i ∷ []
 work_instrs orders i next (kind.EndWith header) = instr.DropKept header ∷ []
 work_instrs orders i next (kind.GoSub to) = instr.PutReturn next ∷ []
 work_instrs orders i next (kind.ExitTo end) = instr.ErrOff ∷ []
-work_instrs orders i next (kind.OnError handling) = instr.SetPolicy (policy_in handling) ∷ [] where
-  policy_in : Handling → Policy
-  policy_in PassedOn = Default
-  policy_in Skipped = ResumeNext
-  policy_in (HandledAt to) = Handler (record { 0 = to })
+work_instrs orders i next (kind.OnError handling) = instr.SetPolicy (policy_in handling) ∷ []
 work_instrs orders i next kind.EndHandler = instr.HandlerOff ∷ []
 work_instrs orders i next kind.ClearErr = instr.ErrOff ∷ []
 work_instrs orders i next kind.Stop = instr.StopHere ∷ []
@@ -164,9 +169,27 @@ body_instrs added orders row p ns i (s ∷ ss) = statement_instrs added orders r
 
 -- the addresses of a procedure
 abbrev pub row_in : List (List ℕ) → ℕ → Row
-row_in table p = slice_index_or table p []
+row_in table p = list_or (slice_get table p)
 
 abbrev pub bodies_instrs : Added → List (List ℕ) → List (List ℕ) → ℕ → List Body → List Instr
 bodies_instrs added orders table p [] = []
 bodies_instrs added orders table p (b ∷ bs) =
     body_instrs added orders (row_in table p) p b.nodes.items 0 b.statements.items ++ bodies_instrs added orders table (suc p) bs
+
+-- addresses stand in no instruction's length
+abbrev pub statement_size : Added → List (List ℕ) → List Node → StatementNode → ℕ
+statement_size added orders ns s = length (statement_instrs added orders [] 0 ns 0 s)
+
+abbrev pub body_size : Added → List (List ℕ) → List Node → List StatementNode → ℕ
+body_size added orders ns [] = 0
+body_size added orders ns (s ∷ ss) = statement_size added orders ns s + body_size added orders ns ss
+
+-- the addresses of a procedure whose first one is given
+abbrev pub row_of : Added → List (List ℕ) → ℕ → List Node → List StatementNode → Row
+row_of added orders base ns [] = []
+row_of added orders base ns (s ∷ ss) = base ∷ row_of added orders (base + statement_size added orders ns s) ns ss
+
+abbrev pub table_of : Added → List (List ℕ) → ℕ → List Body → List (List ℕ)
+table_of added orders base [] = []
+table_of added orders base (b ∷ bs) =
+    row_of added orders base b.nodes.items b.statements.items ∷ table_of added orders (base + body_size added orders b.nodes.items b.statements.items) bs

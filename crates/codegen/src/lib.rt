@@ -1,6 +1,9 @@
 //! From a bound project to its code.
 #![tactic(auto)]
 
+mod action;
 mod node;
+mod too_long;
 
 pub use node::{Added, Around};
+pub use too_long::TooLong;
