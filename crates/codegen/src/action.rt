@@ -83,6 +83,15 @@ fn policy_of(handling: Handling) -> Policy
     }
 }
 
+fn one_more(count: u32) -> Result<u32, OrMemory<TooLong>>
+    ensures { IfOk result (λ n. n ≡ suc count) }
+{
+    match count.checked_add(1) {
+        Some(more) => Ok(more),
+        None => Err(OrMemory::Fault(TooLong)),
+    }
+}
+
 // The call of a property whose arguments stand on the stack above the value.
 fn put_property(
     code: &mut Vec<Instr>,
@@ -92,20 +101,18 @@ fn put_property(
 ) -> Result<(), OrMemory<TooLong>>
     ensures { OnOk result (code.new.items ≡ code.old.items ++ property_instrs procedure arguments of) }
 {
-    let Some(all) = arguments.checked_add(1) else {
-        return Err(OrMemory::Fault(TooLong));
-    };
-    put(code, Instr::Lift { arguments })?;
-    put(code, Instr::Plain)?;
-    put(code, Instr::Fit(of))?;
-    put(
-        code,
+    let all = one_more(arguments)?;
+    code.extend_from_slice(&[
+        Instr::Lift { arguments },
+        Instr::Plain,
+        Instr::Fit(of),
         Instr::Call {
             procedure,
             arguments: all,
         },
-    )?;
-    put(code, Instr::Drop)
+        Instr::Drop,
+    ])?;
+    Ok(())
 }
 
 fn put_two(code: &mut Vec<Instr>, first: Instr, second: Instr) -> Result<(), OrMemory<TooLong>>

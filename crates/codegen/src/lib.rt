@@ -2,6 +2,7 @@
 #![tactic(auto)]
 
 mod action;
+mod body;
 mod node;
 mod too_long;
 
