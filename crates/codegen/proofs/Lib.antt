@@ -2,3 +2,4 @@ pub mod Pieces
 pub mod Nodes
 pub mod Statements
 pub mod Loops
+pub mod Compiled

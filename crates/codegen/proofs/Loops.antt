@@ -140,8 +140,3 @@ tabled_next added orders all i b table table' row at at' lt is h et er ea =
           let e = ap (λ l. bodies_size added orders l) more in
           omega arith);
     }
-
--- ---- parts of lists
-
-pub part_is : {A : Type 0} → (xs : List A) (first count start most : ℕ) → start ≡ min first (length xs) → most ≡ min count (length (drop start xs)) → take most (drop start xs) ≡ take count (drop first xs)
-part_is xs first count start most a b = ?

@@ -2,9 +2,10 @@
 #![tactic(auto)]
 
 mod action;
+mod assemble;
 mod body;
 mod node;
 mod too_long;
 
-pub use node::{Added, Around};
+pub use assemble::compile;
 pub use too_long::TooLong;
