@@ -1,5 +1,7 @@
 -- Lists of instructions and of addresses, one more at the end.
 use Rattle.std.proofs.Common.{◌≡◌, ℕ, zero, suc, ◌+◌, min, ◌<◌, ◌≤◌, List, [], ◌∷◌, ◌++◌, length, map, take, drop, get_or, refl, sym, ap, ◌∙◌, arith, append_assoc}
+use Rattle.std.specs.Prelude.{slice_index, Vec}
+use Rattle.std.specs.declared.alloc.Global.{Global}
 use Rattle.std.proofs.lemmas.List.{append-nil, take_more, length-take}
 use Rattle.bound_project.specs.declared.node.Node.{Node}
 use Rattle.bound_project.specs.declared.statement.StatementNode.{StatementNode}
@@ -7,7 +9,7 @@ use Rattle.bound_project.specs.declared.project.Body.{Body}
 use Rattle.pcode.specs.declared.instr.Instr.{Instr}
 use Rattle.codegen.specs.declared.node.Around.{Around}
 use Rattle.codegen.specs.declared.node.Added.{Added}
-use Rattle.codegen.specs.Emission.{Row, node_instrs, nodes_instrs, statement_instrs, body_instrs, row_in, bodies_instrs, statement_size, body_size, row_of, table_of}
+use Rattle.codegen.specs.Emission.{lists_of, Row, node_instrs, nodes_instrs, statement_instrs, body_instrs, row_in, bodies_instrs, statement_size, body_size, row_of, table_of}
 
 nodes_push : (added : Added) (orders : List (List ℕ)) (around : Around) (ns : List Node) (n : Node)
     → nodes_instrs added orders around (ns ++ n ∷ []) ≡ nodes_instrs added orders around ns ++ node_instrs added orders around n.kind
@@ -140,3 +142,11 @@ tabled_next added orders all i b table table' row at at' lt is h et er ea =
           let e = ap (λ l. bodies_size added orders l) more in
           omega arith);
     }
+
+pub starts_same : (vs : List (Vec ℕ Global)) → map (λ (v : Vec ℕ Global). slice_index v.items 0) vs ≡ map (λ (row : List ℕ). slice_index row 0) (lists_of vs)
+starts_same [] = refl
+starts_same (v ∷ vs) = ap (λ r. slice_index v.items 0 ∷ r) (starts_same vs)
+
+-- instructions put one after another into a new list
+pub put_after : (none one all last : List Instr) (i : Instr) → none ≡ [] → one ≡ none ++ i ∷ [] → all ≡ one ++ last → all ≡ i ∷ last
+put_after none one all last i e f g = g ∙ ap (λ c. c ++ last) (f ∙ ap (λ c. c ++ i ∷ []) e)
