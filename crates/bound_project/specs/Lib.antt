@@ -4,3 +4,4 @@ pub mod Project
 pub mod View
 pub mod Pieces
 pub mod Bodies
+pub mod Draft
