@@ -105,9 +105,8 @@ statement_view t ns s = record {
 }
 
 -- a statement's nodes are there, and fit what it does
-pub record StatementFits (t : Tables) (ns : List Node) (s : StatementNode) : Type 0 where
-  pub inside : s.first_node + s.nodes ≤ length ns
-  pub fits : IsSome (action_of t s.action (pieces t (part ns s.first_node s.nodes)))
+abbrev pub StatementFits : Tables → List Node → StatementNode → Type 0
+StatementFits t ns s = (s.first_node + s.nodes ≤ length ns) × IsSome (action_of t s.action (pieces t (part ns s.first_node s.nodes)))
 
 abbrev pub AllFit : Tables → List Node → List StatementNode → Type 0
 AllFit t ns [] = Unit {0}

@@ -4,4 +4,5 @@ pub mod Project
 pub mod View
 pub mod Pieces
 pub mod Bodies
-pub mod Draft
+pub mod Drafts
+pub mod DraftView

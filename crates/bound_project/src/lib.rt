@@ -4,10 +4,12 @@
 
 mod declarations;
 mod declared_type;
+mod draft;
 mod laws;
 mod node;
 mod project;
 mod statement;
+mod too_long;
 mod variable;
 
 pub use declarations::{
@@ -15,8 +17,10 @@ pub use declarations::{
     UserType,
 };
 pub use declared_type::{DeclaredType, ElementType};
+pub use draft::Draft;
 pub use laws::statements_past_the_end_are_next;
 pub use node::{Node, NodeKind};
 pub use project::{Block, Body, Project};
 pub use statement::{ActionKind, Handling, StatementNode};
+pub use too_long::TooLong;
 pub use variable::{ErrMember, Storage, Variable};

@@ -15,8 +15,8 @@ use Rattle.bound_project.specs.Expressions.{constant, call, no_args, in_order}
 use Rattle.bound_project.specs.Statements as plain
 use Rattle.bound_project.specs.Statements.{Action, let_property}
 use Rattle.bound_project.specs.Pieces.{Piece, an_argument, default_taken, Tables, constant_in, order_in, arguments_off, of_found, expr_of, put_kind, put, read, pieces}
-use Rattle.bound_project.specs.Bodies.{behind_value, action_of, action_or, part, statement_view, StatementFits, AllFit, body_view}
-use Rattle.bound_project.specs.Draft.{Drafted, NodeNamed, ActionNamed, AllNamed, ActionsNamed, BodyKept, BodiesKept, Kept, with_constant, with_order, drafted, statement_of}
+use Rattle.bound_project.specs.Bodies.{behind_value, action_of, action_or, part, statement_view, StatementFits, AllFit, BodiesFit, body_view}
+use Rattle.bound_project.specs.Drafts.{Drafted, NodeNamed, ActionNamed, AllNamed, ActionsNamed, BodyKept, BodiesKept, Kept, with_constant, with_order, drafted, statement_of}
 
 -- ---- tables that grow
 
@@ -104,13 +104,13 @@ statements_same t u e ns [] h k f = (tt, refl)
 statements_same t u e ns (s ∷ ss) h k f =
     let one = done_same t u e ns s h k.0 in
     let others = statements_same t u e ns ss h k.1 f.1 in
-    ((record { inside = f.0.inside; fits = subst (λ o. IsSome o) (sym one) f.0.fits }, others.0),
+    (((f.0.0, subst (λ o. IsSome o) (sym one) f.0.1), others.0),
      ap (λ o. with_action s o ∷ map (statement_view u ns) ss) one ∙ ap (λ r. statement_view t ns s ∷ r) others.1)
 
 body_same : (t u : Tables) → Extends t u → (ns : List Node) (ss : List StatementNode) → BodyKept t ns ss → BodyKept u ns ss × (map (statement_view u ns) ss ≡ map (statement_view t ns) ss)
 body_same t u e ns ss h =
-    let both = statements_same t u e ns ss h.nodes_named h.actions_named h.fit in
-    (record { nodes_named = all_named t u e ns h.nodes_named; actions_named = actions_named t u e ss h.actions_named; fit = both.0 }, both.1)
+    let both = statements_same t u e ns ss h.0 h.1.0 h.1.1 in
+    ((all_named t u e ns h.0, (actions_named t u e ss h.1.0, both.0)), both.1)
 
 bodies_same : (t u : Tables) → Extends t u → (bs : List Body) → BodiesKept t bs → BodiesKept u bs × (map (body_view u) bs ≡ map (body_view t) bs)
 bodies_same t u e [] h = (tt, refl)
@@ -124,11 +124,11 @@ bodies_same t u e (b ∷ bs) h =
 pub draft_same : (t u : Tables) → Extends t u → (scratch ns : List Node) (ss : List StatementNode) (bs : List Body) → Kept t scratch ns ss bs
     → Kept u scratch ns ss bs × (drafted u scratch ns ss bs ≡ record (drafted t scratch ns ss bs) { tables = u })
 draft_same t u e scratch ns ss bs h =
-    let body = body_same t u e ns ss h.body in
-    let bodies = bodies_same t u e bs h.bodies in
+    let body = body_same t u e ns ss h.1.0 in
+    let bodies = bodies_same t u e bs h.1.1 in
     let made : List Piece → List plain.Statement → List _ → Drafted = λ p s b. record { tables = u; pieces = p; statements = s; bodies = b } in
-    (record { scratch_named = all_named t u e scratch h.scratch_named; body = body.0; bodies = bodies.0 },
-     ap (λ p. made p (map (statement_view u ns) ss) (map (body_view u) bs)) (read_same t u e scratch h.scratch_named [])
+    ((all_named t u e scratch h.0, (body.0, bodies.0)),
+     ap (λ p. made p (map (statement_view u ns) ss) (map (body_view u) bs)) (read_same t u e scratch h.0 [])
      ∙ ap (λ s. made (pieces t scratch) s (map (body_view u) bs)) body.1 ∙ ap (λ b. made (pieces t scratch) (map (statement_view t ns) ss) b) bodies.1)
 
 -- ---- a node more
@@ -144,7 +144,7 @@ named_push t (x ∷ ns) n h k = (h.0, named_push t ns n h.1 k)
 pub node_more : (t : Tables) (scratch ns : List Node) (ss : List StatementNode) (bs : List Body) (n : Node) → Kept t scratch ns ss bs → NodeNamed t n.kind
     → Kept t (scratch ++ n ∷ []) ns ss bs × (drafted t (scratch ++ n ∷ []) ns ss bs ≡ record (drafted t scratch ns ss bs) { pieces = put t n (pieces t scratch) })
 node_more t scratch ns ss bs n h k =
-    (record { scratch_named = named_push t scratch n h.scratch_named k; body = h.body; bodies = h.bodies },
+    ((named_push t scratch n h.0 k, h.1),
      ap (λ p. record (drafted t scratch ns ss bs) { pieces = p }) (read_push t scratch n []))
 
 -- ---- a statement more
@@ -173,10 +173,10 @@ actions_push t (x ∷ ss) s h k = (h.0, actions_push t ss s h.1 k)
 pub all_more : (t : Tables) (ns more : List Node) (ss : List StatementNode) → AllFit t ns ss → AllFit t (ns ++ more) ss × (map (statement_view t (ns ++ more)) ss ≡ map (statement_view t ns) ss)
 all_more t ns more [] h = (tt, refl)
 all_more t ns more (s ∷ ss) h =
-    let one : done t (ns ++ more) s ≡ done t ns s = ap (λ l. action_of t s.action (pieces t l)) (part_more ns more s.first_node s.nodes h.0.inside) in
+    let one : done t (ns ++ more) s ≡ done t ns s = ap (λ l. action_of t s.action (pieces t l)) (part_more ns more s.first_node s.nodes h.0.0) in
     let others = all_more t ns more ss h.1 in
-    let le : s.first_node + s.nodes ≤ length (ns ++ more) = omega (arith, h.0.inside, length-append ns more) in
-    ((record { inside = le; fits = subst (λ o. IsSome o) (sym one) h.0.fits }, others.0),
+    let le : s.first_node + s.nodes ≤ length (ns ++ more) = omega (arith, h.0.0, length-append ns more) in
+    (((le, subst (λ o. IsSome o) (sym one) h.0.1), others.0),
      ap (λ o. with_action s o ∷ map (statement_view t (ns ++ more)) ss) one ∙ ap (λ r. statement_view t ns s ∷ r) others.1)
 
 all_push : (t : Tables) (ns : List Node) (ss : List StatementNode) (s : StatementNode) → AllFit t ns ss → StatementFits t ns s → AllFit t ns (ss ++ s ∷ [])
@@ -186,12 +186,8 @@ all_push t ns (x ∷ ss) s h f = (h.0, all_push t ns ss s h.1 f)
 pub nodes_more : (t : Tables) (scratch ns more : List Node) (ss : List StatementNode) (bs : List Body) → Kept t scratch ns ss bs → AllNamed t more
     → Kept t scratch (ns ++ more) ss bs × (drafted t scratch (ns ++ more) ss bs ≡ drafted t scratch ns ss bs)
 nodes_more t scratch ns more ss bs h k =
-    let all = all_more t ns more ss h.body.fit in
-    (record {
-      scratch_named = h.scratch_named;
-      body = record { nodes_named = named_append t ns more h.body.nodes_named k; actions_named = h.body.actions_named; fit = all.0 };
-      bodies = h.bodies;
-    }, ap (λ s. record (drafted t scratch ns ss bs) { statements = s }) all.1)
+    let all = all_more t ns more ss h.1.0.1.1 in
+    ((h.0, ((named_append t ns more h.1.0.0 k, (h.1.0.1.0, all.0)), h.1.1)), ap (λ s. record (drafted t scratch ns ss bs) { statements = s }) all.1)
 
 pub statement_more : (t : Tables) (scratch ns : List Node) (ss : List StatementNode) (bs : List Body) (s : StatementNode) → Kept t scratch ns ss bs → ActionNamed t s.action
     → s.first_node ≡ length ns → s.nodes ≡ length scratch → IsSome (action_of t s.action (pieces t scratch))
@@ -199,19 +195,11 @@ pub statement_more : (t : Tables) (scratch ns : List Node) (ss : List StatementN
     × (drafted t [] (ns ++ scratch) (ss ++ s ∷ []) bs
         ≡ record (drafted t scratch ns ss bs) { pieces = []; statements = map (statement_view t ns) ss ++ statement_of t s.action (pieces t scratch) s.place s.next ∷ [] })
 statement_more t scratch ns ss bs s h k ef ec fits =
-    let all = all_more t ns scratch ss h.body.fit in
+    let all = all_more t ns scratch ss h.1.0.1.1 in
     let at : part (ns ++ scratch) s.first_node s.nodes ≡ scratch = ap (λ i. part (ns ++ scratch) i s.nodes) ef ∙ ap (λ i. part (ns ++ scratch) (length ns) i) ec ∙ part_past ns scratch in
     let one : done t (ns ++ scratch) s ≡ action_of t s.action (pieces t scratch) = ap (λ l. action_of t s.action (pieces t l)) at in
     let le : s.first_node + s.nodes ≤ length (ns ++ scratch) = omega (arith, ef, ec, length-append ns scratch) in
-    (record {
-      scratch_named = tt;
-      body = record {
-        nodes_named = named_append t ns scratch h.body.nodes_named h.scratch_named;
-        actions_named = actions_push t ss s h.body.actions_named k;
-        fit = all_push t (ns ++ scratch) ss s all.0 (record { inside = le; fits = subst (λ o. IsSome o) (sym one) fits });
-      };
-      bodies = h.bodies;
-    }, ap (λ r. record (drafted t scratch ns ss bs) { pieces = []; statements = r })
+    ((tt, ((named_append t ns scratch h.1.0.0 h.0, (actions_push t ss s h.1.0.1.0 k, all_push t (ns ++ scratch) ss s all.0 (le, subst (λ o. IsSome o) (sym one) fits))), h.1.1)), ap (λ r. record (drafted t scratch ns ss bs) { pieces = []; statements = r })
        (map_push (statement_view t (ns ++ scratch)) ss s ∙ ap (λ l. l ++ statement_view t (ns ++ scratch) s ∷ []) all.1 ∙ ap (λ o. map (statement_view t ns) ss ++ with_action s o ∷ []) one))
 
 -- ---- a body more
@@ -225,8 +213,8 @@ pub body_more : (t : Tables) (scratch : List Node) (bs : List Body) (b : Body) �
     × (drafted t scratch [] [] (bs ++ b ∷ [])
         ≡ record (drafted t scratch b.nodes.items b.statements.items bs) { statements = []; bodies = map (body_view t) bs ++ body_view t b ∷ [] })
 body_more t scratch bs b h =
-    (record {
-      scratch_named = h.scratch_named;
-      body = record { nodes_named = tt; actions_named = tt; fit = tt };
-      bodies = bodies_push t bs b h.bodies h.body;
-    }, ap (λ r. record (drafted t scratch b.nodes.items b.statements.items bs) { statements = []; bodies = r }) (map_push (body_view t) bs b))
+    ((h.0, ((tt, (tt, tt)), bodies_push t bs b h.1.1 h.1.0)), ap (λ r. record (drafted t scratch b.nodes.items b.statements.items bs) { statements = []; bodies = r }) (map_push (body_view t) bs b))
+
+pub fits_of : (t : Tables) (bs : List Body) → BodiesKept t bs → BodiesFit t bs
+fits_of t [] h = tt
+fits_of t (b ∷ bs) h = (h.0.1.1, fits_of t bs h.1)
