@@ -1,6 +1,9 @@
 -- A draft whose tables grow, and one with a statement more, stands for what it stood for.
-use Rattle.std.proofs.Common.{◌≡◌, ℕ, zero, suc, ◌+◌, ◌<◌, ◌≤◌, List, [], ◌∷◌, ◌++◌, length, map, take, drop, Option, Some, None, refl, sym, ap, subst, ◌∙◌, arith, length-append}
-use Rattle.std.specs.Prelude.{IsSome}
+use Rattle.std.proofs.Common.{◌≡◌, Bool, true, false, cond, ℕ, zero, suc, ◌+◌, ◌<◌, ◌≤◌, List, [], ◌∷◌, ◌++◌, length, map, take, drop, Option, Some, None, refl, sym, ap, subst, ◌∙◌, arith, length-append}
+use Rattle.std.specs.Prelude.{IsSome, Vec}
+use Rattle.std.specs.declared.alloc.Global.{Global}
+use Rattle.vba_values.specs.View.{view as value_view}
+use Rattle.vba_values.specs.declared.value.Value.{Value}
 use Rattle.std.proofs.lemmas.List.{map_push, get_or_append_left}
 use Rattle.vba_values.specs.Val.{Val, empty}
 use Rattle.bound_project.specs.declared.node.NodeKind.{NodeKind}
@@ -16,7 +19,7 @@ use Rattle.bound_project.specs.Statements as plain
 use Rattle.bound_project.specs.Statements.{Action, let_property}
 use Rattle.bound_project.specs.Pieces.{Piece, an_argument, default_taken, Tables, constant_in, order_in, arguments_off, of_found, expr_of, put_kind, put, read, pieces}
 use Rattle.bound_project.specs.Bodies.{behind_value, action_of, action_or, part, statement_view, StatementFits, AllFit, BodiesFit, body_view}
-use Rattle.bound_project.specs.Drafts.{Drafted, NodeNamed, ActionNamed, AllNamed, ActionsNamed, BodyKept, BodiesKept, Kept, with_constant, with_order, drafted, statement_of}
+use Rattle.bound_project.specs.Drafts.{Drafted, NodeNamed, ActionNamed, AllNamed, ActionsNamed, BodyKept, BodiesKept, Kept, with_constant, with_order, tables_in, drafted, statement_of}
 
 -- ---- tables that grow
 
@@ -218,3 +221,34 @@ body_more t scratch bs b h =
 pub fits_of : (t : Tables) (bs : List Body) → BodiesKept t bs → BodiesFit t bs
 fits_of t [] h = tt
 fits_of t (b ∷ bs) h = (h.0.1.1, fits_of t bs h.1)
+
+-- ---- as the calls of Vec say it
+
+-- a list that has grown, or not
+pub maybe : {A : Type 0} → (P : List A → Type 0) (b : Bool) (old more new : List A) → P old → P more → new ≡ cond b more old → P new
+maybe P true old more new h k e = subst P (sym e) k
+maybe P false old more new h k e = subst P (sym e) h
+
+pub constant_more : (cs : List Value) (os : List (Vec ℕ Global)) (v : Value) (scratch ns : List Node) (ss : List StatementNode) (bs : List Body) → Kept (tables_in cs os) scratch ns ss bs
+    → Kept (tables_in (cs ++ v ∷ []) os) scratch ns ss bs
+    × (drafted (tables_in (cs ++ v ∷ []) os) scratch ns ss bs ≡ record (drafted (tables_in cs os) scratch ns ss bs) { tables = with_constant (tables_in cs os) (value_view v) })
+constant_more cs os v scratch ns ss bs h =
+    let t = tables_in cs os in
+    let e : tables_in (cs ++ v ∷ []) os ≡ with_constant t (value_view v) = ap (λ l. record t { constants = l }) (map_push value_view cs v) in
+    let r = draft_same t (with_constant t (value_view v)) (constant_extends t (value_view v)) scratch ns ss bs h in
+    (subst (λ u. Kept u scratch ns ss bs) (sym e) r.0, ap (λ u. drafted u scratch ns ss bs) e ∙ r.1)
+
+pub order_more : (cs : List Value) (os : List (Vec ℕ Global)) (o : Vec ℕ Global) (scratch ns : List Node) (ss : List StatementNode) (bs : List Body) → Kept (tables_in cs os) scratch ns ss bs
+    → Kept (tables_in cs (os ++ o ∷ [])) scratch ns ss bs
+    × (drafted (tables_in cs (os ++ o ∷ [])) scratch ns ss bs ≡ record (drafted (tables_in cs os) scratch ns ss bs) { tables = with_order (tables_in cs os) o.items })
+order_more cs os o scratch ns ss bs h =
+    let t = tables_in cs os in
+    let e : tables_in cs (os ++ o ∷ []) ≡ with_order t o.items = ap (λ l. record t { orders = l }) (map_push (λ (order : Vec ℕ Global). order.items) os o) in
+    let r = draft_same t (with_order t o.items) (order_extends t o.items) scratch ns ss bs h in
+    (subst (λ u. Kept u scratch ns ss bs) (sym e) r.0, ap (λ u. drafted u scratch ns ss bs) e ∙ r.1)
+
+pub body_end : (t : Tables) (scratch : List Node) (bs : List Body) (b made : Body) (ns : List Node) (ss : List StatementNode) → made ≡ b → ns ≡ [] → ss ≡ [] → Kept t scratch b.nodes.items b.statements.items bs
+    → Kept t scratch ns ss bs
+    × (Kept t scratch ns ss (bs ++ made ∷ [])
+        × (drafted t scratch ns ss (bs ++ made ∷ []) ≡ record (drafted t scratch b.nodes.items b.statements.items bs) { statements = []; bodies = map (body_view t) bs ++ body_view t b ∷ [] }))
+body_end t scratch bs b made ns ss e f g h = rw (e, f, g) ((h.0, ((tt, (tt, tt)), h.1.1)), body_more t scratch bs b h)
