@@ -47,7 +47,7 @@ grown old new orders added h =
     let vs = map value_view old in
     let e : added.empty ≡ length vs = h.empty_at ∙ sym (length-map old value_view) in
     let more : map value_view new ≡ vs ++ (empty ∷ missing ∷ []) = ap (λ l. map value_view l) h.new_is ∙ map_append value_view old (value.Empty ∷ value.Missing ∷ [])
-        ∙ ap (λ v. vs ++ (v ∷ value_view value.Missing ∷ [])) view_empty ∙ ap (λ v. vs ++ (empty ∷ v ∷ [])) view_missing in
+    ∙ ap (λ v. vs ++ (v ∷ value_view value.Missing ∷ [])) view_empty ∙ ap (λ v. vs ++ (empty ∷ v ∷ [])) view_missing in
     record {
       constant = λ i. ap (λ l. get_or l (constant_number added i) empty) more ∙ at_number vs i added.empty (nat_lt i added.empty) e refl;
       empty_is = ap (λ l. get_or l added.empty empty) more ∙ ap (λ n. get_or (vs ++ (empty ∷ missing ∷ [])) n empty) e ∙ get_or-append_seam vs empty (missing ∷ []) empty;
@@ -80,7 +80,7 @@ parts_same : (instrs : List plain.Instr) (starts : List ℕ) (nexts entries : Li
     → (record { instrs = instrs; starts = starts; nexts = nexts; entries = entries; declared = pr.declared; startup = pr.startup }) ≡ code_of pr
 parts_same instrs starts nexts entries pr e i s n =
     let made : List plain.Instr → List ℕ → List (List ℕ) → List (List ℕ) → plain.Code =
-        λ is ss ns es. record { instrs = is; starts = ss; nexts = ns; entries = es; declared = pr.declared; startup = pr.startup } in
+    λ is ss ns es. record { instrs = is; starts = ss; nexts = ns; entries = es; declared = pr.declared; startup = pr.startup } in
     ap (λ is. made is starts nexts entries) i ∙ ap (λ ss. made (plain.Leave ∷ bodies_code entries 0 pr.bodies) ss nexts entries) s
     ∙ ap (λ ns. made (plain.Leave ∷ bodies_code entries 0 pr.bodies) (starts_of entries) ns entries) n ∙ ap (λ es. code_in es pr) e
 
@@ -88,7 +88,7 @@ pub compiled : (pr : Project) (constants : Vec Value Global) (instrs : Vec Instr
     → HasAdded pr.constants.items constants.items added
     → IsMade added pr.orders.items pr.bodies.items instrs.items starts.items (lists_of nexts.items) (lists_of entries.items)
     → code_view (record { instrs = instrs; constants = constants; orders = pr.orders; starts = starts; nexts = nexts; entries = entries; declared = pr.declared; startup = pr.startup })
-        ≡ code_of (project_view pr)
+    ≡ code_of (project_view pr)
 compiled pr constants instrs starts nexts entries added fits two made =
     let t = tables_of pr in
     let u : Tables = record { constants = map value_view constants.items; orders = t.orders } in

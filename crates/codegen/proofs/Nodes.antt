@@ -89,6 +89,8 @@ nodes_emit t u added g around [] st there = (sym (append_none (codes around st))
 nodes_emit t u added g around (n ∷ ns) st there =
     let rest = nodes_emit t u added g around ns (put t n st) there in
     let first = node_emits t u added g around n n.kind st rest.1 in
-    let more = map (instr_view u) (nodes_instrs added t.orders around ns) in
-    (rest.0 ∙ ap (λ c. c ++ more) first.0 ∙ append_assoc (codes around st) (seen t u added around n.kind) more
-    ∙ ap (λ c. codes around st ++ c) (sym (map_append (instr_view u) (node_instrs added t.orders around n.kind) (nodes_instrs added t.orders around ns))), first.1)
+    let more = map (instr_view u) (nodes_instrs added t.orders around ns) in (
+      rest.0 ∙ ap (λ c. c ++ more) first.0 ∙ append_assoc (codes around st) (seen t u added around n.kind) more
+          ∙ ap (λ c. codes around st ++ c) (sym (map_append (instr_view u) (node_instrs added t.orders around n.kind) (nodes_instrs added t.orders around ns))),
+      first.1,
+    )

@@ -61,26 +61,30 @@ abbrev TestsOff : Row → (header : ℕ) → DeclaredType → Compare → (first
 TestsOff row header of compare first other st acc None = Unit {0}
 TestsOff row header of compare first other st acc (Some (ts, rest)) =
     (codes (case_around row header of compare first) rest ++ tests_in row header of compare first other ts
-        ≡ codes (case_around row header of compare first) st ++ tests_in row header of compare first other acc) × (AllThere rest → AllThere st)
+    ≡ codes (case_around row header of compare first) st ++ tests_in row header of compare first other acc) × (AllThere rest → AllThere st)
 
 tests_is : (row : Row) (header : ℕ) (of : DeclaredType) (compare : Compare) (first other : ℕ) (o : OpKind) (e : Expr) (st : List Piece) (acc : Tests) (found : Option (Tests × List Piece))
     → TestsOff row header of compare first other st (test_is o e acc) found → TestsOff row header of compare first other (a_test_is o e ∷ st) acc found
 tests_is row header of compare first other o e st acc None h = tt
 tests_is row header of compare first other o e st acc (Some (ts, rest)) h =
     let after = tests_in row header of compare first other acc in
-    let fits = plain.IfFits o compare (declared_view of) (operand_type e) (slice_index row first) in
-    (h.0 ∙ one (codes (case_around row header of compare first) st) (plain.Selected header ∷ plain.Plain ∷ (expr_code e ++ fits ∷ [])) after _
-        (ap (λ c. plain.Selected header ∷ plain.Plain ∷ c) (sym (append_assoc (expr_code e) (fits ∷ []) after))), λ there. (tt, h.1 there))
+    let fits = plain.IfFits o compare (declared_view of) (operand_type e) (slice_index row first) in (
+      h.0 ∙ one (codes (case_around row header of compare first) st) (plain.Selected header ∷ plain.Plain ∷ (expr_code e ++ fits ∷ [])) after _
+          (ap (λ c. plain.Selected header ∷ plain.Plain ∷ c) (sym (append_assoc (expr_code e) (fits ∷ []) after))),
+      λ there. (tt, h.1 there),
+    )
 
 tests_range : (row : Row) (header : ℕ) (of : DeclaredType) (compare : Compare) (first other : ℕ) (a b : Expr) (st : List Piece) (acc : Tests) (found : Option (Tests × List Piece))
     → TestsOff row header of compare first other st (test_range a b acc) found → TestsOff row header of compare first other (a_test_range a b ∷ st) acc found
 tests_range row header of compare first other a b st acc None h = tt
 tests_range row header of compare first other a b st acc (Some (ts, rest)) h =
     let after = tests_in row header of compare first other acc in
-    let fits = plain.IfBetween compare (declared_view of) (operand_type a) (operand_type b) (slice_index row first) in
-    (h.0 ∙ one (codes (case_around row header of compare first) st) (plain.Selected header ∷ plain.Plain ∷ (expr_code a ++ (expr_code b ++ fits ∷ []))) after _
-        (ap (λ c. plain.Selected header ∷ plain.Plain ∷ c)
-        (ap (λ c. expr_code a ++ c) (sym (append_assoc (expr_code b) (fits ∷ []) after)) ∙ sym (append_assoc (expr_code a) (expr_code b ++ fits ∷ []) after))), λ there. (tt, h.1 there))
+    let fits = plain.IfBetween compare (declared_view of) (operand_type a) (operand_type b) (slice_index row first) in (
+      h.0 ∙ one (codes (case_around row header of compare first) st) (plain.Selected header ∷ plain.Plain ∷ (expr_code a ++ (expr_code b ++ fits ∷ []))) after _
+          (ap (λ c. plain.Selected header ∷ plain.Plain ∷ c)
+          (ap (λ c. expr_code a ++ c) (sym (append_assoc (expr_code b) (fits ∷ []) after)) ∙ sym (append_assoc (expr_code a) (expr_code b ++ fits ∷ []) after))),
+      λ there. (tt, h.1 there),
+    )
 
 tests_are : (row : Row) (header : ℕ) (of : DeclaredType) (compare : Compare) (first other n : ℕ) (st : List Piece) (acc : Tests) → TestsOff row header of compare first other st acc (tests_off n st acc)
 tests_are row header of compare first other zero st acc = (refl, λ there. there)
@@ -99,9 +103,11 @@ resizes_more : (around : Around) (x : Lvalue) (es : Exprs) (of : Option Declared
 resizes_more around x es of st acc None h = tt
 resizes_more around x es of st acc (Some (rs, rest)) h =
     let after = resizes_code around.preserve acc in
-    let work = plain.Redim around.preserve of (list_count es) in
-    (h.0 ∙ one (codes around st) (place_code x ++ (list_code es ++ work ∷ [])) after _
-        (ap (λ c. place_code x ++ c) (sym (append_assoc (list_code es) (work ∷ []) after)) ∙ sym (append_assoc (place_code x) (list_code es ++ work ∷ []) after)), λ there. (tt, h.1 there))
+    let work = plain.Redim around.preserve of (list_count es) in (
+      h.0 ∙ one (codes around st) (place_code x ++ (list_code es ++ work ∷ [])) after _
+          (ap (λ c. place_code x ++ c) (sym (append_assoc (list_code es) (work ∷ []) after)) ∙ sym (append_assoc (place_code x) (list_code es ++ work ∷ []) after)),
+      λ there. (tt, h.1 there),
+    )
 
 resizes_are : (around : Around) (n : ℕ) (st : List Piece) (acc : Resizes) → ResizesOff around st acc (resizes_off n st acc)
 resizes_are around zero st acc = (refl, λ there. there)
@@ -221,8 +227,8 @@ action_made t u added g row p i next (kind.LetPropertyInOrder q n order of) st =
     let after = plain.Lift (length o) ∷ plain.Plain ∷ plain.Fit (declared_view of) ∷ plain.Call q (suc (length o)) ∷ plain.Drop ∷ plain.Finish (slice_index row next) ∷ [] in
     subst (λ (l : List ℕ). Made (around_of row k) (action_code (entry row) p i next) [] (plain.Reorder l n ∷ after) st (action_of t k st)) (sym (g.order order))
     (behind_made (around_of row k) (action_code (entry row) p i next) (λ m. plain.Reorder o m ∷ after) _
-        (λ args e. ap (λ c. expr_code e ++ c) (append_assoc (args_code args) (plain.Reorder o (count args) ∷ []) after) ∙ sym (append_assoc (expr_code e) (args_code args) (plain.Reorder o (count args) ∷ after)))
-        n st (arguments_off n st no_args) (args_are (around_of row (kind.LetPropertyInOrder q n order of)) n st no_args))
+    (λ args e. ap (λ c. expr_code e ++ c) (append_assoc (args_code args) (plain.Reorder o (count args) ∷ []) after) ∙ sym (append_assoc (expr_code e) (args_code args) (plain.Reorder o (count args) ∷ after)))
+    n st (arguments_off n st no_args) (args_are (around_of row (kind.LetPropertyInOrder q n order of)) n st no_args))
 action_made t u added g row p i next (kind.Print count ends) st =
     prints_made (around_of row (kind.Print count ends)) (action_code (entry row) p i next) (λ n. back t u row p i next (kind.Print n ends)) _ (λ ps. refl) count st (prints_off count st no_prints) (prints_are (around_of row (kind.Print count ends)) count st no_prints)
 action_made t u added g row p i next (kind.Raise count) st =
@@ -274,7 +280,7 @@ action_seen t u added g row p i next k ns (Some a) e h =
 pub statement_seen : (t u : Tables) (added : Added) → Grown t u added → (row : Row) (p : ℕ) (ns : List Node) (i : ℕ) (s : StatementNode) → StatementFits t ns s
     → map (instr_view u) (statement_instrs added t.orders row p ns i s) ≡ statement_code (entry row) p i (statement_view t ns s)
 statement_seen t u added g row p ns i s h =
-    ap (λ c. plain.Begin i ∷ c) (action_seen t u added g row p i s.next s.action (part ns s.first_node s.nodes) (action_of t s.action (pieces t (part ns s.first_node s.nodes))) refl h.fits)
+    ap (λ c. plain.Begin i ∷ c) (action_seen t u added g row p i s.next s.action (part ns s.first_node s.nodes) (action_of t s.action (pieces t (part ns s.first_node s.nodes))) refl h.1)
 
 pub body_seen : (t u : Tables) (added : Added) → Grown t u added → (row : Row) (p : ℕ) (ns : List Node) (i : ℕ) (ss : List StatementNode) → AllFit t ns ss
     → map (instr_view u) (body_instrs added t.orders row p ns i ss) ≡ body_code (entry row) p i (map (statement_view t ns) ss)

@@ -2,8 +2,7 @@ ghost use Rattle.std.specs.Prelude.{◌≡◌, suc, [], ◌∷◌, ◌++◌, IfO
 ghost use Rattle.codegen.specs.Emission.{action_instrs, around_of, before_instrs, end_instr, lists_of, order_length, policy_in, property_instrs, work_instrs};
 
 use crate::node::{Added, Around, emit_nodes, order_length, put};
-use crate::too_long::TooLong;
-use bound_project::{ActionKind, DeclaredType, ElementType, Handling, Node};
+use bound_project::{ActionKind, DeclaredType, ElementType, Handling, Node, TooLong};
 use error_frames::{At, Policy};
 use pcode::Instr;
 use vba_base::OrMemory;
@@ -181,7 +180,9 @@ fn put_work(
             },
         ),
         ActionKind::Next {
-            counter, header, ..
+            counter,
+            header,
+            ..
         } => put(
             code,
             Instr::NextRound {
@@ -195,7 +196,9 @@ fn put_work(
             Instr::NextItem { control, block },
         ),
         ActionKind::NextEach {
-            control, header, ..
+            control,
+            header,
+            ..
         } => put(
             code,
             Instr::NextItem {

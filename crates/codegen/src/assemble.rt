@@ -7,8 +7,7 @@ ghost use Rattle.codegen.specs.Parts.{HasAdded, IsMade, nexts_in};
 
 use crate::body::{emit_bodies, table_of};
 use crate::node::{Added, put};
-use crate::too_long::TooLong;
-use bound_project::{Body, Project, StatementNode};
+use bound_project::{Body, Project, StatementNode, TooLong};
 use pcode::{Code, Instr};
 use std::alloc::Global;
 use vba_base::OrMemory;

@@ -4,8 +4,7 @@ ghost use Rattle.codegen.specs.Emission.{bodies_instrs, body_instrs, body_size, 
 
 use crate::action::{Numbers, emit_action};
 use crate::node::{Added, put};
-use crate::too_long::TooLong;
-use bound_project::{Body, Node, StatementNode};
+use bound_project::{Body, Node, StatementNode, TooLong};
 use pcode::Instr;
 use std::alloc::Global;
 use vba_base::OrMemory;

@@ -5,7 +5,6 @@ mod action;
 mod assemble;
 mod body;
 mod node;
-mod too_long;
 
 pub use assemble::compile;
-pub use too_long::TooLong;
+pub use bound_project::TooLong;

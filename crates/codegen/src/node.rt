@@ -1,8 +1,7 @@
 ghost use Rattle.std.specs.Prelude.{◌≡◌, [], ◌∷◌, ◌++◌, IfOk, OnOk};
 ghost use Rattle.codegen.specs.Emission.{constant_number, first_instrs, last_instr, lists_of, node_instrs, nodes_instrs, order_length};
 
-use crate::too_long::TooLong;
-use bound_project::{DeclaredType, Node, NodeKind};
+use bound_project::{DeclaredType, Node, NodeKind, TooLong};
 use pcode::Instr;
 use vba_base::OrMemory;
 use vba_values::Compare;
@@ -61,7 +60,9 @@ fn put_first(code: &mut Vec<Instr>, around: Around, kind: NodeKind) -> Result<()
     match kind {
         NodeKind::Item { variable, .. } => put(code, Instr::PathOf(variable)),
         NodeKind::CallInOrder {
-            arguments, order, ..
+            arguments,
+            order,
+            ..
         } => put(code, Instr::Reorder { order, arguments }),
         NodeKind::TestBegins => put(
             code,
@@ -124,7 +125,9 @@ fn last_of(
             arguments,
         },
         NodeKind::CallInOrder {
-            procedure, order, ..
+            procedure,
+            order,
+            ..
         } => Instr::Call {
             procedure,
             arguments: order_length(orders, order)?,
