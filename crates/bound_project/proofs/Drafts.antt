@@ -1,5 +1,5 @@
 -- A draft whose tables grow, and one with a statement more, stands for what it stood for.
-use Rattle.std.proofs.Common.{◌≡◌, Bool, true, false, cond, ℕ, zero, suc, ◌+◌, ◌<◌, ◌≤◌, List, [], ◌∷◌, ◌++◌, length, map, take, drop, Option, Some, None, refl, sym, ap, subst, ◌∙◌, arith, length-append}
+use Rattle.std.proofs.Common.{◌≡◌, Bool, true, false, cond, ℕ, zero, suc, ◌+◌, ◌<◌, ◌≤◌, List, [], ◌∷◌, ◌++◌, length, map, take, drop, Option, refl, sym, ap, subst, ◌∙◌, arith, length-append}
 use Rattle.std.specs.Prelude.{IsSome, Vec}
 use Rattle.std.specs.declared.alloc.Global.{Global}
 use Rattle.vba_values.specs.View.{view as value_view}
@@ -106,9 +106,10 @@ statements_same : (t u : Tables) → Extends t u → (ns : List Node) (ss : List
 statements_same t u e ns [] h k f = (tt, refl)
 statements_same t u e ns (s ∷ ss) h k f =
     let one = done_same t u e ns s h k.0 in
-    let others = statements_same t u e ns ss h k.1 f.1 in
-    (((f.0.0, subst (λ o. IsSome o) (sym one) f.0.1), others.0),
-     ap (λ o. with_action s o ∷ map (statement_view u ns) ss) one ∙ ap (λ r. statement_view t ns s ∷ r) others.1)
+    let others = statements_same t u e ns ss h k.1 f.1 in (
+      ((f.0.0, subst (λ o. IsSome o) (sym one) f.0.1), others.0),
+      ap (λ o. with_action s o ∷ map (statement_view u ns) ss) one ∙ ap (λ r. statement_view t ns s ∷ r) others.1,
+    )
 
 body_same : (t u : Tables) → Extends t u → (ns : List Node) (ss : List StatementNode) → BodyKept t ns ss → BodyKept u ns ss × (map (statement_view u ns) ss ≡ map (statement_view t ns) ss)
 body_same t u e ns ss h =
@@ -119,9 +120,10 @@ bodies_same : (t u : Tables) → Extends t u → (bs : List Body) → BodiesKept
 bodies_same t u e [] h = (tt, refl)
 bodies_same t u e (b ∷ bs) h =
     let one = body_same t u e b.nodes.items b.statements.items h.0 in
-    let others = bodies_same t u e bs h.1 in
-    ((one.0, others.0),
-     ap (λ ss. record { statements = ss; blocks = (body_view t b).blocks } ∷ map (body_view u) bs) one.1 ∙ ap (λ r. body_view t b ∷ r) others.1)
+    let others = bodies_same t u e bs h.1 in (
+      (one.0, others.0),
+      ap (λ ss. record { statements = ss; blocks = (body_view t b).blocks } ∷ map (body_view u) bs) one.1 ∙ ap (λ r. body_view t b ∷ r) others.1,
+    )
 
 -- a draft with larger tables
 pub draft_same : (t u : Tables) → Extends t u → (scratch ns : List Node) (ss : List StatementNode) (bs : List Body) → Kept t scratch ns ss bs
@@ -129,10 +131,11 @@ pub draft_same : (t u : Tables) → Extends t u → (scratch ns : List Node) (ss
 draft_same t u e scratch ns ss bs h =
     let body = body_same t u e ns ss h.1.0 in
     let bodies = bodies_same t u e bs h.1.1 in
-    let made : List Piece → List plain.Statement → List _ → Drafted = λ p s b. record { tables = u; pieces = p; statements = s; bodies = b } in
-    ((all_named t u e scratch h.0, (body.0, bodies.0)),
-     ap (λ p. made p (map (statement_view u ns) ss) (map (body_view u) bs)) (read_same t u e scratch h.0 [])
-     ∙ ap (λ s. made (pieces t scratch) s (map (body_view u) bs)) body.1 ∙ ap (λ b. made (pieces t scratch) (map (statement_view t ns) ss) b) bodies.1)
+    let made : List Piece → List plain.Statement → List _ → Drafted = λ p s b. record { tables = u; pieces = p; statements = s; bodies = b } in (
+      (all_named t u e scratch h.0, (body.0, bodies.0)),
+      ap (λ p. made p (map (statement_view u ns) ss) (map (body_view u) bs)) (read_same t u e scratch h.0 [])
+          ∙ ap (λ s. made (pieces t scratch) s (map (body_view u) bs)) body.1 ∙ ap (λ b. made (pieces t scratch) (map (statement_view t ns) ss) b) bodies.1,
+    )
 
 -- ---- a node more
 
@@ -146,9 +149,10 @@ named_push t (x ∷ ns) n h k = (h.0, named_push t ns n h.1 k)
 
 pub node_more : (t : Tables) (scratch ns : List Node) (ss : List StatementNode) (bs : List Body) (n : Node) → Kept t scratch ns ss bs → NodeNamed t n.kind
     → Kept t (scratch ++ n ∷ []) ns ss bs × (drafted t (scratch ++ n ∷ []) ns ss bs ≡ record (drafted t scratch ns ss bs) { pieces = put t n (pieces t scratch) })
-node_more t scratch ns ss bs n h k =
-    ((named_push t scratch n h.0 k, h.1),
-     ap (λ p. record (drafted t scratch ns ss bs) { pieces = p }) (read_push t scratch n []))
+node_more t scratch ns ss bs n h k = (
+  (named_push t scratch n h.0 k, h.1),
+  ap (λ p. record (drafted t scratch ns ss bs) { pieces = p }) (read_push t scratch n []),
+)
 
 -- ---- a statement more
 
@@ -178,9 +182,10 @@ all_more t ns more [] h = (tt, refl)
 all_more t ns more (s ∷ ss) h =
     let one : done t (ns ++ more) s ≡ done t ns s = ap (λ l. action_of t s.action (pieces t l)) (part_more ns more s.first_node s.nodes h.0.0) in
     let others = all_more t ns more ss h.1 in
-    let le : s.first_node + s.nodes ≤ length (ns ++ more) = omega (arith, h.0.0, length-append ns more) in
-    (((le, subst (λ o. IsSome o) (sym one) h.0.1), others.0),
-     ap (λ o. with_action s o ∷ map (statement_view t (ns ++ more)) ss) one ∙ ap (λ r. statement_view t ns s ∷ r) others.1)
+    let le : s.first_node + s.nodes ≤ length (ns ++ more) = omega (arith, h.0.0, length-append ns more) in (
+      ((le, subst (λ o. IsSome o) (sym one) h.0.1), others.0),
+      ap (λ o. with_action s o ∷ map (statement_view t (ns ++ more)) ss) one ∙ ap (λ r. statement_view t ns s ∷ r) others.1,
+    )
 
 all_push : (t : Tables) (ns : List Node) (ss : List StatementNode) (s : StatementNode) → AllFit t ns ss → StatementFits t ns s → AllFit t ns (ss ++ s ∷ [])
 all_push t ns [] s h f = (f, tt)
@@ -196,14 +201,16 @@ pub statement_more : (t : Tables) (scratch ns : List Node) (ss : List StatementN
     → s.first_node ≡ length ns → s.nodes ≡ length scratch → IsSome (action_of t s.action (pieces t scratch))
     → Kept t [] (ns ++ scratch) (ss ++ s ∷ []) bs
     × (drafted t [] (ns ++ scratch) (ss ++ s ∷ []) bs
-        ≡ record (drafted t scratch ns ss bs) { pieces = []; statements = map (statement_view t ns) ss ++ statement_of t s.action (pieces t scratch) s.place s.next ∷ [] })
+    ≡ record (drafted t scratch ns ss bs) { pieces = []; statements = map (statement_view t ns) ss ++ statement_of t s.action (pieces t scratch) s.place s.next ∷ [] })
 statement_more t scratch ns ss bs s h k ef ec fits =
     let all = all_more t ns scratch ss h.1.0.1.1 in
     let at : part (ns ++ scratch) s.first_node s.nodes ≡ scratch = ap (λ i. part (ns ++ scratch) i s.nodes) ef ∙ ap (λ i. part (ns ++ scratch) (length ns) i) ec ∙ part_past ns scratch in
     let one : done t (ns ++ scratch) s ≡ action_of t s.action (pieces t scratch) = ap (λ l. action_of t s.action (pieces t l)) at in
-    let le : s.first_node + s.nodes ≤ length (ns ++ scratch) = omega (arith, ef, ec, length-append ns scratch) in
-    ((tt, ((named_append t ns scratch h.1.0.0 h.0, (actions_push t ss s h.1.0.1.0 k, all_push t (ns ++ scratch) ss s all.0 (le, subst (λ o. IsSome o) (sym one) fits))), h.1.1)), ap (λ r. record (drafted t scratch ns ss bs) { pieces = []; statements = r })
-       (map_push (statement_view t (ns ++ scratch)) ss s ∙ ap (λ l. l ++ statement_view t (ns ++ scratch) s ∷ []) all.1 ∙ ap (λ o. map (statement_view t ns) ss ++ with_action s o ∷ []) one))
+    let le : s.first_node + s.nodes ≤ length (ns ++ scratch) = omega (arith, ef, ec, length-append ns scratch) in (
+      (tt, ((named_append t ns scratch h.1.0.0 h.0, (actions_push t ss s h.1.0.1.0 k, all_push t (ns ++ scratch) ss s all.0 (le, subst (λ o. IsSome o) (sym one) fits))), h.1.1)),
+      ap (λ r. record (drafted t scratch ns ss bs) { pieces = []; statements = r })
+          (map_push (statement_view t (ns ++ scratch)) ss s ∙ ap (λ l. l ++ statement_view t (ns ++ scratch) s ∷ []) all.1 ∙ ap (λ o. map (statement_view t ns) ss ++ with_action s o ∷ []) one),
+    )
 
 -- ---- a body more
 
@@ -214,7 +221,7 @@ bodies_push t (x ∷ bs) b h k = (h.0, bodies_push t bs b h.1 k)
 pub body_more : (t : Tables) (scratch : List Node) (bs : List Body) (b : Body) → Kept t scratch b.nodes.items b.statements.items bs
     → Kept t scratch [] [] (bs ++ b ∷ [])
     × (drafted t scratch [] [] (bs ++ b ∷ [])
-        ≡ record (drafted t scratch b.nodes.items b.statements.items bs) { statements = []; bodies = map (body_view t) bs ++ body_view t b ∷ [] })
+    ≡ record (drafted t scratch b.nodes.items b.statements.items bs) { statements = []; bodies = map (body_view t) bs ++ body_view t b ∷ [] })
 body_more t scratch bs b h =
     ((h.0, ((tt, (tt, tt)), bodies_push t bs b h.1.1 h.1.0)), ap (λ r. record (drafted t scratch b.nodes.items b.statements.items bs) { statements = []; bodies = r }) (map_push (body_view t) bs b))
 
@@ -250,5 +257,5 @@ order_more cs os o scratch ns ss bs h =
 pub body_end : (t : Tables) (scratch : List Node) (bs : List Body) (b made : Body) (ns : List Node) (ss : List StatementNode) → made ≡ b → ns ≡ [] → ss ≡ [] → Kept t scratch b.nodes.items b.statements.items bs
     → Kept t scratch ns ss bs
     × (Kept t scratch ns ss (bs ++ made ∷ [])
-        × (drafted t scratch ns ss (bs ++ made ∷ []) ≡ record (drafted t scratch b.nodes.items b.statements.items bs) { statements = []; bodies = map (body_view t) bs ++ body_view t b ∷ [] }))
+    × (drafted t scratch ns ss (bs ++ made ∷ []) ≡ record (drafted t scratch b.nodes.items b.statements.items bs) { statements = []; bodies = map (body_view t) bs ++ body_view t b ∷ [] }))
 body_end t scratch bs b made ns ss e f g h = rw (e, f, g) ((h.0, ((tt, (tt, tt)), h.1.1)), body_more t scratch bs b h)

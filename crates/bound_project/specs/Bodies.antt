@@ -1,5 +1,5 @@
 -- Serves the code: the plain statements, bodies and projects that lists of nodes stand for.
-use Rattle.std.specs.Prelude.{◌≡◌, ℕ, ◌+◌, ◌≤◌, length, IsSome, List, [], ◌∷◌, map, Option, Some, None, take, drop}
+use Rattle.std.specs.Prelude.{ℕ, ◌+◌, ◌≤◌, length, IsSome, List, [], ◌∷◌, map, Option, Some, None, take, drop}
 use Rattle.vba_values.specs.View.{view as value_view}
 use Rattle.bound_project.specs.declared.statement.Handling.{Handling}
 use Rattle.bound_project.specs.declared.statement.Handling.TheVariants.{PassedOn, Skipped, HandledAt}

@@ -1,5 +1,5 @@
 -- Serves the code: what a project that is being bound stands for, and that every number in it has its constant or order.
-use Rattle.std.specs.Prelude.{◌≡◌, ℕ, ◌<◌, ◌+◌, List, [], ◌∷◌, ◌++◌, length, map, Vec, is_some, true}
+use Rattle.std.specs.Prelude.{ℕ, ◌<◌, List, [], ◌∷◌, ◌++◌, length, map, Vec, is_some, true}
 use Rattle.std.specs.Coded.{×_prop, Unit-prop, le_prop, Coded-set, coded_bool}
 use Rattle.std.specs.declared.alloc.Global.{Global}
 use Rattle.vba_base.specs.declared.place.Place.{Place}

@@ -6,3 +6,4 @@ pub mod Pieces
 pub mod Bodies
 pub mod Drafts
 pub mod DraftView
+pub mod Lists

@@ -1,7 +1,6 @@
 -- Serves the code: the trees that nodes in postfix order stand for. Reading a node takes the pieces that it ends off a
 -- stack and puts one piece there. Where the pieces don't fit, one piece is left that fits nowhere.
-use Rattle.std.specs.Prelude.{ℕ, zero, suc, List, [], ◌∷◌, Option, Some, None, option_map, slice_index_or, take, drop}
-use Rattle.vba_base.specs.declared.place.Place.{Place}
+use Rattle.std.specs.Prelude.{ℕ, zero, suc, List, [], ◌∷◌, Option, Some, None, option_map, slice_index_or}
 use Rattle.vba_values.specs.declared.types.OpKind.{OpKind}
 use Rattle.vba_values.specs.Types.{Declared}
 use Rattle.vba_values.specs.Val.{Val, empty}
@@ -11,7 +10,7 @@ use Rattle.bound_project.specs.declared.node.NodeKind.TheVariants as node
 use Rattle.bound_project.specs.declared.node.Node.{Node}
 use Rattle.bound_project.specs.Expressions.{Expr, expr, not_given, constant, load, element_value, field_value, unary, binary, call, err_value, default_of, Lvalue, variable, item, element, field, kept_place, Args, no_args, by_place, by_copy, by_default, by_list, in_order, Exprs, no_exprs, also, Prints, no_prints, shown, zone}
 use Rattle.bound_project.specs.Expressions as plain
-use Rattle.bound_project.specs.Statements.{Tests, no_tests, test_is, test_range, Resizes, no_resizes, resize, Arrays, no_arrays, an_array}
+use Rattle.bound_project.specs.Statements.{Tests, test_is, test_range, Resizes, resize, Arrays, an_array}
 use Rattle.bound_project.specs.View.{declared_view, variable_view, member_view}
 
 -- an argument by itself

@@ -1,5 +1,5 @@
 -- Serves the code: the plain data that types, variables and declarations stand for.
-use Rattle.std.specs.Prelude.{ℕ, List, map, Option, option_map}
+use Rattle.std.specs.Prelude.{map, option_map}
 use Rattle.vba_values.specs.Types.{Declared}
 use Rattle.vba_values.specs.Types as type
 use Rattle.vba_values.specs.View.{view as value_view}

@@ -21,8 +21,7 @@ pub struct Draft {
     nodes: Vec<Node>,
     statements: Vec<StatementNode>,
     bodies: Vec<Body>,
-    ghost kept: { Kept (tables_in constants.items orders.items) scratch.items nodes.items statements.items bodies.items }
-        by { kept_prop (tables_in constants.items orders.items) scratch.items nodes.items statements.items bodies.items },
+    ghost kept: { Kept (tables_in constants.items orders.items) scratch.items nodes.items statements.items bodies.items } by { kept_prop (tables_in constants.items orders.items) scratch.items nodes.items statements.items bodies.items },
 }
 
 impl Draft {
@@ -90,8 +89,8 @@ impl Draft {
         requires named { ActionNamed (draft_view self.old).tables action }
         requires fit { IsSome (action_of (draft_view self.old).tables action (draft_view self.old).pieces) }
         ensures { IfOk result (λ _. draft_view self.new ≡ record (draft_view self.old) {
-            pieces = [];
-            statements = (draft_view self.old).statements ++ statement_of (draft_view self.old).tables action (draft_view self.old).pieces place next ∷ [];
+          pieces = [];
+          statements = (draft_view self.old).statements ++ statement_of (draft_view self.old).tables action (draft_view self.old).pieces place next ∷ [];
         }) }
     {
         let Ok(first_node) = u32::try_from(self.nodes.len()) else {
@@ -115,8 +114,8 @@ impl Draft {
     /// Ends the body that is being read.
     pub fn end_body(&mut self, alloc: Global, blocks: Vec<Block>) -> Result<(), NoMemory>
         ensures { IfOk result (λ _. draft_view self.new ≡ record (draft_view self.old) {
-            statements = [];
-            bodies = (draft_view self.old).bodies ++ record { statements = (draft_view self.old).statements; blocks = map block_view blocks.items } ∷ [];
+          statements = [];
+          bodies = (draft_view self.old).bodies ++ record { statements = (draft_view self.old).statements; blocks = map block_view blocks.items } ∷ [];
         }) }
     {
         let nodes = mem::replace(&mut self.nodes, Vec::new(alloc));

@@ -1,8 +1,8 @@
-use Rattle.std.proofs.Common.{◌≡◌, ℕ, List, [], ◌∷◌, ◌++◌, length, ap, subst, ◌∙◌, arith}
+use Rattle.std.proofs.Common.{◌≡◌, List, [], ◌∷◌, ◌++◌, length, ap, ◌∙◌, arith}
 use Rattle.bound_project.specs.declared.node.Node.{Node}
 use Rattle.bound_project.specs.declared.statement.StatementNode.{StatementNode}
-use Rattle.bound_project.specs.Drafts.{Kept, tables_in, drafted}
-use Rattle.bound_project.proofs.Drafts.{maybe, nodes_more, statement_more}
+use Rattle.bound_project.specs.Drafts.{tables_in, drafted}
+use Rattle.bound_project.proofs.Drafts.{nodes_more, statement_more}
 use Rattle.bound_project.proofs.draft.Draft.add.Goals as goal
 
 pub invariant_of-self-in-Break-branch-2 : goal.invariant_of-self-in-Break-branch-2

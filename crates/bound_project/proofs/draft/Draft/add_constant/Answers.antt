@@ -1,4 +1,4 @@
-use Rattle.std.proofs.Common.{◌≡◌, List, [], ◌∷◌, ◌++◌, ap, ◌∙◌}
+use Rattle.std.proofs.Common.{List, [], ◌∷◌, ◌++◌, ap, ◌∙◌}
 use Rattle.vba_values.specs.declared.value.Value.{Value}
 use Rattle.bound_project.specs.Drafts.{Kept, tables_in, drafted}
 use Rattle.bound_project.proofs.Drafts.{maybe, constant_more}

@@ -15,13 +15,15 @@ invariant_of-self c =
     let b : Body = record { nodes = d.nodes; statements = d.statements; blocks = c.args.blocks } in
     let made : Body = record { nodes = c.replace-nodes.result; statements = c.replace-statements.result; blocks = c.args.blocks } in
     let same : made ≡ b =
-        ap (λ (ns : Vec Node Global). record { nodes = ns; statements = c.replace-statements.result; blocks = c.args.blocks }) c.replace-nodes.ensures.value
-        ∙ ap (λ (ss : Vec StatementNode Global). record { nodes = d.nodes; statements = ss; blocks = c.args.blocks }) c.replace-statements.ensures.value in
+    ap (λ (ns : Vec Node Global). record { nodes = ns; statements = c.replace-statements.result; blocks = c.args.blocks }) c.replace-nodes.ensures.value
+    ∙ ap (λ (ss : Vec StatementNode Global). record { nodes = d.nodes; statements = ss; blocks = c.args.blocks }) c.replace-statements.ensures.value in
     let nodes = ap (λ (v : Vec Node Global). v.items) c.replace-nodes.ensures.after ∙ c.new.ensures.items in
     let statements = ap (λ (v : Vec StatementNode Global). v.items) c.replace-statements.ensures.after ∙ c.new-2.ensures.items in
     let more = body_end t d.scratch.items d.bodies.items b made c.replace-nodes.new.dest.items c.replace-statements.new.dest.items same nodes statements d.kept in
-    record { kept = maybe (λ l. Kept t d.scratch.items c.replace-nodes.new.dest.items c.replace-statements.new.dest.items l) _ d.bodies.items (d.bodies.items ++ made ∷ []) c.push.new.self.items
-        more.0 more.1.0 c.push.ensures.items }
+    record {
+      kept = maybe (λ l. Kept t d.scratch.items c.replace-nodes.new.dest.items c.replace-statements.new.dest.items l) _ d.bodies.items (d.bodies.items ++ made ∷ []) c.push.new.self.items
+          more.0 more.1.0 c.push.ensures.items;
+    }
 
 pub returns : goal.returns
 returns c =
@@ -30,8 +32,8 @@ returns c =
     let b : Body = record { nodes = d.nodes; statements = d.statements; blocks = c.args.blocks } in
     let made : Body = record { nodes = c.replace-nodes.result; statements = c.replace-statements.result; blocks = c.args.blocks } in
     let same : made ≡ b =
-        ap (λ (ns : Vec Node Global). record { nodes = ns; statements = c.replace-statements.result; blocks = c.args.blocks }) c.replace-nodes.ensures.value
-        ∙ ap (λ (ss : Vec StatementNode Global). record { nodes = d.nodes; statements = ss; blocks = c.args.blocks }) c.replace-statements.ensures.value in
+    ap (λ (ns : Vec Node Global). record { nodes = ns; statements = c.replace-statements.result; blocks = c.args.blocks }) c.replace-nodes.ensures.value
+    ∙ ap (λ (ss : Vec StatementNode Global). record { nodes = d.nodes; statements = ss; blocks = c.args.blocks }) c.replace-statements.ensures.value in
     let nodes = ap (λ (v : Vec Node Global). v.items) c.replace-nodes.ensures.after ∙ c.new.ensures.items in
     let statements = ap (λ (v : Vec StatementNode Global). v.items) c.replace-statements.ensures.after ∙ c.new-2.ensures.items in
     ap (λ (l : List Body). drafted t d.scratch.items c.replace-nodes.new.dest.items c.replace-statements.new.dest.items l) c.in_ok-push.ensures.items
