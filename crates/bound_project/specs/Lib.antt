@@ -2,3 +2,9 @@ pub mod Expressions
 pub mod Statements
 pub mod Project
 pub mod Whole
+pub mod View
+pub mod Pieces
+pub mod Bodies
+pub mod Drafts
+pub mod DraftView
+pub mod Lists

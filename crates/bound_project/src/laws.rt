@@ -1,7 +1,36 @@
-ghost use Rattle.std.specs.Prelude.{◌≡◌, ℕ, None};
+ghost use Rattle.std.specs.Prelude.{◌≡◌, ℕ, Bool, None, Option, Some, List, [], ◌∷◌, length, map};
+ghost use Rattle.bound_project.specs.declared.node.Node.{Node};
+ghost use Rattle.bound_project.specs.declared.node.NodeKind.TheVariants as node;
+ghost use Rattle.bound_project.specs.declared.statement.ActionKind.TheVariants as kind;
+ghost use Rattle.bound_project.specs.declared.variable.Variable.{Variable};
+ghost use Rattle.bound_project.specs.View.{variable_view};
+ghost use Rattle.bound_project.specs.Expressions.{Expr, call, item};
+ghost use Rattle.bound_project.specs.Statements.{print};
+ghost use Rattle.bound_project.specs.Pieces.{Argument, Piece, Tables, a_place, an_argument, an_expr, expr_of, put_kind};
+ghost use Rattle.bound_project.specs.Bodies.{action_of};
+ghost use Rattle.bound_project.specs.Lists.{above, args_of, exprs_of, item_piece, prints_of};
 ghost use Rattle.bound_project.specs.Project.{Project, statement_at, next_of};
 
 /// Past the last statement of a procedure its end is next. It holds of the definitions alone, and changes nothing.
 pub fn statements_past_the_end_are_next()
     ensures { (pr : Project) (p i : ℕ) → statement_at pr p i ≡ None → next_of pr p i ≡ i }
+{}
+
+/// A call takes just the arguments that were put for it, in their order, and leaves the rest. It holds of the
+/// definitions alone, and changes nothing.
+pub fn calls_take_their_arguments()
+    ensures { (t : Tables) (n : Node) (p : ℕ) (args : List Argument) (st : List Piece)
+        → put_kind t n (node.Call p (length args)) (above (map an_argument args) st) ≡ expr_of n (call p (args_of args)) ∷ st }
+{}
+
+/// An element takes just the numbers that were put for it. It holds of the definitions alone, and changes nothing.
+pub fn elements_take_their_numbers()
+    ensures { (t : Tables) (n : Node) (x : Variable) (es : List Expr) (st : List Piece)
+        → put_kind t n (node.Item x (length es)) (above (map an_expr es) st) ≡ a_place (item (variable_view x) (exprs_of es)) ∷ st }
+{}
+
+/// Debug.Print shows just the items that were put for it. It holds of the definitions alone, and changes nothing.
+pub fn prints_show_their_items()
+    ensures { (t : Tables) (ends : Bool) (items : List (Option Expr))
+        → action_of t (kind.Print (length items) ends) (above (map item_piece items) []) ≡ Some (print (prints_of items) ends) }
 {}

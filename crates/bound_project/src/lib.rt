@@ -2,6 +2,27 @@
 //! the code and the machine on the other. The definitions stand in `specs/`.
 #![tactic(auto)]
 
+mod declarations;
+mod declared_type;
+mod draft;
 mod laws;
+mod node;
+mod project;
+mod statement;
+mod too_long;
+mod variable;
 
-pub use laws::statements_past_the_end_are_next;
+pub use declarations::{
+    Class, Declaration, Declarations, Module, Parameter, Procedure, ProcedureKind, Spelled,
+    UserType,
+};
+pub use declared_type::{DeclaredType, ElementType};
+pub use draft::Draft;
+pub use laws::{
+    calls_take_their_arguments, elements_take_their_numbers, prints_show_their_items, statements_past_the_end_are_next,
+};
+pub use node::{Node, NodeKind};
+pub use project::{Block, Body, Project};
+pub use statement::{ActionKind, Handling, StatementNode};
+pub use too_long::TooLong;
+pub use variable::{ErrMember, Storage, Variable};

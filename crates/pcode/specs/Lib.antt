@@ -4,3 +4,4 @@ pub mod Code
 pub mod Layout
 pub mod WellFormed
 pub mod Steady
+pub mod View

@@ -1,0 +1,47 @@
+-- A node takes off the stack just what was put there for it.
+use Rattle.std.proofs.Common.{◌≡◌, ℕ, zero, suc, ◌+◌, List, [], ◌∷◌, ◌++◌, length, map, Option, Some, None, refl, sym, ap, ◌∙◌, arith}
+use Rattle.bound_project.specs.Expressions.{Expr, Exprs, no_exprs, Args, no_args, Prints, no_prints}
+use Rattle.bound_project.specs.Pieces.{Argument, Piece, an_expr, an_argument, exprs_off, arguments_off, prints_off}
+use Rattle.bound_project.specs.Lists.{above, args_before, args_of, exprs_before, exprs_of, item_piece, print_item, prints_before, prints_of}
+
+-- one more piece on top
+pub above_push : (ps : List Piece) (p : Piece) (st : List Piece) → above (ps ++ p ∷ []) st ≡ p ∷ above ps st
+above_push [] p st = refl
+above_push (q ∷ ps) p st = above_push ps p (q ∷ st)
+
+pub args_taken : (args : List Argument) (n : ℕ) (st : List Piece) (acc : Args) → arguments_off (length args + n) (above (map an_argument args) st) acc ≡ arguments_off n st (args_before args acc)
+args_taken [] n st acc = let e : 0 + n ≡ n = omega arith in ap (λ m. arguments_off m st acc) e
+args_taken (a ∷ args) n st acc =
+    let e : length (a ∷ args) + n ≡ length args + suc n = omega arith in
+    ap (λ m. arguments_off m (above (map an_argument args) (an_argument a ∷ st)) acc) e ∙ args_taken args (suc n) (an_argument a ∷ st) acc
+
+pub args_are : (args : List Argument) (st : List Piece) → arguments_off (length args) (above (map an_argument args) st) no_args ≡ Some (args_of args, st)
+args_are args st =
+    let e : length args ≡ length args + 0 = omega arith in
+    ap (λ m. arguments_off m (above (map an_argument args) st) no_args) e ∙ args_taken args 0 st no_args
+
+pub exprs_taken : (es : List Expr) (n : ℕ) (st : List Piece) (acc : Exprs) → exprs_off (length es + n) (above (map an_expr es) st) acc ≡ exprs_off n st (exprs_before es acc)
+exprs_taken [] n st acc = let e : 0 + n ≡ n = omega arith in ap (λ m. exprs_off m st acc) e
+exprs_taken (v ∷ es) n st acc =
+    let e : length (v ∷ es) + n ≡ length es + suc n = omega arith in
+    ap (λ m. exprs_off m (above (map an_expr es) (an_expr v ∷ st)) acc) e ∙ exprs_taken es (suc n) (an_expr v ∷ st) acc
+
+pub exprs_are : (es : List Expr) (st : List Piece) → exprs_off (length es) (above (map an_expr es) st) no_exprs ≡ Some (exprs_of es, st)
+exprs_are es st =
+    let e : length es ≡ length es + 0 = omega arith in
+    ap (λ m. exprs_off m (above (map an_expr es) st) no_exprs) e ∙ exprs_taken es 0 st no_exprs
+
+item_taken : (o : Option Expr) (n : ℕ) (st : List Piece) (acc : Prints) → prints_off (suc n) (item_piece o ∷ st) acc ≡ prints_off n st (print_item o acc)
+item_taken None n st acc = refl
+item_taken (Some e) n st acc = refl
+
+pub prints_taken : (items : List (Option Expr)) (n : ℕ) (st : List Piece) (acc : Prints) → prints_off (length items + n) (above (map item_piece items) st) acc ≡ prints_off n st (prints_before items acc)
+prints_taken [] n st acc = let e : 0 + n ≡ n = omega arith in ap (λ m. prints_off m st acc) e
+prints_taken (o ∷ items) n st acc =
+    let e : length (o ∷ items) + n ≡ length items + suc n = omega arith in
+    ap (λ m. prints_off m (above (map item_piece items) (item_piece o ∷ st)) acc) e ∙ prints_taken items (suc n) (item_piece o ∷ st) acc ∙ item_taken o n st (prints_before items acc)
+
+pub prints_are : (items : List (Option Expr)) (st : List Piece) → prints_off (length items) (above (map item_piece items) st) no_prints ≡ Some (prints_of items, st)
+prints_are items st =
+    let e : length items ≡ length items + 0 = omega arith in
+    ap (λ m. prints_off m (above (map item_piece items) st) no_prints) e ∙ prints_taken items 0 st no_prints

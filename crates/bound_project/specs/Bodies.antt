@@ -1,0 +1,134 @@
+-- Serves the code: the plain statements, bodies and projects that lists of nodes stand for.
+use Rattle.std.specs.Prelude.{ℕ, ◌+◌, ◌≤◌, length, IsSome, List, [], ◌∷◌, map, Option, Some, None, take, drop}
+use Rattle.vba_values.specs.View.{view as value_view}
+use Rattle.bound_project.specs.declared.statement.Handling.{Handling}
+use Rattle.bound_project.specs.declared.statement.Handling.TheVariants.{PassedOn, Skipped, HandledAt}
+use Rattle.bound_project.specs.declared.statement.ActionKind.{ActionKind}
+use Rattle.bound_project.specs.declared.statement.ActionKind.TheVariants as kind
+use Rattle.bound_project.specs.declared.statement.StatementNode.{StatementNode}
+use Rattle.bound_project.specs.declared.node.Node.{Node}
+use Rattle.bound_project.specs.declared.project.Block.{Block}
+use Rattle.bound_project.specs.declared.project.Body.{Body}
+use Rattle.bound_project.specs.declared.project.Project.{Project}
+use Rattle.bound_project.specs.Expressions.{Expr, Lvalue, Args, no_args, in_order, no_prints}
+use Rattle.bound_project.specs.Statements.{no_tests, no_resizes, no_arrays, Action, assign, assign_none, evaluate, let_property, print, raise, test, go_to, for_to, next, for_each, next_each, exit_each, select, case_of, redim, erase, with_place, with_value, end_with, go_sub, return_sub, exit_to, on_error, end_handler, clear_err, resume_again, resume_next, resume_at, stop, end_run}
+use Rattle.bound_project.specs.Statements as plain
+use Rattle.bound_project.specs.Project as project
+use Rattle.bound_project.specs.View.{declared_view, variable_view, declarations_view}
+use Rattle.bound_project.specs.Pieces.{Piece, an_expr, a_place, Tables, order_in, arguments_off, prints_off, tests_off, resizes_off, arrays_off, as_operand, pieces}
+
+abbrev pub handling_view : Handling → plain.Handling
+handling_view PassedOn = plain.passed_on
+handling_view Skipped = plain.skipped
+handling_view (HandledAt i) = plain.handled_at i
+
+-- what is made of parts that are all that is there
+abbrev pub whole : {A : Type 0} → Option (A × List Piece) → (A → Action) → Option Action
+whole None go = None
+whole (Some (a, [])) go = Some (go a)
+whole (Some (a, p ∷ st)) go = None
+
+-- one value, and one place, which are all that is there
+abbrev pub one_value : List Piece → (Expr → Action) → Option Action
+one_value (an_expr e ∷ []) go = Some (go e)
+one_value st go = None
+
+abbrev pub one_place : List Piece → (Lvalue → Action) → Option Action
+one_place (a_place x ∷ []) go = Some (go x)
+one_place st go = None
+
+-- arguments behind a value
+abbrev pub behind_value : Option (Args × List Piece) → (Args → Expr → Action) → Option Action
+behind_value None go = None
+behind_value (Some (args, st)) go = one_value st (go args)
+
+-- nothing is there
+abbrev pub alone : List Piece → Action → Option Action
+alone [] a = Some a
+alone (p ∷ st) a = None
+
+-- what a statement of this kind does with these pieces, if they fit
+abbrev pub action_of : Tables → ActionKind → List Piece → Option Action
+action_of t kind.Assign (a_place x ∷ an_expr e ∷ []) = Some (assign x e)
+action_of t kind.Assign st = None
+action_of t kind.AssignNone (an_expr x ∷ an_expr e ∷ []) = Some (assign_none x e)
+action_of t kind.AssignNone st = None
+action_of t kind.Evaluate st = one_value st (λ e. evaluate e)
+action_of t (kind.LetProperty p count of) st = behind_value (arguments_off count st no_args) (λ args e. let_property p args e (declared_view of))
+action_of t (kind.LetPropertyInOrder p count order of) st =
+    behind_value (arguments_off count st no_args) (λ args e. let_property p (in_order (order_in t order) args) e (declared_view of))
+action_of t (kind.Print count ends) st = whole (prints_off count st no_prints) (λ ps. print ps ends)
+action_of t (kind.Raise count) st = whole (arguments_off count st no_args) (λ args. raise args)
+action_of t (kind.Test sense to other) st = one_value st (λ e. test sense e to other)
+action_of t (kind.GoTo to) st = alone st (go_to to)
+action_of t (kind.For x compare last step first behind) (an_expr c ∷ an_expr b ∷ an_expr a ∷ []) =
+    Some (for_to (variable_view x) compare a (as_operand last b) (as_operand step c) first behind)
+action_of t (kind.For x compare last step first behind) st = None
+action_of t (kind.Next x header first) st = alone st (next (variable_view x) header first)
+action_of t (kind.ForEach x first behind) st = one_value st (λ e. for_each (variable_view x) e first behind)
+action_of t (kind.NextEach x header first) st = alone st (next_each (variable_view x) header first)
+action_of t (kind.ExitEach header to) st = alone st (exit_each header to)
+action_of t (kind.Select first) st = one_value st (λ e. select e first)
+action_of t (kind.Case count header of compare first other) st =
+    whole (tests_off count st no_tests) (λ ts. case_of ts header (declared_view of) compare first other)
+action_of t (kind.ReDim preserve count) st = whole (resizes_off count st no_resizes) (λ rs. redim preserve rs)
+action_of t (kind.Erase count) st = whole (arrays_off count st no_arrays) (λ xs. erase xs)
+action_of t kind.WithPlace st = one_place st (λ x. with_place x)
+action_of t kind.WithValue st = one_value st (λ e. with_value e)
+action_of t (kind.EndWith header) st = alone st (end_with header)
+action_of t (kind.GoSub to) st = alone st (go_sub to)
+action_of t kind.Return st = alone st return_sub
+action_of t (kind.ExitTo end) st = alone st (exit_to end)
+action_of t (kind.OnError handling) st = alone st (on_error (handling_view handling))
+action_of t kind.EndHandler st = alone st end_handler
+action_of t kind.ClearErr st = alone st clear_err
+action_of t kind.ResumeAgain st = alone st resume_again
+action_of t kind.ResumeNext st = alone st resume_next
+action_of t (kind.ResumeAt to) st = alone st (resume_at to)
+action_of t kind.Stop st = alone st stop
+action_of t kind.End st = alone st end_run
+
+-- ---- statements, bodies and projects
+
+abbrev pub part : List Node → (first count : ℕ) → List Node
+part ns first count = take count (drop first ns)
+
+abbrev pub action_or : Option Action → Action
+action_or None = stop
+action_or (Some a) = a
+
+abbrev pub statement_view : Tables → List Node → StatementNode → plain.Statement
+statement_view t ns s = record {
+  action = action_or (action_of t s.action (pieces t (part ns s.first_node s.nodes)));
+  place = s.place;
+  next = s.next;
+}
+
+-- a statement's nodes are there, and fit what it does
+abbrev pub StatementFits : Tables → List Node → StatementNode → Type 0
+StatementFits t ns s = (s.first_node + s.nodes ≤ length ns) × IsSome (action_of t s.action (pieces t (part ns s.first_node s.nodes)))
+
+abbrev pub AllFit : Tables → List Node → List StatementNode → Type 0
+AllFit t ns [] = Unit {0}
+AllFit t ns (s ∷ ss) = StatementFits t ns s × AllFit t ns ss
+
+abbrev pub block_view : Block → plain.Block
+block_view b = record { opening = b.opening; arms = b.arms.items; closing = b.closing; behind = b.behind }
+
+abbrev pub body_view : Tables → Body → project.Body
+body_view t b = record { statements = map (statement_view t b.nodes.items) b.statements.items; blocks = map block_view b.blocks.items }
+
+abbrev pub tables_of : Project → Tables
+tables_of pr = record { constants = map value_view pr.constants.items; orders = map (λ order. order.items) pr.orders.items }
+
+-- each statement of each body fits
+abbrev pub BodiesFit : Tables → List Body → Type 0
+BodiesFit t [] = Unit {0}
+BodiesFit t (b ∷ bs) = AllFit t b.nodes.items b.statements.items × BodiesFit t bs
+
+abbrev pub Fits : Project → Type 0
+Fits pr = BodiesFit (tables_of pr) pr.bodies.items
+
+-- the plain project that a project stands for
+abbrev pub project_view : Project → project.Project
+project_view pr = record { declared = declarations_view pr.declared; bodies = map (body_view (tables_of pr)) pr.bodies.items; startup = pr.startup }

@@ -1,0 +1,111 @@
+-- Serves the code: what a project that is being bound stands for, and that every number in it has its constant or order.
+use Rattle.std.specs.Prelude.{ℕ, ◌<◌, List, [], ◌∷◌, ◌++◌, length, map, Vec, is_some, true}
+use Rattle.std.specs.Coded.{×_prop, Unit-prop, le_prop, Coded-set, coded_bool}
+use Rattle.std.specs.declared.alloc.Global.{Global}
+use Rattle.vba_base.specs.declared.place.Place.{Place}
+use Rattle.vba_values.specs.Val.{Val}
+use Rattle.vba_values.specs.View.{view as value_view}
+use Rattle.vba_values.specs.declared.value.Value.{Value}
+use Rattle.bound_project.specs.declared.node.NodeKind.{NodeKind}
+use Rattle.bound_project.specs.declared.node.NodeKind.TheVariants as node
+use Rattle.bound_project.specs.declared.node.Node.{Node}
+use Rattle.bound_project.specs.declared.statement.ActionKind.{ActionKind}
+use Rattle.bound_project.specs.declared.statement.ActionKind.TheVariants as kind
+use Rattle.bound_project.specs.declared.statement.StatementNode.{StatementNode}
+use Rattle.bound_project.specs.declared.project.Body.{Body}
+use Rattle.bound_project.specs.Statements as plain
+use Rattle.bound_project.specs.Project as project
+use Rattle.bound_project.specs.Pieces.{Piece, Tables, pieces}
+use Rattle.bound_project.specs.Bodies.{AllFit, part, action_of, action_or, statement_view, body_view}
+
+-- a project while it is bound: its tables, the pieces of the statement that is being read, the statements of the body
+-- that is being read, and the bodies that were read
+pub record Drafted : Type 0 where
+  pub tables : Tables
+  pub pieces : List Piece
+  pub statements : List plain.Statement
+  pub bodies : List project.Body
+
+abbrev pub no_tables : Tables
+no_tables = record { constants = []; orders = [] }
+
+abbrev pub with_constant : Tables → Val → Tables
+with_constant t v = record t { constants = t.constants ++ v ∷ [] }
+
+abbrev pub with_order : Tables → List ℕ → Tables
+with_order t order = record t { orders = t.orders ++ order ∷ [] }
+
+-- a node's and a statement's numbers are in the tables
+abbrev pub NodeNamed : Tables → NodeKind → Type 0
+NodeNamed t (node.Constant i) = i < length t.constants
+NodeNamed t (node.ByDefault i) = i < length t.constants
+NodeNamed t (node.CallInOrder p count order) = order < length t.orders
+NodeNamed t k = Unit {0}
+
+abbrev pub ActionNamed : Tables → ActionKind → Type 0
+ActionNamed t (kind.LetPropertyInOrder q count order of) = order < length t.orders
+ActionNamed t k = Unit {0}
+
+abbrev pub AllNamed : Tables → List Node → Type 0
+AllNamed t [] = Unit {0}
+AllNamed t (n ∷ ns) = NodeNamed t n.kind × AllNamed t ns
+
+abbrev pub ActionsNamed : Tables → List StatementNode → Type 0
+ActionsNamed t [] = Unit {0}
+ActionsNamed t (s ∷ ss) = ActionNamed t s.action × ActionsNamed t ss
+
+abbrev pub BodyKept : Tables → List Node → List StatementNode → Type 0
+BodyKept t ns ss = AllNamed t ns × (ActionsNamed t ss × AllFit t ns ss)
+
+abbrev pub BodiesKept : Tables → List Body → Type 0
+BodiesKept t [] = Unit {0}
+BodiesKept t (b ∷ bs) = BodyKept t b.nodes.items b.statements.items × BodiesKept t bs
+
+-- all numbers are in the tables, and all statements fit
+abbrev pub Kept : Tables → (scratch nodes : List Node) → List StatementNode → List Body → Type 0
+Kept t scratch ns ss bs = AllNamed t scratch × (BodyKept t ns ss × BodiesKept t bs)
+
+abbrev pub tables_in : List Value → List (Vec ℕ Global) → Tables
+tables_in constants orders = record { constants = map value_view constants; orders = map (λ order. order.items) orders }
+
+abbrev pub drafted : Tables → (scratch nodes : List Node) → List StatementNode → List Body → Drafted
+drafted t scratch ns ss bs = record { tables = t; pieces = pieces t scratch; statements = map (statement_view t ns) ss; bodies = map (body_view t) bs }
+
+-- a statement that does this with these pieces
+abbrev pub statement_of : Tables → ActionKind → List Piece → Place → ℕ → plain.Statement
+statement_of t k st place next = record { action = action_or (action_of t k st); place = place; next = next }
+
+-- ---- that all is kept is one fact
+
+node_named_prop : (t : Tables) (k : NodeKind) → IsProp (NodeNamed t k)
+node_named_prop t (node.Constant i) = le_prop
+node_named_prop t (node.ByDefault i) = le_prop
+node_named_prop t (node.CallInOrder p count order) = le_prop
+node_named_prop t k = Unit-prop
+
+action_named_prop : (t : Tables) (k : ActionKind) → IsProp (ActionNamed t k)
+action_named_prop t (kind.LetPropertyInOrder q count order of) = le_prop
+action_named_prop t k = Unit-prop
+
+all_named_prop : (t : Tables) (ns : List Node) → IsProp (AllNamed t ns)
+all_named_prop t [] = Unit-prop
+all_named_prop t (n ∷ ns) = ×_prop (node_named_prop t n.kind) (all_named_prop t ns)
+
+actions_named_prop : (t : Tables) (ss : List StatementNode) → IsProp (ActionsNamed t ss)
+actions_named_prop t [] = Unit-prop
+actions_named_prop t (s ∷ ss) = ×_prop (action_named_prop t s.action) (actions_named_prop t ss)
+
+all_fit_prop : (t : Tables) (ns : List Node) (ss : List StatementNode) → IsProp (AllFit t ns ss)
+all_fit_prop t ns [] = Unit-prop
+all_fit_prop t ns (s ∷ ss) =
+    ×_prop (×_prop le_prop (Coded-set coded_bool (is_some (action_of t s.action (pieces t (part ns s.first_node s.nodes)))) true)) (all_fit_prop t ns ss)
+
+body_kept_prop : (t : Tables) (ns : List Node) (ss : List StatementNode) → IsProp (BodyKept t ns ss)
+body_kept_prop t ns ss = ×_prop (all_named_prop t ns) (×_prop (actions_named_prop t ss) (all_fit_prop t ns ss))
+
+bodies_kept_prop : (t : Tables) (bs : List Body) → IsProp (BodiesKept t bs)
+bodies_kept_prop t [] = Unit-prop
+bodies_kept_prop t (b ∷ bs) = ×_prop (body_kept_prop t b.nodes.items b.statements.items) (bodies_kept_prop t bs)
+
+pub kept_prop : (t : Tables) (scratch ns : List Node) (ss : List StatementNode) (bs : List Body) → IsProp (Kept t scratch ns ss bs)
+kept_prop t scratch ns ss bs = ×_prop (all_named_prop t scratch) (×_prop (body_kept_prop t ns ss) (bodies_kept_prop t bs))

@@ -1,0 +1,181 @@
+-- Serves the code: the trees that nodes in postfix order stand for. Reading a node takes the pieces that it ends off a
+-- stack and puts one piece there. Where the pieces don't fit, one piece is left that fits nowhere.
+use Rattle.std.specs.Prelude.{ℕ, zero, suc, List, [], ◌∷◌, Option, Some, None, option_map, slice_index_or}
+use Rattle.vba_values.specs.declared.types.OpKind.{OpKind}
+use Rattle.vba_values.specs.Types.{Declared}
+use Rattle.vba_values.specs.Val.{Val, empty}
+use Rattle.bound_project.specs.declared.declared_type.DeclaredType.{DeclaredType}
+use Rattle.bound_project.specs.declared.node.NodeKind.{NodeKind}
+use Rattle.bound_project.specs.declared.node.NodeKind.TheVariants as node
+use Rattle.bound_project.specs.declared.node.Node.{Node}
+use Rattle.bound_project.specs.Expressions.{Expr, expr, not_given, constant, load, element_value, field_value, unary, binary, call, err_value, default_of, Lvalue, variable, item, element, field, kept_place, Args, no_args, by_place, by_copy, by_default, by_list, in_order, Exprs, no_exprs, also, Prints, no_prints, shown, zone}
+use Rattle.bound_project.specs.Expressions as plain
+use Rattle.bound_project.specs.Statements.{Tests, test_is, test_range, Resizes, resize, Arrays, an_array}
+use Rattle.bound_project.specs.View.{declared_view, variable_view, member_view}
+
+-- an argument by itself
+pub data Argument : Type 0 where
+  place_lent : Lvalue → Argument
+  value_copied : Expr → Declared → Argument
+  default_taken : Val → Argument
+  values_listed : Exprs → Argument
+
+pub data Piece : Type 0 where
+  -- what fits nowhere
+  nothing : Piece
+  an_expr : Expr → Piece
+  a_place : Lvalue → Piece
+  an_argument : Argument → Piece
+  a_value_shown : Expr → Piece
+  a_zone : Piece
+  a_test_begun : Piece
+  a_test_is : OpKind → Expr → Piece
+  a_test_range : (low high : Expr) → Piece
+  a_resize : Lvalue → Exprs → Option Declared → Piece
+  an_erased : Lvalue → Piece
+
+-- the constants and orders of a project, which nodes name by their numbers
+pub record Tables : Type 0 where
+  pub constants : List Val
+  pub orders : List (List ℕ)
+
+abbrev pub constant_in : Tables → ℕ → Val
+constant_in t i = slice_index_or t.constants i empty
+
+abbrev pub order_in : Tables → ℕ → List ℕ
+order_in t i = slice_index_or t.orders i []
+
+-- what is left where pieces don't fit
+abbrev pub misfit : List Piece
+misfit = nothing ∷ []
+
+-- so many values off the stack, the last one first, before others
+abbrev pub exprs_off : ℕ → List Piece → Exprs → Option (Exprs × List Piece)
+exprs_off zero st es = Some (es, st)
+exprs_off (suc n) (an_expr e ∷ st) es = exprs_off n st (also e es)
+exprs_off (suc n) st es = None
+
+abbrev pub with_argument : Argument → Args → Args
+with_argument (place_lent x) args = by_place x args
+with_argument (value_copied e of) args = by_copy e of args
+with_argument (default_taken v) args = by_default v args
+with_argument (values_listed es) args = by_list es args
+
+-- so many arguments off the stack
+abbrev pub arguments_off : ℕ → List Piece → Args → Option (Args × List Piece)
+arguments_off zero st args = Some (args, st)
+arguments_off (suc n) (an_argument a ∷ st) args = arguments_off n st (with_argument a args)
+arguments_off (suc n) st args = None
+
+-- so many items of Debug.Print off the stack
+abbrev pub prints_off : ℕ → List Piece → Prints → Option (Prints × List Piece)
+prints_off zero st ps = Some (ps, st)
+prints_off (suc n) (a_value_shown e ∷ st) ps = prints_off n st (shown e ps)
+prints_off (suc n) (a_zone ∷ st) ps = prints_off n st (zone ps)
+prints_off (suc n) st ps = None
+
+-- so many tests of a Case off the stack
+abbrev pub tests_off : ℕ → List Piece → Tests → Option (Tests × List Piece)
+tests_off zero st ts = Some (ts, st)
+tests_off (suc n) (a_test_is o e ∷ st) ts = tests_off n st (test_is o e ts)
+tests_off (suc n) (a_test_range low high ∷ st) ts = tests_off n st (test_range low high ts)
+tests_off (suc n) st ts = None
+
+-- so many arrays of a ReDim, and of an Erase, off the stack
+abbrev pub resizes_off : ℕ → List Piece → Resizes → Option (Resizes × List Piece)
+resizes_off zero st rs = Some (rs, st)
+resizes_off (suc n) (a_resize x bounds of ∷ st) rs = resizes_off n st (resize x bounds of rs)
+resizes_off (suc n) st rs = None
+
+abbrev pub arrays_off : ℕ → List Piece → Arrays → Option (Arrays × List Piece)
+arrays_off zero st xs = Some (xs, st)
+arrays_off (suc n) (an_erased x ∷ st) xs = arrays_off n st (an_array x xs)
+arrays_off (suc n) st xs = None
+
+-- ---- the piece that is made of one value, of a place, of two values
+
+abbrev pub of_value : (Expr → Piece) → List Piece → List Piece
+of_value make (an_expr e ∷ st) = make e ∷ st
+of_value make st = misfit
+
+abbrev pub of_place : (Lvalue → Piece) → List Piece → List Piece
+of_place make (a_place x ∷ st) = make x ∷ st
+of_place make st = misfit
+
+abbrev pub of_both : (Expr → Expr → Piece) → List Piece → List Piece
+of_both make (an_expr b ∷ an_expr a ∷ st) = make a b ∷ st
+of_both make st = misfit
+
+-- of the value, and of the two values, of a test that was begun
+abbrev pub of_test : (Expr → Piece) → List Piece → List Piece
+of_test make (an_expr e ∷ a_test_begun ∷ st) = make e ∷ st
+of_test make st = misfit
+
+abbrev pub of_range : (Expr → Expr → Piece) → List Piece → List Piece
+of_range make (an_expr b ∷ an_expr a ∷ a_test_begun ∷ st) = make a b ∷ st
+of_range make st = misfit
+
+-- of values or arguments that were found, and of a place or value before them
+abbrev pub of_found : {A : Type 0} → (A → Piece) → Option (A × List Piece) → List Piece
+of_found make None = misfit
+of_found make (Some found) = make found.0 ∷ found.1
+
+abbrev pub of_place_found : (Lvalue → Exprs → Piece) → Option (Exprs × List Piece) → List Piece
+of_place_found make None = misfit
+of_place_found make (Some found) = of_place (λ x. make x found.0) found.1
+
+abbrev pub of_value_found : (Expr → Exprs → Piece) → Option (Exprs × List Piece) → List Piece
+of_value_found make None = misfit
+of_value_found make (Some found) = of_value (λ e. make e found.0) found.1
+
+-- ---- what a node makes of the pieces before it
+
+-- the expression that a node is
+abbrev pub expr_of : Node → plain.Node → Piece
+expr_of n made = an_expr (expr made n.place (declared_view n.of) (declared_view n.operand))
+
+-- an operand has the type that its operator says
+abbrev pub as_operand : DeclaredType → Expr → Expr
+as_operand of (expr node place written operand) = expr node place written (declared_view of)
+
+abbrev pub put_kind : Tables → Node → NodeKind → List Piece → List Piece
+put_kind t n node.NotGiven st = expr_of n not_given ∷ st
+put_kind t n (node.Constant i) st = expr_of n (constant (constant_in t i)) ∷ st
+put_kind t n (node.Variable x) st = a_place (variable (variable_view x)) ∷ st
+put_kind t n (node.Item x count) st = of_found (λ es. a_place (item (variable_view x) es)) (exprs_off count st no_exprs)
+put_kind t n (node.Element count) st = of_place_found (λ x es. a_place (element x es)) (exprs_off count st no_exprs)
+put_kind t n (node.Field i of bounded) st = of_place (λ x. a_place (field x i (declared_view of) bounded)) st
+put_kind t n (node.KeptPlace header) st = a_place (kept_place header) ∷ st
+put_kind t n node.Load st = of_place (λ x. expr_of n (load x)) st
+put_kind t n (node.ElementValue count) st = of_value_found (λ e es. expr_of n (element_value e es)) (exprs_off count st no_exprs)
+put_kind t n (node.FieldValue i) st = of_value (λ e. expr_of n (field_value e i)) st
+put_kind t n (node.Unary o of) st = of_value (λ a. expr_of n (unary o (as_operand of a))) st
+put_kind t n (node.Binary o compare left right) st = of_both (λ a b. expr_of n (binary o compare (as_operand left a) (as_operand right b))) st
+put_kind t n (node.Call p count) st = of_found (λ args. expr_of n (call p args)) (arguments_off count st no_args)
+put_kind t n (node.CallInOrder p count order) st = of_found (λ args. expr_of n (call p (in_order (order_in t order) args))) (arguments_off count st no_args)
+put_kind t n (node.ErrValue member) st = expr_of n (err_value (member_view member)) ∷ st
+put_kind t n node.DefaultOf st = of_value (λ e. expr_of n (default_of e)) st
+put_kind t n node.ByPlace st = of_place (λ x. an_argument (place_lent x)) st
+put_kind t n (node.ByCopy of) st = of_value (λ e. an_argument (value_copied e (declared_view of))) st
+put_kind t n (node.ByDefault i) st = an_argument (default_taken (constant_in t i)) ∷ st
+put_kind t n (node.ByList count) st = of_found (λ es. an_argument (values_listed es)) (exprs_off count st no_exprs)
+put_kind t n node.Shown st = of_value (λ e. a_value_shown e) st
+put_kind t n node.Zone st = a_zone ∷ st
+put_kind t n node.TestBegins st = a_test_begun ∷ st
+put_kind t n (node.TestIs o of) st = of_test (λ e. a_test_is o (as_operand of e)) st
+put_kind t n (node.TestRange low high) st = of_range (λ a b. a_test_range (as_operand low a) (as_operand high b)) st
+put_kind t n (node.Resize count of) st = of_place_found (λ x es. a_resize x es (option_map declared_view of)) (exprs_off count st no_exprs)
+put_kind t n node.Erased st = of_place (λ x. an_erased x) st
+
+-- the stack behind a node
+abbrev pub put : Tables → Node → List Piece → List Piece
+put t n st = put_kind t n n.kind st
+
+-- the pieces that stand when nodes are read in order
+abbrev pub read : Tables → List Piece → List Node → List Piece
+read t st [] = st
+read t st (n ∷ ns) = read t (put t n st) ns
+
+-- the pieces of nodes
+abbrev pub pieces : Tables → List Node → List Piece
+pieces t ns = read t [] ns

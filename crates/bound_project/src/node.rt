@@ -1,0 +1,111 @@
+use crate::declared_type::DeclaredType;
+use crate::variable::{ErrMember, Variable};
+use vba_base::Place;
+use vba_values::{Compare, OpKind};
+
+/// What a node makes of the pieces before it: the nodes of an expression stand in the order in which it is evaluated,
+/// those of its parts before it. Numbers of constants and orders are places in the lists of the project.
+#[derive(Clone, Copy)]
+pub enum NodeKind {
+    /// No expression stands there, as where an argument isn't given.
+    NotGiven,
+    Constant {
+        constant: u32,
+    },
+    /// A place.
+    Variable(Variable),
+    /// The place of an element of a plain variable, behind so many numbers.
+    Item {
+        variable: Variable,
+        numbers: u32,
+    },
+    /// The place of an element of the place before so many numbers.
+    Element {
+        numbers: u32,
+    },
+    /// The place of a field of the place before it, its declared type, and whether it is an array with declared bounds.
+    Field {
+        field: u32,
+        of: DeclaredType,
+        is_bounded: bool,
+    },
+    /// The place or value of the With block with this number.
+    KeptPlace {
+        header: u32,
+    },
+    /// The value at the place before it.
+    Load,
+    /// An element of the value before so many numbers.
+    ElementValue {
+        numbers: u32,
+    },
+    /// A field of the value before it.
+    FieldValue {
+        field: u32,
+    },
+    /// Operators say the types that their operands have as operands.
+    Unary {
+        operator: OpKind,
+        of: DeclaredType,
+    },
+    Binary {
+        operator: OpKind,
+        compare: Compare,
+        left: DeclaredType,
+        right: DeclaredType,
+    },
+    /// A procedure, behind so many arguments.
+    Call {
+        procedure: u32,
+        arguments: u32,
+    },
+    /// A procedure, behind so many arguments, which are its parameters' by this order.
+    CallInOrder {
+        procedure: u32,
+        arguments: u32,
+        order: u32,
+    },
+    ErrValue(ErrMember),
+    /// The value before it; an object gives way to the value of its default member.
+    DefaultOf,
+    /// An argument: the place before it, the value before it made one of a type, a default, so many values before it.
+    ByPlace,
+    ByCopy(DeclaredType),
+    ByDefault {
+        constant: u32,
+    },
+    ByList {
+        values: u32,
+    },
+    /// An item of Debug.Print: the value before it, or a comma.
+    Shown,
+    Zone,
+    /// A test of a Case begins.
+    TestBegins,
+    /// `Is operator value`, and `low To high`, with the types that the values have as operands.
+    TestIs {
+        operator: OpKind,
+        of: DeclaredType,
+    },
+    TestRange {
+        low: DeclaredType,
+        high: DeclaredType,
+    },
+    /// An array of a ReDim: the place before so many bounds, and the type of its elements where that is written.
+    Resize {
+        bounds: u32,
+        of: Option<DeclaredType>,
+    },
+    /// An array of an Erase.
+    Erased,
+}
+
+/// A node: what it is, the place of the first token of what it ends, the declared type of that, and the one that it has
+/// as an operand.
+#[derive(Clone, Copy)]
+pub struct Node {
+    pub kind: NodeKind,
+    pub place: Place,
+    pub of: DeclaredType,
+    pub operand: DeclaredType,
+}

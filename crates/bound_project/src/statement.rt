@@ -1,0 +1,133 @@
+use crate::declared_type::DeclaredType;
+use crate::variable::Variable;
+use vba_base::Place;
+use vba_values::Compare;
+
+/// `On Error GoTo 0`, `On Error Resume Next`, `On Error GoTo label`.
+#[derive(Clone, Copy)]
+pub enum Handling {
+    PassedOn,
+    Skipped,
+    HandledAt { statement: u32 },
+}
+
+/// What a statement does with the pieces of its nodes. Numbers called `to`, `other`, `first`, `behind`, `header` and
+/// `end` are numbers of statements of the same procedure.
+#[derive(Clone, Copy)]
+pub enum ActionKind {
+    /// `[Let] target = value`, behind the value and the target's place.
+    Assign,
+    /// The same where nothing has the target, behind the value and the target's value.
+    AssignNone,
+    Evaluate,
+    /// An assignment to a property, behind the value and so many other arguments, and its parameter's type.
+    LetProperty {
+        procedure: u32,
+        arguments: u32,
+        of: DeclaredType,
+    },
+    /// The same with arguments that are the parameters' by this order.
+    LetPropertyInOrder {
+        procedure: u32,
+        arguments: u32,
+        order: u32,
+        of: DeclaredType,
+    },
+    Print {
+        items: u32,
+        ends: bool,
+    },
+    Raise {
+        arguments: u32,
+    },
+    Test {
+        sense: bool,
+        to: u32,
+        other: u32,
+    },
+    GoTo {
+        to: u32,
+    },
+    /// With the types that the last value and the step have as operands.
+    For {
+        counter: Variable,
+        compare: Compare,
+        last: DeclaredType,
+        step: DeclaredType,
+        first: u32,
+        behind: u32,
+    },
+    Next {
+        counter: Variable,
+        header: u32,
+        first: u32,
+    },
+    ForEach {
+        control: Variable,
+        first: u32,
+        behind: u32,
+    },
+    NextEach {
+        control: Variable,
+        header: u32,
+        first: u32,
+    },
+    ExitEach {
+        header: u32,
+        to: u32,
+    },
+    Select {
+        first: u32,
+    },
+    Case {
+        tests: u32,
+        header: u32,
+        of: DeclaredType,
+        compare: Compare,
+        first: u32,
+        other: u32,
+    },
+    ReDim {
+        preserve: bool,
+        arrays: u32,
+    },
+    Erase {
+        arrays: u32,
+    },
+    WithPlace,
+    WithValue,
+    EndWith {
+        header: u32,
+    },
+    GoSub {
+        to: u32,
+    },
+    Return,
+    /// Exit Sub, Exit Function, Exit Property.
+    ExitTo {
+        end: u32,
+    },
+    OnError(Handling),
+    /// `On Error GoTo -1`
+    EndHandler,
+    /// `Err.Clear`
+    ClearErr,
+    ResumeAgain,
+    ResumeNext,
+    ResumeAt {
+        to: u32,
+    },
+    Stop,
+    End,
+}
+
+/// A statement: what it does, the range of its nodes, its place, and the number of the statement that is next after it
+/// in text order, at which Resume Next goes on.
+#[derive(Clone, Copy)]
+pub struct StatementNode {
+    pub action: ActionKind,
+    pub first_node: u32,
+    pub nodes: u32,
+    pub place: Place,
+    pub next: u32,
+}

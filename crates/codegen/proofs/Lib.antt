@@ -1,0 +1,5 @@
+pub mod Pieces
+pub mod Nodes
+pub mod Statements
+pub mod Loops
+pub mod Compiled

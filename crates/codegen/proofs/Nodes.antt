@@ -1,0 +1,96 @@
+-- The code of the pieces behind a node is that of the pieces before it, and the node's instructions.
+use Rattle.std.proofs.Common.{◌≡◌, ℕ, List, [], ◌∷◌, ◌++◌, length, map, refl, sym, ap, ◌∙◌, append_assoc}
+use Rattle.vba_values.specs.Types.{Declared}
+use Rattle.vba_values.specs.Val.{missing, empty}
+use Rattle.bound_project.specs.declared.declared_type.DeclaredType.{DeclaredType}
+use Rattle.bound_project.specs.declared.node.NodeKind.{NodeKind}
+use Rattle.bound_project.specs.declared.node.NodeKind.TheVariants as node
+use Rattle.bound_project.specs.declared.node.Node.{Node}
+use Rattle.bound_project.specs.View.{declared_view}
+use Rattle.bound_project.specs.Expressions.{Expr, expr, operand_type}
+use Rattle.bound_project.specs.Pieces.{Piece, Tables, constant_in, order_in, as_operand, put_kind, put, read}
+use Rattle.pcode.specs.Instructions as plain
+use Rattle.pcode.specs.Code.{expr_code, args_code, count as count_of}
+use Rattle.pcode.specs.View.{instr_view}
+use Rattle.codegen.specs.declared.node.Around.{Around}
+use Rattle.codegen.specs.declared.node.Added.{Added}
+use Rattle.codegen.specs.Emission.{constant_number, node_instrs, nodes_instrs}
+use Rattle.codegen.proofs.Pieces.{codes, AllThere, Emits, append_none, value_emits, place_emits, both_emits, test_emits, range_emits, found_emits, args_emit, place_found_emits, value_found_emits}
+
+-- the tables of the code are those of the project with two constants more
+pub record Grown (t u : Tables) (added : Added) : Type 0 where
+  pub constant : (i : ℕ) → constant_in u (constant_number added i) ≡ constant_in t i
+  pub empty_is : constant_in u added.empty ≡ empty
+  pub missing_is : constant_in u added.missing ≡ missing
+  pub order : (i : ℕ) → order_in u i ≡ order_in t i
+
+same_code : (of : DeclaredType) (e : Expr) → expr_code (as_operand of e) ≡ expr_code e
+same_code of (expr node place written operand) = refl
+
+operand_is : (of : DeclaredType) (e : Expr) → operand_type (as_operand of e) ≡ declared_view of
+operand_is of (expr node place written operand) = refl
+
+pub same_one : (of : DeclaredType) (e : Expr) (is : Declared → List plain.Instr) → expr_code (as_operand of e) ++ is (operand_type (as_operand of e)) ≡ expr_code e ++ is (declared_view of)
+same_one of (expr node place written operand) is = refl
+
+pub same_two : (l r : DeclaredType) (a b : Expr) (is : Declared → Declared → List plain.Instr)
+    → expr_code (as_operand l a) ++ (expr_code (as_operand r b) ++ is (operand_type (as_operand l a)) (operand_type (as_operand r b))) ≡ expr_code a ++ (expr_code b ++ is (declared_view l) (declared_view r))
+same_two l r (expr node place written operand) (expr node' place' written' operand') is = refl
+
+-- the instructions of a node, as they are seen
+abbrev pub seen : Tables → Tables → Added → Around → NodeKind → List plain.Instr
+seen t u added around k = map (instr_view u) (node_instrs added t.orders around k)
+
+-- a piece with instructions that the tables tell
+along : (around : Around) (new old : List Piece) (is js : List plain.Instr) → is ≡ js → Emits around new old is → Emits around new old js
+along around new old is js e h there = let r = h there in (r.0 ∙ ap (λ x. codes around old ++ x) e, r.1)
+
+pub node_emits : (t u : Tables) (added : Added) → Grown t u added → (around : Around) (n : Node) (k : NodeKind) (st : List Piece) → Emits around (put_kind t n k st) st (seen t u added around k)
+node_emits t u added g around n node.NotGiven st there = (ap (λ v. codes around st ++ plain.Push v ∷ []) (sym g.missing_is), there.1)
+node_emits t u added g around n (node.Constant i) st there = (ap (λ v. codes around st ++ plain.Push v ∷ []) (sym (g.constant i)), there.1)
+node_emits t u added g around n (node.Variable x) st there = (refl, there.1)
+node_emits t u added g around n (node.Item x count) st there = found_emits around count st _ (λ c. map (instr_view u) (node_instrs added t.orders around (node.Item x c))) (λ es. refl) there
+node_emits t u added g around n (node.Element count) st there = place_found_emits around count st _ (λ c. map (instr_view u) (node_instrs added t.orders around (node.Element c))) (λ x es. refl) there
+node_emits t u added g around n (node.Field i of bounded) st there = place_emits around _ _ (λ x. refl) st there
+node_emits t u added g around n (node.KeptPlace header) st there = (refl, there.1)
+node_emits t u added g around n node.Load st there = place_emits around _ _ (λ x. refl) st there
+node_emits t u added g around n (node.ElementValue count) st there = value_found_emits around count st _ (λ c. map (instr_view u) (node_instrs added t.orders around (node.ElementValue c))) (λ x es. refl) there
+node_emits t u added g around n (node.FieldValue i) st there = value_emits around _ _ (λ e. refl) st there
+node_emits t u added g around n (node.Unary o of) st there = value_emits around _ _ (λ e. same_one of e (λ d. plain.OperateAlone o d ∷ [])) st there
+node_emits t u added g around n (node.Binary o compare left right) st there = both_emits around _ _ (λ a b. same_two left right a b (λ d e. plain.Operate o compare d e ∷ [])) st there
+node_emits t u added g around n (node.Call p count) st there = args_emit around count st _ (λ c. map (instr_view u) (node_instrs added t.orders around (node.Call p c))) (λ args. refl) there
+node_emits t u added g around n (node.CallInOrder p count order) st there =
+    along around _ st _ _ (ap (λ o. plain.Reorder o count ∷ plain.Call p (length (order_in t order)) ∷ []) (sym (g.order order)))
+    (args_emit around count st _ (λ c. plain.Reorder (order_in t order) c ∷ plain.Call p (length (order_in t order)) ∷ []) (λ args. append_assoc (args_code args) (plain.Reorder (order_in t order) (count_of args) ∷ []) (plain.Call p (length (order_in t order)) ∷ []))) there
+node_emits t u added g around n (node.ErrValue told) st there = (refl, there.1)
+node_emits t u added g around n node.DefaultOf st there = value_emits around _ _ (λ e. refl) st there
+node_emits t u added g around n node.ByPlace st there = place_emits around _ _ (λ x. refl) st there
+node_emits t u added g around n (node.ByCopy of) st there = value_emits around _ _ (λ e. refl) st there
+node_emits t u added g around n (node.ByDefault i) st there = (ap (λ v. codes around st ++ plain.Push v ∷ []) (sym (g.constant i)), there.1)
+node_emits t u added g around n (node.ByList count) st there = found_emits around count st _ (λ c. map (instr_view u) (node_instrs added t.orders around (node.ByList c))) (λ es. refl) there
+node_emits t u added g around n node.Shown st there = value_emits around _ _ (λ e. refl) st there
+node_emits t u added g around n node.Zone st there = (ap (λ v. codes around st ++ plain.Push v ∷ []) (sym g.empty_is), there.1)
+node_emits t u added g around n node.TestBegins st there = (refl, there.1)
+node_emits t u added g around n (node.TestIs o of) st there =
+    test_emits around _ _ (λ e. ap (λ c. plain.Selected around.header ∷ plain.Plain ∷ c) (same_one of e (λ d. plain.IfFits o around.compare (declared_view around.of) d around.to ∷ []))) st there
+node_emits t u added g around n (node.TestRange low high) st there =
+    range_emits around _ _ (λ a b. ap (λ c. plain.Selected around.header ∷ plain.Plain ∷ c) (same_two low high a b (λ d e. plain.IfBetween around.compare (declared_view around.of) d e around.to ∷ []))) st there
+node_emits t u added g around n (node.Resize count of) st there = place_found_emits around count st _ (λ c. map (instr_view u) (node_instrs added t.orders around (node.Resize c of))) (λ x es. refl) there
+node_emits t u added g around n node.Erased st there = place_emits around _ _ (λ x. refl) st there
+
+pub map_append : {A B : Type 0} (f : A → B) (xs ys : List A) → map f (xs ++ ys) ≡ map f xs ++ map f ys
+map_append f [] ys = refl
+map_append f (x ∷ xs) ys = ap (λ r. f x ∷ r) (map_append f xs ys)
+
+-- of all nodes
+pub nodes_emit : (t u : Tables) (added : Added) → Grown t u added → (around : Around) (ns : List Node) (st : List Piece)
+    → Emits around (read t st ns) st (map (instr_view u) (nodes_instrs added t.orders around ns))
+nodes_emit t u added g around [] st there = (sym (append_none (codes around st)), there)
+nodes_emit t u added g around (n ∷ ns) st there =
+    let rest = nodes_emit t u added g around ns (put t n st) there in
+    let first = node_emits t u added g around n n.kind st rest.1 in
+    let more = map (instr_view u) (nodes_instrs added t.orders around ns) in (
+      rest.0 ∙ ap (λ c. c ++ more) first.0 ∙ append_assoc (codes around st) (seen t u added around n.kind) more
+          ∙ ap (λ c. codes around st ++ c) (sym (map_append (instr_view u) (node_instrs added t.orders around n.kind) (nodes_instrs added t.orders around ns))),
+      first.1,
+    )

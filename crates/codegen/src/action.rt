@@ -1,0 +1,288 @@
+ghost use Rattle.std.specs.Prelude.{◌≡◌, suc, [], ◌∷◌, ◌++◌, IfOk, OnOk, slice_index};
+ghost use Rattle.codegen.specs.Emission.{action_instrs, around_of, before_instrs, end_instr, lists_of, order_length, policy_in, property_instrs, work_instrs};
+
+use crate::node::{Added, Around, emit_nodes, order_length, put};
+use bound_project::{ActionKind, DeclaredType, ElementType, Handling, Node, TooLong};
+use error_frames::{At, Policy};
+use pcode::Instr;
+use vba_base::OrMemory;
+use vba_values::Compare;
+
+/// The numbers of a procedure, of one of its statements, and of the next statement.
+#[derive(Clone, Copy)]
+pub struct Numbers {
+    pub procedure: u32,
+    pub statement: u32,
+    pub next: u32,
+}
+
+// The address of a statement, 0 past the last.
+fn address_of(row: &[u32], statement: u32) -> u32
+    ensures { result ≡ slice_index row.now statement }
+{
+    match row.get(statement as usize) {
+        Some(address) => *address,
+        None => 0,
+    }
+}
+
+fn around_of(row: &[u32], action: ActionKind) -> Around
+    ensures { result ≡ around_of row.now action }
+{
+    let mut around = Around {
+        header: 0,
+        of: DeclaredType::Plain(ElementType::Variant),
+        compare: Compare::Binary,
+        to: 0,
+        preserve: false,
+    };
+    match action {
+        ActionKind::Case {
+            header,
+            of,
+            compare,
+            first,
+            ..
+        } => Around {
+            header,
+            of,
+            compare,
+            to: address_of(row, first),
+            preserve: false,
+        },
+        ActionKind::ReDim { preserve, .. } => {
+            around.preserve = preserve;
+            around
+        }
+        _ => around,
+    }
+}
+
+fn put_before(
+    code: &mut Vec<Instr>,
+    statement: u32,
+    action: ActionKind,
+) -> Result<(), OrMemory<TooLong>>
+    ensures { OnOk result (code.new.items ≡ code.old.items ++ before_instrs statement action) }
+{
+    match action {
+        ActionKind::For { .. } => put(code, Instr::LoopOff { block: statement }),
+        ActionKind::ForEach { .. } => put(code, Instr::EachOff { block: statement }),
+        _ => Ok(()),
+    }
+}
+
+fn policy_of(handling: Handling) -> Policy
+    ensures { result ≡ policy_in handling }
+{
+    match handling {
+        Handling::PassedOn => Policy::Default,
+        Handling::Skipped => Policy::ResumeNext,
+        Handling::HandledAt { statement } => Policy::Handler(At(u64::from(statement))),
+    }
+}
+
+fn one_more(count: u32) -> Result<u32, OrMemory<TooLong>>
+    ensures { IfOk result (λ n. n ≡ suc count) }
+{
+    match count.checked_add(1) {
+        Some(more) => Ok(more),
+        None => Err(OrMemory::Fault(TooLong)),
+    }
+}
+
+// The call of a property whose arguments stand on the stack above the value.
+fn put_property(
+    code: &mut Vec<Instr>,
+    procedure: u32,
+    arguments: u32,
+    of: DeclaredType,
+) -> Result<(), OrMemory<TooLong>>
+    ensures { OnOk result (code.new.items ≡ code.old.items ++ property_instrs procedure arguments of) }
+{
+    let all = one_more(arguments)?;
+    code.extend_from_slice(&[
+        Instr::Lift { arguments },
+        Instr::Plain,
+        Instr::Fit(of),
+        Instr::Call {
+            procedure,
+            arguments: all,
+        },
+        Instr::Drop,
+    ])?;
+    Ok(())
+}
+
+fn put_two(code: &mut Vec<Instr>, first: Instr, second: Instr) -> Result<(), OrMemory<TooLong>>
+    ensures { OnOk result (code.new.items ≡ code.old.items ++ first ∷ second ∷ []) }
+{
+    put(code, first)?;
+    put(code, second)
+}
+
+fn put_property_in_order(
+    code: &mut Vec<Instr>,
+    orders: &[Vec<u32>],
+    procedure: u32,
+    arguments: u32,
+    order: u32,
+    of: DeclaredType,
+) -> Result<(), OrMemory<TooLong>>
+    ensures { OnOk result (code.new.items ≡ code.old.items
+        ++ Instr.Reorder order arguments ∷ property_instrs procedure (order_length (lists_of orders.now) order) of) }
+{
+    put(code, Instr::Reorder { order, arguments })?;
+    let all = order_length(orders, order)?;
+    put_property(code, procedure, all, of)
+}
+
+fn put_work(
+    code: &mut Vec<Instr>,
+    orders: &[Vec<u32>],
+    statement: u32,
+    next: u32,
+    action: ActionKind,
+) -> Result<(), OrMemory<TooLong>>
+    ensures { OnOk result (code.new.items ≡ code.old.items ++ work_instrs (lists_of orders.now) statement next action) }
+{
+    let block = statement;
+    match action {
+        ActionKind::Assign => put(code, Instr::Store),
+        ActionKind::AssignNone => put_two(code, Instr::Drop, Instr::Drop),
+        ActionKind::Evaluate => put(code, Instr::Drop),
+        ActionKind::LetProperty {
+            procedure,
+            arguments,
+            of,
+        } => put_property(code, procedure, arguments, of),
+        ActionKind::LetPropertyInOrder {
+            procedure,
+            arguments,
+            order,
+            of,
+        } => put_property_in_order(code, orders, procedure, arguments, order, of),
+        ActionKind::Print { items, ends } => put(code, Instr::Show { ends, items }),
+        ActionKind::For {
+            counter,
+            compare,
+            last,
+            step,
+            ..
+        } => put(
+            code,
+            Instr::LoopOn {
+                counter,
+                block,
+                compare,
+                last,
+                step,
+            },
+        ),
+        ActionKind::Next {
+            counter,
+            header,
+            ..
+        } => put(
+            code,
+            Instr::NextRound {
+                counter,
+                block: header,
+            },
+        ),
+        ActionKind::ForEach { control, .. } => put_two(
+            code,
+            Instr::EachOn { block },
+            Instr::NextItem { control, block },
+        ),
+        ActionKind::NextEach {
+            control,
+            header,
+            ..
+        } => put(
+            code,
+            Instr::NextItem {
+                control,
+                block: header,
+            },
+        ),
+        ActionKind::ExitEach { header, .. } => put(code, Instr::DropKept { block: header }),
+        ActionKind::Select { .. } => put(code, Instr::Keep { block }),
+        ActionKind::WithPlace => put(code, Instr::KeepPath { block }),
+        ActionKind::WithValue => put(code, Instr::Keep { block }),
+        ActionKind::EndWith { header } => put(code, Instr::DropKept { block: header }),
+        ActionKind::GoSub { .. } => put(code, Instr::PutReturn { statement: next }),
+        ActionKind::ExitTo { .. } => put(code, Instr::ErrOff),
+        ActionKind::OnError(handling) => put(code, Instr::SetPolicy(policy_of(handling))),
+        ActionKind::EndHandler => put(code, Instr::HandlerOff),
+        ActionKind::ClearErr => put(code, Instr::ErrOff),
+        ActionKind::Stop => put(code, Instr::StopHere),
+        _ => Ok(()),
+    }
+}
+
+fn branch_to(row: &[u32], sense: bool, to: u32, other: u32) -> Instr
+    ensures { result ≡ Instr.Branch sense (slice_index row.now to) (slice_index row.now other) }
+{
+    Instr::Branch {
+        sense,
+        to: address_of(row, to),
+        other: address_of(row, other),
+    }
+}
+
+fn finish_at(row: &[u32], to: u32) -> Instr
+    ensures { result ≡ Instr.Finish (slice_index row.now to) }
+{
+    Instr::Finish {
+        to: address_of(row, to),
+    }
+}
+
+fn end_of(row: &[u32], numbers: Numbers, action: ActionKind) -> Instr
+    ensures { result ≡ end_instr row.now numbers.procedure numbers.next action }
+{
+    let procedure = numbers.procedure;
+    match action {
+        ActionKind::Raise { arguments } => Instr::Throw { arguments },
+        ActionKind::Test { sense, to, other } => branch_to(row, sense, to, other),
+        ActionKind::GoTo { to } => finish_at(row, to),
+        ActionKind::For { first, behind, .. } => branch_to(row, true, first, behind),
+        ActionKind::Next { first, .. } => branch_to(row, true, first, numbers.next),
+        ActionKind::ForEach { first, behind, .. } => branch_to(row, true, first, behind),
+        ActionKind::NextEach { first, .. } => branch_to(row, true, first, numbers.next),
+        ActionKind::ExitEach { to, .. } => finish_at(row, to),
+        ActionKind::Select { first } => finish_at(row, first),
+        ActionKind::Case { other, .. } => finish_at(row, other),
+        ActionKind::GoSub { to } => finish_at(row, to),
+        ActionKind::Return => Instr::TakeReturn { procedure },
+        ActionKind::ExitTo { end } => finish_at(row, end),
+        ActionKind::ResumeAgain => Instr::Again { procedure },
+        ActionKind::ResumeNext => Instr::Behind { procedure },
+        ActionKind::ResumeAt { to } => Instr::Resumes {
+            procedure,
+            statement: to,
+        },
+        ActionKind::End => Instr::Halt,
+        _ => finish_at(row, numbers.next),
+    }
+}
+
+/// What a statement does with its nodes.
+pub fn emit_action(
+    code: &mut Vec<Instr>,
+    added: Added,
+    orders: &[Vec<u32>],
+    row: &[u32],
+    numbers: Numbers,
+    action: ActionKind,
+    nodes: &[Node],
+) -> Result<(), OrMemory<TooLong>>
+    ensures { OnOk result (code.new.items ≡ code.old.items
+        ++ action_instrs added (lists_of orders.now) row.now numbers.procedure numbers.statement numbers.next action nodes.now) }
+{
+    put_before(code, numbers.statement, action)?;
+    emit_nodes(code, added, orders, around_of(row, action), nodes)?;
+    put_work(code, orders, numbers.statement, numbers.next, action)?;
+    put(code, end_of(row, numbers, action))
+}

@@ -1,0 +1,180 @@
+use bound_project::{DeclaredType, ErrMember, Variable};
+use error_frames::Policy;
+use vba_values::{Compare, OpKind};
+
+/// One instruction. Operands stand on a stack, the last one on top. Numbers of constants and orders are places in the
+/// tables of the code; `to` and `other` are addresses; `block` and `statement` are numbers of statements of the
+/// procedure that runs.
+#[derive(Clone, Copy)]
+pub enum Instr {
+    /// A statement begins.
+    Begin {
+        statement: u32,
+    },
+    Push {
+        constant: u32,
+    },
+    LoadErr(ErrMember),
+    /// The path of a variable; the value at the path on top.
+    PathOf(Variable),
+    ReadThrough,
+    /// The path of an element of the array at the path on top, with so many numbers below it; at the path below the
+    /// numbers; the path of a field; where a With block's dot leads.
+    ElementOf {
+        numbers: u32,
+    },
+    ElementIn {
+        numbers: u32,
+    },
+    FieldOf {
+        field: u32,
+        of: DeclaredType,
+        is_bounded: bool,
+    },
+    Dot {
+        block: u32,
+    },
+    /// An element and a field of a value.
+    Index {
+        numbers: u32,
+    },
+    PartOf {
+        field: u32,
+    },
+    Operate {
+        operator: OpKind,
+        compare: Compare,
+        left: DeclaredType,
+        right: DeclaredType,
+    },
+    OperateAlone {
+        operator: OpKind,
+        of: DeclaredType,
+    },
+    /// An object gives way to the value of its default member.
+    Plain,
+    /// A value becomes one of this type.
+    Fit(DeclaredType),
+    Drop,
+    /// Arguments, and a call with so many of them.
+    Lend,
+    Pack {
+        arguments: u32,
+    },
+    Reorder {
+        order: u32,
+        arguments: u32,
+    },
+    Lift {
+        arguments: u32,
+    },
+    Call {
+        procedure: u32,
+        arguments: u32,
+    },
+    /// What statements do with their operands.
+    Store,
+    ShowText,
+    Show {
+        ends: bool,
+        items: u32,
+    },
+    Throw {
+        arguments: u32,
+    },
+    /// For: three values become whether the block is entered; at Next, whether it is entered again.
+    LoopOff {
+        block: u32,
+    },
+    LoopOn {
+        counter: Variable,
+        block: u32,
+        compare: Compare,
+        last: DeclaredType,
+        step: DeclaredType,
+    },
+    NextRound {
+        counter: Variable,
+        block: u32,
+    },
+    /// For Each: a value is walked, and what was walked before is let go; whether there was a further item.
+    EachOff {
+        block: u32,
+    },
+    EachOn {
+        block: u32,
+    },
+    NextItem {
+        control: Variable,
+        block: u32,
+    },
+    /// Select Case; a test of a Case that fits leaves the statement.
+    Keep {
+        block: u32,
+    },
+    Selected {
+        block: u32,
+    },
+    IfFits {
+        operator: OpKind,
+        compare: Compare,
+        of: DeclaredType,
+        test: DeclaredType,
+        to: u32,
+    },
+    IfBetween {
+        compare: Compare,
+        of: DeclaredType,
+        low: DeclaredType,
+        high: DeclaredType,
+        to: u32,
+    },
+    /// ReDim of the array at a path, with so many bounds above it, and Erase: what is replaced is let go.
+    Redim {
+        preserve: bool,
+        of: Option<DeclaredType>,
+        bounds: u32,
+    },
+    EraseAt,
+    /// With.
+    KeepPath {
+        block: u32,
+    },
+    DropKept {
+        block: u32,
+    },
+    /// GoSub and Return, which keep numbers of statements.
+    PutReturn {
+        statement: u32,
+    },
+    TakeReturn {
+        procedure: u32,
+    },
+    /// Errors.
+    SetPolicy(Policy),
+    HandlerOff,
+    ErrOff,
+    Again {
+        procedure: u32,
+    },
+    Behind {
+        procedure: u32,
+    },
+    Resumes {
+        procedure: u32,
+        statement: u32,
+    },
+    /// The statement's end: it goes on at an address, at one of two, or nowhere.
+    Finish {
+        to: u32,
+    },
+    Branch {
+        sense: bool,
+        to: u32,
+        other: u32,
+    },
+    Halt,
+    StopHere,
+    /// The procedure's end.
+    Leave,
+}
