@@ -5,3 +5,5 @@ pub mod Scopes
 pub mod Names
 pub mod Types
 pub mod Constants
+pub mod Numbering
+pub mod Violations

@@ -131,8 +131,17 @@ block_said (with_line with_word e) = expression e ∷ []
 -- the name behind Next is compared alone
 block_said line = []
 
+-- bounds and lengths of a ReDim are evaluated
+abbrev pub redim_type_said : Option TypeClause → List Said
+redim_type_said None = []
+redim_type_said (Some c) = at c.declared_type
+  where
+    at : DeclaredType → List Said
+    at (named t) = type_named t ∷ []
+    at (fixed_text string_word times e) = expression e ∷ []
+
 abbrev pub array_said : ReDimArray → List Said
-array_said a = redimmed a.place a.type_clause ∷ (flat_map (dim_said expression) (all_of a.dims) ++ clause_said a.type_clause)
+array_said a = redimmed a.place a.type_clause ∷ (flat_map (dim_said expression) (all_of a.dims) ++ redim_type_said a.type_clause)
 
 abbrev pub handling_said : ErrorHandling → List Said
 handling_said (handling.GoTo goto_word l) = goes_to l ∷ []
