@@ -40,7 +40,7 @@ told None = []
 told (Some r) = (r.rule, r.place.«module», r.place.line, r.place.column) ∷ []
 
 -- rule, module, line and column of the verdict
-pub judged : List (Bool × List ℕ) → List (ℕ × ℕ × ℕ × ℕ)
+unfoldable pub judged : List (Bool × List ℕ) → List (ℕ × ℕ × ℕ × ℕ)
 judged texts = told (verdict some_outside (sources_from 1 texts))
 
 -- a project of one standard module
