@@ -7,3 +7,6 @@ pub mod Types
 pub mod Constants
 pub mod Numbering
 pub mod Violations
+pub mod Storage
+pub mod Terms
+pub mod ExpressionsBound
