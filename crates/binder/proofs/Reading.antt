@@ -11,6 +11,11 @@ use Rattle.vba_module.specs.Verdict.{trees_of}
 use Rattle.binder.specs.Sources.{Source}
 use Rattle.binder.specs.Scopes.{Outside}
 use Rattle.binder.specs.Violations.{verdict}
+use Rattle.binder.specs.Bind.{Startup, Answer, refused, not_built_at, bound_as, bind_of}
+use Rattle.bound_project.specs.Project.{Project}
+use Rattle.vba_meaning.specs.Memory.{Ending, Ended}
+use Rattle.vba_meaning.specs.Effects.{Event, Printed}
+use Rattle.vba_meaning.specs.Meaning.{Run, meaning}
 
 -- a few names of the library and the host
 abbrev pub some_outside : Outside
@@ -46,3 +51,33 @@ judged texts = told (verdict some_outside (sources_from 1 texts))
 -- a project of one standard module
 abbrev pub of_one : List ℕ → List (Bool × List ℕ)
 of_one source = (false, source) ∷ []
+
+-- what a project is bound to, begun by its Main
+unfoldable pub bound_of : List (Bool × List ℕ) → Answer
+bound_of texts = bind_of some_outside (sources_from 1 texts) (record { module_fold = codes "module1"; sub_fold = codes "main" })
+
+-- how a run ends, and what it tells; or why there is none
+pub data Told : Type 0 where
+  run_of : Ending → List Event → Told
+  broken_rule : List (ℕ × ℕ × ℕ × ℕ) → Told
+  left_at : ℕ → ℕ → ℕ → Told
+
+abbrev pub told_by : Answer → Told
+told_by (refused r) = broken_rule (told (Some r))
+told_by (not_built_at p) = left_at p.«module» p.line p.column
+told_by (bound_as pr) = let r = meaning pr 100 in run_of r.ending r.events
+
+unfoldable pub ran_all : List (Bool × List ℕ) → Told
+unfolding bound_of
+ran_all texts = told_by (bound_of texts)
+
+unfoldable pub ran : List ℕ → Told
+unfolding ran_all
+ran source = ran_all (of_one source)
+
+abbrev pub ends : List Event → Told
+ends events = run_of Ended events
+
+abbrev pub lines : List (List ℕ) → List Event
+lines [] = []
+lines (units ∷ more) = Printed units true ∷ lines more

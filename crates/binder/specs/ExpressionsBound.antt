@@ -121,10 +121,7 @@ call_with value env place gs space number p = at (reader env.scope space number 
 
 -- a call without arguments
 abbrev pub bare_call : Env → Space → ℕ → Written → Term
-bare_call env space number p = call_with (λ t place. None) env (place_of_name p) [] space number p
-  where
-    place_of_name : Written → Place
-    place_of_name q = q.place
+bare_call env space number p = call_with (λ t place. None) env p.place [] space number p
 
 -- a term as a value, and as an operand, where Err is its number
 abbrev pub value_of : Env → Term → Place → Option bound.Expr

@@ -10,3 +10,5 @@ pub mod Violations
 pub mod Storage
 pub mod Terms
 pub mod ExpressionsBound
+pub mod StatementsBound
+pub mod Bind
