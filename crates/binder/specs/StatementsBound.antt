@@ -44,7 +44,7 @@ use Rattle.binder.specs.Constants.{known_length}
 use Rattle.binder.specs.Numbering.{count, count_list, simple_count, part_count, body_count, Sought, here, an_arm, behind_block, behind_kind, Opened, Standing, standings_in, sought_behind}
 use Rattle.binder.specs.Violations.{same_label_name}
 use Rattle.binder.specs.Terms.{Within, Env, Term, a_place, a_value, a_routine, err_object, err_raise, err_clear, error_word, no_term, expression_of, Given, bound_arguments, listed_values, has_names}
-use Rattle.binder.specs.ExpressionsBound.{writer, parameters_in, value_of, operand_of, indexed, callee, term_of, givens, bound_value, bound_operand, behind_term}
+use Rattle.binder.specs.ExpressionsBound.{writer, bare_call, parameters_in, value_of, operand_of, indexed, callee, term_of, givens, bound_value, bound_operand, behind_term}
 
 -- ---- the procedure round a statement
 
@@ -55,6 +55,11 @@ pub record Around : Type 0 where
   pub end : ℕ
 
 -- ---- With blocks
+
+-- a procedure that stands alone is called
+abbrev pub settled : Env → Term → Term
+settled env (a_routine space number p) = bare_call env space number p
+settled env t = t
 
 -- what the With block with this header keeps
 abbrev pub keeps : ℕ → Term → Option Within
@@ -69,7 +74,7 @@ with_object part = None
 -- a block by what it keeps, where it is a With, or else what stands round it
 abbrev pub with_or : Option Expr → Env → ℕ → Option Within → Option Within
 with_or None env header outside = outside
-with_or (Some e) env header outside = keeps header (term_of (record env { within = outside }) e)
+with_or (Some e) env header outside = keeps header (settled env (term_of (record env { within = outside }) e))
 
 -- the nearest With block of those that stand open
 abbrev pub within : Env → List Opened → Option Within
