@@ -1,3 +1,4 @@
+mod FirstBroken
 mod Reading
 mod RuleRows
 mod ProgramRows

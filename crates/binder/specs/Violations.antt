@@ -1,10 +1,10 @@
 -- The rules S15 to S22: for each the places where it is broken, and the least of all.
-use Rattle.std.specs.Prelude.{ℕ, zero, suc, ◌+◌, ◌==◌, nat_lt, nat_le, Bool, true, false, ◌&&◌, ◌||◌, not, int_le, List, [], ◌∷◌, ◌++◌, length, map, flat_map, Option, Some, None, is_some, is_none, bytes_eq, if◌then◌else◌}
+use Rattle.std.specs.Prelude.{◌≡◌, ◌⊎◌, ℕ, zero, suc, ◌+◌, ◌==◌, nat_lt, nat_le, Bool, true, false, ◌&&◌, ◌||◌, not, int_le, List, [], ◌∷◌, ◌++◌, length, map, flat_map, Option, Some, None, is_some, is_none, bytes_eq, if◌then◌else◌}
 use Rattle.std.specs.List.{list_any}
 use Rattle.vba_base.specs.declared.place.Place.{Place}
 use Rattle.vba_base.specs.declared.place.Refusal.{Refusal}
 use Rattle.vba_lexer.specs.declared.token.Token.{Token}
-use Rattle.vba_lexer.specs.Order.{is_before, is_same_place}
+use Rattle.vba_lexer.specs.Order.{IsLeast}
 use Rattle.vba_values.specs.Types.{Declared}
 use Rattle.vba_values.specs.Types as type
 use Rattle.vba_words.specs.declared.identifier.Identifier.{Identifier}
@@ -420,3 +420,8 @@ first_broken (rs ∷ more) = or_else (least_of None rs) (first_broken more)
 
 abbrev pub verdict : Outside → List Source → Option Refusal
 verdict o sources = first_broken (project_violations o sources)
+
+-- the least refusal of the first of these lists that has any; none where none has
+abbrev pub IsFirstBroken : List (List Refusal) → Option Refusal → Type 0
+IsFirstBroken [] answer = answer ≡ None
+IsFirstBroken (rs ∷ more) answer = ((rs ≡ []) × IsFirstBroken more answer) ⊎ ((least : Refusal) × IsLeast rs least × (answer ≡ Some least))
