@@ -79,7 +79,7 @@ unfolding ran folded caseless digits division join
 undeclared = refl
 
 -- constants by their values
-constants : ran (codes "Enum E\na = 4\nb\nEnd Enum\nConst c = E.b * 2\nSub Main()\nConst s As String * 3 = \"x\"\nDim t(a To c) As String * c\nDebug.Print c; s; \"|\"; b\nt(5) = \"y\"\nDebug.Print t(5); \"|\"; vbLong\nEnd Sub") ≡ ends (Printed (codes " 10 x  | 5 ") true ∷ Printed (codes "y         | 3 ") true ∷ [])
+constants : ran (codes "Enum E\nz\na = 4\nb\nEnd Enum\nConst c = E.b * 2\nSub Main()\nConst s As String * 3 = \"x\"\nDim t(a To c) As String * c\nDebug.Print c; s; \"|\"; b; z\nt(5) = \"y\"\nDebug.Print t(5); \"|\"; vbLong\nEnd Sub") ≡ ends (Printed (codes " 10 x  | 5  0 ") true ∷ Printed (codes "y         | 3 ") true ∷ [])
 unfolding ran folded caseless digits division join
 constants = refl
 

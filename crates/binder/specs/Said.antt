@@ -91,7 +91,7 @@ abbrev pub value_said : Option Expr → List Said
 value_said None = []
 value_said (Some e) = constant_expression e ∷ []
 
--- what an entry of a module says, without the body of a procedure
+-- what an entry of a module says; what a procedure says stands in its own scope
 abbrev pub entry_said : What → List Said
 entry_said (a_variable v) = variable_said v
 entry_said (a_constant c) = constant_said c
@@ -99,7 +99,7 @@ entry_said an_enum = []
 entry_said (a_member e steps) = value_said e
 entry_said (a_type fields) = flat_map field_said fields
 entry_said (an_event ps) = flat_map parameter_said ps
-entry_said (a_procedure p) = header_said p
+entry_said (a_procedure p) = []
 
 -- ---- statements
 

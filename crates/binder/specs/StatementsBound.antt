@@ -185,6 +185,11 @@ abbrev pub redim_type : Env → Option TypeClause → Option Declared
 redim_type env None = None
 redim_type env (Some c) = Some (written_type (known_length env.scope) env.scope c.declared_type)
 
+-- arrays of objects aren't built
+abbrev pub is_built_element : Option Declared → Bool
+is_built_element None = true
+is_built_element (Some of) = not (is_object of)
+
 abbrev pub place_in : Term → Option Lvalue
 place_in (a_place x of bounded lends) = Some x
 place_in other = None
@@ -196,7 +201,9 @@ resized x es of rs = None
 abbrev pub redim_arrays : Env → List ReDimArray → Option Resizes
 redim_arrays env [] = Some no_resizes
 redim_arrays env (a ∷ others) =
-    resized (place_in (term_of env a.place)) (redim_bounds env (all_of a.dims)) (redim_type env a.type_clause) (redim_arrays env others)
+    if is_built_element (redim_type env a.type_clause)
+    then resized (place_in (term_of env a.place)) (redim_bounds env (all_of a.dims)) (redim_type env a.type_clause) (redim_arrays env others)
+    else None
 
 abbrev pub one_erased : Option Lvalue → Option Arrays → Option Arrays
 one_erased (Some x) (Some xs) = Some (an_array x xs)

@@ -25,7 +25,7 @@ use Rattle.vba_module.specs.Verdict.{broken}
 use Rattle.refusal_order.specs.Least.{least_of}
 use Rattle.binder.specs.Sources.{Source, has_choice, is_explicit, or_else}
 use Rattle.binder.specs.Declarations.{Written, FieldWritten, What, a_variable, a_constant, an_enum, a_member, a_type, an_event, a_procedure, Entry, header_names, Own, a_local, a_local_constant, undeclared, Local}
-use Rattle.binder.specs.Said.{Said, type_named, new_named, constant_expression, expression, redimmed, goes_to, raises, entry_said, said_in_part, said_in_body}
+use Rattle.binder.specs.Said.{Said, type_named, new_named, constant_expression, expression, redimmed, goes_to, raises, entry_said, header_said, said_in_part, said_in_body}
 use Rattle.binder.specs.Said as say
 use Rattle.binder.specs.Scopes.{Outside, Space, Scope, spaces_from, Use, plainly, called, before_dot, Meant, of_procedure, of_module, Qualifier, declares, behind, qualifier_of, is_named, is_same}
 use Rattle.binder.specs.Names.{usings, declared_here, scope_of, scope_in}
@@ -52,9 +52,11 @@ in_space of_entry of_body s =
 abbrev pub no_entry : Scope → Entry → List Place
 no_entry s e = []
 
--- what a procedure says, each part with whether a With block stands round it
+-- what a procedure says in its header, and in each part with whether a With block stands round it
 abbrev pub in_body : (Bool → Said → List Place) → Written → List Place
-in_body test p = flat_map (λ st. flat_map (test (in_with st)) (said_in_part (is_some p.static_word) st.part)) (standings_in p.body)
+in_body test p =
+    flat_map (test false) (header_said p)
+    ++ flat_map (λ st. flat_map (test (in_with st)) (said_in_part (is_some p.static_word) st.part)) (standings_in p.body)
 
 -- ---- S15: two declarations of one name in one scope, but for the procedures of one property
 
@@ -66,19 +68,19 @@ later clash place_of before (x ∷ xs) =
 abbrev pub same_name : Identifier → Identifier → Bool
 same_name x y = bytes_eq x.name y.name
 
--- Get, Let and Set of a property
-abbrev pub property_part : What → ℕ
-property_part (a_procedure p) = at p.kind
-  where
-    at : ProcedureWords → ℕ
-    at (words.PropertyGet property_word get_word) = 1
-    at (words.PropertyLet property_word let_word) = 2
-    at (words.PropertySet property_word set_word) = 3
-    at other = 0
-property_part other = 0
+-- two of Get, Let and Set
+abbrev pub are_parts : ProcedureWords → ProcedureWords → Bool
+are_parts (words.PropertyGet property_word get_word) (words.PropertyLet other let_word) = true
+are_parts (words.PropertyGet property_word get_word) (words.PropertySet other set_word) = true
+are_parts (words.PropertyLet property_word let_word) (words.PropertyGet other get_word) = true
+are_parts (words.PropertyLet property_word let_word) (words.PropertySet other set_word) = true
+are_parts (words.PropertySet property_word set_word) (words.PropertyGet other get_word) = true
+are_parts (words.PropertySet property_word set_word) (words.PropertyLet other let_word) = true
+are_parts one other = false
 
 abbrev pub of_one_property : What → What → Bool
-of_one_property a b = nat_lt 0 (property_part a) && (nat_lt 0 (property_part b) && not (property_part a == property_part b))
+of_one_property (a_procedure p) (a_procedure q) = are_parts p.kind q.kind
+of_one_property one other = false
 
 abbrev pub clashes : Entry → Entry → Bool
 clashes a b = same_name a.name b.name && not (of_one_property a.what b.what)
