@@ -1,0 +1,70 @@
+-- Statements without their places, to compare them.
+use Rattle.std.specs.Prelude.{List, [], ◌∷◌}
+use Rattle.bound_project.specs.Expressions.{Expr, expr, Node, not_given, constant, load, element_value, field_value, unary, binary, call, err_value, default_of, Lvalue, variable, item, element, field, kept_place, Args, no_args, by_place, by_copy, by_default, by_list, in_order, Exprs, no_exprs, also, Prints, no_prints, shown, zone}
+use Rattle.bound_project.specs.Statements.{Tests, no_tests, test_is, test_range, Resizes, no_resizes, resize, Arrays, no_arrays, an_array, Action, assign, assign_none, evaluate, let_property, print, raise, test, go_to, for_to, next, for_each, next_each, exit_each, select, case_of, redim, erase, with_place, with_value, Statement}
+use Rattle.bound_project.specs.Project.{nowhere}
+
+abbrev mutual
+  pub bare : Expr → Expr
+  bare (expr node place of operand) = expr (bare_node node) nowhere of operand
+
+  pub bare_node : Node → Node
+  bare_node not_given = not_given
+  bare_node (constant v) = constant v
+  bare_node (load x) = load (bare_place x)
+  bare_node (element_value e es) = element_value (bare e) (bare_exprs es)
+  bare_node (field_value e i) = field_value (bare e) i
+  bare_node (unary o a) = unary o (bare a)
+  bare_node (binary o compare a b) = binary o compare (bare a) (bare b)
+  bare_node (call p args) = call p (bare_args args)
+  bare_node (err_value m) = err_value m
+  bare_node (default_of e) = default_of (bare e)
+
+  pub bare_place : Lvalue → Lvalue
+  bare_place (variable x) = variable x
+  bare_place (item x es) = item x (bare_exprs es)
+  bare_place (element x es) = element (bare_place x) (bare_exprs es)
+  bare_place (field x i of bounded) = field (bare_place x) i of bounded
+  bare_place (kept_place i) = kept_place i
+
+  pub bare_args : Args → Args
+  bare_args no_args = no_args
+  bare_args (by_place x args) = by_place (bare_place x) (bare_args args)
+  bare_args (by_copy e of args) = by_copy (bare e) of (bare_args args)
+  bare_args (by_default v args) = by_default v (bare_args args)
+  bare_args (by_list es args) = by_list (bare_exprs es) (bare_args args)
+  bare_args (in_order is args) = in_order is (bare_args args)
+
+  pub bare_exprs : Exprs → Exprs
+  bare_exprs no_exprs = no_exprs
+  bare_exprs (also e es) = also (bare e) (bare_exprs es)
+
+abbrev pub bare_prints : Prints → Prints
+bare_prints no_prints = no_prints
+bare_prints (shown e ps) = shown (bare e) (bare_prints ps)
+bare_prints (zone ps) = zone (bare_prints ps)
+
+abbrev pub bare_tests : Tests → Tests
+bare_tests no_tests = no_tests
+bare_tests (test_is o e ts) = test_is o (bare e) (bare_tests ts)
+bare_tests (test_range a b ts) = test_range (bare a) (bare b) (bare_tests ts)
+
+abbrev pub bare_action : Action → Action
+bare_action (assign x e) = assign (bare_place x) (bare e)
+bare_action (assign_none x e) = assign_none (bare x) (bare e)
+bare_action (evaluate e) = evaluate (bare e)
+bare_action (let_property p args e of) = let_property p (bare_args args) (bare e) of
+bare_action (print ps ends) = print (bare_prints ps) ends
+bare_action (raise args) = raise (bare_args args)
+bare_action (test sense e to other) = test sense (bare e) to other
+bare_action (for_to x compare a b c first behind) = for_to x compare (bare a) (bare b) (bare c) first behind
+bare_action (for_each x e first behind) = for_each x (bare e) first behind
+bare_action (select e first) = select (bare e) first
+bare_action (case_of ts header of compare first other) = case_of (bare_tests ts) header of compare first other
+bare_action (with_place x) = with_place (bare_place x)
+bare_action (with_value e) = with_value (bare e)
+bare_action other = other
+
+abbrev pub bare_statements : List Statement → List Statement
+bare_statements [] = []
+bare_statements (s ∷ ss) = record { action = bare_action s.action; place = nowhere; next = s.next } ∷ bare_statements ss

@@ -1,0 +1,6 @@
+mod FirstBroken
+mod Reading
+mod Bare
+mod RuleRows
+mod BoundRows
+mod ProgramRows

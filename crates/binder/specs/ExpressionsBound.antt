@@ -1,0 +1,302 @@
+-- Expressions as terms ([MS-VBAL] 5.6).
+use Rattle.std.specs.Prelude.{ℕ, suc, ◌==◌, Bool, true, false, ◌&&◌, ◌||◌, not, List, [], ◌∷◌, ◌++◌, length, codes, Option, Some, None, is_some, option_map, option_and_then, bytes_eq, if◌then◌else◌, unwrap_or, slice_index_or}
+use Rattle.vba_base.specs.declared.place.Place.{Place}
+use Rattle.vba_values.specs.declared.types.OpKind.{OpKind}
+use Rattle.vba_values.specs.StaticTypes.{static_of}
+use Rattle.vba_values.specs.Types.{Declared}
+use Rattle.vba_values.specs.Types as type
+use Rattle.vba_values.specs.Val.{Val}
+use Rattle.vba_words.specs.declared.identifier.Identifier.{Identifier}
+use Rattle.vba_expression.specs.declared.operator.UnaryOperator.{UnaryOperator}
+use Rattle.vba_expression.specs.declared.operator.BinaryOperator.{BinaryOperator}
+use Rattle.vba_expression.specs.Tree.{Expr, literal, me, name, with_member, member, index, parenthesised, new, type_of, unary, binary, Args, no_args, missing, plain}
+use Rattle.vba_expression.specs.Tree as tree
+use Rattle.vba_tree.specs.declared.procedure.ProcedureWords.{ProcedureWords}
+use Rattle.vba_tree.specs.declared.procedure.ProcedureWords.TheVariants as words
+use Rattle.bound_project.specs.Expressions.{Storage, Variable, err_number, err_source, err_description, Node, constant, load, element_value, field_value, err_value, Lvalue, variable, item, element, field, kept_place, Exprs}
+use Rattle.bound_project.specs.Expressions as bound
+use Rattle.bound_project.specs.Project.{Declaration, Parameter, UserType, no_name, nowhere}
+use Rattle.binder.specs.Declarations.{Written, What, a_variable, a_constant, an_enum, a_member, a_type, an_event, a_procedure, Entry, Own, the_result, a_parameter, a_local_constant, Local}
+use Rattle.binder.specs.Scopes.{Space, Scope, plainly, called, Meant, of_procedure, of_module, a_module, the_library, of_host, of_library, Qualifier, declares, behind, qualifier_of, is_named, first_at, seen_from}
+use Rattle.binder.specs.Names.{scope_in}
+use Rattle.binder.specs.Constants.{Known, literal_meant, value_type, operator_kind, unary_kind, compare_in, meant_by, names_in, home, place_of_expression}
+use Rattle.binder.specs.Storage.{parameter_type, result_type, parameters_of, own_declaration, declared_variable, user_types, module_storage, own_storage, procedure_number, gives_value}
+use Rattle.binder.specs.Terms.{Within, Env, Term, a_place, a_value, a_routine, err_object, err_raise, err_clear, error_word, no_term, expression_of, value_with, Given, listed_values, bound_arguments, has_names}
+
+-- ---- calls
+
+abbrev pub is_get : ProcedureWords → Bool
+is_get (words.PropertyGet property_word get_word) = true
+is_get kind = false
+
+abbrev pub is_let : ProcedureWords → Bool
+is_let (words.PropertyLet property_word let_word) = true
+is_let kind = false
+
+abbrev pub is_property : ProcedureWords → Bool
+is_property (words.Sub token) = false
+is_property (words.Function token) = false
+is_property kind = true
+
+abbrev pub procedure_of : What → Option Written
+procedure_of (a_procedure p) = Some p
+procedure_of what = None
+
+-- a procedure of a module that passes, by its name
+abbrev pub procedure_with : Scope → (ProcedureWords → Bool) → Space → Identifier → Option (ℕ × Written)
+procedure_with s test space x = at (first_at (λ (e : Entry). is_named x.name e.name && (seen_from s space e && passes e.what)) 0 space.entries)
+  where
+    passes : What → Bool
+    passes (a_procedure p) = test p.kind
+    passes what = false
+
+    at : Option (ℕ × Entry) → Option (ℕ × Written)
+    at None = None
+    at (Some f) = option_map (λ p. (f.0, p)) (procedure_of f.1.what)
+
+-- what is called where a value is wanted: of a property its Get
+abbrev pub reader : Scope → Space → ℕ → Written → Option (ℕ × Written)
+reader s space number p = if is_property p.kind then procedure_with s is_get space p.name else Some (number, p)
+
+abbrev pub writer : Scope → Space → Written → Option (ℕ × Written)
+writer s space p = procedure_with s is_let space p.name
+
+abbrev pub parameters_in : Scope → Space → Written → List Parameter
+parameters_in s space p = parameters_of (scope_in (home s space) p) p
+
+abbrev pub call_type : Scope → Space → Written → Declared
+call_type s space p = if gives_value p.kind then result_type (home s space) p else type.variant
+
+-- ---- elements and fields ([MS-VBAL] 5.6.12, 5.6.13)
+
+-- the type of what an index gives, where something can be indexed
+abbrev pub element_type : Declared → Option Declared
+element_type (type.array_of of) = Some of
+element_type type.variant = Some type.variant
+element_type other = None
+
+-- numbers of a place: none is missing and none is named
+abbrev pub are_numbers : List Given → Bool
+are_numbers [] = false
+are_numbers (g ∷ []) = is_some g.term
+are_numbers (g ∷ gs) = is_some g.term && are_numbers gs
+
+abbrev pub numbers_of : (Term → Place → Option bound.Expr) → List Given → Option Exprs
+numbers_of value gs = if are_numbers gs && not (has_names gs) then listed_values value gs else None
+
+abbrev pub element_place : Lvalue → Exprs → Lvalue
+element_place (variable x) es = item x es
+element_place x es = element x es
+
+abbrev pub with_type : Option Declared → Option Exprs → (Declared → Exprs → Term) → Term
+with_type (Some of) (Some es) term = term of es
+with_type of es term = no_term
+
+-- the value of a call whose arguments index what it gives, and of one that takes them
+abbrev pub indexed_value : Place → Node → Declared → Option Exprs → Term
+indexed_value place node of es = with_type (element_type of) es (λ u xs. a_value (element_value (expression_of node place of) xs) u)
+
+abbrev pub call_value : Env → Space → ℕ → Written → Option bound.Args → Term
+call_value env space number p None = no_term
+call_value env space number p (Some args) = a_value (bound.call (procedure_number env.scope space number) args) (call_type env.scope space p)
+
+-- arguments behind a property without parameters index its value
+abbrev pub indexes_value : Written → List Given → Bool
+indexes_value p [] = false
+indexes_value p (g ∷ gs) = is_get p.kind && length p.parameters == 0
+
+abbrev pub node_or : Term → (Node → Declared → Term) → Term
+node_or (a_value node of) term = term node of
+node_or other term = no_term
+
+abbrev pub call_with : (Term → Place → Option bound.Expr) → Env → Place → List Given → Space → ℕ → Written → Term
+call_with value env place gs space number p = at (reader env.scope space number p)
+  where
+    at : Option (ℕ × Written) → Term
+    at None = no_term
+    at (Some f) =
+        if indexes_value f.1 gs
+        then node_or (call_value env space f.0 f.1 (Some bound.no_args)) (λ node of. indexed_value place node of (numbers_of value gs))
+        else call_value env space f.0 f.1 (bound_arguments value (parameters_in env.scope space f.1) gs)
+
+-- a call without arguments
+abbrev pub bare_call : Env → Space → ℕ → Written → Term
+bare_call env space number p = call_with (λ t place. None) env p.place [] space number p
+
+-- a term as a value, and as an operand, where Err is its number
+abbrev pub value_of : Env → Term → Place → Option bound.Expr
+value_of env t place = value_with (bare_call env) t place
+
+abbrev pub operand_of : Env → Term → Place → Option bound.Expr
+operand_of env err_object place = Some (expression_of (err_value err_number) place type.long)
+operand_of env t place = value_of env t place
+
+abbrev pub no_type : UserType
+no_type = record { name = no_name; fields = [] }
+
+abbrev pub field_named : Env → ℕ → Identifier → Option (ℕ × Declaration)
+field_named env number x = first_at (λ (d : Declaration). bytes_eq d.name.fold x.name) 0 (slice_index_or (user_types env.scope) number no_type).fields
+
+abbrev pub with_field : Option (ℕ × Declaration) → (ℕ → Declaration → Term) → Term
+with_field None term = no_term
+with_field (Some f) term = term f.0 f.1
+
+abbrev pub has_bounds : Declaration → Bool
+has_bounds d = not (length d.bounds == 0)
+
+abbrev pub err_member : List ℕ → Term
+err_member fold =
+    if bytes_eq fold (codes "number") then a_value (err_value err_number) type.long
+    else if bytes_eq fold (codes "source") then a_value (err_value err_source) type.text
+    else if bytes_eq fold (codes "description") then a_value (err_value err_description) type.text
+    else if bytes_eq fold (codes "raise") then err_raise
+    else if bytes_eq fold (codes "clear") then err_clear
+    else no_term
+
+abbrev pub field_of_place : Env → Lvalue → Declared → Bool → Identifier → Term
+field_of_place env x (type.udt number) lends f = with_field (field_named env number f) (λ i d. a_place (field x i d.of (has_bounds d)) d.of (has_bounds d) lends)
+field_of_place env x of lends f = no_term
+
+abbrev pub field_of_value : Env → Place → Node → Declared → Identifier → Term
+field_of_value env place node (type.udt number) f = with_field (field_named env number f) (λ i d. a_value (field_value (expression_of node place (type.udt number)) i) d.of)
+field_of_value env place node of f = no_term
+
+-- what stands behind a dot
+abbrev pub member_of : Env → Place → Term → Identifier → Term
+member_of env place (a_place x of bounded lends) f = field_of_place env x of lends f
+member_of env place (a_value node of) f = field_of_value env place node of f
+member_of env place (a_routine space number p) f = node_or (bare_call env space number p) (λ node of. field_of_value env place node of f)
+member_of env place err_object f = err_member f.name
+member_of env place other f = no_term
+
+-- what stands behind a dot that begins a place
+abbrev pub kept_member : Env → Option Within → Identifier → Term
+kept_member env None f = no_term
+kept_member env (Some w) f = field_of_place env (kept_place w.header) w.of w.lends f
+
+-- what arguments in brackets make of a term
+abbrev pub indexed : Env → Place → Term → List Given → Term
+indexed env place (a_place x of bounded lends) gs = with_type (element_type of) (numbers_of (value_of env) gs) (λ u es. a_place (element_place x es) u false lends)
+indexed env place (a_value node of) gs = indexed_value place node of (numbers_of (value_of env) gs)
+indexed env place (a_routine space number p) gs = call_with (value_of env) env place gs space number p
+indexed env place other gs = no_term
+
+-- ---- names
+
+abbrev pub known_term : Option Known → Term
+known_term None = no_term
+known_term (Some k) = a_value (constant k.value) k.of
+
+abbrev pub place_term : Storage → Declared → Bool → Term
+place_term storage of bounded = a_place (variable (record { storage = storage; of = of; bounded = bounded })) of bounded true
+
+abbrev pub declared_place : Storage → Option Declaration → Term
+declared_place storage None = no_term
+declared_place storage (Some d) = place_term storage d.of (has_bounds d)
+
+abbrev pub constant_term : Env → Identifier → Option Meant → Term
+constant_term env x meant = known_term (meant_by (names_in env.scope) env.scope x meant)
+
+abbrev pub own_term : Env → Identifier → ℕ → Local → Term
+own_term env x number l = at l.own
+  where
+    storage : Storage
+    storage = own_storage env.scope env.first number l.own
+
+    at : Own → Term
+    at (the_result p) = place_term storage (result_type env.scope p) false
+    at (a_parameter p) = place_term storage (parameter_type env.scope p) false
+    at (a_local_constant c) = constant_term env x (Some (of_procedure number l))
+    at own = declared_place storage (own_declaration env.scope l)
+
+-- the variables and procedures of classes aren't built
+abbrev pub entry_term : Env → Identifier → Space → ℕ → Entry → Term
+entry_term env x space number e = if space.source.is_class then of_class e.what else at e.what
+  where
+    of_class : What → Term
+    of_class (a_constant c) = constant_term env x (Some (of_module space number e))
+    of_class (a_member value steps) = constant_term env x (Some (of_module space number e))
+    of_class what = no_term
+
+    at : What → Term
+    at (a_variable v) = declared_place (module_storage env.scope space number) (Some (declared_variable (home env.scope space) v))
+    at (a_constant c) = constant_term env x (Some (of_module space number e))
+    at (a_member value steps) = constant_term env x (Some (of_module space number e))
+    at (a_procedure p) = a_routine space number p
+    at what = no_term
+
+abbrev pub library_term : Env → Identifier → Term
+library_term env x = if bytes_eq x.name (codes "error") then error_word else constant_term env x (Some of_library)
+
+abbrev pub host_term : Identifier → Term
+host_term x = if bytes_eq x.name (codes "err") then err_object else no_term
+
+abbrev pub meant_term : Env → Identifier → Option Meant → Term
+meant_term env x (Some (of_procedure number l)) = own_term env x number l
+meant_term env x (Some (of_module space number e)) = entry_term env x space number e
+meant_term env x (Some of_library) = library_term env x
+meant_term env x (Some of_host) = host_term x
+meant_term env x other = no_term
+
+-- a name that is called or indexed: of a Function not its result
+abbrev pub callee : Env → Expr → Term → Term
+callee env (name x) t = meant_term env x (declares called env.scope x)
+callee env e t = t
+
+-- behind a module, an Enum or VBA, or else behind a term
+abbrev pub behind_term : Env → Option Qualifier → Identifier → Term → Term
+behind_term env None x t = t
+behind_term env (Some q) x t = meant_term env x (behind plainly env.scope q x)
+
+-- ---- operators
+
+abbrev pub result_of : OpKind → Declared → Declared → Declared
+result_of o l r = unwrap_or (static_of o l r) type.variant
+
+abbrev pub unary_term : OpKind → Option bound.Expr → Term
+unary_term o None = no_term
+unary_term o (Some a) = a_value (bound.unary o a) (result_of o (bound.operand_type a) (bound.operand_type a))
+
+abbrev pub binary_term : Env → Option OpKind → Option bound.Expr → Option bound.Expr → Term
+binary_term env (Some o) (Some a) (Some b) = a_value (bound.binary o (compare_in env.scope) a b) (result_of o (bound.operand_type a) (bound.operand_type b))
+binary_term env o a b = no_term
+
+-- a parenthesised expression is a value
+abbrev pub as_value : Env → Term → Place → Term
+as_value env t place = at (value_of env t place)
+  where
+    at : Option bound.Expr → Term
+    at None = no_term
+    at (Some (bound.expr node p of operand)) = a_value node of
+
+abbrev pub literal_term : Val → Term
+literal_term v = a_value (constant v) (value_type v)
+
+abbrev mutual
+  pub term_of : Env → Expr → Term
+  term_of env (literal l) = literal_term (literal_meant l.value)
+  term_of env (me token) = no_term
+  term_of env (name x) = meant_term env x (declares plainly env.scope x)
+  term_of env (with_member dot x) = kept_member env env.within x
+  term_of env (member base dot x) = behind_term env (qualifier_of env.scope base) x (member_of env (place_of_expression base) (term_of env base) x)
+  term_of env (index base left args right) = indexed env (place_of_expression base) (callee env base (term_of env base)) (givens env args)
+  term_of env (parenthesised left e right) = as_value env (term_of env e) (place_of_expression e)
+  term_of env (new new_word t) = no_term
+  term_of env (type_of type_of_word e is_word t) = no_term
+  term_of env (unary o token e) = unary_term (unary_kind o) (operand_of env (term_of env e) (place_of_expression e))
+  term_of env (binary l o token r) =
+      binary_term env (operator_kind o) (operand_of env (term_of env l) (place_of_expression l)) (operand_of env (term_of env r) (place_of_expression r))
+
+  -- arguments
+  pub givens : Env → Args → List Given
+  givens env no_args = []
+  givens env (missing before comma) = givens env before ++ record { name = None; term = None; place = nowhere } ∷ []
+  givens env (plain before comma e) = givens env before ++ record { name = None; term = Some (term_of env e); place = place_of_expression e } ∷ []
+  givens env (tree.named before comma x mark e) = givens env before ++ record { name = Some x.name; term = Some (term_of env e); place = place_of_expression e } ∷ []
+
+-- an expression as a value, and as an operand
+abbrev pub bound_value : Env → Expr → Option bound.Expr
+bound_value env e = value_of env (term_of env e) (place_of_expression e)
+
+abbrev pub bound_operand : Env → Expr → Option bound.Expr
+bound_operand env e = operand_of env (term_of env e) (place_of_expression e)

@@ -1,0 +1,14 @@
+pub mod Sources
+pub mod Declarations
+pub mod Said
+pub mod Scopes
+pub mod Names
+pub mod Types
+pub mod Constants
+pub mod Numbering
+pub mod Violations
+pub mod Storage
+pub mod Terms
+pub mod ExpressionsBound
+pub mod StatementsBound
+pub mod Bind

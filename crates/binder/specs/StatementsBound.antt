@@ -1,0 +1,509 @@
+-- The statements of a procedure in one list ([MS-VBAL] 5.4).
+use Rattle.std.specs.Prelude.{ℕ, zero, suc, ◌+◌, ◌==◌, Bool, true, false, ◌&&◌, ◌||◌, not, pos, List, [], ◌∷◌, ◌++◌, length, map, codes, Option, Some, None, is_some, is_none, option_map, option_and_then, if◌then◌else◌}
+use Rattle.std.specs.List.{list_any, filter_map, find}
+use Rattle.vba_base.specs.declared.place.Place.{Place}
+use Rattle.vba_lexer.specs.declared.token.Token.{Token}
+use Rattle.vba_values.specs.declared.types.OpKind.{OpKind}
+use Rattle.vba_values.specs.declared.types.OpKind.TheVariants as op
+use Rattle.vba_values.specs.declared.types.WholeKind.TheVariants as kind
+use Rattle.vba_values.specs.Types.{Declared}
+use Rattle.vba_values.specs.Types as type
+use Rattle.vba_values.specs.Val.{Val, missing, whole}
+use Rattle.vba_words.specs.declared.identifier.Identifier.{Identifier}
+use Rattle.vba_expression.specs.Tree.{Expr, name, member, index, Args, no_args}
+use Rattle.vba_tree.specs.declared.block.LoopWord.{LoopWord}
+use Rattle.vba_tree.specs.declared.block.LoopWord.TheVariants as loop_word
+use Rattle.vba_tree.specs.declared.line.LineLabel.{LineLabel}
+use Rattle.vba_tree.specs.declared.simple.LabelName.{LabelName}
+use Rattle.vba_tree.specs.declared.simple.ExitKind.{ExitKind}
+use Rattle.vba_tree.specs.declared.simple.ExitKind.TheVariants as exits
+use Rattle.vba_tree.specs.declared.simple.ErrorHandling.{ErrorHandling}
+use Rattle.vba_tree.specs.declared.simple.ErrorHandling.TheVariants as handling
+use Rattle.vba_tree.specs.declared.simple.ResumeTarget.{ResumeTarget}
+use Rattle.vba_tree.specs.declared.simple.ResumeTarget.TheVariants as target
+use Rattle.vba_tree.specs.declared.simple.PrintMark.{PrintMark}
+use Rattle.vba_tree.specs.declared.simple.PrintMark.TheVariants as print_mark
+use Rattle.vba_tree.specs.Tree as tree
+use Rattle.vba_tree.specs.Tree.{Listed, TypeClause, Dim, upper, CaseTest, value, comparison, StepClause, LoopCondition, BlockLine, if_line, else_if_line, select_case, case_line, for_line, for_each, next_line, do_line, loop_line, while_line, wend, with_line, end_with, ReDimArray, PrintItem, Simple, assignment, set_assignment, call_place, call, re_dim, erase, go_to, go_sub, return_from, exit, end, on_error, resume, debug_print, block_line, Stmt, simple, if_then, if_else, Stmts, nothing, one, gap, more}
+use Rattle.vba_module.specs.Parts.{Part, label, statement, whole_line, place_of}
+use Rattle.vba_module.specs.Blocks.{Kind, for_loop, do_loop, with_block, select, same_kind, Role, opens, divides, closes, stands, role_of}
+use Rattle.vba_module.specs.Headers.{all_of}
+use Rattle.vba_module.specs.Misplaced.{statement_place}
+use Rattle.bound_project.specs.Expressions.{Variable, Node, constant, Lvalue, variable, Exprs, no_exprs, also, Prints, no_prints, shown, zone}
+use Rattle.bound_project.specs.Expressions as bound
+use Rattle.bound_project.specs.Statements as to
+use Rattle.bound_project.specs.Statements.{Statement, Block, Action, Tests, no_tests, test_is, test_range, Handling, passed_on, skipped, handled_at, Resizes, no_resizes, resize, Arrays, no_arrays, an_array}
+use Rattle.bound_project.specs.Project.{Parameter, no_name}
+use Rattle.binder.specs.Sources.{base_of, or_else}
+use Rattle.binder.specs.Declarations.{Written}
+use Rattle.binder.specs.Scopes.{Space, Scope}
+use Rattle.binder.specs.Constants.{operator_kind, compare_in, place_of_expression}
+use Rattle.binder.specs.Storage.{plain_clause_type, procedure_number}
+use Rattle.binder.specs.Types.{written_type, is_object}
+use Rattle.binder.specs.Constants.{known_length}
+use Rattle.binder.specs.Numbering.{count, count_list, simple_count, part_count, body_count, Sought, here, an_arm, behind_block, behind_kind, Opened, Standing, standings_in, sought_behind}
+use Rattle.binder.specs.Violations.{same_label_name}
+use Rattle.binder.specs.Terms.{Within, Env, Term, a_place, a_value, a_routine, err_object, err_raise, err_clear, error_word, no_term, expression_of, Given, bound_arguments, listed_values, has_names}
+use Rattle.binder.specs.ExpressionsBound.{writer, bare_call, parameters_in, value_of, operand_of, indexed, callee, term_of, givens, bound_value, bound_operand, behind_term}
+
+-- ---- the procedure round a statement
+
+-- its scope, its parts, and the number of its end
+pub record Around : Type 0 where
+  pub env : Env
+  pub parts : List Standing
+  pub end : ℕ
+
+-- ---- With blocks
+
+-- a procedure that stands alone is called
+abbrev pub settled : Env → Term → Term
+settled env (a_routine space number p) = bare_call env space number p
+settled env t = t
+
+-- what the With block with this header keeps
+abbrev pub keeps : ℕ → Term → Option Within
+keeps header (a_place x of bounded lends) = Some (record { header = header; of = of; lends = lends })
+keeps header (a_value node of) = Some (record { header = header; of = of; lends = false })
+keeps header other = None
+
+abbrev pub with_object : Part → Option Expr
+with_object (statement (simple (block_line (with_line with_word e)))) = Some e
+with_object part = None
+
+-- a block by what it keeps, where it is a With, or else what stands round it
+abbrev pub with_or : Option Expr → Env → ℕ → Option Within → Option Within
+with_or None env header outside = outside
+with_or (Some e) env header outside = keeps header (settled env (term_of (record env { within = outside }) e))
+
+-- the nearest With block of those that stand open
+abbrev pub within : Env → List Opened → Option Within
+within env [] = None
+within env (o ∷ os) = with_or (with_object o.line) env o.header (within env os)
+
+-- the scope of a part
+abbrev pub env_at : Around → Standing → Env
+env_at a s = record a.env { within = within a.env s.around }
+
+-- ---- labels ([MS-VBAL] 5.4.1.1)
+
+-- a label is the number of what runs behind it
+abbrev pub label_number : List Standing → LabelName → Option ℕ
+label_number [] l = None
+label_number (s ∷ ss) l = or_else (at s.part) (label_number ss l)
+  where
+    at : Part → Option ℕ
+    at (label x) = if same_label_name l x then Some (sought_behind here s) else None
+    at part = None
+
+-- ---- simple statements
+
+-- what is called with arguments
+abbrev pub raise_parameter : List ℕ → Declared → Option Val → Parameter
+raise_parameter fold of default = record { name = record { spelling = fold; fold = fold }; of = of; by_reference = false; default = default; many = false }
+
+-- Err.Raise Number, [Source], [Description]
+abbrev pub raise_parameters : List Parameter
+raise_parameters =
+    raise_parameter (codes "number") type.long None ∷ raise_parameter (codes "source") type.text (Some missing)
+    ∷ raise_parameter (codes "description") type.text (Some missing) ∷ []
+
+abbrev pub raised : Env → List Given → Option Action
+raised env gs = option_map to.raise (bound_arguments (value_of env) raise_parameters gs)
+
+-- Error has the number alone
+abbrev pub is_one : List Given → Bool
+is_one gs = length gs == 1 && not (has_names gs)
+
+abbrev pub called_term : Env → Place → Term → List Given → Option Action
+called_term env place err_raise gs = raised env gs
+called_term env place err_clear [] = Some to.clear_err
+called_term env place error_word gs = if is_one gs then raised env gs else None
+called_term env place (a_routine space number p) gs = option_map to.evaluate (value_of env (indexed env place (a_routine space number p) gs) place)
+called_term env place t [] = option_map to.evaluate (value_of env t place)
+called_term env place t gs = option_map to.evaluate (value_of env (indexed env place t gs) place)
+
+abbrev pub called_with : Env → Expr → List Given → Option Action
+called_with env e gs = called_term env (place_of_expression e) (callee env e (term_of env e)) gs
+
+-- Call place: the last brackets have the arguments
+abbrev pub called_place : Env → Expr → Option Action
+called_place env (index base left args right) = called_with env base (givens env args)
+called_place env e = called_with env e []
+
+-- [Let] target = value
+abbrev pub let_to : Env → Space → List Given → bound.Expr → Option (ℕ × Written) → Option Action
+let_to env space gs v None = None
+let_to env space gs v (Some f) = at (parameters_in env.scope space f.1)
+  where
+    but_last : List Parameter → List Parameter
+    but_last [] = []
+    but_last (p ∷ []) = []
+    but_last (p ∷ ps) = p ∷ but_last ps
+
+    value_type : List Parameter → Declared
+    value_type [] = type.variant
+    value_type (p ∷ []) = p.of
+    value_type (p ∷ ps) = value_type ps
+
+    at : List Parameter → Option Action
+    at ps = option_map (λ args. to.let_property (procedure_number env.scope space f.0) args v (value_type ps)) (bound_arguments (value_of env) (but_last ps) gs)
+
+-- an element that nothing has is read and left
+abbrev pub assigned : Env → Place → bound.Expr → List Given → Term → Option Action
+assigned env place v gs (a_place x of bounded lends) = if is_object of then None else Some (to.assign x v)
+assigned env place v gs (a_routine space number p) = let_to env space gs v (writer env.scope space p)
+assigned env place v gs (a_value node of) = option_map (λ x. to.assign_none x v) (value_of env (a_value node of) place)
+assigned env place v gs other = None
+
+-- a property takes its arguments with the value
+abbrev pub is_property_term : Env → Term → Bool
+is_property_term env (a_routine space number p) = is_some (writer env.scope space p)
+is_property_term env t = false
+
+abbrev pub assigned_to : Env → Expr → bound.Expr → Option Action
+assigned_to env (index base left args right) v =
+    let t = callee env base (term_of env base) in
+    if is_property_term env t then assigned env (place_of_expression base) v (givens env args) t
+    else assigned env (place_of_expression base) v [] (indexed env (place_of_expression base) t (givens env args))
+assigned_to env e v = assigned env (place_of_expression e) v [] (term_of env e)
+
+-- ReDim: the base of the module where no low bound is written
+abbrev pub integer : Place → ℕ → bound.Expr
+integer place n = expression_of (constant (whole kind.Integer (pos n))) place type.integer
+
+abbrev pub two_exprs : Option bound.Expr → Option bound.Expr → Option Exprs → Option Exprs
+two_exprs (Some a) (Some b) (Some es) = Some (also a (also b es))
+two_exprs a b es = None
+
+abbrev pub redim_bounds : Env → List Dim → Option Exprs
+redim_bounds env [] = Some no_exprs
+redim_bounds env (upper e ∷ ds) = two_exprs (Some (integer (place_of_expression e) (base_of env.scope.here.source))) (bound_value env e) (redim_bounds env ds)
+redim_bounds env (Dim.range low to_word high ∷ ds) = two_exprs (bound_value env low) (bound_value env high) (redim_bounds env ds)
+
+abbrev pub redim_type : Env → Option TypeClause → Option Declared
+redim_type env None = None
+redim_type env (Some c) = Some (written_type (known_length env.scope) env.scope c.declared_type)
+
+-- arrays of objects aren't built
+abbrev pub is_built_element : Option Declared → Bool
+is_built_element None = true
+is_built_element (Some of) = not (is_object of)
+
+abbrev pub place_in : Term → Option Lvalue
+place_in (a_place x of bounded lends) = Some x
+place_in other = None
+
+abbrev pub resized : Option Lvalue → Option Exprs → Option Declared → Option Resizes → Option Resizes
+resized (Some x) (Some es) of (Some rs) = Some (resize x es of rs)
+resized x es of rs = None
+
+abbrev pub redim_arrays : Env → List ReDimArray → Option Resizes
+redim_arrays env [] = Some no_resizes
+redim_arrays env (a ∷ others) =
+    if is_built_element (redim_type env a.type_clause)
+    then resized (place_in (term_of env a.place)) (redim_bounds env (all_of a.dims)) (redim_type env a.type_clause) (redim_arrays env others)
+    else None
+
+abbrev pub one_erased : Option Lvalue → Option Arrays → Option Arrays
+one_erased (Some x) (Some xs) = Some (an_array x xs)
+one_erased x xs = None
+
+abbrev pub erased_arrays : Env → List Expr → Option Arrays
+erased_arrays env [] = Some no_arrays
+erased_arrays env (e ∷ es) = one_erased (place_in (term_of env e)) (erased_arrays env es)
+
+-- Debug.Print
+abbrev pub one_shown : Option bound.Expr → Option Prints → Option Prints
+one_shown (Some e) (Some ps) = Some (shown e ps)
+one_shown e ps = None
+
+abbrev pub value_shown : Env → Option Expr → Option Prints → Option Prints
+value_shown env None ps = ps
+value_shown env (Some e) ps = one_shown (bound_operand env e) ps
+
+abbrev pub mark_shown : PrintMark → Option Prints → Option Prints
+mark_shown print_mark.Semicolon ps = ps
+mark_shown print_mark.Comma ps = option_map zone ps
+
+abbrev pub items_shown : Env → List PrintItem → Option Prints
+items_shown env [] = Some no_prints
+items_shown env (i ∷ is) = mark_shown i.mark (value_shown env i.value (items_shown env is))
+
+-- a mark at the end leaves the line open
+abbrev pub ends_line : List PrintItem → Bool
+ends_line [] = true
+ends_line (i ∷ []) = is_some i.value
+ends_line (i ∷ is) = ends_line is
+
+abbrev pub on_handling : Around → ErrorHandling → Option Action
+on_handling a (handling.GoTo goto_word l) = option_map (λ n. to.on_error (handled_at n)) (label_number a.parts l)
+on_handling a (handling.GoToZero goto_word digit) = Some (to.on_error passed_on)
+on_handling a (handling.GoToMinusOne goto_word minus digit) = Some to.end_handler
+on_handling a (handling.ResumeNext resume_word next_word) = Some (to.on_error skipped)
+
+abbrev pub on_resume : Around → Option ResumeTarget → Option Action
+on_resume a None = Some to.resume_again
+on_resume a (Some (target.Zero token)) = Some to.resume_again
+on_resume a (Some (target.Next token)) = Some to.resume_next
+on_resume a (Some (target.Label l)) = option_map to.resume_at (label_number a.parts l)
+
+-- the nearest For that stands open, where it is a For Each
+abbrev pub for_each_header : List Opened → Option ℕ
+for_each_header [] = None
+for_each_header (o ∷ os) = if same_kind for_loop o.kind then at o.line else for_each_header os
+  where
+    at : Part → Option ℕ
+    at (statement (simple (block_line (for_each for_word each_word x in_word group)))) = Some o.header
+    at part = None
+
+abbrev pub exit_for : Option ℕ → ℕ → Action
+exit_for None n = to.go_to n
+exit_for (Some header) n = to.exit_each header n
+
+abbrev pub exit_action : Around → Standing → ExitKind → Action
+exit_action a s exits.For = exit_for (for_each_header s.around) (sought_behind (behind_kind for_loop 0) s)
+exit_action a s exits.Do = to.go_to (sought_behind (behind_kind do_loop 0) s)
+exit_action a s kind = to.exit_to a.end
+
+-- ---- lines of blocks ([MS-VBAL] 5.4.2)
+
+abbrev pub plain_variable : Term → Option Variable
+plain_variable (a_place (variable x) of bounded lends) = Some x
+plain_variable other = None
+
+-- the variable of a loop, by its line
+abbrev pub counter_of : BlockLine → Option Identifier
+counter_of (for_line for_word x equal start to_word limit step) = Some x
+counter_of (for_each for_word each_word x in_word group) = Some x
+counter_of line = None
+
+abbrev pub loop_variable : Env → Identifier → Option Variable
+loop_variable env x = plain_variable (term_of env (name x))
+
+-- a For without Step adds an Integer 1
+abbrev pub step_value : Env → Place → Option StepClause → Option bound.Expr
+step_value env place None = Some (integer place 1)
+step_value env place (Some s) = bound_operand env s.value
+
+abbrev pub for_action : Option Variable → Env → Option bound.Expr → Option bound.Expr → Option bound.Expr → (first behind : ℕ) → Option Action
+for_action (Some x) env (Some a) (Some b) (Some c) first behind = Some (to.for_to x (compare_in env.scope) a b c first behind)
+for_action x env a b c first behind = None
+
+abbrev pub each_action : Option Variable → Option bound.Expr → (first behind : ℕ) → Option Action
+each_action (Some x) (Some e) first behind = Some (to.for_each x e first behind)
+each_action x e first behind = None
+
+-- the line that opened the innermost block
+abbrev pub line_of : Part → Option BlockLine
+line_of (statement (simple (block_line line))) = Some line
+line_of part = None
+
+abbrev pub next_action : Env → List Opened → Option Action
+next_action env [] = None
+next_action env (o ∷ os) = option_and_then at (line_of o.line)
+  where
+    at : BlockLine → Option Action
+    at (for_line for_word x equal start to_word limit step) = option_map (λ v. to.next v o.header o.first) (loop_variable env x)
+    at (for_each for_word each_word x in_word group) = option_map (λ v. to.next_each v o.header o.first) (loop_variable env x)
+    at line = None
+
+abbrev pub header_of : List Opened → ℕ
+header_of [] = 0
+header_of (o ∷ os) = o.header
+
+-- Do, Loop and their conditions: where it is as told, and where it isn't
+abbrev pub is_while : LoopWord → Bool
+is_while loop_word.While = true
+is_while loop_word.Until = false
+
+abbrev pub loop_action : Env → Option LoopCondition → (on behind : ℕ) → Option Action
+loop_action env None on behind = Some (to.go_to on)
+loop_action env (Some c) on behind = option_map (λ e. to.test (is_while c.word) e on behind) (bound_operand env c.condition)
+
+abbrev pub one_test : Option bound.Expr → Option Tests → (bound.Expr → Tests → Tests) → Option Tests
+one_test (Some e) (Some ts) test = Some (test e ts)
+one_test e ts test = None
+
+abbrev pub range_test : Option bound.Expr → Option bound.Expr → Option Tests → Option Tests
+range_test (Some a) (Some b) (Some ts) = Some (test_range a b ts)
+range_test a b ts = None
+
+abbrev pub compared : Option OpKind → Option bound.Expr → Option Tests → Option Tests
+compared None e ts = None
+compared (Some o) e ts = one_test e ts (test_is o)
+
+abbrev pub case_tests : Env → List CaseTest → Option Tests
+case_tests env [] = Some no_tests
+case_tests env (value e ∷ ts) = one_test (bound_operand env e) (case_tests env ts) (test_is op.Eq)
+case_tests env (CaseTest.range low to_word high ∷ ts) = range_test (bound_operand env low) (bound_operand env high) (case_tests env ts)
+case_tests env (comparison is_word o token e ∷ ts) = compared (operator_kind o) (bound_operand env e) (case_tests env ts)
+
+-- the value of the Select Case that stands open
+abbrev pub selected : Around → List Opened → Option bound.Expr
+selected a [] = None
+selected a (o ∷ os) = option_and_then at (line_of o.line)
+  where
+    env : Env
+    env = record a.env { within = within a.env os }
+
+    at : BlockLine → Option bound.Expr
+    at (select_case select_word case_word e) = bound_operand env e
+    at line = None
+
+abbrev pub case_action : Option bound.Expr → Option Tests → Env → (header first other : ℕ) → Option Action
+case_action (Some e) (Some ts) env header first other = Some (to.case_of ts header (bound.operand_type e) (compare_in env.scope) first other)
+case_action e ts env header first other = None
+
+abbrev pub with_action : Term → Env → Place → Option Action
+with_action (a_place x of bounded lends) env place = if is_object of then None else Some (to.with_place x)
+with_action t env place = option_map to.with_value (value_of env t place)
+
+abbrev pub block_action : Around → Standing → BlockLine → Option Action
+block_action a s line = at line
+  where
+    env : Env
+    env = env_at a s
+
+    -- the block's first statement, what stands behind it, and its next arm
+    first : ℕ
+    first = sought_behind here s
+
+    behind : ℕ
+    behind = sought_behind (behind_block 0) s
+
+    next_arm : ℕ
+    next_arm = sought_behind (an_arm 0) s
+
+    at : BlockLine → Option Action
+    at (if_line if_word e then_word) = option_map (λ c. to.test true c first next_arm) (bound_operand env e)
+    at (else_if_line else_if_word e then_word) = option_map (λ c. to.test true c first next_arm) (bound_operand env e)
+    at (select_case select_word case_word e) = option_map (λ v. to.select v next_arm) (bound_operand env e)
+    at (case_line case_word tests) = case_action (selected a s.around) (case_tests env (all_of tests)) env (header_of s.around) first next_arm
+    at (for_line for_word x equal start to_word limit step) =
+        for_action (loop_variable env x) env (bound_operand env start) (bound_operand env limit) (step_value env (place_of s.part) step) first behind
+    at (for_each for_word each_word x in_word group) = each_action (loop_variable env x) (bound_value env group) first behind
+    at (next_line next_word x) = next_action env s.around
+    at (do_line do_word c) = loop_action env c first behind
+    at (loop_line loop_word c) = loop_action env c (header_of s.around) first
+    at (while_line while_word e) = option_map (λ c. to.test true c first behind) (bound_operand env e)
+    at (wend wend_word) = Some (to.go_to (header_of s.around))
+    at (with_line with_word e) = with_action (term_of env e) env (place_of_expression e)
+    at (end_with end_word with_word) = Some (to.end_with (header_of s.around))
+    at line = None
+
+-- ---- statements
+
+abbrev pub simple_action : Around → Standing → Simple → Option Action
+simple_action a s (assignment let_word x equal e) = option_and_then (assigned_to (env_at a s) x) (bound_operand (env_at a s) e)
+simple_action a s (call_place call_word e) = called_place (env_at a s) e
+simple_action a s (call e args) = called_with (env_at a s) e (givens (env_at a s) args)
+simple_action a s (re_dim redim_word preserve_word arrays) = option_map (to.redim (is_some preserve_word)) (redim_arrays (env_at a s) (all_of arrays))
+simple_action a s (erase erase_word places) = option_map to.erase (erased_arrays (env_at a s) (all_of places))
+simple_action a s (go_to goto_word l) = option_map to.go_to (label_number a.parts l)
+simple_action a s (go_sub gosub_word l) = option_map to.go_sub (label_number a.parts l)
+simple_action a s (return_from return_word) = Some to.return_sub
+simple_action a s (exit exit_word kind kind_word) = Some (exit_action a s kind)
+simple_action a s (end end_word) = Some to.end_run
+simple_action a s (tree.Simple.stop stop_word) = Some to.stop
+simple_action a s (on_error on_word word h) = on_handling a h
+simple_action a s (resume resume_word t) = on_resume a t
+simple_action a s (debug_print debug_word dot print_word e items) =
+    option_map (λ ps. to.print ps (ends_line items)) (value_shown (env_at a s) e (items_shown (env_at a s) items))
+simple_action a s (block_line line) = block_action a s line
+simple_action a s other = None
+
+abbrev pub both : Option (List Statement) → Option (List Statement) → Option (List Statement)
+both (Some xs) (Some ys) = Some (xs ++ ys)
+both xs ys = None
+
+abbrev pub one_statement : Place → (next : ℕ) → Option Action → Option (List Statement)
+one_statement place next action = option_map (λ x. record { action = x; place = place; next = next } ∷ []) action
+
+-- a declaration is no statement
+abbrev pub unless_none : ℕ → Option (List Statement) → Option (List Statement)
+unless_none zero ss = Some []
+unless_none (suc k) ss = ss
+
+-- the first of so many statements, or what stands behind where there are none
+abbrev pub first_or : ℕ → (first behind : ℕ) → ℕ
+first_or zero first behind = behind
+first_or (suc k) first behind = first
+
+abbrev mutual
+  -- a statement with this number, behind which that one runs
+  pub bound_statement : Around → Standing → Stmt → (number behind : ℕ) → Option (List Statement)
+  bound_statement a s (simple x) number behind = unless_none (simple_count x) (one_statement (statement_place (simple x)) behind (simple_action a s x))
+  bound_statement a s (if_then if_word e then_word ss) number behind =
+      let first = first_or (count_list ss) (suc number) behind in
+      both (one_statement if_word.place first (option_map (λ c. to.test true c first behind) (bound_operand (env_at a s) e))) (bound_list a s ss (suc number) behind)
+  bound_statement a s (if_else if_word e then_word ss else_word es) number behind =
+      let first = first_or (count_list ss) (suc number) behind in
+      let other = suc number + count_list ss in
+      both (one_statement if_word.place first (option_map (λ c. to.test true c first (first_or (count_list es) other behind)) (bound_operand (env_at a s) e)))
+      (both (bound_list a s ss (suc number) behind) (bound_list a s es other behind))
+
+  pub bound_list : Around → Standing → Stmts → (number behind : ℕ) → Option (List Statement)
+  bound_list a s nothing number behind = Some []
+  bound_list a s (one x) number behind = bound_statement a s x number behind
+  bound_list a s (gap before colon) number behind = bound_list a s before number behind
+  bound_list a s (more before colon x) number behind =
+      let middle = number + count_list before in
+      both (bound_list a s before number (first_or (count x) middle behind)) (bound_statement a s x middle behind)
+
+-- behind a header runs its block, but behind Select Case what stands behind that
+abbrev pub next_number : Standing → ℕ
+next_number s = at (role_of s.part)
+  where
+    at : Role → ℕ
+    at (opens select) = sought_behind (behind_block 0) s
+    at role = sought_behind here s
+
+-- the statements of a part; none where it isn't built
+abbrev pub part_statements : Around → Standing → Option (List Statement)
+part_statements a s = at s.part
+  where
+    at : Part → Option (List Statement)
+    at (statement (simple x)) = unless_none (simple_count x) (one_statement (place_of s.part) (next_number s) (simple_action a s x))
+    at (statement x) = bound_statement a s x s.number (next_number s)
+    at part = Some []
+
+abbrev pub all_statements : Around → List Standing → Option (List Statement)
+all_statements a [] = Some []
+all_statements a (s ∷ ss) = both (part_statements a s) (all_statements a ss)
+
+-- ---- blocks by their numbers
+
+-- the numbers of the lines of a role in the block with this header
+abbrev pub lines_in : (Role → Bool) → ℕ → List Standing → List ℕ
+lines_in test header [] = []
+lines_in test header (s ∷ ss) =
+    if test (role_of s.part) && (not (part_count s.part == 0) && (is_some (at s.around) && header_of s.around == header)) then s.number ∷ lines_in test header ss
+    else lines_in test header ss
+  where
+    at : List Opened → Option Opened
+    at [] = None
+    at (o ∷ os) = Some o
+
+abbrev pub is_arm : Role → Bool
+is_arm (divides kind is_last) = true
+is_arm role = false
+
+abbrev pub is_closing : Role → Bool
+is_closing (closes kind) = true
+is_closing role = false
+
+abbrev pub is_opening : Role → Bool
+is_opening (opens kind) = true
+is_opening role = false
+
+abbrev pub first_in : List ℕ → Option ℕ
+first_in [] = None
+first_in (n ∷ ns) = Some n
+
+abbrev pub blocks_in : List Standing → List Standing → List Block
+blocks_in all [] = []
+blocks_in all (s ∷ ss) =
+    if is_opening (role_of s.part)
+    then record { opening = s.number; arms = lines_in is_arm s.number all; closing = first_in (lines_in is_closing s.number all); behind = sought_behind (behind_block 0) s } ∷ blocks_in all ss
+    else blocks_in all ss

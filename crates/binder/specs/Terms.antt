@@ -1,0 +1,187 @@
+-- Expressions by what they are: a place, a value, or a name of something else. What stands round an expression takes
+-- from that what it needs. What the bound project can't say yet is no term.
+use Rattle.std.specs.Prelude.{ℕ, zero, suc, ◌==◌, nat_lt, Bool, true, false, ◌&&◌, ◌||◌, not, List, [], ◌∷◌, ◌++◌, length, map, codes, Option, Some, None, is_some, is_none, option_map, option_and_then, bytes_eq, if◌then◌else◌, unwrap_or, slice_index_or}
+use Rattle.std.specs.List.{list_any}
+use Rattle.vba_base.specs.declared.place.Place.{Place}
+use Rattle.vba_values.specs.declared.types.OpKind.{OpKind}
+use Rattle.vba_values.specs.declared.types.WholeKind.TheVariants as kind
+use Rattle.vba_values.specs.Coerce.{is_same_type}
+use Rattle.vba_values.specs.StaticTypes.{static_of}
+use Rattle.vba_values.specs.Types.{Declared}
+use Rattle.vba_values.specs.Types as type
+use Rattle.vba_values.specs.Val.{Val, object}
+use Rattle.vba_words.specs.declared.identifier.Identifier.{Identifier}
+use Rattle.vba_expression.specs.declared.operator.UnaryOperator.{UnaryOperator}
+use Rattle.vba_expression.specs.declared.operator.BinaryOperator.{BinaryOperator}
+use Rattle.vba_expression.specs.Tree.{Expr, literal, me, name, with_member, member, index, parenthesised, new, type_of, unary, binary, Args, no_args, missing, plain}
+use Rattle.vba_expression.specs.Tree as tree
+use Rattle.vba_tree.specs.declared.procedure.ProcedureWords.{ProcedureWords}
+use Rattle.vba_tree.specs.declared.procedure.ProcedureWords.TheVariants as words
+use Rattle.bound_project.specs.Expressions.{Storage, Variable, ErrMember, err_number, err_source, err_description, Node, not_given, constant, load, element_value, field_value, call, err_value, Lvalue, variable, item, element, field, kept_place, Exprs, no_exprs, also}
+use Rattle.bound_project.specs.Expressions as bound
+use Rattle.bound_project.specs.Project.{Declaration, Parameter, UserType}
+use Rattle.binder.specs.Sources.{compare_of}
+use Rattle.binder.specs.Declarations.{Written, What, a_variable, a_constant, an_enum, a_member, a_type, an_event, a_procedure, Entry, Own, the_result, a_parameter, a_local, a_local_constant, an_array, undeclared, Local}
+use Rattle.binder.specs.Scopes.{Space, Scope, plainly, called, Meant, of_procedure, of_module, a_module, the_library, of_host, of_library, Qualifier, declares, behind, qualifier_of}
+use Rattle.binder.specs.Names.{scope_in}
+use Rattle.binder.specs.Types.{is_object}
+use Rattle.binder.specs.Constants.{Known, literal_meant, value_type, operator_kind, unary_kind, is_variant, compare_in, meant_by, names_in, home, place_of_expression}
+use Rattle.binder.specs.Storage.{parameter_type, result_type, parameters_of, own_declaration, declared_variable, user_types, module_storage, own_storage, procedure_number, gives_value}
+
+-- the With block round an expression: its number, the type of what it keeps, and whether that is a place
+pub record Within : Type 0 where
+  pub header : ℕ
+  pub of : Declared
+  pub lends : Bool
+
+-- where an expression stands: its scope, the first static of the procedure, and the With block round it
+pub record Env : Type 0 where
+  pub scope : Scope
+  pub first : ℕ
+  pub within : Option Within
+
+pub data Term : Type 0 where
+  -- a place, whether it is an array that is declared with bounds, and whether it is lent to a ByRef parameter
+  a_place : Lvalue → Declared → (bounded lends : Bool) → Term
+  a_value : Node → Declared → Term
+  -- a procedure or a property of a module, by an entry of it
+  a_routine : Space → ℕ → Written → Term
+  err_object : Term
+  err_raise : Term
+  err_clear : Term
+  -- Error, which raises an error
+  error_word : Term
+  no_term : Term
+
+-- ---- terms as values
+
+abbrev pub expression_of : Node → Place → Declared → bound.Expr
+expression_of node place of = bound.expr node place of of
+
+-- objects aren't built, so a value of an object type is none
+abbrev pub typed_value : Node → Place → Declared → Option bound.Expr
+typed_value node place of = if is_object of then None else Some (expression_of node place of)
+
+-- a value, where an argument that isn't written is Missing
+abbrev pub value_with : (call_of : Space → ℕ → Written → Term) → Term → Place → Option bound.Expr
+value_with call_of (a_place x of bounded lends) place = typed_value (load x) place of
+value_with call_of (a_value node of) place = typed_value node place of
+value_with call_of (a_routine space number p) place = of_call (call_of space number p)
+  where
+    of_call : Term → Option bound.Expr
+    of_call (a_value node of) = typed_value node place of
+    of_call other = None
+value_with call_of other place = None
+
+-- ---- arguments ([MS-VBAL] 5.6.13.1)
+
+-- an argument: its name where it is named, and what is given
+pub record Given : Type 0 where
+  pub name : Option (List ℕ)
+  pub term : Option Term
+  pub place : Place
+
+-- what an argument adds to those behind it, for the parameter with this number
+pub record Item : Type 0 where
+  pub parameter : ℕ
+  pub add : bound.Args → Option bound.Args
+
+-- the way in which a parameter takes what is given: a variable of its own type by its place, unless it is ByVal; a
+-- Variant takes one of any type
+abbrev pub by_copy : (Term → Place → Option bound.Expr) → Parameter → Term → Place → bound.Args → Option bound.Args
+by_copy value p t place rest = option_map (λ e. bound.by_copy e p.of rest) (value t place)
+
+abbrev pub lent_to : Parameter → Lvalue → Declared → bound.Args → Option bound.Args
+lent_to p x of rest = if is_variant p.of || is_same_type of p.of then Some (bound.by_place x rest) else None
+
+abbrev pub by_reference : (Term → Place → Option bound.Expr) → Parameter → Term → Place → bound.Args → Option bound.Args
+by_reference value p (a_place x of bounded true) place rest = lent_to p x of rest
+by_reference value p t place rest = by_copy value p t place rest
+
+abbrev pub not_given_to : Parameter → bound.Args → Option bound.Args
+not_given_to p rest = if p.many then Some (bound.by_list no_exprs rest) else option_map (λ v. bound.by_default v rest) p.default
+
+abbrev pub taken_by : (Term → Place → Option bound.Expr) → Parameter → Given → bound.Args → Option bound.Args
+taken_by value p g rest = at g.term
+  where
+    at : Option Term → Option bound.Args
+    at None = not_given_to p rest
+    at (Some t) = if p.by_reference then by_reference value p t g.place rest else by_copy value p t g.place rest
+
+-- the values of a ParamArray; one that isn't written is Missing
+abbrev pub listed_values : (Term → Place → Option bound.Expr) → List Given → Option Exprs
+listed_values value [] = Some no_exprs
+listed_values value (g ∷ gs) = at g.term (listed_values value gs)
+  where
+    at : Option Term → Option Exprs → Option Exprs
+    at t None = None
+    at None (Some es) = Some (also (expression_of not_given g.place type.variant) es)
+    at (Some t) (Some es) = option_map (λ e. also e es) (value t g.place)
+
+-- the parameter with a name, from a number on; a ParamArray has none
+abbrev pub parameter_named : ℕ → List Parameter → List ℕ → Option (ℕ × Parameter)
+parameter_named number [] fold = None
+parameter_named number (p ∷ ps) fold = if not p.many && bytes_eq p.name.fold fold then Some (number, p) else parameter_named (suc number) ps fold
+
+abbrev pub cons_if : Option Item → Option (List Item) → Option (List Item)
+cons_if (Some i) (Some is) = Some (i ∷ is)
+cons_if i is = None
+
+abbrev pub named_item : (Term → Place → Option bound.Expr) → Given → Option (ℕ × Parameter) → Option Item
+named_item value g None = None
+named_item value g (Some f) = Some (record { parameter = f.0; add = taken_by value f.1 g })
+
+-- arguments with names, for the parameters from a number on
+abbrev pub by_names : (Term → Place → Option bound.Expr) → ℕ → List Parameter → List Given → Option (List Item)
+by_names value number ps [] = Some []
+by_names value number ps (g ∷ gs) = cons_if (option_and_then (λ fold. named_item value g (parameter_named number ps fold)) g.name) (by_names value number ps gs)
+
+-- arguments from the left, until one has a name
+abbrev pub by_position : (Term → Place → Option bound.Expr) → ℕ → List Parameter → List Given → Option (List Item)
+by_position value number ps [] = Some []
+by_position value number [] (g ∷ gs) = None
+by_position value number (p ∷ ps) (g ∷ gs) =
+    if is_some g.name then by_names value number (p ∷ ps) (g ∷ gs)
+    else if p.many then option_map (λ es. record { parameter = number; add = λ rest. Some (bound.by_list es rest) } ∷ []) (listed_values value (g ∷ gs))
+    else cons_if (Some (record { parameter = number; add = taken_by value p g })) (by_position value (suc number) ps gs)
+
+-- the parameters to which nothing is given
+abbrev pub left_over : ℕ → List Parameter → List Item → List Item
+left_over number [] is = []
+left_over number (p ∷ ps) is =
+    if list_any (λ (i : Item). i.parameter == number) is then left_over (suc number) ps is
+    else record { parameter = number; add = not_given_to p } ∷ left_over (suc number) ps is
+
+abbrev pub built : List Item → Option bound.Args
+built [] = Some bound.no_args
+built (i ∷ is) = option_and_then i.add (built is)
+
+-- at which place a parameter's argument is evaluated
+abbrev pub place_among : ℕ → List Item → ℕ
+place_among number [] = 0
+place_among number (i ∷ is) = if i.parameter == number then 0 else suc (place_among number is)
+
+abbrev pub order_from : ℕ → List Parameter → List Item → List ℕ
+order_from number [] is = []
+order_from number (p ∷ ps) is = place_among number is ∷ order_from (suc number) ps is
+
+-- no two are for one parameter
+abbrev pub are_apart : List Item → Bool
+are_apart [] = true
+are_apart (i ∷ is) = not (list_any (λ (j : Item). j.parameter == i.parameter) is) && are_apart is
+
+abbrev pub has_names : List Given → Bool
+has_names gs = list_any (λ (g : Given). is_some g.name) gs
+
+-- the arguments of a call, first those that are written, in their order
+abbrev pub bound_arguments : (Term → Place → Option bound.Expr) → List Parameter → List Given → Option bound.Args
+bound_arguments value ps gs = option_and_then with_rest (by_position value 0 ps gs)
+  where
+    ordered : List Item → bound.Args → bound.Args
+    ordered all args = if has_names gs then bound.in_order (order_from 0 ps all) args else args
+
+    with_all : List Item → Option bound.Args
+    with_all all = option_map (ordered all) (built all)
+
+    with_rest : List Item → Option bound.Args
+    with_rest is = if are_apart is then with_all (is ++ left_over 0 ps is) else None
