@@ -143,6 +143,10 @@ outside_functions =
     codes "year" ∷
     []
 
+-- types that VBA has and this library hasn't; where no type is looked for they are outside too
+abbrev pub outside_types : List (List ℕ)
+outside_types = codes "date" ∷ codes "decimal" ∷ codes "double" ∷ codes "single" ∷ []
+
 -- what stands beside a name in a table
 abbrev pub sought : {A : Type 0} → List ℕ → List (List ℕ × A) → Option A
 sought name [] = None
@@ -156,3 +160,6 @@ constant_named name = sought name constants
 
 abbrev pub is_outside : List ℕ → Bool
 is_outside name = list_any (bytes_eq name) outside_functions
+
+abbrev pub is_outside_type : List ℕ → Bool
+is_outside_type name = list_any (bytes_eq name) outside_types
