@@ -1,5 +1,5 @@
 // What the functions of the library take, and what they answer.
-ghost use Rattle.std.specs.Prelude.{◌≡◌};
+ghost use Rattle.std.specs.Prelude.{◌≡◌, IfOk};
 ghost use Rattle.vba_base.specs.Answer.{Gives};
 ghost use Rattle.vba_lib.specs.Arguments.{long_answer, long_of, text_answer};
 ghost use Rattle.vba_lib.specs.View.{units_of};
@@ -7,7 +7,7 @@ ghost use Rattle.vba_values.specs.Coerce.{text_of};
 ghost use Rattle.vba_values.specs.View.{view};
 
 use std::alloc::Global;
-use vba_base::{OrMemory, Units};
+use vba_base::{NoMemory, OrMemory, Units};
 use vba_values::{Bad, OutKind, VType, Value, coerce, text_of};
 
 /// The value that a function gives, or why it gives none.
@@ -72,6 +72,17 @@ pub fn text_answer(alloc: Global, units: &[u16]) -> Answer
         return Err(TEXT_TOO_LONG);
     }
     Ok(Value::Text(Units::from_units(alloc, units)?))
+}
+
+/// A text of these ASCII characters.
+pub fn ascii_text(alloc: Global, characters: &[u8]) -> Result<Units, NoMemory>
+    ensures { IfOk result (λ text. text ≡ characters.now) }
+{
+    let mut text = Units::with_capacity(alloc, characters.len())?;
+    for character in characters {
+        text.push(u16::from(*character))?;
+    }
+    Ok(text)
 }
 
 /// A number of units or a place, as a Long.

@@ -2,7 +2,10 @@
 #![tactic(auto)]
 
 mod arguments;
+mod characters;
 mod function;
+mod kinds;
+mod numbers;
 mod texts;
 
 pub use function::LibraryFunction;
