@@ -1,1 +1,2 @@
+pub mod FoldedFronts
 mod Rows

@@ -1,5 +1,7 @@
 -- What the code's values stand for.
-use Rattle.std.specs.Prelude.{ℕ, pos, List}
+use Rattle.std.specs.Prelude.{ℕ, Bool, false, ◌&&◌, pos, List, [], ◌∷◌, length, drop, nat_eq, bytes_eq, Option, Some, None, if◌then◌else◌}
+use Rattle.std.specs.List.{starts_with}
+use Rattle.std.specs.Char.Utf16.{is_high_surrogate, is_low_surrogate}
 use Rattle.vba_values.specs.declared.types.WholeKind.TheVariants as kind
 use Rattle.vba_values.specs.Val.{Val, whole, currency}
 use Rattle.vba_lib.specs.declared.arguments.TextArgument.{TextArgument}
@@ -19,3 +21,18 @@ number_view (Integer n) = whole kind.Integer n
 number_view (Long n) = whole kind.Long n
 number_view (LongLong n) = whole kind.LongLong n
 number_view (Currency count) = currency count
+
+-- how many units the first character of a text has
+abbrev pub first_size : List ℕ → ℕ
+first_size [] = 0
+first_size (unit ∷ []) = 1
+first_size (unit ∷ next ∷ units) = if is_high_surrogate unit && is_low_surrogate next then 2 else 1
+
+-- whether a fold is that of the first half of a character that is a pair
+abbrev pub ends_inside : List ℕ → List ℕ → Bool
+ends_inside fold (high ∷ low ∷ []) = bytes_eq fold (high ∷ [])
+ends_inside fold character = false
+
+-- what is left of a fold behind that of a character
+abbrev pub behind_fold : List ℕ → List ℕ → Option (List ℕ)
+behind_fold fold first = if starts_with nat_eq fold first then Some (drop (length first) fold) else None

@@ -1,8 +1,8 @@
 // Characters and their codes: 16-bit units, and Windows-1252.
-ghost use Rattle.std.specs.Prelude.{◌≡◌, ◌<◌, Ok};
+ghost use Rattle.std.specs.Prelude.{◌≡◌, ◌<◌, ◌==◌, length, position, Ok, IfSome};
 ghost use Rattle.vba_base.specs.Answer.{Gives};
 ghost use Rattle.vba_base.specs.Decode.{windows_1252};
-ghost use Rattle.vba_lib.specs.Characters.{asc, asc_w, character_of, chr, chr_w, code_of, first_unit, one_unit, repeated_unit, string, unit_of, unit_of_code};
+ghost use Rattle.vba_lib.specs.Characters.{asc, asc_w, character_of, chr, chr_w, code_of, first_unit, one_unit, place_from_80, repeated_unit, string, unit_of, unit_of_code};
 ghost use Rattle.vba_values.specs.View.{view};
 
 use crate::arguments::{Answer, INVALID_CALL, long_argument, text_argument};
@@ -100,11 +100,27 @@ fn code_of(unit: u16) -> u8
 {
     match unit {
         0..=0x7F | 0xA0..=0xFF => unit as u8,
-        _ => match FROM_80.iter().position(|character| *character == unit) {
+        _ => match place_from_80(unit) {
             Some(place) => 0x80 + place as u8,
             None => QUESTION_MARK,
         },
     }
+}
+
+/// The place of a character among those of the codes 80 to 9F.
+#[tactic(auto, unfolding(crate::specs::Characters::place_from_80))]
+fn place_from_80(unit: u16) -> Option<usize>
+    ensures value { result ≡ place_from_80 unit }
+    ensures within { IfSome result (λ place. place < 32) }
+{
+    place_among(&FROM_80, unit)
+}
+
+fn place_among(characters: &[u16], unit: u16) -> Option<usize>
+    ensures value { result ≡ position (λ character. character == unit) characters.now }
+    ensures within { IfSome result (λ place. place < length characters.now) }
+{
+    characters.iter().position(|character| *character == unit)
 }
 
 /// So many times one unit: the first one of a text, or the character of a number's last eight bits. A number below 0, an

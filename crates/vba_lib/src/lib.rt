@@ -3,9 +3,11 @@
 
 mod arguments;
 mod characters;
+mod folds;
 mod function;
 mod kinds;
 mod numbers;
+mod searching;
 mod texts;
 
 pub use function::LibraryFunction;
