@@ -1,2 +1,3 @@
 pub mod FoldedFronts
+pub mod PartsLaws
 mod Rows

@@ -1,7 +1,13 @@
 -- What the code's values stand for.
-use Rattle.std.specs.Prelude.{ℕ, Bool, false, ◌&&◌, pos, List, [], ◌∷◌, length, drop, nat_eq, bytes_eq, Option, Some, None, if◌then◌else◌}
+use Rattle.std.specs.Prelude.{◌≡◌, ◌<◌, ◌≤◌, ℕ, nat_lt, Bool, false, ◌&&◌, pos, List, [], ◌∷◌, ◌++◌, length, drop, nat_eq, bytes_eq, Option, Some, None, Result, Ok, Err, IsOk, if◌then◌else◌}
 use Rattle.std.specs.List.{starts_with}
 use Rattle.std.specs.Char.Utf16.{is_high_surrogate, is_low_surrogate}
+use Rattle.arrays_udt.specs.Errors.{too_many_elements}
+use Rattle.vba_base.specs.Answer.{Fails}
+use Rattle.vba_base.specs.declared.fault.OrMemory.{OrMemory}
+use Rattle.vba_base.specs.declared.fault.OrMemory.TheVariants.{Fault, NoMemory}
+use Rattle.vba_lib.specs.Arguments.{text_too_long}
+use Rattle.vba_values.specs.declared.fault.Bad.{Bad}
 use Rattle.vba_values.specs.declared.types.WholeKind.TheVariants as kind
 use Rattle.vba_values.specs.Val.{Val, whole, currency}
 use Rattle.vba_lib.specs.declared.arguments.TextArgument.{TextArgument}
@@ -36,3 +42,18 @@ ends_inside fold character = false
 -- what is left of a fold behind that of a character
 abbrev pub behind_fold : List ℕ → List ℕ → Option (List ℕ)
 behind_fold fold first = if starts_with nat_eq fold first then Some (drop (length first) fold) else None
+
+-- values of which an array doesn't have too many
+abbrev pub few_values : List Val → Result (List Val) Bad
+few_values values = if nat_lt 1048576 (length values) then Err too_many_elements else Ok values
+
+-- a text got these units behind it and isn't too long by them; or it would be, or memory ran out
+abbrev pub Extends : {X : Type 0} → Result X (OrMemory Bad) → List ℕ → List ℕ → List ℕ → Type 0
+Extends (Ok x) old units new = (new ≡ old ++ units) × (length new ≤ 16777216)
+Extends (Err (Fault bad)) old units new = (bad ≡ text_too_long) × (16777216 < length (old ++ units))
+Extends (Err NoMemory) old units new = Unit {0}
+
+-- what is meant is an answer, or else the fault is the one that is meant
+abbrev pub Checks : {X Y : Type 0} → Result X (OrMemory Bad) → Result Y Bad → Type 0
+Checks (Ok x) meant = IsOk meant
+Checks (Err e) meant = Fails e meant

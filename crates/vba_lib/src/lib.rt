@@ -7,6 +7,7 @@ mod folds;
 mod function;
 mod kinds;
 mod numbers;
+mod parts;
 mod searching;
 mod texts;
 

@@ -1,5 +1,5 @@
 // Texts inside of texts.
-ghost use Rattle.std.specs.Prelude.{◌≡◌, ◌<◌, ◌≤◌, length, pos, IfOk, Ok};
+ghost use Rattle.std.specs.Prelude.{◌≡◌, ◌<◌, ◌≤◌, ◌+◌, length, IfOk, Ok};
 ghost use Rattle.vba_base.specs.Answer.{Gives};
 ghost use Rattle.vba_lib.specs.Searching.{begins_with_fold, chosen, compared, first_place, in_str, in_str_by, in_str_from, place_of, stands, str_comp, str_comp_by};
 ghost use Rattle.vba_values.specs.Comparison.{compare_texts};
@@ -89,7 +89,8 @@ fn place_of(alloc: Global, compare: Compare, start: i32, units: &[u16], sought: 
 /// The first place at which the sought units stand, where the first unit has the place that is given.
 pub fn first_place(sought: &[u16], place: usize, units: &[u16]) -> usize
     requires { place ≤ 4294967296 }
-    ensures { result ≡ first_place (stands Compare.Binary sought.now) place units.now }
+    ensures value { result ≡ first_place (stands Compare.Binary sought.now) place units.now }
+    ensures within { 0 < result → (place ≤ result) × (result + length sought.now ≤ place + length units.now) }
 {
     let mut rest = units;
     let mut place = place;
