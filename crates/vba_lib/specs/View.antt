@@ -9,7 +9,9 @@ use Rattle.vba_base.specs.declared.fault.OrMemory.TheVariants.{Fault, NoMemory}
 use Rattle.vba_lib.specs.Arguments.{text_too_long}
 use Rattle.vba_values.specs.declared.fault.Bad.{Bad}
 use Rattle.vba_values.specs.declared.types.WholeKind.TheVariants as kind
-use Rattle.vba_values.specs.Val.{Val, whole, currency}
+use Rattle.vba_values.specs.Coerce.{text_of}
+use Rattle.vba_values.specs.Val.{Val, Vals, whole, currency, no_vals, val}
+use Rattle.std.specs.Result.{result_unwrap_or}
 use Rattle.vba_lib.specs.declared.arguments.TextArgument.{TextArgument}
 use Rattle.vba_lib.specs.declared.arguments.TextArgument.TheVariants.{Lent, Made}
 use Rattle.vba_lib.specs.declared.numbers.Number.{Number}
@@ -47,6 +49,12 @@ behind_fold fold first = if starts_with nat_eq fold first then Some (drop (lengt
 abbrev pub few_values : List Val → Result (List Val) Bad
 few_values values = if nat_lt 1048576 (length values) then Err too_many_elements else Ok values
 
+-- these are the values that are meant, of which there aren't too many; or there are, or memory ran out
+abbrev pub Pushes : {X : Type 0} → Result X (OrMemory Bad) → List Val → List Val → Type 0
+Pushes (Ok x) meant values = (values ≡ meant) × (length values ≤ 1048576)
+Pushes (Err (Fault bad)) meant values = (bad ≡ too_many_elements) × (1048576 < length meant)
+Pushes (Err NoMemory) meant values = Unit {0}
+
 -- a text got these units behind it and isn't too long by them; or it would be, or memory ran out
 abbrev pub Extends : {X : Type 0} → Result X (OrMemory Bad) → List ℕ → List ℕ → List ℕ → Type 0
 Extends (Ok x) old units new = (new ≡ old ++ units) × (length new ≤ 16777216)
@@ -57,3 +65,8 @@ Extends (Err NoMemory) old units new = Unit {0}
 abbrev pub Checks : {X Y : Type 0} → Result X (OrMemory Bad) → Result Y Bad → Type 0
 Checks (Ok x) meant = IsOk meant
 Checks (Err e) meant = Fails e meant
+
+-- the texts of values that have texts
+abbrev pub texts_in : Vals → List (List ℕ)
+texts_in no_vals = []
+texts_in (val v vs) = result_unwrap_or (text_of v) [] ∷ texts_in vs
