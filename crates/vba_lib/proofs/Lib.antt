@@ -1,1 +1,4 @@
+pub mod FoldedFronts
+pub mod Nulls
+pub mod PartsLaws
 mod Rows

@@ -14,6 +14,7 @@ use Rattle.vba_values.specs.declared.types.WholeKind.TheVariants.{Byte, Integer,
 use Rattle.vba_values.specs.Types as type
 use Rattle.vba_values.specs.Val.{empty, null, missing, boolean, whole, currency, text, object, array, no_vals, vals_of}
 use Rattle.vba_lib.specs.declared.function.LibraryFunction.TheVariants as function
+use Rattle.vba_lib.specs.Characters.{place_from_80}
 use Rattle.vba_lib.specs.Library.{arity_of, declared_of, has_text_form, library_of}
 use Rattle.vba_lib.specs.Names.{constant_named, function_named, is_outside}
 
@@ -236,12 +237,15 @@ chr_below = refl
 
 -- Asc of the Euro sign is 128, of a character without a code 63, and Asc("") raises 5
 asc_euro : library_of function.Asc false ((text (0x20ac ∷ [])) ∷ []) Binary (pos 0) ≡ Ok (whole Integer (pos 128))
+unfolding place_from_80
 asc_euro = refl
 
 asc_none : library_of function.Asc false ((text (0x3b1 ∷ [])) ∷ []) Binary (pos 0) ≡ Ok (whole Integer (pos 63))
+unfolding place_from_80
 asc_none = refl
 
 asc_control : library_of function.Asc false ((text (0x80 ∷ [])) ∷ []) Binary (pos 0) ≡ Ok (whole Integer (pos 63))
+unfolding place_from_80
 asc_control = refl
 
 asc_empty : library_of function.Asc false ((text []) ∷ []) Binary (pos 0) ≡ Err (Raise 5)

@@ -1,5 +1,5 @@
 -- Arrays and their bounds, and the functions that make arrays and texts of one another.
-use Rattle.std.specs.Prelude.{ℕ, zero, suc, nat_lt, ℤ, pos, negsuc, ◌+ℤ◌, ◌-ℤ◌, List, [], ◌∷◌, length, map, Result, Ok, Err, if◌then◌else◌}
+use Rattle.std.specs.Prelude.{ℕ, suc, nat_lt, ℤ, pos, ◌+ℤ◌, ◌-ℤ◌, List, [], ◌∷◌, length, map, slice_get, Option, Some, None, Result, Ok, Err, if◌then◌else◌}
 use Rattle.currency.specs.NumberText.{blank}
 use Rattle.vba_base.specs.Answer.{◌>>=◌}
 use Rattle.vba_values.specs.declared.fault.Bad.{Bad}
@@ -20,15 +20,13 @@ bounds_of (array bounds element items) = Ok bounds
 bounds_of value = Err type_mismatch
 
 -- one of some bounds, counted from 1: an array without storage has none
-abbrev pub nth_bound : List Bound → ℕ → Result Bound Bad
-nth_bound [] place = Err out_of_range
-nth_bound (bound ∷ bounds) zero = Err out_of_range
-nth_bound (bound ∷ bounds) (suc zero) = Ok bound
-nth_bound (bound ∷ bounds) (suc place) = nth_bound bounds place
+abbrev pub found_bound : Option Bound → Result Bound Bad
+found_bound None = Err out_of_range
+found_bound (Some bound) = Ok bound
 
 abbrev pub numbered_bound : List Bound → ℤ → Result Bound Bad
-numbered_bound bounds (pos place) = nth_bound bounds place
-numbered_bound bounds (negsuc place) = Err out_of_range
+numbered_bound bounds (pos (suc before)) = found_bound (slice_get bounds before)
+numbered_bound bounds number = Err out_of_range
 
 -- UBound and LBound of the first bound, and of a numbered one
 abbrev pub bound_of : Val → ℤ → Result Bound Bad
@@ -71,8 +69,11 @@ abbrev pub texts_of : Vals → Result (List (List ℕ)) Bad
 texts_of no_vals = Ok []
 texts_of (val v vs) = text_of v >>= λ units. texts_of vs >>= λ texts. Ok (units ∷ texts)
 
+abbrev pub join_elements : List ℕ → Vals → Result Val Bad
+join_elements separator items = texts_of items >>= λ texts. text_answer (joined_by separator texts)
+
 abbrev pub join_by : List ℕ → Val → Result Val Bad
-join_by separator value = elements_of value >>= λ items. texts_of items >>= λ texts. text_answer (joined_by separator texts)
+join_by separator value = elements_of value >>= λ items. join_elements separator items
 
 abbrev pub join : Val → Result Val Bad
 join value = join_by (blank ∷ []) value

@@ -47,10 +47,13 @@ abbrev pub code_from_80 : Option ℕ → ℕ
 code_from_80 None = 63
 code_from_80 (Some place) = 0x80 + place
 
+unfoldable pub place_from_80 : ℕ → Option ℕ
+place_from_80 unit = position (λ character. character == unit) windows_1252_from_80
+
 abbrev pub code_of : ℕ → ℕ
 code_of unit =
     if nat_lt unit 0x80 || (nat_le 0xA0 unit && nat_lt unit 0x100) then unit
-    else code_from_80 (position (λ character. character == unit) windows_1252_from_80)
+    else code_from_80 (place_from_80 unit)
 
 -- Asc: the code of the first unit
 abbrev pub asc : Val → Result Val Bad

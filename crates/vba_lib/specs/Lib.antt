@@ -7,3 +7,4 @@ pub mod Names
 pub mod Numbers
 pub mod Searching
 pub mod Texts
+pub mod View

@@ -72,23 +72,27 @@ target_of function.CBool = type.boolean
 target_of function.CStr = type.text
 target_of other = type.variant
 
--- the declared type of a use without $
+-- the declared type of a use without $, but for an array that of its elements
+abbrev pub element_type : LibraryFunction → Declared
+element_type function.UBound = type.long
+element_type function.LBound = type.long
+element_type function.VarType = type.long
+element_type function.Asc = type.integer
+element_type function.AscW = type.integer
+element_type function.Sgn = type.integer
+element_type function.IsEmpty = type.boolean
+element_type function.IsNull = type.boolean
+element_type function.IsObject = type.boolean
+element_type function.IsArray = type.boolean
+element_type function.IsMissing = type.boolean
+element_type function.TypeName = type.text
+element_type function.Replace = type.text
+element_type function.Split = type.text
+element_type other = target_of other
+
 abbrev pub answer_type : LibraryFunction → Declared
-answer_type function.UBound = type.long
-answer_type function.LBound = type.long
-answer_type function.VarType = type.long
-answer_type function.Asc = type.integer
-answer_type function.AscW = type.integer
-answer_type function.Sgn = type.integer
-answer_type function.IsEmpty = type.boolean
-answer_type function.IsNull = type.boolean
-answer_type function.IsObject = type.boolean
-answer_type function.IsArray = type.boolean
-answer_type function.IsMissing = type.boolean
-answer_type function.TypeName = type.text
-answer_type function.Replace = type.text
 answer_type function.Split = type.array_of type.text
-answer_type other = target_of other
+answer_type other = element_type other
 
 -- the declared type of a use: each name written with $ is a String
 abbrev pub declared_of : LibraryFunction → Bool → Declared
@@ -243,6 +247,6 @@ is_array_function other = false
 -- for Array
 abbrev pub library_of : LibraryFunction → Bool → List Val → Compare → ℤ → Result Val Bad
 library_of function text_form arguments compare base =
-    if list_any is_null arguments && not (takes_null function) then of_null function text_form
+    if not (takes_null function) && list_any is_null arguments then of_null function text_form
     else if is_array_function function then array_from base type.variant arguments
     else of_arguments function compare arguments

@@ -1,8 +1,10 @@
 -- The names of the library, by their case folds and without `$`.
-use Rattle.std.specs.Prelude.{ℕ, Bool, ℤ, pos, negsuc, List, [], ◌∷◌, Option, Some, None, bytes_eq, codes, if◌then◌else◌}
+use Rattle.std.specs.Prelude.{ℕ, Bool, ℤ, pos, negsuc, List, [], ◌∷◌, Option, Some, None, option_map, bytes_eq, codes, if◌then◌else◌}
 use Rattle.std.specs.List.{list_any}
 use Rattle.vba_values.specs.declared.types.WholeKind.TheVariants as kind
 use Rattle.vba_values.specs.Val.{Val, whole, text}
+use Rattle.vba_lib.specs.declared.constant.Constant.{Constant}
+use Rattle.vba_lib.specs.declared.constant.Constant.TheVariants as constant
 use Rattle.vba_lib.specs.declared.function.LibraryFunction.{LibraryFunction}
 use Rattle.vba_lib.specs.declared.function.LibraryFunction.TheVariants as function
 
@@ -57,36 +59,33 @@ functions =
     (codes "vartype", function.VarType) ∷
     []
 
--- the constants in alphabetical order: texts, and numbers as Longs
-abbrev pub long_constant : ℤ → Val
-long_constant number = whole kind.Long number
-
-abbrev pub constants : List (List ℕ × Val)
+-- the constants in alphabetical order
+abbrev pub constants : List (List ℕ × Constant)
 constants =
-    (codes "vbarray", long_constant (pos 8192)) ∷
-    (codes "vbbinarycompare", long_constant (pos 0)) ∷
-    (codes "vbboolean", long_constant (pos 11)) ∷
-    (codes "vbbyte", long_constant (pos 17)) ∷
-    (codes "vbcr", text (13 ∷ [])) ∷
-    (codes "vbcrlf", text (13 ∷ 10 ∷ [])) ∷
-    (codes "vbcurrency", long_constant (pos 6)) ∷
-    (codes "vbempty", long_constant (pos 0)) ∷
-    (codes "vberror", long_constant (pos 10)) ∷
-    (codes "vbfalse", long_constant (pos 0)) ∷
-    (codes "vbinteger", long_constant (pos 2)) ∷
-    (codes "vblf", text (10 ∷ [])) ∷
-    (codes "vblong", long_constant (pos 3)) ∷
-    (codes "vblonglong", long_constant (pos 20)) ∷
-    (codes "vbnewline", text (13 ∷ 10 ∷ [])) ∷
-    (codes "vbnull", long_constant (pos 1)) ∷
-    (codes "vbnullstring", text []) ∷
-    (codes "vbobject", long_constant (pos 9)) ∷
-    (codes "vbobjecterror", long_constant (negsuc 2147221503)) ∷
-    (codes "vbstring", long_constant (pos 8)) ∷
-    (codes "vbtab", text (9 ∷ [])) ∷
-    (codes "vbtextcompare", long_constant (pos 1)) ∷
-    (codes "vbtrue", long_constant (negsuc 0)) ∷
-    (codes "vbvariant", long_constant (pos 12)) ∷
+    (codes "vbarray", constant.Number (pos 8192)) ∷
+    (codes "vbbinarycompare", constant.Number (pos 0)) ∷
+    (codes "vbboolean", constant.Number (pos 11)) ∷
+    (codes "vbbyte", constant.Number (pos 17)) ∷
+    (codes "vbcr", constant.Return) ∷
+    (codes "vbcrlf", constant.LineBreak) ∷
+    (codes "vbcurrency", constant.Number (pos 6)) ∷
+    (codes "vbempty", constant.Number (pos 0)) ∷
+    (codes "vberror", constant.Number (pos 10)) ∷
+    (codes "vbfalse", constant.Number (pos 0)) ∷
+    (codes "vbinteger", constant.Number (pos 2)) ∷
+    (codes "vblf", constant.LineFeed) ∷
+    (codes "vblong", constant.Number (pos 3)) ∷
+    (codes "vblonglong", constant.Number (pos 20)) ∷
+    (codes "vbnewline", constant.LineBreak) ∷
+    (codes "vbnull", constant.Number (pos 1)) ∷
+    (codes "vbnullstring", constant.NoText) ∷
+    (codes "vbobject", constant.Number (pos 9)) ∷
+    (codes "vbobjecterror", constant.Number (negsuc 2147221503)) ∷
+    (codes "vbstring", constant.Number (pos 8)) ∷
+    (codes "vbtab", constant.Tab) ∷
+    (codes "vbtextcompare", constant.Number (pos 1)) ∷
+    (codes "vbtrue", constant.Number (negsuc 0)) ∷
+    (codes "vbvariant", constant.Number (pos 12)) ∷
     []
 
 -- functions that VBA has and this library hasn't, in alphabetical order
@@ -143,6 +142,10 @@ outside_functions =
     codes "year" ∷
     []
 
+-- types that VBA has and this library hasn't; where no type is looked for they are outside too
+abbrev pub outside_types : List (List ℕ)
+outside_types = codes "date" ∷ codes "decimal" ∷ codes "double" ∷ codes "single" ∷ []
+
 -- what stands beside a name in a table
 abbrev pub sought : {A : Type 0} → List ℕ → List (List ℕ × A) → Option A
 sought name [] = None
@@ -151,8 +154,20 @@ sought name (row ∷ rows) = if bytes_eq name row.0 then Some row.1 else sought 
 abbrev pub function_named : List ℕ → Option LibraryFunction
 function_named name = sought name functions
 
+-- the value of a constant: a text, or a number as a Long
+abbrev pub constant_value : Constant → Val
+constant_value constant.LineBreak = text (13 ∷ 10 ∷ [])
+constant_value constant.Return = text (13 ∷ [])
+constant_value constant.LineFeed = text (10 ∷ [])
+constant_value constant.Tab = text (9 ∷ [])
+constant_value constant.NoText = text []
+constant_value (constant.Number number) = whole kind.Long number
+
 abbrev pub constant_named : List ℕ → Option Val
-constant_named name = sought name constants
+constant_named name = option_map constant_value (sought name constants)
 
 abbrev pub is_outside : List ℕ → Bool
 is_outside name = list_any (bytes_eq name) outside_functions
+
+abbrev pub is_outside_type : List ℕ → Bool
+is_outside_type name = list_any (bytes_eq name) outside_types

@@ -1,6 +1,6 @@
 -- Texts inside of texts.
 use Rattle.std.specs.Prelude.{ℕ, zero, suc, ◌+◌, nat_lt, nat_eq, Bool, ℤ, pos, negsuc, List, [], ◌∷◌, ◌++◌, length, take, drop, map, flat_map, bytes_eq, Result, Ok, Err, if◌then◌else◌}
-use Rattle.std.specs.List.{list_any, range_with_len, starts_with}
+use Rattle.std.specs.List.{list_any, starts_with}
 use Rattle.std.specs.Ordering.{int_eq}
 use Rattle.std.specs.declared.cmp.Ordering.{Ordering}
 use Rattle.std.specs.declared.cmp.Ordering.TheVariants.{Less, Equal, Greater}
@@ -16,9 +16,14 @@ use Rattle.vba_values.specs.Comparison.{compare_texts}
 use Rattle.vba_values.specs.Val.{Val, whole}
 use Rattle.vba_lib.specs.Arguments.{invalid_call, long_answer, long_of, text_answer}
 
--- whether some slice that a text begins with folds to this
+-- the slices with which a text begins
+abbrev pub fronts : List ℕ → List (List ℕ)
+fronts [] = [] ∷ []
+fronts (unit ∷ units) = [] ∷ map (λ front. unit ∷ front) (fronts units)
+
+-- whether one of them folds to this
 abbrev pub begins_with_fold : List ℕ → List ℕ → Bool
-begins_with_fold fold units = list_any (λ count. bytes_eq (folded (take count units)) fold) (range_with_len 0 (length units + 1))
+begins_with_fold fold units = list_any (λ front. bytes_eq (folded front) fold) (fronts units)
 
 -- whether the sought text stands where these units begin
 abbrev pub stands : Compare → List ℕ → List ℕ → Bool

@@ -1,6 +1,21 @@
 //! The functions of the VBA library.
 #![tactic(auto)]
 
+mod arguments;
+mod arrays;
+mod calls;
+mod characters;
+mod constant;
+mod folds;
 mod function;
+mod kinds;
 
-pub use function::LibraryFunction;
+mod numbers;
+mod parts;
+mod searching;
+mod table;
+mod texts;
+
+pub use constant::library_constant;
+pub use function::{LibraryFunction, is_outside_name, is_outside_type, library_named};
+pub use calls::{arity, declared_type, has_text_form, library};
