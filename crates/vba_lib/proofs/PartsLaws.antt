@@ -26,7 +26,7 @@ same_parts (suc m) zero separator (x ∷ units) some below enough = absurd (omeg
 same_parts (suc m) (suc n) separator units some below enough =
     same_cuts separator units (λ rest. parts_within m separator rest) (λ rest. parts_within n separator rest) (first_place (stands Binary separator) 1 units)
     (λ before. same_parts m n separator (drop (before + length separator) units) some
-      (omega (arith, length-drop (before + length separator) units)) (omega (arith, length-drop (before + length separator) units)))
+    (omega (arith, length-drop (before + length separator) units)) (omega (arith, length-drop (before + length separator) units)))
 
 -- the text where the separator stands nowhere, and where it stands at a place
 pub parts_end : (separator units : List ℕ) → 0 ≡ first_place (stands Binary separator) 1 units → parts separator units ≡ units ∷ []
@@ -43,7 +43,7 @@ parts_cut separator (x ∷ units) (suc before) some found is =
     rw less
     (ap (cut_at separator (x ∷ units) (λ rest. parts_within (length units) separator rest)) (sym is)
     ∙ ap (λ t. take before (x ∷ units) ∷ t) (same_parts (length units) (length rest) separator rest some
-        (omega (arith, length-drop (before + length separator) (x ∷ units))) (omega arith)))
+    (omega (arith, length-drop (before + length separator) (x ∷ units))) (omega arith)))
 
 -- a text has some parts
 parts_some : (n : ℕ) (separator units : List ℕ) → (first : List ℕ) × (others : List (List ℕ)) × (parts_within n separator units ≡ first ∷ others)

@@ -130,11 +130,7 @@ fn split_by(alloc: Global, separator: &[u16], units: &[u16]) -> Answer
     array_from(alloc, 0, VType::Text, texts)
 }
 
-fn split_texts(
-    alloc: Global,
-    separator: &[u16],
-    units: &[u16],
-) -> Result<Vec<Value>, OrMemory<Bad>>
+fn split_texts(alloc: Global, separator: &[u16], units: &[u16]) -> Result<Vec<Value>, OrMemory<Bad>>
     ensures { Gives (λ texts. map view texts.items) result (few_values (map text (split_parts separator.now units.now))) }
 {
     if units.is_empty() {
