@@ -1,5 +1,5 @@
 -- More arguments than any function but Array takes.
-use Rattle.std.proofs.Common.{◌≡◌, ◌≤◌, List, [], ◌∷◌, length, map, Result, Err, refl, arith}
+use Rattle.std.proofs.Common.{◌≡◌, ◌≤◌, List, [], ◌∷◌, length, map, Err, refl, arith}
 use Rattle.vba_values.specs.declared.types.Compare.{Compare}
 use Rattle.vba_values.specs.declared.value.Value.{Value}
 use Rattle.vba_values.specs.View.{view}

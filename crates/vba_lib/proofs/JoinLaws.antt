@@ -1,10 +1,10 @@
 -- Elements that have texts, joined.
-use Rattle.std.proofs.Common.{◌≡◌, ◌≤◌, length, arith, rules, List, [], ◌∷◌, Result, Ok, Err, IsOk, ℕ, refl, ap, ◌∙◌}
+use Rattle.std.proofs.Common.{◌≡◌, ◌≤◌, length, arith, rules, List, [], ◌∷◌, Result, Ok, Err, IsOk, ℕ, refl, ap}
 use Rattle.std.proofs.lemmas.Grind.{common_steps}
 use Rattle.vba_base.specs.Answer.{◌>>=◌}
 use Rattle.vba_values.specs.declared.fault.Bad.{Bad}
 use Rattle.vba_values.specs.Coerce.{text_of}
-use Rattle.vba_values.specs.Val.{Val, Vals, text, no_vals, val}
+use Rattle.vba_values.specs.Val.{Vals, text, no_vals, val}
 use Rattle.std.specs.Result.{result_unwrap_or}
 use Rattle.vba_values.specs.declared.value.Value.{Text, the_lemmas}
 use Rattle.vba_values.specs.View.{view}

@@ -1,7 +1,6 @@
 -- The parts of a text between separators, one after another.
-use Rattle.std.proofs.Common.{◌≡◌, ℕ, zero, suc, ◌+◌, ◌-◌, ◌<◌, ◌≤◌, Bool, true, false, ◌&&◌, List, [], ◌∷◌, ◌++◌, length, take, drop, map, refl, ap, sym, ◌∙◌, nat_eq, nat_lt, nat_le, flat_map, Result, Ok, Err, append_assoc, length-append, length-drop, if◌then◌else◌, arith, rules}
+use Rattle.std.proofs.Common.{◌≡◌, ℕ, zero, suc, ◌+◌, ◌-◌, ◌<◌, ◌≤◌, List, [], ◌∷◌, ◌++◌, length, take, drop, refl, ap, sym, ◌∙◌, flat_map, Err, append_assoc, length-append, length-drop, arith}
 use Rattle.std.proofs.lemmas.Grind.{common_steps}
-use Rattle.std.specs.List.{starts_with}
 use Rattle.vba_values.specs.declared.types.Compare.TheVariants.{Binary}
 use Rattle.vba_lib.specs.Arguments.{text_answer, text_too_long}
 use Rattle.vba_lib.specs.Searching.{cut_at, first_place, joined_by, parts, parts_within, stands}

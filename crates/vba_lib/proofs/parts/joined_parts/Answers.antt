@@ -1,6 +1,5 @@
-use Rattle.std.proofs.Common.{◌≡◌, ◌++◌, arith}
+use Rattle.std.proofs.Common.{arith}
 use Rattle.std.proofs.lemmas.Grind.{common_steps}
-use Rattle.vba_lib.specs.Searching.{joined_by, parts}
 use Rattle.vba_lib.proofs.PartsLaws.{begins_too_long, part_joined}
 use Rattle.vba_lib.proofs.parts.joined_parts.Goals as goal
 
