@@ -22,6 +22,10 @@
 //! - of amounts in ten-thousandths `add`, `subtract`, `multiply`, `negate`, `round` to a whole number, `whole` from
 //!   one, `print`, and `order AMOUNT TEXT`; of texts `amount` and `number`;
 //! - of texts `decode BYTES`, `encode TEXT` and `fold TEXT`;
+//! - of the library `library NAME VALUE ..`, with `$` behind the name where it is written so, `Base1` behind under
+//!   `Option Base 1` and `Folded` behind where texts compare without case (of an array an answer tells its bounds and
+//!   its elements, as `0..1;Text("a");Text("b")`), `function NAME` (its least and greatest number of arguments),
+//!   `constant NAME`, and `outside NAME` (whether it is a function or type that VBA has and the library hasn't);
 //! - of arrays `shape BOUNDS`, with bounds as `1..4`, and `place BOUNDS at NUMBERS`;
 //! - of sheets `field TEXT` (its value, and what that is saved as), `sheet BYTES` (its fields with `|` behind each
 //!   and `/` behind each row, and the file that it is saved as), `cell BYTES ROW COLUMN`, `book BYTES ADDRESS VALUE
@@ -31,6 +35,7 @@
 
 mod amounts;
 mod arrays;
+mod library;
 mod operators;
 mod sheets;
 mod texts;
@@ -39,6 +44,7 @@ mod words;
 
 use amounts::{between, negated, of_amount, of_text, ordered, whole};
 use arrays::{initial, place, shape};
+use library::{library_of, named};
 use operators::{binary_of, coerced, static_of, text_of_value, unary_of};
 use sheets::{cell, field, found_address, host_member, moved, read_and_saved, written};
 use std::alloc::Global;
@@ -111,6 +117,8 @@ fn perform(alloc: Global, out: &mut String, case: &str) -> Answer<()> {
         "shape" => shape(alloc, out, rest),
         "place" => place(alloc, out, rest),
         "fresh" => initial(alloc, out, rest),
+        "library" => library_of(alloc, out, &words),
+        "function" | "constant" | "outside" => named(alloc, out, kind, rest),
         _ => perform_with_values(alloc, out, kind, &words),
     }
 }

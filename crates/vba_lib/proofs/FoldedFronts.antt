@@ -1,5 +1,5 @@
 -- Slices with which a text begins and that fold to a case fold, by the text's first character.
-use Rattle.std.proofs.Common.{◌≡◌, ℕ, ◌+◌, ◌<◌, suc, Option, Some, None, Bool, true, false, ◌&&◌, ◌||◌, List, [], ◌∷◌, ◌++◌, length, map, take, drop, refl, ap, ◌∙◌, sym, nat_eq, nat_lt, nat_le, bytes_eq, if◌then◌else◌, arith}
+use Rattle.std.proofs.Common.{◌≡◌, ℕ, ◌<◌, Some, None, Bool, true, false, ◌&&◌, ◌||◌, List, [], ◌∷◌, ◌++◌, length, map, take, drop, refl, ap, ◌∙◌, sym, nat_eq, nat_lt, nat_le, bytes_eq, if◌then◌else◌, arith}
 use Rattle.std.proofs.lemmas.List.{append-nil}
 use Rattle.std.proofs.lemmas.Bool.{eqb-true}
 use Rattle.std.specs.Char.Utf16.{is_high_surrogate, is_low_surrogate, surrogate_pair_char}
@@ -33,6 +33,7 @@ bytes_eq-append (x ∷ a) b (y ∷ fold) = ap (λ t. nat_eq x y && t) (bytes_eq-
 -- the same of one of several second parts
 one_of : List ℕ → List (List ℕ) → Bool
 one_of fold fs = list_any (λ f. bytes_eq (folded f) fold) fs
+
 one_behind : List ℕ → List ℕ → List (List ℕ) → Bool
 one_behind first fold fs = list_any (λ f. bytes_eq (first ++ folded f) fold) fs
 
@@ -136,9 +137,9 @@ begins_with_pair high low units fold some pair =
     ∙ (ap (λ t. bytes_eq (high ∷ []) fold || t) (pairs_behind high low fold (fronts units) pair ∙ some_behind character fold (fronts units))
     ∙ ap (λ t. bytes_eq (high ∷ []) fold || (starts_with nat_eq fold t && one_of (drop (length t) fold) (fronts units))) (sym whole)))
   where
-  is_first : (a b : Bool) → a && b ≡ true → a ≡ true
-  is_first true b e = refl
-  is_first false b e = e
+    is_first : (a b : Bool) → a && b ≡ true → a ≡ true
+    is_first true b e = refl
+    is_first false b e = e
 
 -- it doesn't matter which of two texts stands first
 nat_eq-other : (a b : ℕ) → nat_eq a b ≡ nat_eq b a
@@ -152,12 +153,12 @@ other_way unit (x ∷ y ∷ fold) = and_none (nat_eq unit x) ∙ sym (and_none (
 -- the test by the first character, where no slice ends inside of it
 pub begins_step : (fold units : List ℕ) → 0 < length fold → 0 < length units → ends_inside fold (take (first_size units) units) ≡ false
     → begins_with_fold fold units ≡ starts_with nat_eq fold (folded (take (first_size units) units))
-        && begins_with_fold (drop (length (folded (take (first_size units) units))) fold) (drop (first_size units) units)
+    && begins_with_fold (drop (length (folded (take (first_size units) units))) fold) (drop (first_size units) units)
 begins_step fold [] some more inside = absurd (omega arith)
 begins_step fold (unit ∷ []) some more inside = begins_with_unit unit [] fold some refl
 begins_step fold (unit ∷ next ∷ units) some more inside = by (is_high_surrogate unit && is_low_surrogate next) refl where
   by : (b : Bool) → is_high_surrogate unit && is_low_surrogate next ≡ b → begins_with_fold fold (unit ∷ next ∷ units) ≡ starts_with nat_eq fold (folded (take (first_size (unit ∷ next ∷ units)) (unit ∷ next ∷ units)))
-        && begins_with_fold (drop (length (folded (take (first_size (unit ∷ next ∷ units)) (unit ∷ next ∷ units)))) fold) (drop (first_size (unit ∷ next ∷ units)) (unit ∷ next ∷ units))
+      && begins_with_fold (drop (length (folded (take (first_size (unit ∷ next ∷ units)) (unit ∷ next ∷ units)))) fold) (drop (first_size (unit ∷ next ∷ units)) (unit ∷ next ∷ units))
   by true is =
       let no : bytes_eq (unit ∷ []) fold ≡ false = other_way unit fold ∙ (rw is at inside) in
       rw is (begins_with_pair unit next units fold some is ∙ rw no refl)

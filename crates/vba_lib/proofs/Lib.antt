@@ -1,4 +1,5 @@
+pub mod Counts
 pub mod FoldedFronts
-pub mod Nulls
+pub mod JoinLaws
 pub mod PartsLaws
 mod Rows

@@ -1,7 +1,6 @@
 -- The parts of a text between separators, one after another.
-use Rattle.std.proofs.Common.{◌≡◌, ℕ, zero, suc, ◌+◌, ◌-◌, ◌<◌, ◌≤◌, Bool, true, false, ◌&&◌, List, [], ◌∷◌, ◌++◌, length, take, drop, map, refl, ap, sym, ◌∙◌, nat_eq, nat_lt, nat_le, flat_map, Result, Ok, Err, append_assoc, length-append, length-drop, if◌then◌else◌, arith, rules}
+use Rattle.std.proofs.Common.{◌≡◌, ℕ, zero, suc, ◌+◌, ◌-◌, ◌<◌, ◌≤◌, List, [], ◌∷◌, ◌++◌, length, take, drop, refl, ap, sym, ◌∙◌, flat_map, Err, append_assoc, length-append, length-drop, arith}
 use Rattle.std.proofs.lemmas.Grind.{common_steps}
-use Rattle.std.specs.List.{starts_with}
 use Rattle.vba_values.specs.declared.types.Compare.TheVariants.{Binary}
 use Rattle.vba_lib.specs.Arguments.{text_answer, text_too_long}
 use Rattle.vba_lib.specs.Searching.{cut_at, first_place, joined_by, parts, parts_within, stands}
@@ -26,7 +25,7 @@ same_parts (suc m) zero separator (x ∷ units) some below enough = absurd (omeg
 same_parts (suc m) (suc n) separator units some below enough =
     same_cuts separator units (λ rest. parts_within m separator rest) (λ rest. parts_within n separator rest) (first_place (stands Binary separator) 1 units)
     (λ before. same_parts m n separator (drop (before + length separator) units) some
-      (omega (arith, length-drop (before + length separator) units)) (omega (arith, length-drop (before + length separator) units)))
+    (omega (arith, length-drop (before + length separator) units)) (omega (arith, length-drop (before + length separator) units)))
 
 -- the text where the separator stands nowhere, and where it stands at a place
 pub parts_end : (separator units : List ℕ) → 0 ≡ first_place (stands Binary separator) 1 units → parts separator units ≡ units ∷ []
@@ -43,7 +42,7 @@ parts_cut separator (x ∷ units) (suc before) some found is =
     rw less
     (ap (cut_at separator (x ∷ units) (λ rest. parts_within (length units) separator rest)) (sym is)
     ∙ ap (λ t. take before (x ∷ units) ∷ t) (same_parts (length units) (length rest) separator rest some
-        (omega (arith, length-drop (before + length separator) (x ∷ units))) (omega arith)))
+    (omega (arith, length-drop (before + length separator) (x ∷ units))) (omega arith)))
 
 -- a text has some parts
 parts_some : (n : ℕ) (separator units : List ℕ) → (first : List ℕ) × (others : List (List ℕ)) × (parts_within n separator units ≡ first ∷ others)

@@ -11,7 +11,7 @@ use Rattle.vba_values.specs.Types.{Declared}
 use Rattle.vba_values.specs.Types as type
 use Rattle.vba_values.specs.Val.{Val, Vals, whole, text, array, no_vals, val, vals_of}
 use Rattle.arrays_udt.specs.Errors.{out_of_range, too_many_elements}
-use Rattle.vba_lib.specs.Arguments.{long_of, text_answer}
+use Rattle.vba_lib.specs.Arguments.{text_answer}
 use Rattle.vba_lib.specs.Searching.{joined_by, parts}
 
 -- the bounds of a value that is an array

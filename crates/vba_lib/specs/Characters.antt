@@ -2,13 +2,12 @@
 use Rattle.std.specs.Prelude.{ℕ, ◌+◌, ◌%◌, ◌==◌, nat_lt, nat_le, Bool, ◌&&◌, ◌||◌, ℤ, pos, negsuc, List, [], ◌∷◌, Option, Some, None, Result, Ok, Err, if◌then◌else◌}
 use Rattle.std.specs.Int.{w16, cast_signed, cast_unsigned}
 use Rattle.std.specs.List.{position}
-use Rattle.std.specs.Ordering.{int_cmp}
 use Rattle.vba_base.specs.Answer.{◌>>=◌}
 use Rattle.vba_base.specs.Decode.{windows_1252, windows_1252_from_80}
 use Rattle.vba_values.specs.declared.fault.Bad.{Bad}
 use Rattle.vba_values.specs.declared.types.WholeKind.TheVariants as kind
 use Rattle.vba_values.specs.Coerce.{text_of}
-use Rattle.vba_values.specs.Val.{Val, empty, null, missing, boolean, whole, currency, text, object, array, udt}
+use Rattle.vba_values.specs.Val.{Val, empty, whole, text}
 use Rattle.vba_lib.specs.Arguments.{invalid_call, long_of}
 use Rattle.vba_lib.specs.Texts.{repeated}
 

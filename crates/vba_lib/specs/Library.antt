@@ -1,5 +1,5 @@
 -- The functions of the VBA library: what each takes, what it answers, and what a use of it is declared as.
-use Rattle.std.specs.Prelude.{ℕ, Bool, true, false, not, ◌&&◌, ◌||◌, ℤ, pos, List, [], ◌∷◌, Result, Ok, Err, if◌then◌else◌}
+use Rattle.std.specs.Prelude.{ℕ, Bool, true, false, not, ◌&&◌, ℤ, pos, List, [], ◌∷◌, Result, Ok, Err, if◌then◌else◌}
 use Rattle.std.specs.List.{list_any}
 use Rattle.vba_base.specs.Answer.{◌>>=◌}
 use Rattle.vba_values.specs.declared.fault.Bad.{Bad}
@@ -13,7 +13,7 @@ use Rattle.vba_values.specs.Types as type
 use Rattle.vba_values.specs.Val.{Val, null, boolean, whole, text}
 use Rattle.vba_lib.specs.declared.function.LibraryFunction.{LibraryFunction}
 use Rattle.vba_lib.specs.declared.function.LibraryFunction.TheVariants as function
-use Rattle.vba_lib.specs.Arguments.{long_answer, long_of, text_answer, wrong_number}
+use Rattle.vba_lib.specs.Arguments.{long_of, text_answer, wrong_number}
 use Rattle.vba_lib.specs.Arrays.{array_from, join, join_with, l_bound, split, split_at, u_bound}
 use Rattle.vba_lib.specs.Characters.{asc, asc_w, chr, chr_w, string}
 use Rattle.vba_lib.specs.Kinds.{is_array, is_missing, is_object, type_name, var_type}

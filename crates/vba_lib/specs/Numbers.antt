@@ -1,5 +1,5 @@
 -- Numbers without their signs or fractions, and in other notations.
-use Rattle.std.specs.Prelude.{ℕ, Bool, true, ℤ, pos, negsuc, ◌*ℤ◌, int_div, unsigned_abs, Result, Ok, Err}
+use Rattle.std.specs.Prelude.{ℕ, true, ℤ, pos, ◌*ℤ◌, int_div, unsigned_abs, Result, Ok, Err}
 use Rattle.std.specs.Fmt.{radix_digits}
 use Rattle.std.specs.Int.{w16, w32, w64, cast_unsigned, int_div_euclid, int_signum}
 use Rattle.vba_base.specs.Answer.{◌>>=◌}
@@ -9,7 +9,7 @@ use Rattle.vba_values.specs.Arithmetic.{double_of}
 use Rattle.vba_values.specs.Errors.{type_mismatch}
 use Rattle.vba_values.specs.Operands.{number_of}
 use Rattle.vba_values.specs.Texts.{amount}
-use Rattle.vba_values.specs.Val.{Val, empty, null, missing, boolean, whole, currency, text, object, array, udt}
+use Rattle.vba_values.specs.Val.{Val, empty, boolean, whole, currency, text}
 use Rattle.vba_values.specs.Whole.{ranged}
 use Rattle.vba_lib.specs.Arguments.{long_of}
 

@@ -1,10 +1,9 @@
 -- Texts inside of texts.
-use Rattle.std.specs.Prelude.{ℕ, zero, suc, ◌+◌, nat_lt, nat_eq, Bool, ℤ, pos, negsuc, List, [], ◌∷◌, ◌++◌, length, take, drop, map, flat_map, bytes_eq, Result, Ok, Err, if◌then◌else◌}
+use Rattle.std.specs.Prelude.{ℕ, zero, suc, ◌+◌, nat_eq, Bool, ℤ, pos, negsuc, List, [], ◌∷◌, ◌++◌, length, take, drop, map, flat_map, bytes_eq, Result, Ok, Err, if◌then◌else◌}
 use Rattle.std.specs.List.{list_any, starts_with}
 use Rattle.std.specs.Ordering.{int_eq}
 use Rattle.std.specs.declared.cmp.Ordering.{Ordering}
 use Rattle.std.specs.declared.cmp.Ordering.TheVariants.{Less, Equal, Greater}
-use Rattle.currency.specs.NumberText.{blank}
 use Rattle.vba_base.specs.Answer.{◌>>=◌}
 use Rattle.vba_base.specs.Fold.{folded}
 use Rattle.vba_values.specs.declared.fault.Bad.{Bad}

@@ -1,5 +1,5 @@
 -- Parts of texts, and texts in other forms.
-use Rattle.std.specs.Prelude.{ℕ, ◌-◌, suc, nat_lt, ℤ, pos, negsuc, List, [], ◌∷◌, ◌++◌, length, take, drop, map, reverse, replicate, Result, Ok, Err, if◌then◌else◌}
+use Rattle.std.specs.Prelude.{ℕ, ◌-◌, suc, nat_lt, ℤ, pos, negsuc, List, length, take, drop, map, reverse, replicate, Result, Ok, Err, if◌then◌else◌}
 use Rattle.std.specs.Char.{to_ascii_lowercase, to_ascii_uppercase}
 use Rattle.std.specs.List.{suffix_len}
 use Rattle.currency.specs.NumberText.{behind_blanks, blank, is_blank}

@@ -1,8 +1,8 @@
 // Arrays and their bounds, and the functions that make arrays and texts of one another.
-ghost use Rattle.std.specs.Prelude.{◌≡◌, ◌<◌, ◌≤◌, ◌≤ℤ◌, ◌++◌, pos, length, map, flat_map, IfOk, IsOk};
+ghost use Rattle.std.specs.Prelude.{◌≡◌, ◌<◌, ◌≤◌, ◌≤ℤ◌, ◌++◌, [], pos, length, map, flat_map, IfOk, IsOk};
 ghost use Rattle.vba_base.specs.Answer.{Gives};
 ghost use Rattle.vba_lib.specs.Arrays.{array_from, bound_of, join, join_by, join_elements, join_with, l_bound, numbered_bound, split, split_at, split_by, split_parts, texts_of, u_bound};
-ghost use Rattle.vba_lib.specs.Searching.{parts};
+ghost use Rattle.vba_lib.specs.Searching.{joined_by, parts};
 ghost use Rattle.vba_lib.specs.View.{Checks, Extends, Pushes, few_values, texts_in};
 ghost use Rattle.vba_values.specs.Types as type;
 ghost use Rattle.vba_values.specs.Types.{declared};
@@ -130,11 +130,7 @@ fn split_by(alloc: Global, separator: &[u16], units: &[u16]) -> Answer
     array_from(alloc, 0, VType::Text, texts)
 }
 
-fn split_texts(
-    alloc: Global,
-    separator: &[u16],
-    units: &[u16],
-) -> Result<Vec<Value>, OrMemory<Bad>>
+fn split_texts(alloc: Global, separator: &[u16], units: &[u16]) -> Result<Vec<Value>, OrMemory<Bad>>
     ensures { Gives (λ texts. map view texts.items) result (few_values (map text (split_parts separator.now units.now))) }
 {
     if units.is_empty() {
@@ -205,17 +201,33 @@ fn join_by(alloc: Global, separator: &[u16], value: &Value) -> Answer
     }
 }
 
+#[tactic(auto, using(crate::proofs::JoinLaws::joined_elements))]
 fn joined_texts(alloc: Global, separator: &[u16], items: &[Value]) -> Answer
     ensures { Gives view result (join_elements separator.now (views items.now)) }
 {
     check_texts(alloc, items)?;
     let mut text = Units::new(alloc);
-    if let [first, rest @ ..] = items {
-        let first = text_argument(alloc, first)?;
-        extend(&mut text, first.units())?;
-        append_texts(alloc, &mut text, separator, rest)?;
-    }
+    append_joined(alloc, &mut text, separator, items)?;
     Ok(Value::Text(text))
+}
+
+/// Adds the texts of items to a text without units, with separators between them.
+fn append_joined(
+    alloc: Global,
+    text: &mut Units,
+    separator: &[u16],
+    items: &[Value],
+) -> Result<(), OrMemory<Bad>>
+    requires empty { text.old ≡ [] }
+    requires texts { IsOk (texts_of (views items.now)) }
+    ensures { Extends result [] (joined_by separator.now (texts_in (views items.now))) text.new }
+{
+    let [first, rest @ ..] = items else {
+        return Ok(());
+    };
+    let first = text_argument(alloc, first)?;
+    extend(text, first.units())?;
+    append_texts(alloc, text, separator, rest)
 }
 
 /// Whether each item has a text. What the first one that has none raises is raised.

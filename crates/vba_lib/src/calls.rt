@@ -138,11 +138,17 @@ pub fn library(
     of_arguments(alloc, function, compare, arguments)
 }
 
-#[tactic(auto, using(crate::proofs::Nulls::some_null))]
 fn has_null(arguments: &[Value]) -> bool
     ensures { result ≡ list_any is_null (map view arguments.now) }
 {
-    arguments.iter().any(|argument| is_null(argument))
+    let mut rest = arguments;
+    while let [argument, behind @ ..] = rest {
+        if is_null(argument) {
+            return true;
+        }
+        rest = behind;
+    }
+    false
 }
 
 fn is_null(value: &Value) -> bool
@@ -215,6 +221,7 @@ fn gives_null(function: LibraryFunction) -> bool
 }
 
 /// A function by its number of arguments.
+#[tactic(auto, using(crate::proofs::Counts::more_than_four))]
 fn of_arguments(
     alloc: Global,
     function: LibraryFunction,
@@ -224,13 +231,14 @@ fn of_arguments(
     ensures { Gives view result (of_arguments function compare (map view arguments.now)) }
 {
     match arguments {
+        [] => Err(WRONG_NUMBER),
         [first] => of_one(alloc, function, first),
         [first, second] => of_two(alloc, function, compare, first, second),
         [first, second, third] => of_three(alloc, function, compare, first, second, third),
         [first, second, third, fourth] => {
             of_four(alloc, function, compare, first, second, third, fourth)
         }
-        _ => Err(WRONG_NUMBER),
+        [_, _, _, _, _, ..] => Err(WRONG_NUMBER),
     }
 }
 

@@ -7,7 +7,7 @@ use Rattle.vba_lib.proofs.arrays.append_texts.Given as goal
 abbrev pub invariant-loop-rest : goal.invariant-loop-rest
 invariant-loop-rest l =
     (l.text ++ flat_map (λ next. l.separator ++ next) (texts_in (views l.rest))
-      ≡ l.initial.text ++ flat_map (λ next. l.separator ++ next) (texts_in (views l.items)))
+    ≡ l.initial.text ++ flat_map (λ next. l.separator ++ next) (texts_in (views l.items)))
     × (length l.text ≤ 16777216)
     × IsOk (texts_of (views l.rest))
 

@@ -26,10 +26,10 @@ loop-rest-preserved c =
 
 pub returns : goal.returns
 returns c = elim c.loop-rest-test.branch [
-    then-loop-rest-test+else-not-is_empty w ↦
-        let some : nat_eq (length c.loop-rest.left.now) 0 ≡ false = sym c.is_empty.ensures ∙ w.loop-rest-test.true in
-        c.is_empty-2.ensures ∙ (some ∙ (sym (at_text_end _ _ some (sym w.is_empty-in-loop-rest.ensures ∙ w.if-not-is_empty.false)) ∙ c.loop-rest.invariant))
+  | then-loop-rest-test+else-not-is_empty w ↦
+      let some : nat_eq (length c.loop-rest.left.now) 0 ≡ false = sym c.is_empty.ensures ∙ w.loop-rest-test.true in
+      c.is_empty-2.ensures ∙ (some ∙ (sym (at_text_end _ _ some (sym w.is_empty-in-loop-rest.ensures ∙ w.if-not-is_empty.false)) ∙ c.loop-rest.invariant))
   | else-loop-rest-test w ↦
-        let none : nat_eq (length c.loop-rest.left.now) 0 ≡ true = sym c.is_empty.ensures ∙ w.loop-rest-test.false in
-        c.is_empty-2.ensures ∙ (none ∙ (sym (at_end _ _ none) ∙ c.loop-rest.invariant))
-  ]
+      let none : nat_eq (length c.loop-rest.left.now) 0 ≡ true = sym c.is_empty.ensures ∙ w.loop-rest-test.false in
+      c.is_empty-2.ensures ∙ (none ∙ (sym (at_end _ _ none) ∙ c.loop-rest.invariant))
+]
