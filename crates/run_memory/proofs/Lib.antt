@@ -1,3 +1,9 @@
+pub mod HeldPaths
+pub mod Others
+pub mod Refused
+pub mod Roots
 pub mod Steps
+pub mod Exchanged
 pub mod Frames
 pub mod Ids
+pub mod KeptInOrder

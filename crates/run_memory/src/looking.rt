@@ -28,7 +28,7 @@ impl Memory {
         if number == self.callers.len() {
             return Some(&self.top);
         }
-        self.callers.get(number)
+        caller_at(&self.callers, number)
     }
 
     /// The value of a variable or a block.
@@ -70,6 +70,12 @@ impl Memory {
             is_bounded: variable.is_bounded,
         })
     }
+}
+
+fn caller_at(callers: &Vec<Frame>, number: usize) -> Option<&Frame>
+    ensures { option_map (λ frame. frame_view frame.now) result ≡ option_map frame_view (slice_get callers.now.items number) }
+{
+    callers.get(number)
 }
 
 impl Frame {

@@ -98,7 +98,18 @@ impl Memory {
             }
             VType::Worksheet => matches!(reference, ObjRef::Host(HostRef::Sheet { sheet: _ })),
             VType::Range => is_area(reference),
-            _ => true,
+            VType::Boolean
+            | VType::Byte
+            | VType::Integer
+            | VType::Long
+            | VType::LongLong
+            | VType::Currency
+            | VType::Text
+            | VType::FixedText(_)
+            | VType::Object
+            | VType::Variant
+            | VType::Udt(_)
+            | VType::ArrayOf(_) => true,
         }
     }
 
@@ -132,7 +143,17 @@ impl Memory {
             | VType::Collection
             | VType::Worksheet
             | VType::Range => self.set_object(of, &value),
-            _ => coerce_owned(alloc, value, of),
+            VType::Boolean
+            | VType::Byte
+            | VType::Integer
+            | VType::Long
+            | VType::LongLong
+            | VType::Currency
+            | VType::Text
+            | VType::FixedText(_)
+            | VType::Variant
+            | VType::Udt(_)
+            | VType::ArrayOf(_) => coerce_owned(alloc, value, of),
         }
     }
 
