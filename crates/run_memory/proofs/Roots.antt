@@ -83,9 +83,9 @@ slot_there fs k x v w e =
     ap (λ f. value_in (slice_get f.slots x)) (at_changed (λ f. value_in (slice_get f.slots x) ≡ Some v) (λ n. search rules) (frame_exchanged x (Some v) w) fs k e)
     ∙ ap value_in (of_value (slice_get (frame_at fs k).slots x) refl e)
   where
-  of_value : (o : Option Slot) → slice_get (frame_at fs k).slots x ≡ o → value_in o ≡ Some v → slice_get (slice_set (frame_at fs k).slots x (value w)) x ≡ Some (value w)
-  of_value None g n = absurd (search rules)
-  of_value (Some s) g n = set_there (frame_at fs k).slots x (value w) s g
+    of_value : (o : Option Slot) → slice_get (frame_at fs k).slots x ≡ o → value_in o ≡ Some v → slice_get (slice_set (frame_at fs k).slots x (value w)) x ≡ Some (value w)
+    of_value None g n = absurd (search rules)
+    of_value (Some s) g n = set_there (frame_at fs k).slots x (value w) s g
 
 pub root_there : (m : Memory) (r : Root) (v w : Val) → root_value m r ≡ Some v → root_value (root_exchanged m r (Some v) w) r ≡ Some w
 root_there m (in_project x) v w e = set_there m.shared x w v e

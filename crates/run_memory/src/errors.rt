@@ -39,7 +39,11 @@ impl Memory {
             source: None,
             description: None,
             procedure: if self.stands { self.top.procedure } else { 0 },
-            statement: if self.stands { self.top.statement } else { None },
+            statement: if self.stands {
+                self.top.statement
+            } else {
+                None
+            },
         }
     }
 
@@ -91,7 +95,12 @@ impl Memory {
 
     /// Any Resume, with the statement that is next after the failed one: where the run goes on. Without an active
     /// handler it raises 20.
-    pub fn resumed(&mut self, alloc: Global, kind: ResumeKind, next: u64) -> Result<u64, OrMemory<Bad>>
+    pub fn resumed(
+        &mut self,
+        alloc: Global,
+        kind: ResumeKind,
+        next: u64,
+    ) -> Result<u64, OrMemory<Bad>>
         ensures { Acts (λ statement. statement) result (memory_view self.new) (resumed kind next (memory_view self.old)) }
     {
         let errors = self.errors();

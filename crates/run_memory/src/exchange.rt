@@ -21,7 +21,8 @@ impl Memory {
     pub fn exchange_local(&mut self, frame: usize, variable: u32, new: Value) -> Option<Value>
         ensures old { option_map view result ≡ value_in (slice_get (frame_at (memory_view self.old).frames frame).slots variable) }
         ensures new { memory_view self.new ≡ record (memory_view self.old) {
-            frames = frames_with (frame_exchanged variable (option_map view result) (view new)) (memory_view self.old).frames frame } }
+          frames = frames_with (frame_exchanged variable (option_map view result) (view new)) (memory_view self.old).frames frame;
+        } }
     {
         if !self.stands {
             return None;
@@ -34,7 +35,12 @@ impl Memory {
 
     /// A value takes the place of that of a variable; of a block's it takes a copy.
     #[tactic(auto, using(crate::proofs::Exchanged::local_exchanged, crate::proofs::Exchanged::shared_exchanged))]
-    pub fn exchange(&mut self, alloc: Global, root: Root, new: Value) -> Result<Option<Value>, NoMemory>
+    pub fn exchange(
+        &mut self,
+        alloc: Global,
+        root: Root,
+        new: Value,
+    ) -> Result<Option<Value>, NoMemory>
         ensures old { IfOk result (λ old. option_map view old ≡ root_value (memory_view self.old) (root_view root)) }
         ensures new { IfOk result (λ old. memory_view self.new
             ≡ root_exchanged (memory_view self.old) (root_view root) (option_map view old) (view new)) }
@@ -71,7 +77,7 @@ impl Memory {
 }
 
 #[tactic(auto, using(crate::proofs::Exchanged::value_set, crate::proofs::Exchanged::value_past, crate::proofs::Exchanged::value_read))]
-fn exchange_in_values(values: &mut Vec<Value>, variable: usize, new: Value) -> Option<Value>
+pub fn exchange_in_values(values: &mut Vec<Value>, variable: usize, new: Value) -> Option<Value>
     ensures old { option_map view result ≡ slice_get (map view values.old.items) variable }
     ensures new { map view values.new.items ≡ values_exchanged (map view values.old.items) variable (option_map view result) (view new) }
 {
@@ -83,7 +89,12 @@ fn exchange_in_values(values: &mut Vec<Value>, variable: usize, new: Value) -> O
 }
 
 #[tactic(auto, using(crate::proofs::Exchanged::below_set, crate::proofs::Exchanged::past_callers))]
-fn exchange_below(callers: &mut Vec<Frame>, frame: usize, variable: u32, new: Value) -> Option<Value>
+fn exchange_below(
+    callers: &mut Vec<Frame>,
+    frame: usize,
+    variable: u32,
+    new: Value,
+) -> Option<Value>
     ensures old { option_map view result ≡ value_in (slice_get (frame_or (option_map frame_view (slice_get callers.old.items frame))).slots variable) }
     ensures new { map frame_view (reverse callers.new.items)
         ≡ frames_with (frame_exchanged variable (option_map view result) (view new)) (map frame_view (reverse callers.old.items)) frame }
@@ -103,7 +114,7 @@ fn exchange_in_frame(frame: &mut Frame, variable: u32, new: Value) -> Option<Val
 }
 
 #[tactic(auto, using(crate::proofs::Exchanged::slot_set, crate::proofs::Exchanged::slot_read, crate::proofs::Exchanged::slot_past))]
-fn exchange_in_slots(slots: &mut Vec<Slot>, variable: usize, new: Value) -> Option<Value>
+pub fn exchange_in_slots(slots: &mut Vec<Slot>, variable: usize, new: Value) -> Option<Value>
     ensures old { option_map view result ≡ value_in (slice_get (map slot_view slots.old.items) variable) }
     ensures new { map slot_view slots.new.items ≡ slots_exchanged (map slot_view slots.old.items) variable (option_map view result) (view new) }
 {

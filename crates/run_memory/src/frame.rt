@@ -1,7 +1,15 @@
+ghost use Rattle.std.specs.Prelude.{◌≡◌, IfOk, Some, option_map};
+ghost use Rattle.vba_values.specs.View.{view};
+ghost use Rattle.vba_meaning.specs.Memory.{value_in};
+ghost use Rattle.run_memory.specs.Slots.{path_in};
+ghost use Rattle.run_memory.specs.View.{path_view, slot_view};
+
 use crate::path::Path;
 use bound_project::DeclaredType;
 use error_frames::FrameErrors;
-use vba_values::{Compare, Value};
+use std::alloc::Global;
+use vba_base::NoMemory;
+use vba_values::{Compare, Value, copy_value};
 
 /// What a variable of a frame contains: its value, or where a ByRef parameter leads.
 pub enum Slot {
@@ -14,6 +22,38 @@ impl Drop for Slot {
         match self {
             Slot::Value(_value) => {}
             Slot::Path(_path) => {}
+        }
+    }
+}
+
+impl Slot {
+    /// Its value, where it has one.
+    pub fn into_value(self) -> Option<Value>
+        ensures { option_map view result ≡ value_in (Some (slot_view self)) }
+    {
+        match self {
+            Slot::Value(value) => Some(value),
+            Slot::Path(_path) => None,
+        }
+    }
+
+    /// Its path, where it has one.
+    pub fn into_path(self) -> Option<Path>
+        ensures { option_map path_view result ≡ path_in (slot_view self) }
+    {
+        match self {
+            Slot::Value(_value) => None,
+            Slot::Path(path) => Some(path),
+        }
+    }
+
+    /// A copy.
+    pub fn copy(&self, alloc: Global) -> Result<Slot, NoMemory>
+        ensures { IfOk result (λ copy. slot_view copy ≡ slot_view self.now) }
+    {
+        match self {
+            Slot::Value(value) => Ok(Slot::Value(copy_value(alloc, value)?)),
+            Slot::Path(path) => Ok(Slot::Path(path.copy(alloc)?)),
         }
     }
 }

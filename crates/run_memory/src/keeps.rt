@@ -14,7 +14,8 @@ impl Memory {
     #[tactic(auto, using(crate::proofs::Exchanged::top_changed, crate::proofs::Exchanged::with_caller))]
     pub fn put_kept_at(&mut self, frame: usize, header: u32, kept: Kept) -> Result<(), NoMemory>
         ensures { OnOk result (memory_view self.new ≡ record (memory_view self.old) {
-            frames = frames_with (frame_keeping header (kept_view kept)) (memory_view self.old).frames frame }) }
+          frames = frames_with (frame_keeping header (kept_view kept)) (memory_view self.old).frames frame;
+        }) }
     {
         if !self.stands {
             return Ok(());
@@ -27,7 +28,12 @@ impl Memory {
 }
 
 #[tactic(auto, using(crate::proofs::Exchanged::below_set, crate::proofs::Exchanged::past_callers))]
-fn keep_below(callers: &mut Vec<Frame>, frame: usize, header: u32, kept: Kept) -> Result<(), NoMemory>
+fn keep_below(
+    callers: &mut Vec<Frame>,
+    frame: usize,
+    header: u32,
+    kept: Kept,
+) -> Result<(), NoMemory>
     ensures { OnOk result (map frame_view (reverse callers.new.items)
         ≡ frames_with (frame_keeping header (kept_view kept)) (map frame_view (reverse callers.old.items)) frame) }
 {

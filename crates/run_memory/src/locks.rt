@@ -15,7 +15,8 @@ impl Memory {
     pub fn is_locked(&self, place: &Path) -> bool
         ensures { result ≡ is_locked (memory_view self.now) (path_view place.now) }
     {
-        self.stands && (holds_below(&self.top, place) || callers_hold(self.callers.as_slice(), place))
+        self.stands
+            && (holds_below(&self.top, place) || callers_hold(self.callers.as_slice(), place))
     }
 }
 

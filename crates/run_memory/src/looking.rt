@@ -57,7 +57,9 @@ impl Memory {
                 });
             }
         };
-        if self.stands && let Some(Slot::Path(path)) = self.top.slots.get(number as usize) {
+        if self.stands
+            && let Some(Slot::Path(path)) = self.top.slots.get(number as usize)
+        {
             return path.copy(alloc);
         }
         Ok(Path {

@@ -1,7 +1,9 @@
 // For ([MS-VBAL] 5.4.2.3), GoSub (5.4.2.15), and the tests of Select Case (5.4.2.10).
-ghost use Rattle.std.specs.Prelude.{◌≡◌, IfOk, IsTrue, OnOk, Some, map, option_map, reverse};
+ghost use Rattle.std.specs.Prelude.{◌≡◌, IfOk, IsTrue, OnOk, Some, map, option_map, pos, reverse};
 ghost use Rattle.vba_values.specs.Operators.{has_two_operands};
+ghost use Rattle.vba_values.specs.Val.{whole};
 ghost use Rattle.vba_values.specs.View.{view};
+ghost use Rattle.vba_values.specs.declared.types.WholeKind.TheVariants as kind;
 ghost use Rattle.bound_project.specs.View.{declared_view, variable_view};
 ghost use Rattle.vba_meaning.specs.Memory.{Memory as PlainMemory, found, top, without};
 ghost use Rattle.vba_meaning.specs.Effects.{counted, counts_down, done, fits, fits_between, gone_sub, loop_off, loop_on, looping, next_round, returned_sub, stepped, within};
@@ -66,20 +68,47 @@ fn counts_down(alloc: Global, standing: &Loop) -> Result<bool, OrMemory<Bad>>
         standing.step.of,
         DeclaredType::Plain(ElementType::Integer),
         &standing.step.value,
-        &Value::Integer(0),
+        &zero(),
     )
+}
+
+fn zero() -> Value
+    ensures { view result ≡ whole kind.Integer (pos 0) }
+{
+    Value::Integer(0)
 }
 
 /// Whether a counter is still within its loop.
 #[tactic(auto, using(crate::proofs::Refused::refused_then))]
-fn within(alloc: Global, of: DeclaredType, value: &Value, standing: &Loop) -> Result<bool, OrMemory<Bad>>
+fn within(
+    alloc: Global,
+    of: DeclaredType,
+    value: &Value,
+    standing: &Loop,
+) -> Result<bool, OrMemory<Bad>>
     ensures { (m : PlainMemory) → Acts (λ within. within) result m (within (declared_view of) (view value.now) (loop_view standing.now) m) }
 {
     let down = counts_down(alloc, standing)?;
     if down {
-        return fits(alloc, OpKind::Ge, standing.compare, of, standing.last.of, value, &standing.last.value);
+        return fits(
+            alloc,
+            OpKind::Ge,
+            standing.compare,
+            of,
+            standing.last.of,
+            value,
+            &standing.last.value,
+        );
     }
-    fits(alloc, OpKind::Le, standing.compare, of, standing.last.of, value, &standing.last.value)
+    fits(
+        alloc,
+        OpKind::Le,
+        standing.compare,
+        of,
+        standing.last.of,
+        value,
+        &standing.last.value,
+    )
 }
 
 impl Memory {
@@ -93,7 +122,13 @@ impl Memory {
 
     /// The counter takes a value; the answer is whether that is within the loop.
     #[tactic(auto, using(crate::proofs::Refused::refused_then))]
-    fn counted(&mut self, alloc: Global, counter: Variable, value: Value, standing: &Loop) -> Result<bool, OrMemory<Bad>>
+    fn counted(
+        &mut self,
+        alloc: Global,
+        counter: Variable,
+        value: Value,
+        standing: &Loop,
+    ) -> Result<bool, OrMemory<Bad>>
         ensures { Acts (λ within. within) result (memory_view self.new) (counted (variable_view counter) (view value) (loop_view standing.now) (memory_view self.old)) }
     {
         let path = self.path_of(alloc, counter)?;
@@ -105,10 +140,17 @@ impl Memory {
 
     /// A For begins: whether its block is entered.
     #[tactic(auto, using(crate::proofs::Refused::refused_then))]
-    pub fn loop_on(&mut self, alloc: Global, counter: Variable, header: u32, standing: Loop, start: Value) -> Result<bool, OrMemory<Bad>>
+    pub fn loop_on(
+        &mut self,
+        alloc: Global,
+        counter: Variable,
+        header: u32,
+        standing: Loop,
+        start: Value,
+    ) -> Result<bool, OrMemory<Bad>>
         ensures { Acts (λ on. on) result (memory_view self.new)
             (loop_on (variable_view counter) header standing.compare (declared_view standing.last.of) (declared_view standing.step.of)
-                (view start) (view standing.last.value) (view standing.step.value) (memory_view self.old)) }
+            (view start) (view standing.last.value) (view standing.step.value) (memory_view self.old)) }
     {
         let on = self.counted(alloc, counter, start, &standing)?;
         self.looping(alloc, header, standing)?;
@@ -138,7 +180,12 @@ impl Memory {
 
     /// The step is added to the counter.
     #[tactic(auto, using(crate::proofs::Refused::refused_then))]
-    fn stepped(&mut self, alloc: Global, counter: Variable, standing: &Loop) -> Result<bool, OrMemory<Bad>>
+    fn stepped(
+        &mut self,
+        alloc: Global,
+        counter: Variable,
+        standing: &Loop,
+    ) -> Result<bool, OrMemory<Bad>>
         ensures { Acts (λ on. on) result (memory_view self.new) (stepped (Some (loop_view standing.now)) (variable_view counter) (memory_view self.old)) }
     {
         let path = self.path_of(alloc, counter)?;
@@ -157,7 +204,12 @@ impl Memory {
 
     /// Next adds the step: whether the block is entered again. A loop that wasn't begun raises 92.
     #[tactic(auto, using(crate::proofs::Refused::refused_then))]
-    pub fn next_round(&mut self, alloc: Global, counter: Variable, header: u32) -> Result<bool, OrMemory<Bad>>
+    pub fn next_round(
+        &mut self,
+        alloc: Global,
+        counter: Variable,
+        header: u32,
+    ) -> Result<bool, OrMemory<Bad>>
         ensures { Acts (λ on. on) result (memory_view self.new) (next_round (variable_view counter) header (memory_view self.old)) }
     {
         let Some(standing) = self.loop_at(alloc, header)? else {

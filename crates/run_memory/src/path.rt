@@ -1,11 +1,12 @@
 ghost use Rattle.std.specs.Prelude.{◌≡◌, IfOk, OnOk, map};
-ghost use Rattle.std.specs.List.{list_any};
 ghost use Rattle.arrays_udt.specs.Paths.{same_step};
+ghost use Rattle.bound_project.specs.View.{declared_view};
 ghost use Rattle.vba_values.specs.Types.{declared};
 ghost use Rattle.vba_meaning.specs.Paths.{any_moves, element_path, field_path, is_below, leads_through, plain_steps, same_root};
 ghost use Rattle.run_memory.specs.View.{path_view, root_view, step_view};
 
 use arrays_udt::PathStep;
+use bound_project::DeclaredType;
 use std::alloc::Global;
 use vba_base::NoMemory;
 use vba_values::{VType, copy_type};
@@ -14,17 +15,9 @@ use vba_values::{VType, copy_type};
 /// value that a With block of a frame keeps.
 #[derive(Clone, Copy)]
 pub enum Root {
-    Frame {
-        frame: usize,
-        variable: u32,
-    },
-    Project {
-        variable: u32,
-    },
-    Block {
-        frame: usize,
-        header: u32,
-    },
+    Frame { frame: usize, variable: u32 },
+    Project { variable: u32 },
+    Block { frame: usize, header: u32 },
 }
 
 /// A step, and whether it leads into an array that can be replaced: one that isn't declared with bounds.
@@ -93,6 +86,21 @@ impl Path {
         self.of = of;
         self.is_bounded = is_bounded;
         Ok(())
+    }
+
+    /// The path of its field.
+    pub fn field(
+        self,
+        alloc: Global,
+        field: u32,
+        of: DeclaredType,
+        is_bounded: bool,
+    ) -> Result<Path, NoMemory>
+        ensures { IfOk result (λ path. path_view path ≡ field_path (path_view self) field (declared_view of) is_bounded) }
+    {
+        let mut path = self;
+        path.into_field(field, of.value_type(alloc)?, is_bounded)?;
+        Ok(path)
     }
 
     /// The steps alone.

@@ -14,6 +14,7 @@ use vba_base::{NoMemory, OrMemory, Units};
 use vba_values::{Bad, Value, text_of};
 
 const BLANK: u16 = 0x20;
+
 const MINUS: u16 = 0x2d;
 
 /// A value as it is shown.

@@ -13,7 +13,9 @@ use crate::memory::Memory;
 use bound_project::DeclaredType;
 use std::alloc::Global;
 use vba_base::OrMemory;
-use vba_values::{Bad, Compare, HostRef, ObjRef, OpKind, VType, Value, binary, coerce, coerce_owned, unary};
+use vba_values::{
+    Bad, Compare, HostRef, ObjRef, OpKind, VType, Value, binary, coerce, coerce_owned, unary,
+};
 
 /// An operator of two operands.
 pub fn operated(
@@ -138,11 +140,8 @@ impl Memory {
         ensures { Acts view result (memory_view self.now) (fitted (declared of.now) (view value) (memory_view self.now)) }
     {
         match of {
-            VType::Object
-            | VType::Class(_)
-            | VType::Collection
-            | VType::Worksheet
-            | VType::Range => self.set_object(of, &value),
+            VType::Object | VType::Class(_) | VType::Collection | VType::Worksheet | VType::Range =>
+                self.set_object(of, &value),
             VType::Boolean
             | VType::Byte
             | VType::Integer
@@ -174,13 +173,15 @@ fn is_area(reference: ObjRef) -> bool
     ensures { result ≡ is_area reference }
 {
     match reference {
-        ObjRef::Host(HostRef::Area {
-            sheet: _,
-            top: _,
-            left: _,
-            rows: _,
-            columns: _,
-        }) => true,
+        ObjRef::Host(
+            HostRef::Area {
+                sheet: _,
+                top: _,
+                left: _,
+                rows: _,
+                columns: _,
+            },
+        ) => true,
         _ => false,
     }
 }

@@ -136,7 +136,12 @@ impl Memory {
     }
 
     /// Let: the value becomes one of the type of what it is assigned to ([MS-VBAL] 5.4.3.8).
-    pub fn assigned(&mut self, alloc: Global, path: &Path, value: Value) -> Result<(), OrMemory<Bad>>
+    pub fn assigned(
+        &mut self,
+        alloc: Global,
+        path: &Path,
+        value: Value,
+    ) -> Result<(), OrMemory<Bad>>
         ensures { Acts (λ done. done) result (memory_view self.new) (assigned (path_view path.now) (view value) (memory_view self.old)) }
     {
         let value = coerce_owned(alloc, value, &path.of)?;

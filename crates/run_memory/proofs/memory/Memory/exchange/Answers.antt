@@ -9,4 +9,4 @@ pub returns-in-Frame-clause-new : goal.returns-in-Frame-clause-new
 returns-in-Frame-clause-new c =
     rw c.in-Frame.is
     (c.exchange_local.ensures.new
-        ∙ local_exchanged (memory_view c.args.self.now) c.in-Frame.frame c.in-Frame.variable (option_map view c.exchange_local.result) (view c.args.new))
+    ∙ local_exchanged (memory_view c.args.self.now) c.in-Frame.frame c.in-Frame.variable (option_map view c.exchange_local.result) (view c.args.new))
