@@ -113,11 +113,23 @@ fn empty_slot(slot: &mut Slot)
     }
 }
 
-#[tactic(auto, using(crate::proofs::Emptied::emptied_behind))]
 fn empty_called(frame: &mut Frame)
     ensures { frame_view frame.new ≡ record (frame_view frame.old) { slots = but_result (frame_view frame.old).slots; me = empty } }
 {
+    empty_but_result(frame);
+    forget_me(frame);
+}
+
+#[tactic(auto, using(crate::proofs::Emptied::emptied_behind))]
+fn empty_but_result(frame: &mut Frame)
+    ensures { frame_view frame.new ≡ record (frame_view frame.old) { slots = but_result (frame_view frame.old).slots } }
+{
     empty_slots(&mut frame.slots, 1);
+}
+
+fn forget_me(frame: &mut Frame)
+    ensures { frame_view frame.new ≡ record (frame_view frame.old) { me = empty } }
+{
     frame.me = Value::Empty;
 }
 
