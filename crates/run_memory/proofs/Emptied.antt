@@ -1,5 +1,5 @@
 -- Slots without their values.
-use Rattle.std.proofs.Common.{◌≡◌, ℕ, zero, suc, ◌+◌, ◌<◌, ◌≤◌, List, [], ◌∷◌, length, map, get_or, refl, sym, ap, ◌∙◌, arith, add-one}
+use Rattle.std.proofs.Common.{◌≡◌, ℕ, zero, suc, ◌+◌, ◌<◌, ◌≤◌, List, [], ◌∷◌, length, map, get_or, refl, ap, ◌∙◌, arith, add-one}
 use Rattle.std.specs.Prelude.{slice_set}
 use Rattle.run_memory.specs.declared.frame.Slot.{Slot}
 use Rattle.run_memory.specs.View.{slot_view}

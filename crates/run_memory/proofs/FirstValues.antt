@@ -1,8 +1,8 @@
 -- The values with which variables begin.
-use Rattle.std.proofs.Common.{◌≡◌, ℕ, zero, suc, ◌<◌, ◌≤◌, List, [], ◌∷◌, length, map, get_or, refl, sym, ap, ◌∙◌, arith}
+use Rattle.std.proofs.Common.{◌≡◌, ℕ, zero, suc, ◌<◌, ◌≤◌, List, [], ◌∷◌, length, map, get_or, refl, ap, ◌∙◌, arith}
 use Rattle.std.specs.Prelude.{slice_index_or}
 use Rattle.std.proofs.lemmas.List.{length-map}
-use Rattle.vba_values.specs.Val.{Val, empty}
+use Rattle.vba_values.specs.Val.{empty}
 use Rattle.arrays_udt.specs.Fields.{Field, fields_at}
 use Rattle.arrays_udt.specs.Fresh.{udt_within}
 use Rattle.bound_project.specs.declared.declarations.UserType.{UserType}

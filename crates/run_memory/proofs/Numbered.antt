@@ -1,6 +1,6 @@
 -- Objects by their numbers.
-use Rattle.std.proofs.Common.{◌≡◌, ℕ, zero, suc, ◌<◌, ◌≤◌, List, [], ◌∷◌, length, map, get_or, refl, ap, ◌∙◌, arith, rules}
-use Rattle.std.specs.Prelude.{Option, Some, None, option_map, slice_get, slice_set, slice_index_or}
+use Rattle.std.proofs.Common.{◌≡◌, ℕ, zero, suc, ◌<◌, ◌≤◌, List, [], ◌∷◌, length, map, get_or, refl, ap, arith}
+use Rattle.std.specs.Prelude.{Option, None, option_map, slice_set, slice_index_or}
 use Rattle.vba_values.specs.declared.value.Value.{Value}
 use Rattle.vba_values.specs.View.{view}
 use Rattle.vba_values.specs.Val.{Val, empty}

@@ -1,6 +1,6 @@
 -- What is refused goes through what would come behind.
 use Rattle.std.proofs.Common.{◌≡◌, refl, ap, ◌∙◌}
-use Rattle.std.specs.Prelude.{Result, Ok, Err}
+use Rattle.std.specs.Prelude.{Err}
 use Rattle.vba_base.specs.declared.fault.OrMemory.{OrMemory}
 use Rattle.vba_base.specs.declared.fault.OrMemory.TheVariants.{Fault, NoMemory}
 use Rattle.vba_values.specs.declared.fault.Bad.{Bad}

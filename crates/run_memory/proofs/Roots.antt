@@ -1,13 +1,12 @@
 -- A value that takes the place of another one is there, and gives way to a third.
-use Rattle.std.proofs.Common.{◌≡◌, ℕ, zero, suc, ◌+◌, ◌<◌, ◌≤◌, List, [], ◌∷◌, length, refl, sym, ap, ◌∙◌, arith, rules, eq-eqb}
-use Rattle.std.proofs.lemmas.Grind.{common_steps}
+use Rattle.std.proofs.Common.{◌≡◌, ℕ, zero, suc, List, [], ◌∷◌, length, refl, sym, ap, ◌∙◌, rules, eq-eqb}
 use Rattle.std.specs.Prelude.{Bool, true, false, Option, Some, None, slice_get, slice_set, ◌==◌, nat_lt, if◌then◌else◌}
 use Rattle.vba_values.specs.Val.{Val}
 use Rattle.run_memory.specs.Exchanges.{frame_exchanged, frames_with, root_exchanged}
 use Rattle.run_memory.specs.Keeps.{frame_keeping}
 use Rattle.run_memory.proofs.Exchanged.{kept_changed, slot_changed}
 use Rattle.vba_meaning.specs.Paths.{Root, in_frame, in_project, in_block}
-use Rattle.vba_meaning.specs.Memory.{Frame, no_frame, Slot, value, path, Kept, only, at_path, walk, Memory, frame_at, with_slot, with_kept, value_in, value_kept, found, put, root_value, with_root}
+use Rattle.vba_meaning.specs.Memory.{Frame, no_frame, Slot, value, Kept, only, Memory, frame_at, with_slot, with_kept, value_in, value_kept, found, put, root_value, with_root}
 
 set_there : {A : Type 0} (xs : List A) (i : ℕ) (a v : A) → slice_get xs i ≡ Some v → slice_get (slice_set xs i a) i ≡ Some a
 set_there [] i a v e = absurd (search rules)

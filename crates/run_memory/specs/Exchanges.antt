@@ -1,10 +1,10 @@
 -- Serves the code: values that take the place of others. Where a place has no value nothing is exchanged.
-use Rattle.std.specs.Prelude.{ℕ, ◌==◌, List, [], ◌∷◌, length, Bool, if◌then◌else◌, Option, Some, None, slice_set}
+use Rattle.std.specs.Prelude.{ℕ, ◌==◌, List, [], ◌∷◌, length, if◌then◌else◌, Option, Some, None, slice_set}
 use Rattle.vba_values.specs.Val.{Val}
 use Rattle.arrays_udt.specs.declared.paths.PathStep.{PathStep}
 use Rattle.arrays_udt.specs.Paths.{with_path}
 use Rattle.vba_meaning.specs.Paths.{Root}
-use Rattle.vba_meaning.specs.Memory.{Frame, Memory, Slot, value, path, with_root, root_value}
+use Rattle.vba_meaning.specs.Memory.{Frame, Memory, Slot, value, path, with_root}
 
 abbrev pub slot_exchanged : Slot → Val → Slot
 slot_exchanged (value v) w = value w

@@ -1,9 +1,7 @@
 -- Serves the code: what is looked up in lists.
 use Rattle.std.specs.Prelude.{ℕ, List, [], ◌∷◌, ◌++◌, Option, Some, None}
 use Rattle.vba_values.specs.declared.object.ObjRef.{ObjRef}
-use Rattle.vba_values.specs.Val.{Val}
-use Rattle.vba_meaning.specs.Paths.{Root}
-use Rattle.vba_meaning.specs.Memory.{Frame, no_frame, Memory, Slot, value, path, with_root}
+use Rattle.vba_meaning.specs.Memory.{Frame, no_frame}
 use Rattle.vba_meaning.specs.References.{objects_of_reference}
 
 abbrev pub frame_or : Option Frame → Frame

@@ -1,5 +1,5 @@
 -- Serves the code: the plain data that memory stands for.
-use Rattle.std.specs.Prelude.{ℕ, Bool, List, [], ◌∷◌, map, reverse, Option, option_map, if◌then◌else◌}
+use Rattle.std.specs.Prelude.{ℕ, Bool, List, [], ◌∷◌, map, reverse, option_map, if◌then◌else◌}
 use Rattle.vba_values.specs.Types.{declared}
 use Rattle.vba_values.specs.View.{view}
 use Rattle.bound_project.specs.View.{declared_view}

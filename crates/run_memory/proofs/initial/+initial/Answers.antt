@@ -1,4 +1,4 @@
-use Rattle.std.proofs.Common.{◌≡◌, ◌-◌, map, sym, ap, ◌∙◌}
+use Rattle.std.proofs.Common.{◌-◌, map, sym, ap, ◌∙◌}
 use Rattle.vba_values.specs.Val.{udt, vals_of}
 use Rattle.arrays_udt.specs.Fresh.{field_by, udt_within}
 use Rattle.arrays_udt.proofs.Inner.{view_udt_of}

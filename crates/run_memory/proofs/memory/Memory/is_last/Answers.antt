@@ -1,7 +1,6 @@
-use Rattle.std.proofs.Common.{◌≡◌, ap, sym, ◌∙◌}
+use Rattle.std.proofs.Common.{ap, sym, ◌∙◌}
 use Rattle.std.specs.Prelude.{not, ◌==◌}
 use Rattle.vba_meaning.specs.References.{times}
-use Rattle.run_memory.specs.All.{all_objects}
 use Rattle.run_memory.specs.View.{memory_view}
 use Rattle.run_memory.proofs.AllObjects.{looks_all, not_not}
 use Rattle.run_memory.proofs.memory.Memory.is_last.Goals as goal
