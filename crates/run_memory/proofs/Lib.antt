@@ -1,0 +1,13 @@
+pub mod HeldPaths
+pub mod FirstValues
+pub mod Numbered
+pub mod Others
+pub mod Refused
+pub mod Roots
+pub mod Steps
+pub mod AllObjects
+pub mod Emptied
+pub mod Exchanged
+pub mod Frames
+pub mod Ids
+pub mod KeptInOrder

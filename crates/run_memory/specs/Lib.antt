@@ -1,0 +1,10 @@
+pub mod Acts
+pub mod All
+pub mod Calls
+pub mod Exchanges
+pub mod Keeps
+pub mod Locked
+pub mod Looks
+pub mod Slots
+pub mod Told
+pub mod View

@@ -1,0 +1,133 @@
+// What is in variables.
+ghost use Rattle.std.specs.Prelude.{◌≡◌, option_map, slice_get, map, IfOk};
+ghost use Rattle.arrays_udt.specs.Paths.{path_value};
+ghost use Rattle.vba_values.specs.View.{view};
+ghost use Rattle.bound_project.specs.View.{variable_view};
+ghost use Rattle.vba_meaning.specs.Memory.{found, frame_at, path_of, root_value, value_in, value_kept};
+ghost use Rattle.run_memory.specs.Looks.{frame_or};
+ghost use Rattle.run_memory.specs.View.{frame_view, kept_at_view, kept_view, memory_view, path_view, root_view, slot_view};
+
+use crate::frame::{Frame, Kept, Slot};
+use crate::memory::Memory;
+use crate::path::{Path, Root};
+use arrays_udt::{PathStep, has_path, path_read};
+use bound_project::{Storage, Variable};
+use std::alloc::Global;
+use vba_base::NoMemory;
+use vba_values::Value;
+
+impl Memory {
+    /// The frame with so many below it.
+    #[tactic(auto, using(crate::proofs::Frames::frame_caller))]
+    pub fn frame_at(&self, number: usize) -> Option<&Frame>
+        ensures { frame_or (option_map (λ frame. frame_view frame.now) result) ≡ frame_at (memory_view self.now).frames number }
+    {
+        if !self.stands {
+            return None;
+        }
+        if number == self.callers.len() {
+            return Some(&self.top);
+        }
+        caller_at(&self.callers, number)
+    }
+
+    /// The value of a variable or a block.
+    pub fn root_value(&self, root: Root) -> Option<&Value>
+        ensures { option_map (λ value. view value.now) result ≡ root_value (memory_view self.now) (root_view root) }
+    {
+        match root {
+            Root::Frame { frame, variable } => self.frame_at(frame)?.value_of(variable),
+            Root::Project { variable } => self.shared.get(variable as usize),
+            Root::Block { frame, header } => self.frame_at(frame)?.value_kept(header),
+        }
+    }
+
+    /// Where a variable is; a ByRef parameter leads to where its argument is.
+    pub fn path_of(&self, alloc: Global, variable: Variable) -> Result<Path, NoMemory>
+        ensures { IfOk result (λ path. path_view path ≡ path_of (memory_view self.now) (variable_view variable)) }
+    {
+        let number = match variable.storage {
+            Storage::Local(number) => number,
+            Storage::Shared(number) => {
+                return Ok(Path {
+                    root: Root::Project { variable: number },
+                    steps: Vec::new(alloc),
+                    of: variable.of.value_type(alloc)?,
+                    is_bounded: variable.is_bounded,
+                });
+            }
+        };
+        if self.stands
+            && let Some(Slot::Path(path)) = self.top.slots.get(number as usize)
+        {
+            return path.copy(alloc);
+        }
+        Ok(Path {
+            root: Root::Frame {
+                frame: self.below(),
+                variable: number,
+            },
+            steps: Vec::new(alloc),
+            of: variable.of.value_type(alloc)?,
+            is_bounded: variable.is_bounded,
+        })
+    }
+}
+
+fn caller_at(callers: &Vec<Frame>, number: usize) -> Option<&Frame>
+    ensures { option_map (λ frame. frame_view frame.now) result ≡ option_map frame_view (slice_get callers.now.items number) }
+{
+    callers.get(number)
+}
+
+impl Frame {
+    /// The value of a variable that has one.
+    fn value_of(&self, variable: u32) -> Option<&Value>
+        ensures { option_map (λ value. view value.now) result ≡ value_in (slice_get (frame_view self.now).slots variable) }
+    {
+        match self.slots.get(variable as usize) {
+            Some(Slot::Value(value)) => Some(value),
+            _ => None,
+        }
+    }
+
+    /// What a block keeps.
+    pub fn kept(&self, header: u32) -> Option<&Kept>
+        ensures { option_map (λ kept. kept_view kept.now) result ≡ found (frame_view self.now).keeps header }
+    {
+        kept_in(self.keeps.as_slice(), header)
+    }
+
+    /// The value that a block keeps.
+    fn value_kept(&self, header: u32) -> Option<&Value>
+        ensures { option_map (λ value. view value.now) result ≡ value_kept (found (frame_view self.now).keeps header) }
+    {
+        match self.kept(header) {
+            Some(Kept::Only(value)) => Some(value),
+            _ => None,
+        }
+    }
+}
+
+fn kept_in(keeps: &[(u32, Kept)], header: u32) -> Option<&Kept>
+    ensures { option_map (λ kept. kept_view kept.now) result ≡ found (map kept_at_view keeps.now) header }
+{
+    match keeps {
+        [] => None,
+        [first, keeps @ ..] => if first.0 == header {
+            Some(&first.1)
+        } else {
+            kept_in(keeps, header)
+        },
+    }
+}
+
+/// The value at a path inside a value.
+pub fn inner_value<'a>(root: &'a Value, steps: &[PathStep]) -> Option<&'a Value>
+    ensures { option_map (λ value. view value.now) result ≡ path_value (view root.now) steps.now }
+{
+    if !has_path(root, steps) {
+        return None;
+    }
+    Some(path_read(root, steps))
+}

@@ -1,0 +1,73 @@
+use crate::frame::Frame;
+use vba_base::Units;
+use vba_values::Value;
+
+/// An error on its way, and what Err keeps of the last one: its number, a source and a description where they were
+/// given, and where it was raised ([MS-VBAL] 5.4.4, 6.1.3.2).
+pub struct RunError {
+    pub number: i32,
+    pub source: Option<Units>,
+    pub description: Option<Units>,
+    pub procedure: u32,
+    pub statement: Option<u32>,
+}
+
+impl Drop for RunError {
+    fn drop(self) {
+        let RunError {
+            number: _number,
+            source: _source,
+            description: _description,
+            procedure: _procedure,
+            statement: _statement,
+        } = self;
+    }
+}
+
+/// A counted object.
+pub struct Object {
+    pub class: u32,
+    pub is_told: bool,
+    pub fields: Vec<Value>,
+}
+
+impl Drop for Object {
+    fn drop(self) {
+        let Object {
+            class: _class,
+            is_told: _is_told,
+            fields: _fields,
+        } = self;
+    }
+}
+
+/// What a run remembers: frames, variables, objects and Err.
+pub struct Memory {
+    /// Whether a call stands: then it is the frame that runs, and the others called.
+    pub stands: bool,
+    pub top: Frame,
+    pub callers: Vec<Frame>,
+    /// Module variables and statics.
+    pub shared: Vec<Value>,
+    /// The counted objects by number, and the references whose letting go was begun, the next one last.
+    pub objects: Vec<Option<Object>>,
+    pub waiting: Vec<u32>,
+    pub err: RunError,
+    /// The units on the open line of Debug.Print.
+    pub column: usize,
+}
+
+impl Drop for Memory {
+    fn drop(self) {
+        let Memory {
+            stands: _stands,
+            top: _top,
+            callers: _callers,
+            shared: _shared,
+            objects: _objects,
+            waiting: _waiting,
+            err: _err,
+            column: _column,
+        } = self;
+    }
+}

@@ -1,0 +1,180 @@
+ghost use Rattle.std.specs.Prelude.{◌≡◌, IfOk, OnOk, map};
+ghost use Rattle.arrays_udt.specs.Paths.{same_step};
+ghost use Rattle.bound_project.specs.View.{declared_view};
+ghost use Rattle.vba_values.specs.Types.{declared};
+ghost use Rattle.vba_meaning.specs.Paths.{any_moves, element_path, field_path, is_below, leads_through, plain_steps, same_root};
+ghost use Rattle.run_memory.specs.View.{path_view, root_view, step_view};
+
+use arrays_udt::PathStep;
+use bound_project::DeclaredType;
+use std::alloc::Global;
+use vba_base::NoMemory;
+use vba_values::{VType, copy_type};
+
+/// Where a path begins: a variable of a frame, whose number is that of the frames below it, or of the project; or the
+/// value that a With block of a frame keeps.
+#[derive(Clone, Copy)]
+pub enum Root {
+    Frame { frame: usize, variable: u32 },
+    Project { variable: u32 },
+    Block { frame: usize, header: u32 },
+}
+
+/// A step, and whether it leads into an array that can be replaced: one that isn't declared with bounds.
+#[derive(Clone, Copy)]
+pub struct Step {
+    pub step: PathStep,
+    pub moves: bool,
+}
+
+/// A path to a value: to a variable, then to fields and elements inside it. It has the declared type of what is there,
+/// and whether that is an array declared with bounds.
+pub struct Path {
+    pub root: Root,
+    pub steps: Vec<Step>,
+    pub of: VType,
+    pub is_bounded: bool,
+}
+
+impl Drop for Path {
+    fn drop(self) {
+        let Path {
+            root: _root,
+            steps: _steps,
+            of: _of,
+            is_bounded: _is_bounded,
+        } = self;
+    }
+}
+
+impl Path {
+    /// A copy of the path.
+    pub fn copy(&self, alloc: Global) -> Result<Path, NoMemory>
+        ensures { IfOk result (λ copy. path_view copy ≡ path_view self.now) }
+    {
+        let steps = Vec::from_slice(alloc, self.steps.as_slice())?;
+        let of = copy_type(alloc, &self.of)?;
+        Ok(Path {
+            root: self.root,
+            steps,
+            of,
+            is_bounded: self.is_bounded,
+        })
+    }
+
+    /// The path becomes that of its element at an offset.
+    pub fn into_element(&mut self, offset: usize, of: VType) -> Result<(), NoMemory>
+        ensures { OnOk result (path_view self.new ≡ element_path (path_view self.old) offset (declared of)) }
+    {
+        self.steps.push(Step {
+            step: PathStep::Element(offset),
+            moves: !self.is_bounded,
+        })?;
+        self.of = of;
+        self.is_bounded = false;
+        Ok(())
+    }
+
+    /// The path becomes that of its field.
+    pub fn into_field(&mut self, field: u32, of: VType, is_bounded: bool) -> Result<(), NoMemory>
+        ensures { OnOk result (path_view self.new ≡ field_path (path_view self.old) field (declared of) is_bounded) }
+    {
+        self.steps.push(Step {
+            step: PathStep::Field(field),
+            moves: false,
+        })?;
+        self.of = of;
+        self.is_bounded = is_bounded;
+        Ok(())
+    }
+
+    /// The path of its field.
+    pub fn field(
+        self,
+        alloc: Global,
+        field: u32,
+        of: DeclaredType,
+        is_bounded: bool,
+    ) -> Result<Path, NoMemory>
+        ensures { IfOk result (λ path. path_view path ≡ field_path (path_view self) field (declared_view of) is_bounded) }
+    {
+        let mut path = self;
+        path.into_field(field, of.value_type(alloc)?, is_bounded)?;
+        Ok(path)
+    }
+
+    /// The steps alone.
+    #[tactic(auto, using(crate::proofs::Steps::plain_next))]
+    pub fn plain_steps(&self, alloc: Global) -> Result<Vec<PathStep>, NoMemory>
+        ensures { IfOk result (λ steps. steps.items ≡ plain_steps (path_view self.now).steps) }
+    {
+        let mut steps = Vec::new(alloc);
+        for step in &self.steps {
+            steps.push(step.step)?;
+        }
+        Ok(steps)
+    }
+
+    /// Whether the path would lead nowhere where what is at a place is replaced.
+    pub fn is_below(&self, place: &Path) -> bool
+        ensures { result ≡ is_below (path_view self.now) (path_view place.now) }
+    {
+        same_root(self.root, place.root)
+            && leads_through(self.steps.as_slice(), place.steps.as_slice())
+    }
+}
+
+fn same_root(left: Root, right: Root) -> bool
+    ensures { result ≡ same_root (root_view left) (root_view right) }
+{
+    match (left, right) {
+        (
+            Root::Frame { frame, variable },
+            Root::Frame {
+                frame: other,
+                variable: of_other,
+            },
+        ) => frame == other && variable == of_other,
+        (Root::Project { variable }, Root::Project { variable: other }) => variable == other,
+        (
+            Root::Block { frame, header },
+            Root::Block {
+                frame: other,
+                header: of_other,
+            },
+        ) => frame == other && header == of_other,
+        _ => false,
+    }
+}
+
+fn same_step(left: PathStep, right: PathStep) -> bool
+    ensures { result ≡ same_step left right }
+{
+    match (left, right) {
+        (PathStep::Field(left), PathStep::Field(right)) => left == right,
+        (PathStep::Element(left), PathStep::Element(right)) => left == right,
+        _ => false,
+    }
+}
+
+/// Whether steps lead to a place and from there through an array that can be replaced.
+fn leads_through(steps: &[Step], place: &[Step]) -> bool
+    ensures { result ≡ leads_through (map step_view steps.now) (map step_view place.now) }
+{
+    match place {
+        [] => any_moves(steps),
+        [first, place @ ..] => match steps {
+            [] => false,
+            [step, steps @ ..] => same_step(step.step, first.step) && leads_through(steps, place),
+        },
+    }
+}
+
+fn any_moves(steps: &[Step]) -> bool
+    ensures { result ≡ any_moves (map step_view steps.now) }
+{
+    match steps {
+        [] => false,
+        [step, steps @ ..] => step.moves || any_moves(steps),
+    }
+}
