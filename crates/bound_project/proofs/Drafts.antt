@@ -4,6 +4,7 @@ use Rattle.std.specs.Prelude.{IsSome, Vec}
 use Rattle.std.specs.declared.alloc.Global.{Global}
 use Rattle.vba_values.specs.View.{view as value_view}
 use Rattle.vba_values.specs.declared.value.Value.{Value}
+use Rattle.std.proofs.Math.Seq.{get_or-append_seam}
 use Rattle.std.proofs.lemmas.List.{map_push, get_or_append_left}
 use Rattle.vba_values.specs.Val.{Val, empty}
 use Rattle.bound_project.specs.declared.node.NodeKind.{NodeKind}
@@ -259,3 +260,7 @@ pub body_end : (t : Tables) (scratch : List Node) (bs : List Body) (b made : Bod
     × (Kept t scratch ns ss (bs ++ made ∷ [])
     × (drafted t scratch ns ss (bs ++ made ∷ []) ≡ record (drafted t scratch b.nodes.items b.statements.items bs) { statements = []; bodies = map (body_view t) bs ++ body_view t b ∷ [] }))
 body_end t scratch bs b made ns ss e f g h = rw (e, f, g) ((h.0, ((tt, (tt, tt)), h.1.1)), body_more t scratch bs b h)
+
+-- the constant that was added last
+pub constant_last : (t : Tables) (v : Val) (i : ℕ) → i ≡ length t.constants → constant_in (with_constant t v) i ≡ v
+constant_last t v i e = ap (λ k. constant_in (with_constant t v) k) e ∙ get_or-append_seam t.constants v [] empty

@@ -1,5 +1,5 @@
 -- A node takes off the stack just what was put there for it.
-use Rattle.std.proofs.Common.{◌≡◌, ℕ, zero, suc, ◌+◌, List, [], ◌∷◌, ◌++◌, length, map, Option, Some, None, refl, sym, ap, ◌∙◌, arith}
+use Rattle.std.proofs.Common.{◌≡◌, ℕ, suc, ◌+◌, List, [], ◌∷◌, ◌++◌, length, map, Option, Some, None, refl, ap, ◌∙◌, arith}
 use Rattle.bound_project.specs.Expressions.{Expr, Exprs, no_exprs, Args, no_args, Prints, no_prints}
 use Rattle.bound_project.specs.Pieces.{Argument, Piece, an_expr, an_argument, exprs_off, arguments_off, prints_off}
 use Rattle.bound_project.specs.Lists.{above, args_before, args_of, exprs_before, exprs_of, item_piece, print_item, prints_before, prints_of}

@@ -1,7 +1,8 @@
 ghost use Rattle.bound_project.specs.Drafts.{Kept, kept_prop, tables_in};
 
 use crate::declarations::Declarations;
-use crate::node::Node;
+use crate::declared_type::DeclaredType;
+use crate::node::{Node, NodeKind};
 use crate::project::{Block, Body, Project};
 use crate::statement::{ActionKind, StatementNode};
 use crate::too_long::TooLong;
@@ -27,8 +28,9 @@ pub struct Draft {
 impl Draft {
     ghost use Rattle.std.specs.Prelude.{◌≡◌, [], ◌∷◌, ◌++◌, length, map, IfOk, IsSome};
     ghost use Rattle.vba_values.specs.View.{view as value_view};
-    ghost use Rattle.bound_project.specs.View.{declarations_view};
-    ghost use Rattle.bound_project.specs.Pieces.{put};
+    ghost use Rattle.bound_project.specs.View.{declarations_view, declared_view};
+    ghost use Rattle.bound_project.specs.Expressions.{constant, expr};
+    ghost use Rattle.bound_project.specs.Pieces.{an_expr, put};
     ghost use Rattle.bound_project.specs.Bodies.{Fits, action_of, block_view, project_view};
     ghost use Rattle.bound_project.specs.Drafts.{ActionNamed, NodeNamed, no_tables, statement_of, with_constant, with_order};
     ghost use Rattle.bound_project.specs.DraftView.{draft_view};
@@ -76,6 +78,29 @@ impl Draft {
         ensures { IfOk result (λ _. draft_view self.new ≡ record (draft_view self.old) { pieces = put (draft_view self.old).tables node (draft_view self.old).pieces }) }
     {
         self.scratch.push(node)?;
+        Ok(())
+    }
+
+    /// A constant as one more node: where it stands, its type, and the type that it has as an operand.
+    pub fn push_constant(
+        &mut self,
+        value: Value,
+        place: Place,
+        of: DeclaredType,
+        operand: DeclaredType,
+    ) -> Result<(), OrMemory<TooLong>>
+        ensures { IfOk result (λ _. draft_view self.new ≡ record (draft_view self.old) {
+          tables = with_constant (draft_view self.old).tables (value_view value);
+          pieces = an_expr (expr (constant (value_view value)) place (declared_view of) (declared_view operand)) ∷ (draft_view self.old).pieces;
+        }) }
+    {
+        let constant = self.add_constant(value)?;
+        self.push(Node {
+            kind: NodeKind::Constant { constant },
+            place,
+            of,
+            operand,
+        })?;
         Ok(())
     }
 

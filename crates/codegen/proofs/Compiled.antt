@@ -1,5 +1,5 @@
 -- What is assembled of a project is its code.
-use Rattle.std.proofs.Common.{◌≡◌, ℕ, zero, suc, ◌+◌, ◌<◌, ◌≤◌, Bool, true, false, cond, ltb, List, [], ◌∷◌, ◌++◌, length, map, get_or, refl, sym, ap, subst, ◌∙◌, arith, rules}
+use Rattle.std.proofs.Common.{◌≡◌, ℕ, ◌+◌, Bool, true, false, cond, List, [], ◌∷◌, ◌++◌, length, map, get_or, refl, sym, ap, ◌∙◌, arith, rules}
 use Rattle.std.specs.Prelude.{nat_lt, slice_index, Vec}
 use Rattle.std.specs.declared.alloc.Global.{Global}
 use Rattle.std.proofs.lemmas.Bool.{ltb-true, ltb-false}
@@ -13,7 +13,7 @@ use Rattle.bound_project.specs.declared.statement.StatementNode.{StatementNode}
 use Rattle.bound_project.specs.declared.node.Node.{Node}
 use Rattle.bound_project.specs.declared.project.Body.{Body}
 use Rattle.bound_project.specs.declared.project.Project.{Project}
-use Rattle.bound_project.specs.Pieces.{Tables, constant_in}
+use Rattle.bound_project.specs.Pieces.{Tables}
 use Rattle.bound_project.specs.Bodies.{Fits, tables_of, body_view, statement_view, project_view}
 use Rattle.bound_project.specs.Project as project
 use Rattle.bound_project.specs.Statements as plain_statements
@@ -22,7 +22,7 @@ use Rattle.pcode.specs.Layout.{starts_of, nexts_of, entries_of, bodies_code, cod
 use Rattle.pcode.specs.View.{instr_view, code_view}
 use Rattle.pcode.specs.declared.instr.Instr.{Instr}
 use Rattle.codegen.specs.declared.node.Added.{Added}
-use Rattle.codegen.specs.Emission.{lists_of, constant_number, bodies_instrs, table_of}
+use Rattle.codegen.specs.Emission.{lists_of, constant_number}
 use Rattle.codegen.specs.Parts.{HasAdded, IsMade, nexts_in}
 use Rattle.codegen.proofs.Nodes.{Grown, map_append}
 use Rattle.codegen.proofs.Statements.{bodies_seen, table_seen}

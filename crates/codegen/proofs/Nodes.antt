@@ -15,7 +15,7 @@ use Rattle.pcode.specs.View.{instr_view}
 use Rattle.codegen.specs.declared.node.Around.{Around}
 use Rattle.codegen.specs.declared.node.Added.{Added}
 use Rattle.codegen.specs.Emission.{constant_number, node_instrs, nodes_instrs}
-use Rattle.codegen.proofs.Pieces.{codes, AllThere, Emits, append_none, value_emits, place_emits, both_emits, test_emits, range_emits, found_emits, args_emit, place_found_emits, value_found_emits}
+use Rattle.codegen.proofs.Pieces.{codes, Emits, append_none, value_emits, place_emits, both_emits, test_emits, range_emits, found_emits, args_emit, place_found_emits, value_found_emits}
 
 -- the tables of the code are those of the project with two constants more
 pub record Grown (t u : Tables) (added : Added) : Type 0 where

@@ -1,8 +1,8 @@
 -- The code of pieces, and that nothing is lost where no piece is.
-use Rattle.std.proofs.Common.{◌≡◌, ℕ, zero, suc, ◌+◌, Bool, List, [], ◌∷◌, ◌++◌, Option, Some, None, refl, sym, ap, ◌∙◌, arith, append_assoc}
+use Rattle.std.proofs.Common.{◌≡◌, ℕ, zero, suc, ◌+◌, List, [], ◌∷◌, ◌++◌, Option, Some, None, refl, sym, ap, ◌∙◌, arith, append_assoc}
 use Rattle.vba_values.specs.Val.{empty}
 use Rattle.bound_project.specs.View.{declared_view}
-use Rattle.bound_project.specs.Expressions.{Expr, Exprs, no_exprs, also, Lvalue, Args, no_args, by_place, by_copy, by_default, by_list, operand_type}
+use Rattle.bound_project.specs.Expressions.{Expr, Exprs, no_exprs, also, Lvalue, Args, no_args, operand_type}
 use Rattle.bound_project.specs.Pieces.{Argument, place_lent, value_copied, default_taken, values_listed, Piece, nothing, an_expr, a_place, an_argument, a_value_shown, a_zone, a_test_begun, a_test_is, a_test_range, a_resize, an_erased, of_value, of_place, of_both, of_test, of_range, of_found, of_place_found, of_value_found, exprs_off, arguments_off, with_argument}
 use Rattle.pcode.specs.Instructions.{Instr, Push, Selected, Plain, Fit, Lend, Pack, ShowText, IfFits, IfBetween, Redim, EraseAt}
 use Rattle.pcode.specs.Code.{count, list_count, expr_code, place_code, args_code, list_code}

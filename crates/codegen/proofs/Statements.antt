@@ -1,5 +1,5 @@
 -- The code of a statement is the instructions of what stands before its nodes, of its nodes, and of what stands behind.
-use Rattle.std.proofs.Common.{◌≡◌, ℕ, zero, suc, ◌+◌, Bool, true, false, List, [], ◌∷◌, ◌++◌, length, map, Option, Some, None, refl, sym, ap, subst, ◌∙◌, arith, append_assoc}
+use Rattle.std.proofs.Common.{◌≡◌, ℕ, zero, suc, ◌+◌, true, false, List, [], ◌∷◌, ◌++◌, length, map, Option, Some, None, refl, sym, ap, subst, ◌∙◌, arith, append_assoc}
 use Rattle.std.specs.Prelude.{slice_index, IsSome}
 use Rattle.vba_values.specs.declared.types.Compare.{Compare}
 use Rattle.vba_values.specs.declared.types.OpKind.{OpKind}
@@ -11,9 +11,9 @@ use Rattle.bound_project.specs.declared.statement.ActionKind.TheVariants as kind
 use Rattle.bound_project.specs.declared.statement.StatementNode.{StatementNode}
 use Rattle.bound_project.specs.declared.node.Node.{Node}
 use Rattle.bound_project.specs.View.{declared_view, variable_view}
-use Rattle.bound_project.specs.Expressions.{Expr, Exprs, Lvalue, Args, no_args, in_order, Prints, no_prints, shown, zone, operand_type}
+use Rattle.bound_project.specs.Expressions.{Expr, Exprs, Lvalue, Args, no_args, Prints, no_prints, shown, zone, operand_type}
 use Rattle.bound_project.specs.Statements.{Tests, no_tests, test_is, test_range, Resizes, no_resizes, resize, Arrays, no_arrays, an_array, Action}
-use Rattle.bound_project.specs.Pieces.{Piece, an_expr, a_place, an_argument, a_value_shown, a_zone, a_test_is, a_test_range, a_resize, an_erased, Tables, order_in, prints_off, tests_off, resizes_off, arrays_off, arguments_off, as_operand, pieces}
+use Rattle.bound_project.specs.Pieces.{Piece, an_expr, a_place, a_value_shown, a_zone, a_test_is, a_test_range, a_resize, an_erased, Tables, order_in, prints_off, tests_off, resizes_off, arrays_off, arguments_off, pieces}
 use Rattle.bound_project.specs.Bodies.{whole, one_value, one_place, behind_value, alone, action_of, action_or, part, statement_view, StatementFits, AllFit, BodiesFit, body_view}
 use Rattle.bound_project.specs.declared.project.Body.{Body}
 use Rattle.std.proofs.lemmas.Bool.{false≢true}
@@ -24,9 +24,9 @@ use Rattle.pcode.specs.Code.{Entry, count, prints_count, expr_code, place_code, 
 use Rattle.pcode.specs.View.{instr_view}
 use Rattle.codegen.specs.declared.node.Around.{Around}
 use Rattle.codegen.specs.declared.node.Added.{Added}
-use Rattle.codegen.specs.Emission.{Row, order_length, around_of, before_instrs, work_instrs, end_instr, nodes_instrs, action_instrs, statement_instrs, statement_size, body_size, body_instrs, row_in, bodies_instrs, row_of, table_of}
+use Rattle.codegen.specs.Emission.{Row, around_of, before_instrs, work_instrs, end_instr, nodes_instrs, action_instrs, statement_instrs, statement_size, body_size, body_instrs, row_in, bodies_instrs, row_of, table_of}
 use Rattle.codegen.proofs.Pieces.{codes, AllThere, ArgsOff, args_are, append_none, one, two}
-use Rattle.codegen.proofs.Nodes.{Grown, same_one, same_two, map_append, nodes_emit}
+use Rattle.codegen.proofs.Nodes.{Grown, same_two, map_append, nodes_emit}
 
 -- ---- lists of a statement off the stack
 

@@ -1,5 +1,5 @@
 -- Serves the code: the instructions of nodes and of statements, as they stand in memory.
-use Rattle.std.specs.Prelude.{ℕ, suc, ◌+◌, Bool, true, false, if◌then◌else◌, nat_lt, List, [], ◌∷◌, ◌++◌, length, map, slice_index, slice_index_or, slice_get, Vec}
+use Rattle.std.specs.Prelude.{ℕ, suc, ◌+◌, true, false, if◌then◌else◌, nat_lt, List, [], ◌∷◌, ◌++◌, length, map, slice_index, slice_index_or, slice_get, Vec}
 use Rattle.std.specs.declared.alloc.Global.{Global}
 use Rattle.vba_values.specs.declared.types.Compare.TheVariants.{Binary as by_units}
 use Rattle.error_frames.specs.declared.frame.Policy.{Policy}

@@ -1,4 +1,4 @@
-use Rattle.std.proofs.Common.{◌≡◌, List, ◌∷◌, map, ap, ◌∙◌}
+use Rattle.std.proofs.Common.{List, ◌∷◌, map, ap, ◌∙◌}
 use Rattle.std.specs.Prelude.{Vec, slice_index, ℕ}
 use Rattle.std.specs.declared.alloc.Global.{Global}
 use Rattle.pcode.specs.declared.instr.Instr.TheVariants.{Leave}

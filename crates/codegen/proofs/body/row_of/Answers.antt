@@ -1,4 +1,4 @@
-use Rattle.std.proofs.Common.{◌≡◌, ℕ, ◌+◌, ap, ◌∙◌}
+use Rattle.std.proofs.Common.{ℕ, ◌+◌, ap, ◌∙◌}
 use Rattle.codegen.specs.Emission.{lists_of}
 use Rattle.codegen.proofs.Loops.{placed_next}
 use Rattle.codegen.proofs.body.row_of.Goals as goal
