@@ -3,6 +3,7 @@ ghost use Rattle.vba_base.specs.Answer.{Gives};
 ghost use Rattle.vba_base.specs.declared.fault.OrMemory.TheVariants as answers;
 ghost use Rattle.sheet_host.specs.Books.{IsSheetOf, sheet_at, content_at, sheet_named, IsNewName, value_in, Puts};
 ghost use Rattle.sheet_host.specs.Field.{is_text};
+ghost use Rattle.sheet_host.specs.Filled.{IsFilledBehind, IsFirst};
 ghost use Rattle.sheet_host.specs.Sheets.{Position, used_area, value_at};
 ghost use Rattle.sheet_host.specs.Size.{IsAreaInside};
 ghost use Rattle.sheet_host.specs.Smallest.{HoldsAllFilled, IsFilled, IsPartOf, first_cell};
@@ -148,6 +149,16 @@ impl Book {
         self.sheets[place].sheet.put_values(&area, cells, added)?;
         self.written = written;
         Ok(())
+    }
+
+    /// The first cell of an area by rows, behind a given one where one is given, that isn't Empty: its row and its column.
+    /// Its time goes with the rows of fields and the written cells that it passes, not with the size of the area.
+    pub fn next_filled(&self, area: Area, after: Option<(u32, u32)>) -> Option<(u32, u32)>
+        requires sheet { IsSheetOf self.now area.sheet }
+        requires inside { IsAreaInside area }
+        ensures { IsFirst (IsFilledBehind (content_at self.now area.sheet) area after) result }
+    {
+        self.sheet(area.sheet).next_filled(&area, after)
     }
 
     /// The smallest area of a sheet that holds all its cells that aren't Empty. Where there are none it is A1.

@@ -25,7 +25,7 @@ pub type Pages = BTreeMap<u32, Page>;
 const ROWS: u32 = 256;
 
 /// The number of the page that has a row.
-fn page_of(row: u32) -> u32
+pub fn page_of(row: u32) -> u32
     requires { 1 ≤ row }
     ensures { result ≡ page_of row }
 {
