@@ -1,5 +1,5 @@
 -- The cells of areas as areas, and the areas that hold two others.
-use Rattle.std.specs.Prelude.{ℕ, ◌+◌, ◌-◌, ◌==◌, min, max, if◌then◌else◌, ℤ, pos, ◌+ℤ◌, ◌-ℤ◌, Result, Ok, Err}
+use Rattle.std.specs.Prelude.{◌+◌, ◌-◌, ◌==◌, min, max, if◌then◌else◌, ℤ, pos, ◌+ℤ◌, ◌-ℤ◌, Result, Ok, Err}
 use Rattle.vba_values.specs.declared.fault.Bad.{Bad}
 use Rattle.sheet_host.specs.declared.area.Area.{Area}
 use Rattle.sheet_host.specs.declared.area.SheetId.{SheetId}

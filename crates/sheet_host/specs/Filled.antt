@@ -1,5 +1,5 @@
 -- The cells of an area that aren't Empty, by rows.
-use Rattle.std.specs.Prelude.{◌≡◌, ℕ, ◌≤◌, ◌<◌, false, Option, Some, None}
+use Rattle.std.specs.Prelude.{◌≡◌, ◌≤◌, ◌<◌, false, Option, Some, None}
 use Rattle.sheet_host.specs.declared.area.Area.{Area}
 use Rattle.sheet_host.specs.Field.{is_empty}
 use Rattle.sheet_host.specs.Sheets.{Position, SheetContent, value_at}

@@ -8,6 +8,7 @@ pub mod Field
 pub mod Filled
 pub mod Gathered
 pub mod Members
+pub mod OneCell
 pub mod Pages
 pub mod Reading
 pub mod Search
