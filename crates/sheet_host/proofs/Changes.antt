@@ -1,6 +1,6 @@
 -- What taking room and writing a cell leave of the pages.
-use Rattle.std.proofs.Common.{◌≡◌, ℕ, Bool, true, false, cond, List, [], ◌∷◌, ◌++◌, Option, Some, None, refl, sym, ap, subst, ◌∙◌}
-use Rattle.std.specs.Prelude.{IsTrue, is_some, unwrap_or}
+use Rattle.std.proofs.Common.{◌≡◌, ℕ, Bool, true, false, cond, List, [], ◌∷◌, ◌++◌, Option, Some, None, Result, Ok, Err, refl, sym, ap, subst, ◌∙◌}
+use Rattle.std.specs.Prelude.{IfOk, IsTrue, OnErr, OnOk, is_none, is_some, unwrap_or}
 use Rattle.std.specs.Option.{option_and_then}
 use Rattle.std.specs.List.Sorted.{IsStrictlySortedBy}
 use Rattle.std.specs.Map.{keys_of, lookup, set_value}
@@ -12,6 +12,7 @@ use Rattle.std.specs.declared.cmp.Ordering.{Ordering}
 use Rattle.std.specs.declared.cmp.Ordering.TheVariants.{Less, Equal, Greater}
 use mathlib.Core.Bool.{true≢false}
 use Rattle.sheet_host.specs.declared.cell.CellValue.{CellValue}
+use Rattle.sheet_host.specs.OneCell.{is_slot_unwritten}
 use Rattle.sheet_host.specs.Pages.{Slot, Page, page_of, with_slot, cells_of_slots, cells_of_pages, kept, slot_in, slot_at, slots_with, HasSlotIn, HasSlot, AllOfPage, IsPage, AllPages, ArePages}
 use Rattle.sheet_host.specs.Sheets.{Position, position_cmp}
 use Rattle.sheet_host.specs.Size.{IsInside}
@@ -118,20 +119,18 @@ held_cond true value o = refl
 held_cond false value o = refl
 
 -- a page with a cell written: that cell was written, and no other
-pub kept_put : (old new : List (ℕ × Page)) (n : ℕ) (before after : Page) (p : Position) (value : CellValue)
-    → ArePages old → ArePages new → n ≡ page_of p.0 → lookup (is_at (nat_cmp n)) old ≡ Some before → PutsPage old new n after
-    → ((q : Position) → slot_in after.entries q ≡ cond (is_at (position_cmp p) q) (Some (Some value)) (slot_in before.entries q))
+pub kept_written : (old new : List (ℕ × Page)) (n : ℕ) (after : Page) (p : Position) (value : CellValue) → ArePages old → ArePages new → n ≡ page_of p.0 → PutsPage old new n after
+    → ((q : Position) → n ≡ page_of q.0 → slot_in after.entries q ≡ cond (is_at (position_cmp p) q) (Some (Some value)) (slot_at old q))
     → kept new ≡ insert (kept old) p value
-kept_put old new n before after p value are are' is found puts writes = same_map position_total same_position (kept new) (insert (kept old) p value) by_position where
+kept_written old new n after p value are are' is puts writes = same_map position_total same_position (kept new) (insert (kept old) p value) by_position where
   turned : (q : Position) → is_at (position_cmp p) q ≡ eq_by_cmp position_cmp q p
   turned q = (eq_by_cmp_equiv position_total).symm p q
 
   by_page : (q : Position) (b : Bool) → is_at (nat_cmp n) (page_of q.0) ≡ b
       → held (cond b (slot_in after.entries q) (slot_at old q)) ≡ cond (eq_by_cmp position_cmp q p) (Some value) (held (slot_at old q))
   by_page q true at =
-      ap held (writes q) ∙ held_cond (is_at (position_cmp p) q) value (slot_in before.entries q)
-      ∙ ap (λ b. cond b (Some value) (held (slot_in before.entries q))) (turned q)
-      ∙ ap (λ o. cond (eq_by_cmp position_cmp q p) (Some value) (held o)) (sym (slot_found old (Some before) n q found (at_number n (page_of q.0) at)))
+      ap held (writes q (at_number n (page_of q.0) at)) ∙ held_cond (is_at (position_cmp p) q) value (slot_at old q)
+      ∙ ap (λ b. cond b (Some value) (held (slot_at old q))) (turned q)
   by_page q false at =
       ap (λ b. cond b (Some value) (held (slot_at old q)))
       (sym (not_true (eq_by_cmp position_cmp q p) (λ e. true≢false (sym (number_at n (page_of q.0) (is ∙ ap (λ r. page_of r.0) (sym (at_same q p e)))) ∙ at))))
@@ -140,6 +139,55 @@ kept_put old new n before after p value are are' is found puts writes = same_map
   by_position q =
       get_kept new q are' ∙ ap held (slot_put old new n after puts q) ∙ by_page q (is_at (nat_cmp n) (page_of q.0)) refl
       ∙ ap (cond (eq_by_cmp position_cmp q p) (Some value)) (sym (get_kept old q are)) ∙ sym (get-insert position_total (kept old) p value q)
+
+-- the same, where the page was there
+pub kept_put : (old new : List (ℕ × Page)) (n : ℕ) (before after : Page) (p : Position) (value : CellValue)
+    → ArePages old → ArePages new → n ≡ page_of p.0 → lookup (is_at (nat_cmp n)) old ≡ Some before → PutsPage old new n after
+    → ((q : Position) → slot_in after.entries q ≡ cond (is_at (position_cmp p) q) (Some (Some value)) (slot_in before.entries q))
+    → kept new ≡ insert (kept old) p value
+kept_put old new n before after p value are are' is found puts writes =
+    kept_written old new n after p value are are' is puts
+    (λ q same. writes q ∙ ap (λ o. cond (is_at (position_cmp p) q) (Some (Some value)) o) (sym (slot_found old (Some before) n q found same)))
+
+-- and where there was none
+pub kept_new : (old new : List (ℕ × Page)) (n : ℕ) (before : List (Position × Slot)) (after : Page) (p : Position) (value : CellValue)
+    → ArePages old → ArePages new → n ≡ page_of p.0 → lookup (is_at (nat_cmp n)) old ≡ None → before ≡ [] → PutsPage old new n after
+    → ((q : Position) → slot_in after.entries q ≡ cond (is_at (position_cmp p) q) (Some (Some value)) (slot_in before q))
+    → kept new ≡ insert (kept old) p value
+kept_new old new n before after p value are are' is none empty puts writes =
+    kept_written old new n after p value are are' is puts
+    (λ q same. writes q ∙ ap (λ o. cond (is_at (position_cmp p) q) (Some (Some value)) o)
+    (ap (λ slots. slot_in slots q) empty ∙ sym (slot_found old None n q none same)))
+
+-- whether nothing was written at a position
+unwritten_held : (o : Option Slot) → is_slot_unwritten o ≡ is_none (held o)
+unwritten_held None = refl
+unwritten_held (Some None) = refl
+unwritten_held (Some (Some value)) = refl
+
+pub added_found : (pages : List (ℕ × Page)) (page : Page) (n : ℕ) (p : Position) → ArePages pages → lookup (is_at (nat_cmp n)) pages ≡ Some page → n ≡ page_of p.0
+    → is_slot_unwritten (slot_in page.entries p) ≡ is_none (get (kept pages) p)
+added_found pages page n p are found is =
+    ap is_slot_unwritten (sym (slot_found pages (Some page) n p found is)) ∙ unwritten_held (slot_at pages p) ∙ ap is_none (sym (get_kept pages p are))
+
+pub added_new : (pages : List (ℕ × Page)) (slots : List (Position × Slot)) (n : ℕ) (p : Position) → ArePages pages → lookup (is_at (nat_cmp n)) pages ≡ None → n ≡ page_of p.0 → slots ≡ []
+    → is_slot_unwritten (slot_in slots p) ≡ is_none (get (kept pages) p)
+added_new pages slots n p are none is empty =
+    ap (λ s. is_slot_unwritten (slot_in s p)) empty ∙ ap is_slot_unwritten (sym (slot_found pages None n p none is)) ∙ unwritten_held (slot_at pages p)
+    ∙ ap is_none (sym (get_kept pages p are))
+
+-- what holds of a result holds of it in other words
+pub on_ok : {A E : Type 0} (P Q : Type 0) (r : Result A E) → OnOk r P → (P → Q) → OnOk r Q
+on_ok P Q (Ok x) h means = means h
+on_ok P Q (Err e) h means = h
+
+pub on_err : {A E : Type 0} (P Q : Type 0) (r : Result A E) → OnErr r P → (P → Q) → OnErr r Q
+on_err P Q (Ok x) h means = h
+on_err P Q (Err e) h means = means h
+
+pub if_ok : {A E : Type 0} (P Q : A → Type 0) (r : Result A E) → ((x : A) → P x → Q x) → IfOk r P → IfOk r Q
+if_ok P Q (Ok x) means h = means x h
+if_ok P Q (Err e) means h = h
 
 -- a page that is found has slots of its own rows
 pub found_page : (n : ℕ) (pages : List (ℕ × Page)) (page : Page) → AllPages pages → lookup (is_at (nat_cmp n)) pages ≡ Some page → IsPage n page.entries

@@ -3,12 +3,14 @@ pub mod Bounds
 pub mod Changes
 pub mod Fields
 pub mod Gathers
+pub mod Joined
 pub mod Kept
 pub mod Loops
 pub mod Places
 pub mod Positions
 pub mod Puts
 pub mod Rows
+pub mod Searches
 pub mod Shelves
 pub mod Smallest
 pub mod Texts

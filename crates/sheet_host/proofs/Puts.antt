@@ -1,12 +1,16 @@
 -- Writing an area: how many cells it adds.
-use Rattle.std.proofs.Common.{◌≡◌, ℕ, suc, ◌+◌, ◌*◌, ◌/◌, ◌%◌, ◌<◌, ◌≤◌, cond, List, [], ◌∷◌, length, Option, Some, None, refl, sym, ap, ◌∙◌, arith}
+use Rattle.std.proofs.Common.{◌≡◌, ℕ, suc, ◌+◌, ◌*◌, ◌/◌, ◌%◌, ◌<◌, ◌≤◌, Bool, true, false, cond, List, [], ◌∷◌, length, Option, Some, None, refl, sym, ap, ap₂, ◌∙◌, arith}
 use Rattle.std.specs.Prelude.{is_some, is_none}
+use Rattle.std.specs.Int.{from_bool}
 use Rattle.std.specs.FinMap.{get, insert, len, get-insert, len-insert}
 use Rattle.std.specs.Ordering.{eq_by_cmp}
 use Rattle.std.proofs.Math.Nat.{div-add-mod}
 use Rattle.sheet_host.specs.declared.area.Area.{Area}
+use Rattle.sheet_host.specs.declared.area.SheetId.{SheetId}
 use Rattle.sheet_host.specs.declared.cell.CellValue.{CellValue}
-use Rattle.sheet_host.specs.Sheets.{Position, position_cmp, Cells, nth_cell, stored, unwritten}
+use Rattle.sheet_host.specs.AreaCells.{one_cell}
+use Rattle.sheet_host.specs.OneCell.{with_value}
+use Rattle.sheet_host.specs.Sheets.{Position, SheetContent, position_cmp, Cells, nth_cell, stored, unwritten, with_values}
 use Rattle.sheet_host.proofs.Kept.{not_true}
 use Rattle.sheet_host.proofs.Positions.{position_total, at_same}
 
@@ -79,3 +83,32 @@ stored_count cells area values =
 pub nil_of : (values : List CellValue) → length values ≡ 0 → values ≡ []
 nil_of [] e = refl
 nil_of (value ∷ values) e = absurd (omega (arith, e))
+
+-- the only cell of an area of one cell
+pub nth_first : (sheet : SheetId) (p : Position) → nth_cell (one_cell sheet p) 0 ≡ p
+nth_first sheet p =
+    let row : p.0 + 0 / 1 ≡ p.0 = omega arith in
+    let column : p.1 + 0 % 1 ≡ p.1 = omega arith in
+    ap₂ (λ (a b : ℕ). at a b) row column where
+      at : ℕ → ℕ → Position
+      at a b = (a, b)
+
+-- one cell written
+pub one_len : (cells cells' : Cells) (p : Position) (value : CellValue) (added : Bool) (n : ℕ) → cells' ≡ insert cells p value → added ≡ is_none (get cells p) → n ≡ cond added 1 0
+    → len cells + n ≡ len cells'
+one_len cells cells' p value added n is added_is n_is =
+    ap (λ k. len cells + k) (n_is ∙ ap (λ b. cond b 1 0) added_is)
+    ∙ sym (len-insert position_total cells p value ∙ one_more (get cells p) (len cells)) ∙ ap len (sym is)
+
+pub one_unwritten : (cells : Cells) (sheet : SheetId) (p : Position) → unwritten cells (one_cell sheet p) 1 ≡ cond (is_none (get cells p)) 1 0
+one_unwritten cells sheet p = zero_plus (cond (is_none (get cells (nth_cell (one_cell sheet p) 0))) 1 0) ∙ ap (λ q. cond (is_none (get cells q)) 1 0) (nth_first sheet p) where
+  zero_plus : (n : ℕ) → 0 + n ≡ n
+  zero_plus n = omega arith
+
+pub one_value : (s : SheetContent) (sheet : SheetId) (p : Position) (value : CellValue) → with_value s p value ≡ with_values s (one_cell sheet p) (value ∷ [])
+one_value s sheet p value = ap (λ q. with_value s q value) (sym (nth_first sheet p))
+
+-- a truth as a number
+pub one_if : (n : ℕ) (b : Bool) → n ≡ from_bool b → n ≡ cond b 1 0
+one_if n true h = h
+one_if n false h = h

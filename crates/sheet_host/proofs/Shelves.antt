@@ -1,8 +1,9 @@
 -- The sheets that a book keeps.
 use Rattle.std.proofs.Common.{◌≡◌, ℕ, zero, suc, ◌+◌, ◌-◌, ◌<◌, ◌≤◌, ◌^◌, cond, List, [], ◌∷◌, ◌++◌, length, refl, sym, ap, subst, ◌∙◌, arith}
-use Rattle.std.specs.Prelude.{not, bytes_eq, position, sum_by, nat_lt, Some, None}
+use Rattle.std.specs.Prelude.{not, bytes_eq, position, sum_by, nat_lt, Some, None, is_none, true, false}
 use Rattle.std.specs.List.{prefix_len}
-use Rattle.std.specs.FinMap.{len}
+use Rattle.std.specs.FinMap.{get, len}
+use Rattle.std.proofs.lemmas.Bool.{ltb-false, ltb-true}
 use Rattle.std.proofs.lemmas.List.{length-map, map-append, length-append}
 use Rattle.std.proofs.lemmas.List.Sums.{sum_by-append, sum_by-cons}
 use Rattle.vba_base.specs.Fold.{folded}
@@ -15,9 +16,12 @@ use Rattle.std.proofs.lemmas.List.{get_or-map, map-set, length-set}
 use Rattle.std.proofs.Math.Seq.{map-set_same}
 use Rattle.std.proofs.lemmas.List.Sums.{sum_by-set}
 use Rattle.sheet_host.specs.declared.area.Area.{Area}
+use Rattle.sheet_host.specs.declared.area.SheetId.{SheetId}
+use Rattle.sheet_host.specs.AreaCells.{one_cell}
+use Rattle.sheet_host.specs.OneCell.{is_full_for}
 use Rattle.sheet_host.specs.declared.cell.CellValue.{CellValue}
-use Rattle.sheet_host.specs.Sheets.{SheetContent, no_content, unwritten, with_values}
-use Rattle.sheet_host.proofs.Puts.{stored_count}
+use Rattle.sheet_host.specs.Sheets.{Position, SheetContent, no_content, unwritten, with_values}
+use Rattle.sheet_host.proofs.Puts.{one_unwritten, stored_count}
 use Rattle.sheet_host.specs.Books.{NamedSheet, Sheets, written_count, place_of_name, sheet_at, content_at, with_area, cell_limit, Puts}
 use Rattle.sheet_host.specs.Shelf.{named_sheet, named_sheets, AllFolded, IsShelf}
 
@@ -54,7 +58,7 @@ shelf_push sheets sheets' s written written' was is name few sum = subst (λ all
 })
 
 -- a book with an area written
-with_count : (book : Sheets) (area : Area) (values : List CellValue) → area.sheet.0 - 1 < length book
+pub with_count : (book : Sheets) (area : Area) (values : List CellValue) → area.sheet.0 - 1 < length book
     → written_count (with_area book area values) ≡ written_count book + unwritten (content_at book area.sheet).cells area (length values)
 with_count book area values lt =
     let old = sheet_at book area.sheet in
@@ -156,3 +160,21 @@ pub puts_nothing : {X : Type 0} (r : Result X (OrMemory Bad)) (book : Sheets) (a
     → written_count (with_area book area values) ≤ cell_limit → new ≡ book → Puts r book area values new
 puts_nothing (Ok x) book area values new is few same = absurd is
 puts_nothing {X = X} (Err e) book area values new is few same = subst (λ (f : OrMemory Bad). Puts {X = X} (Err f) book area values new) (sym is) (few, same)
+
+-- a cell more
+pub full_with : (book : Sheets) (sheet : SheetId) (p : Position) (value : CellValue) → 1 ≤ sheet.0 → sheet.0 ≤ length book
+    → written_count (with_area book (one_cell sheet p) (value ∷ [])) ≡ written_count book + cond (is_none (get (content_at book sheet).cells p)) 1 0
+full_with book sheet p value first last =
+    with_count book (one_cell sheet p) (value ∷ []) (omega (arith, first, last)) ∙ ap (λ n. written_count book + n) (one_unwritten (content_at book sheet).cells sheet p)
+
+pub passes_limit : (book : Sheets) (sheet : SheetId) (p : Position) (value : CellValue) → 1 ≤ sheet.0 → sheet.0 ≤ length book → is_full_for book sheet p ≡ true
+    → cell_limit < written_count (with_area book (one_cell sheet p) (value ∷ []))
+passes_limit book sheet p value first last full =
+    let lt = ltb-true 4000000 (written_count book + cond (is_none (get (content_at book sheet).cells p)) 1 0) full in
+    omega (arith, lt, full_with book sheet p value first last)
+
+pub keeps_limit : (book : Sheets) (sheet : SheetId) (p : Position) (value : CellValue) → 1 ≤ sheet.0 → sheet.0 ≤ length book → is_full_for book sheet p ≡ false
+    → written_count (with_area book (one_cell sheet p) (value ∷ [])) ≤ cell_limit
+keeps_limit book sheet p value first last room =
+    let le = ltb-false 4000000 (written_count book + cond (is_none (get (content_at book sheet).cells p)) 1 0) room in
+    omega (arith, le, full_with book sheet p value first last)

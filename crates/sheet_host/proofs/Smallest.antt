@@ -28,7 +28,7 @@ use Rattle.sheet_host.proofs.Kept.{entries_kept}
 use Rattle.sheet_host.proofs.Positions.{at_same, position_at, position_total}
 
 -- what stands in a list
-abbrev Among : {A : Type 0} → A → List A → Type 0
+abbrev pub Among : {A : Type 0} → A → List A → Type 0
 Among x [] = ⊥
 Among x (y ∷ ys) = (y ≡ x) ⊎ Among x ys
 
@@ -56,10 +56,10 @@ among_passed {A} {B} test a b (e ∷ es) h passes =
 same_some : {A : Type 0} (x y : A) → Some x ≡ Some y → x ≡ y
 same_some x y e = ap (λ o. unwrap_or o x) e
 
-abbrev written_at : Position → CellValue → Position × CellValue
+abbrev pub written_at : Position → CellValue → Position × CellValue
 written_at p value = (p, value)
 
-found_among : (q : Position) (value : CellValue) (es : List (Position × CellValue)) → find position_cmp q es ≡ Some value → Among (written_at q value) es
+pub found_among : (q : Position) (value : CellValue) (es : List (Position × CellValue)) → find position_cmp q es ≡ Some value → Among (written_at q value) es
 found_among q value [] h = cc h
 found_among q value (e ∷ es) h = by_test (is_at (position_cmp q) e.0) refl h (λ later. found_among q value es later) where
   by_test : (b : Bool) → is_at (position_cmp q) e.0 ≡ b → cond b (Some e.1) (find position_cmp q es) ≡ Some value
@@ -253,7 +253,7 @@ not_empty text false false false w true (Ok count) = refl
 not_empty text false false false w true (Err fault) = refl
 not_empty text false false false w false c = refl
 
-units_filled : (text : List ℕ) → has_units text ≡ true → is_empty (value_of_field text) ≡ false
+pub units_filled : (text : List ℕ) → has_units text ≡ true → is_empty (value_of_field text) ≡ false
 units_filled [] h = absurd (true≢false (sym h))
 units_filled (unit ∷ units) h = not_empty (unit ∷ units) (bytes_eq (unit ∷ units) (field_word true)) (bytes_eq (unit ∷ units) (field_word false)) (is_whole_field (unit ∷ units)) (parsed 0 (unit ∷ units)) (is_currency_field (unit ∷ units)) (parsed 4 (unit ∷ units))
 
@@ -281,7 +281,7 @@ T_second : (a b : Bool) → T (a && b) → T b
 T_second true b h = h
 T_second false b h = absurd h
 
-abbrev Finds : List (Position × CellValue) → Position × CellValue → Type 0
+abbrev pub Finds : List (Position × CellValue) → Position × CellValue → Type 0
 Finds es e = find position_cmp e.0 es ≡ Some e.1
 
 finds_later : (first : Position × CellValue) (es xs : List (Position × CellValue)) → T (below_all position_cmp first.0 xs) → AllByRecursion (Finds es) xs → AllByRecursion (Finds (first ∷ es)) xs
@@ -293,14 +293,14 @@ finds_later first es (x ∷ xs) below h =
           (subst (λ q. T (is_lt (position_cmp first.0 q))) (at_same x.0 first.0 at) (T_first (is_lt (position_cmp first.0 x.0)) (below_all position_cmp first.0 xs) below)))
       by_test false at = h.0
 
-finds_own : (es : List (Position × CellValue)) → T (is_sorted position_cmp es) → AllByRecursion (Finds es) es
+pub finds_own : (es : List (Position × CellValue)) → T (is_sorted position_cmp es) → AllByRecursion (Finds es) es
 finds_own [] sorted = tt
 finds_own (e ∷ es) sorted = (
   ap (λ b. cond b (Some e.1) (find position_cmp e.0 es)) (position_at e.0),
   finds_later e es es (T_first (below_all position_cmp e.0 es) (is_sorted position_cmp es) sorted) (finds_own es (T_second (below_all position_cmp e.0 es) (is_sorted position_cmp es) sorted)),
 )
 
-not_is : (b : Bool) → not b ≡ true → b ≡ false
+pub not_is : (b : Bool) → not b ≡ true → b ≡ false
 not_is true h = absurd (true≢false (sym h))
 not_is false h = refl
 

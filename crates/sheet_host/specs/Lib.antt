@@ -1,13 +1,17 @@
 pub mod Address
 pub mod AddressText
 pub mod Area
+pub mod AreaCells
 pub mod Books
 pub mod Codes
 pub mod Field
+pub mod Filled
 pub mod Gathered
 pub mod Members
+pub mod OneCell
 pub mod Pages
 pub mod Reading
+pub mod Search
 pub mod Sheets
 pub mod Shelf
 pub mod Size

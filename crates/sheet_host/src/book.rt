@@ -3,8 +3,11 @@ ghost use Rattle.vba_base.specs.Answer.{Gives};
 ghost use Rattle.vba_base.specs.declared.fault.OrMemory.TheVariants as answers;
 ghost use Rattle.sheet_host.specs.Books.{IsSheetOf, sheet_at, content_at, sheet_named, IsNewName, value_in, Puts};
 ghost use Rattle.sheet_host.specs.Field.{is_text};
+ghost use Rattle.sheet_host.specs.Filled.{IsFilledBehind, IsFirst};
+ghost use Rattle.sheet_host.specs.AreaCells.{one_cell};
+ghost use Rattle.sheet_host.specs.OneCell.{is_full_for};
 ghost use Rattle.sheet_host.specs.Sheets.{Position, used_area, value_at};
-ghost use Rattle.sheet_host.specs.Size.{IsAreaInside};
+ghost use Rattle.sheet_host.specs.Size.{IsAreaInside, IsInside};
 ghost use Rattle.sheet_host.specs.Smallest.{HoldsAllFilled, IsFilled, IsPartOf, first_cell};
 ghost use Rattle.sheet_host.specs.declared.area.Area.{Area};
 
@@ -148,6 +151,49 @@ impl Book {
         self.sheets[place].sheet.put_values(&area, cells, added)?;
         self.written = written;
         Ok(())
+    }
+
+    /// Writes a value to a cell of the sheet, and changes no other cell, as `put` does to an area of that cell.
+    pub fn put_cell(
+        &mut self,
+        sheet: SheetId,
+        row: u32,
+        column: u32,
+        cell: CellValue,
+    ) -> Result<(), OrMemory<Bad>>
+        requires sheet { IsSheetOf self.old sheet }
+        requires inside { IsInside row column }
+        ensures { Puts result self.old (one_cell sheet (row, column)) (cell ∷ []) self.new }
+    {
+        if self.is_full_for(sheet, row, column) {
+            return Err(OrMemory::Fault(Bad::Outside(OutKind::Cells)));
+        }
+        let place = sheet.0 as usize - 1;
+        let added = self.sheets[place].sheet.put_value(row, column, cell)?;
+        self.written += u64::from(added);
+        Ok(())
+    }
+
+    /// Whether the book would hold too many written cells with this one.
+    fn is_full_for(&self, sheet: SheetId, row: u32, column: u32) -> bool
+        requires sheet { IsSheetOf self.now sheet }
+        requires inside { IsInside row column }
+        ensures { result ≡ is_full_for self.now sheet (row, column) }
+    {
+        if self.written < CELLS {
+            return false;
+        }
+        self.written > CELLS || self.sheet(sheet).written(row, column).is_none()
+    }
+
+    /// The first cell of an area by rows, behind a given one where one is given, that isn't Empty: its row and its column.
+    /// Its time goes with the rows of fields and the written cells that it passes, not with the size of the area.
+    pub fn next_filled(&self, area: Area, after: Option<(u32, u32)>) -> Option<(u32, u32)>
+        requires sheet { IsSheetOf self.now area.sheet }
+        requires inside { IsAreaInside area }
+        ensures { IsFirst (IsFilledBehind (content_at self.now area.sheet) area after) result }
+    {
+        self.sheet(area.sheet).next_filled(&area, after)
     }
 
     /// The smallest area of a sheet that holds all its cells that aren't Empty. Where there are none it is A1.

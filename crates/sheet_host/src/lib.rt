@@ -3,10 +3,12 @@
 
 mod addresses;
 mod area;
+mod area_cells;
 mod book;
 mod cell;
 mod corner;
 mod field;
+mod filled;
 mod laws;
 mod members;
 mod moving;
@@ -19,6 +21,7 @@ mod writing;
 
 pub use addresses::area_of_text;
 pub use area::{Area, SheetId};
+pub use area_cells::{area_around, cell_of_area, nth_cell_of_area};
 pub use book::Book;
 pub use cell::CellValue;
 pub use field::{field_of_cell, value_of_field};

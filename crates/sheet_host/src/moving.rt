@@ -44,7 +44,8 @@ fn moved(place: u32, by: i64) -> i128
     i128::from(place) + i128::from(by)
 }
 
-fn area_of_spans(sheet: SheetId, rows: Option<Span>, columns: Option<Span>) -> Result<Area, Bad>
+/// The area of these rows and columns. 1004 exactly where some aren't in the sheet.
+pub fn area_of_spans(sheet: SheetId, rows: Option<Span>, columns: Option<Span>) -> Result<Area, Bad>
     requires rows { IfSome rows (λ span. IsSpanWithin sheet_rows span) }
     requires columns { IfSome columns (λ span. IsSpanWithin sheet_columns span) }
     ensures area { result ≡ area_of_spans sheet rows columns }

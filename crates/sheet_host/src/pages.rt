@@ -1,9 +1,10 @@
 // The written cells of a sheet, in pages of 256 rows.
-ghost use Rattle.std.specs.Prelude.{◌≡◌, ℕ, ◌≤◌, ◌-◌, ◌^◌, fold, OnOk, OnErr, Some, IsTrue, is_some};
+ghost use Rattle.std.specs.Prelude.{◌≡◌, ℕ, ◌≤◌, ◌-◌, ◌^◌, fold, IfOk, OnOk, OnErr, Some, IsTrue, is_none, is_some};
 ghost use Rattle.std.specs.FinMap.{get, insert};
 ghost use Rattle.std.specs.Option.{option_copied};
 ghost use Rattle.std.specs.BTreeMap.Range.{entries_between};
 ghost use Rattle.std.specs.declared.ops.Bound.TheVariants.{Included, Excluded};
+ghost use Rattle.sheet_host.specs.OneCell.{WritesSlot, is_slot_unwritten};
 ghost use Rattle.sheet_host.specs.Pages.{ArePages, IsPage, cells_of_pages, cells_of_slots, page_of, kept, slot_in, HasSlot, KeepsSlots, HasSlotIn, KeepsSlotsIn, slots_with, later, later_row, later_row_of_page, later_column, widened_by_slot, widened_by_page};
 ghost use Rattle.sheet_host.specs.Sheets.{greatest, columns_in, saved_among, position_cmp};
 ghost use Rattle.sheet_host.specs.Size.{IsInside};
@@ -25,7 +26,7 @@ pub type Pages = BTreeMap<u32, Page>;
 const ROWS: u32 = 256;
 
 /// The number of the page that has a row.
-fn page_of(row: u32) -> u32
+pub fn page_of(row: u32) -> u32
     requires { 1 ≤ row }
     ensures { result ≡ page_of row }
 {
@@ -96,6 +97,45 @@ fn fill_slot(page: &mut Page, row: u32, column: u32, value: CellValue)
 {
     if let Some(slot) = page.get_mut(&(row, column)) {
         *slot = Some(value);
+    }
+}
+
+/// Writes a cell, and tells whether nothing was written there before. Without memory no cell changes.
+pub fn put(
+    alloc: Global,
+    pages: &mut Pages,
+    row: u32,
+    column: u32,
+    value: CellValue,
+) -> Result<bool, NoMemory>
+    requires pages { ArePages pages.old.entries }
+    requires inside { IsInside row column }
+    ensures pages { ArePages pages.new.entries }
+    ensures cell { OnOk result (kept pages.new.entries ≡ insert (kept pages.old.entries) (row, column) value) }
+    ensures added { IfOk result (λ added. added ≡ is_none (get (kept pages.old.entries) (row, column))) }
+    ensures err { OnErr result (kept pages.new.entries ≡ kept pages.old.entries) }
+{
+    let number = page_of(row);
+    if let Some(page) = pages.get_mut(&number) {
+        return put_slot(page, row, column, value);
+    }
+    let mut page = BTreeMap::new(alloc);
+    let added = put_slot(&mut page, row, column, value)?;
+    let _ = pages.insert(number, page)?;
+    Ok(added)
+}
+
+/// Writes a cell of a page, and tells whether nothing was written there before. Without memory nothing changes.
+fn put_slot(page: &mut Page, row: u32, column: u32, value: CellValue) -> Result<bool, NoMemory>
+    requires { IsInside row column }
+    ensures page { (number : ℕ) → number ≡ page_of row → IsPage number page.old.entries → IsPage number page.new.entries }
+    ensures cell { OnOk result (WritesSlot page.old.entries page.new.entries (row, column) value) }
+    ensures added { IfOk result (λ added. added ≡ is_slot_unwritten (slot_in page.old.entries (row, column))) }
+    ensures err { OnErr result (page.new.entries ≡ page.old.entries) }
+{
+    match page.insert((row, column), Some(value))? {
+        Some(Some(_)) => Ok(false),
+        _ => Ok(true),
     }
 }
 

@@ -1,8 +1,10 @@
-ghost use Rattle.std.specs.Prelude.{◌≡◌, ◌≤◌, ◌<◌, ◌*◌, ◌+◌, ◌^◌, ℕ, ◌-◌, [], None, length, chars, flat_map, slice_index_or, fold, IfOk, OnOk, OnErr, Some, IsTrue};
+ghost use Rattle.std.specs.Prelude.{◌≡◌, ◌≤◌, ◌<◌, ◌*◌, ◌+◌, ◌^◌, ℕ, ◌-◌, [], None, length, chars, flat_map, slice_index_or, fold, IfOk, OnOk, OnErr, Some, IsTrue, is_none};
 ghost use Rattle.std.specs.Char.Escape.{encode_utf16};
 ghost use Rattle.std.specs.FinMap.{get, len};
 ghost use Rattle.std.specs.Option.{option_copied};
 ghost use Rattle.sheet_host.specs.Field.{is_text};
+ghost use Rattle.sheet_host.specs.Filled.{IsFilledBehind, IsFirst};
+ghost use Rattle.sheet_host.specs.OneCell.{with_value};
 ghost use Rattle.sheet_host.specs.Pages.{ArePages, kept, HasSlot, AllShort};
 ghost use Rattle.sheet_host.specs.Sheets.{no_content, with_row, with_field, IsUnwritten, fields_of, field_at, value_at, saved_rows, saved_fields, AreInside, used_corners, placed_fields, placed_rows, widened_by_field, nth_cell, unwritten, stored, with_values};
 ghost use Rattle.sheet_host.specs.Size.{sheet_rows, sheet_columns, IsInside, IsAreaInside};
@@ -11,7 +13,8 @@ ghost use Rattle.sheet_host.specs.Smallest.{CountFromOne};
 use crate::area::Area;
 use crate::cell::CellValue;
 use crate::field::value_of_field;
-use crate::pages::{Pages, fill, last_column, last_row, take_room, widened_by_pages, written};
+use crate::filled::{first_filled, search_of};
+use crate::pages::{Pages, fill, last_column, last_row, put, take_room, widened_by_pages, written};
 use crate::used::{Corners, widened};
 use field_table::FieldTable;
 use std::alloc::Global;
@@ -210,6 +213,32 @@ impl Sheet {
         Ok(())
     }
 
+    /// Writes a cell, and tells whether nothing was written there before. Without memory nothing changes.
+    pub(crate) fn put_value(
+        &mut self,
+        row: u32,
+        column: u32,
+        value: CellValue,
+    ) -> Result<bool, NoMemory>
+        requires inside { IsInside row column }
+        requires fits { len self.old.cells + 1 < 2 ^ 64 }
+        ensures ok { OnOk result (self.new ≡ with_value self.old (row, column) value) }
+        ensures added { IfOk result (λ added. added ≡ is_none (get self.old.cells (row, column))) }
+        ensures err { OnErr result (self.new ≡ self.old) }
+    {
+        let added = put(self.alloc, &mut self.pages, row, column, value)?;
+        self.written += u64::from(added);
+        Ok(added)
+    }
+
+    /// The first cell of an area by rows, behind a given one, that isn't Empty.
+    pub(crate) fn next_filled(&self, area: &Area, after: Option<(u32, u32)>) -> Option<(u32, u32)>
+        requires { IsAreaInside area.now }
+        ensures { IsFirst (IsFilledBehind self.now area.now after) result }
+    {
+        first_filled(&self.rows, &self.pages, search_of(area, after))
+    }
+
     /// The corners of the smallest area that holds all cells that aren't Empty.
     pub(crate) fn used_corners(&self) -> Option<Corners>
         ensures places { CountFromOne self.now }
@@ -221,7 +250,7 @@ impl Sheet {
 }
 
 /// The i-th cell of an area by rows, counted from 0.
-fn nth_cell(area: &Area, i: u64) -> (u32, u32)
+pub fn nth_cell(area: &Area, i: u64) -> (u32, u32)
     requires inside { IsAreaInside area.now }
     requires small { i < area.now.rows * area.now.columns }
     ensures cell { result ≡ nth_cell area.now i }

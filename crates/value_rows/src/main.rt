@@ -29,8 +29,11 @@
 //! - of arrays `shape BOUNDS`, with bounds as `1..4`, and `place BOUNDS at NUMBERS`;
 //! - of sheets `field TEXT` (its value, and what that is saved as), `sheet BYTES` (its fields with `|` behind each
 //!   and `/` behind each row, and the file that it is saved as), `cell BYTES ROW COLUMN`, `book BYTES ADDRESS VALUE
-//!   ..` (the used area after these values were written, its value and the saved file), `address TEXT`, `offset
-//!   ADDRESS ROWS COLUMNS`, `resize ADDRESS ROWS COLUMNS` and `member OBJECT NAME`.
+//!   ..` (the used area after these values were written, its value and the saved file), `put BYTES ROW COLUMN TEXT
+//!   ..` (the same after the values of these fields were written cell by cell), `filled BYTES AREA ADDRESS VALUE ..`
+//!   (row and column of each cell of the area that isn't Empty then, and `end`), `address TEXT`, `offset ADDRESS ROWS COLUMNS`,
+//!   `resize ADDRESS ROWS COLUMNS`, `at ADDRESS ROW COLUMN`, `nth ADDRESS NUMBER` from 0, `around SHEET ADDRESS SHEET
+//!   ADDRESS` and `member OBJECT NAME`.
 #![tactic(auto)]
 
 mod amounts;
@@ -46,7 +49,10 @@ use amounts::{between, negated, of_amount, of_text, ordered, whole};
 use arrays::{initial, place, shape};
 use library::{library_of, named};
 use operators::{binary_of, coerced, static_of, text_of_value, unary_of};
-use sheets::{cell, field, found_address, host_member, moved, read_and_saved, written};
+use sheets::{
+    around, cell, field, filled, found_address, host_member, moved, nth, put_one_by_one,
+    read_and_saved, written,
+};
 use std::alloc::Global;
 use std::io;
 use std::process::ExitCode;
@@ -111,8 +117,12 @@ fn perform(alloc: Global, out: &mut String, case: &str) -> Answer<()> {
         "sheet" => read_and_saved(alloc, out, rest),
         "cell" => cell(alloc, out, &words),
         "book" => written(alloc, out, &words),
+        "put" => put_one_by_one(alloc, out, &words),
+        "filled" => filled(alloc, out, &words),
         "address" => found_address(alloc, out, rest),
-        "offset" | "resize" => moved(alloc, out, kind, &words),
+        "offset" | "resize" | "at" => moved(alloc, out, kind, &words),
+        "nth" => nth(alloc, out, &words),
+        "around" => around(alloc, out, &words),
         "member" => host_member(alloc, out, &words),
         "shape" => shape(alloc, out, rest),
         "place" => place(alloc, out, rest),

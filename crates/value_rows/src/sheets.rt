@@ -1,5 +1,6 @@
 //! Fields, sheet files, books of one sheet, addresses, and the members of host objects.
 ghost use Rattle.std.specs.Prelude.{◌≡◌, length, IfOk, OnOk};
+ghost use Rattle.sheet_host.specs.Size.{IsAreaInside};
 
 use crate::values::{push_number, push_value, value_of};
 use crate::words::{
@@ -9,8 +10,9 @@ use crate::words::{
 use csv_book::{read_sheet, write_sheet};
 use currency::count;
 use sheet_host::{
-    Area, Book, CellValue, Sheet, SheetId, address, area_of_text, area_value, cells_of,
-    field_of_cell, member, offset, resize, value_of_field,
+    Area, Book, CellValue, Sheet, SheetId, address, area_around, area_of_text, area_value,
+    cell_of_area, cells_of, field_of_cell, member, nth_cell_of_area, offset, resize,
+    value_of_field,
 };
 use std::alloc::{AllocError, Global};
 use vba_base::{OrMemory, Units, encode_text, name_of};
@@ -197,7 +199,7 @@ pub fn found_address(alloc: Global, out: &mut String, word: &str) -> Answer<()> 
     }
 }
 
-/// `ADDRESS ROWS COLUMNS`: the area moved, or with so many rows and columns.
+/// `ADDRESS ROWS COLUMNS`: the area moved, or with so many rows and columns; or its cell in that row and column.
 pub fn moved(alloc: Global, out: &mut String, kind: &str, words: &[&str]) -> Answer<()> {
     let [word, rows, columns] = words else {
         return Err(OrMemory::Fault(BadLine));
@@ -207,17 +209,126 @@ pub fn moved(alloc: Global, out: &mut String, kind: &str, words: &[&str]) -> Ans
     let Ok(area) = area_of_word(alloc, word)? else {
         return Err(OrMemory::Fault(BadLine));
     };
-    let area = if kind == "offset" {
-        offset(area, rows, columns)
-    } else {
-        resize(area, rows, columns)
+    let area = match kind {
+        "offset" => offset(area, rows, columns),
+        "resize" => resize(area, rows, columns),
+        _ => cell_of_area(area, rows, columns),
     };
+    push_area(alloc, out, area)
+}
+
+/// Writes the address of an area, or the error.
+fn push_area(alloc: Global, out: &mut String, area: Result<Area, Bad>) -> Answer<()>
+    requires { IfOk area (λ area. IsAreaInside area) }
+{
     match area {
         Ok(area) => {
             let text = address(alloc, area)?;
             push_text(out, text.units())
         }
         Err(bad) => push_bad(out, bad),
+    }
+}
+
+/// `ADDRESS NUMBER`: the cell of that number of an area by rows, counted from 0.
+pub fn nth(alloc: Global, out: &mut String, words: &[&str]) -> Answer<()> {
+    let [word, place] = words else {
+        return Err(OrMemory::Fault(BadLine));
+    };
+    let place: u64 = number(place)?;
+    match area_of_word(alloc, word)? {
+        Ok(area) if place < u64::from(area.rows) * u64::from(area.columns) => {
+            push_area(alloc, out, Ok(nth_cell_of_area(area, place)))
+        }
+        _ => Err(OrMemory::Fault(BadLine)),
+    }
+}
+
+/// `SHEET ADDRESS SHEET ADDRESS`: the smallest area that holds both.
+pub fn around(alloc: Global, out: &mut String, words: &[&str]) -> Answer<()> {
+    let [first_sheet, first, last_sheet, last] = words else {
+        return Err(OrMemory::Fault(BadLine));
+    };
+    let first_text = text_of_word(alloc, first)?;
+    let last_text = text_of_word(alloc, last)?;
+    let first = area_of_text(SheetId(number(first_sheet)?), first_text.units());
+    let last = area_of_text(SheetId(number(last_sheet)?), last_text.units());
+    match (first, last) {
+        (Ok(first), Ok(last)) => push_area(alloc, out, area_around(first, last)),
+        _ => Err(OrMemory::Fault(BadLine)),
+    }
+}
+
+/// The most cells that are told of an area.
+const TOLD: u32 = 1000;
+
+/// `FILE AREA ADDRESS VALUE ..`: the cells of the area that aren't Empty after these values were written, by rows.
+pub fn filled(alloc: Global, out: &mut String, words: &[&str]) -> Answer<()> {
+    let [file, area, writes @ ..] = words else {
+        return Err(OrMemory::Fault(BadLine));
+    };
+    let mut book = book_of(alloc, file)?;
+    for write in writes.chunks(2) {
+        let [address, value] = write else {
+            return Err(OrMemory::Fault(BadLine));
+        };
+        if !is_written(alloc, out, &mut book, address, value)? {
+            return Ok(());
+        }
+    }
+    match area_of_word(alloc, area)? {
+        Ok(area) => push_filled(out, &book, area),
+        Err(bad) => push_bad(out, bad),
+    }
+}
+
+/// Writes the row and the column of each cell of an area that isn't Empty, and `end` behind the last.
+fn push_filled(out: &mut String, book: &Book, area: Area) -> Answer<()>
+    requires { IsAreaInside area }
+{
+    if area.sheet.0 < 1 || book.sheets() < area.sheet.0 {
+        return Err(OrMemory::Fault(BadLine));
+    }
+    let mut after = None;
+    for _ in 0..TOLD {
+        after = book.next_filled(area, after);
+        match after {
+            Some((row, column)) => write!(out, "{row},{column};")?,
+            None => break,
+        }
+    }
+    out.push_str(if after.is_some() { ".." } else { "end" })?;
+    Ok(())
+}
+
+/// `FILE ROW COLUMN FIELD ..`: the used area after the values of these fields were written cell by cell, its value, and
+/// the saved file.
+pub fn put_one_by_one(alloc: Global, out: &mut String, words: &[&str]) -> Answer<()> {
+    let [file, writes @ ..] = words else {
+        return Err(OrMemory::Fault(BadLine));
+    };
+    let mut book = book_of(alloc, file)?;
+    for write in writes.chunks(3) {
+        let [row, column, field] = write else {
+            return Err(OrMemory::Fault(BadLine));
+        };
+        put_field(alloc, &mut book, number(row)?, number(column)?, field)?;
+    }
+    push_book(alloc, out, &book)
+}
+
+/// Writes the value of a field to a cell of the only sheet.
+fn put_field(alloc: Global, book: &mut Book, row: u32, column: u32, field: &str) -> Answer<()> {
+    let is_inside = 1 <= row && row <= 1_048_576 && 1 <= column && column <= 16_384;
+    if !is_inside || book.sheets() < 1 {
+        return Err(OrMemory::Fault(BadLine));
+    }
+    let text = text_of_word(alloc, field)?;
+    let cell = value_of_field(alloc, text.units())?;
+    match book.put_cell(ONLY, row, column, cell) {
+        Ok(()) => Ok(()),
+        Err(OrMemory::Fault(_)) => Err(OrMemory::Fault(BadLine)),
+        Err(OrMemory::NoMemory) => Err(OrMemory::NoMemory),
     }
 }
 
