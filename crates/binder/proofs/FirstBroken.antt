@@ -4,7 +4,7 @@ use Rattle.vba_base.specs.declared.place.Refusal.{Refusal}
 use Rattle.vba_lexer.specs.Order.{IsLeastOf}
 use Rattle.refusal_order.specs.Least.{least_of}
 use Rattle.refusal_order.proofs.LeastFound.{least_of_least}
-use Rattle.binder.specs.Sources.{or_else}
+use Rattle.binder.specs.Options.{or_else}
 use Rattle.binder.specs.Violations.{first_broken, IsFirstBroken}
 
 pub first_broken_least : (lists : List (List Refusal)) → IsFirstBroken lists (first_broken lists)

@@ -16,7 +16,8 @@ use Rattle.vba_module.specs.Headers.{all_of, parameters_of}
 use Rattle.bound_project.specs.Statements.{Statement}
 use Rattle.bound_project.specs.Project as bound
 use Rattle.bound_project.specs.Project.{Declarations, Procedure, Module, Class, Body, Project}
-use Rattle.binder.specs.Sources.{Source, base_of, compare_of, or_else, spelled}
+use Rattle.binder.specs.Sources.{Source, base_of, compare_of, spelled}
+use Rattle.binder.specs.Options.{or_else, from_two}
 use Rattle.binder.specs.Declarations.{Written, What, a_procedure, Entry}
 use Rattle.binder.specs.Scopes.{Outside, Space, Scope, spaces_from}
 use Rattle.binder.specs.Names.{scope_of, scope_in}
@@ -162,13 +163,9 @@ declarations_of o s spaces = record {
   procedures = flat_map (λ space. procedures_of (home s space)) spaces;
 }
 
-abbrev pub body_with_others : Option Body → Option (List Body) → Option (List Body)
-body_with_others (Some b) (Some bs) = Some (b ∷ bs)
-body_with_others b bs = None
-
 abbrev pub bodies_of : Scope → List (ℕ × Written) → Option (List Body) → Option (List Body)
 bodies_of s [] others = others
-bodies_of s (p ∷ ps) others = body_with_others (bound_body s p) (bodies_of s ps others)
+bodies_of s (p ∷ ps) others = from_two (λ b bs. b ∷ bs) (bound_body s p) (bodies_of s ps others)
 
 abbrev pub all_bodies : Scope → List Space → Option (List Body)
 all_bodies s [] = Some []

@@ -1,5 +1,5 @@
 -- The values of constant expressions ([MS-VBAL] 5.6.16.2), and S20.
-use Rattle.std.specs.Prelude.{ℕ, zero, suc, ◌+◌, ◌==◌, nat_le, Bool, true, false, ◌&&◌, ◌||◌, not, ℤ, pos, negsuc, ◌+ℤ◌, int_le, List, [], ◌∷◌, ◌++◌, length, map, flat_map, Option, Some, None, is_some, is_none, Result, Ok, Err, if◌then◌else◌, unwrap_or}
+use Rattle.std.specs.Prelude.{ℕ, zero, suc, ◌+◌, ◌==◌, nat_le, Bool, true, false, ◌&&◌, ◌||◌, not, ℤ, pos, negsuc, ◌+ℤ◌, int_le, List, [], ◌∷◌, ◌++◌, length, map, flat_map, Option, Some, None, is_some, is_none, Result, Ok, Err, if◌then◌else◌, unwrap_or, option_map, option_and_then}
 use Rattle.std.specs.List.{list_all}
 use Rattle.vba_base.specs.declared.place.Place.{Place}
 use Rattle.vba_lexer.specs.declared.number.Number.{Number}
@@ -31,6 +31,7 @@ use Rattle.vba_expression.specs.Tree.{Expr, literal, name, member, parenthesised
 use Rattle.vba_expression.specs.Spelling as expression
 use Rattle.vba_tree.specs.Tree.{DeclaredType, named, fixed_text, TypeClause, NewTypeClause, Dim, upper, Dims, Constant, Parameter, DefaultValue}
 use Rattle.vba_module.specs.Parts.{nowhere, first_place}
+use Rattle.binder.specs.Options.{from_two}
 use Rattle.binder.specs.Sources.{base_of, compare_of}
 use Rattle.binder.specs.Declarations.{What, a_constant, a_member, Own, a_local_constant, Local, Entry}
 use Rattle.binder.specs.Said.{dims_of}
@@ -113,8 +114,7 @@ is_variant type.variant = true
 is_variant other = false
 
 abbrev pub result_of : Bool → Option Val → Option Known
-result_of beside_variant None = None
-result_of beside_variant (Some v) = Some (record { value = v; of = if beside_variant then type.variant else value_type v })
+result_of beside_variant v = option_map (λ x. record { value = x; of = if beside_variant then type.variant else value_type x }) v
 
 -- Is wants two objects, and Nothing is the only one of a constant
 abbrev pub same_object : Val → Val → Option Val
@@ -122,16 +122,14 @@ same_object (object a) (object b) = Some (boolean true)
 same_object a b = None
 
 abbrev pub by_table : Option OpKind → Compare → Known → Known → Option Val
-by_table None compare a b = None
-by_table (Some o) compare a b = answered (binary_of o a.value a.of b.value b.of compare)
+by_table kind compare a b = option_and_then (λ o. answered (binary_of o a.value a.of b.value b.of compare)) kind
 
 abbrev pub operated : BinaryOperator → Compare → Known → Known → Option Val
 operated operator.Is compare a b = same_object a.value b.value
 operated o compare a b = by_table (operator_kind o) compare a b
 
 abbrev pub with_one : UnaryOperator → Option Known → Option Known
-with_one o None = None
-with_one o (Some a) = result_of (is_variant a.of) (answered (unary_of (unary_kind o) a.value a.of))
+with_one o k = option_and_then (λ a. result_of (is_variant a.of) (answered (unary_of (unary_kind o) a.value a.of))) k
 
 abbrev pub with_two : BinaryOperator → Compare → Option Known → Option Known → Option Known
 with_two o compare (Some a) (Some b) = result_of (is_variant a.of || is_variant b.of) (operated o compare a b)
@@ -154,12 +152,7 @@ value_by names s e = None
 
 -- a value as one of a type
 abbrev pub coerced : Declared → Option Known → Option Known
-coerced of None = None
-coerced of (Some k) = at (coerce_of k.value of)
-  where
-    at : Result Val Bad → Option Known
-    at (Ok v) = Some (record { value = v; of = of })
-    at (Err bad) = None
+coerced of k = option_and_then (λ a. option_map (λ v. record { value = v; of = of }) (answered (coerce_of a.value of))) k
 
 abbrev pub long_in : Val → Option ℤ
 long_in (whole k z) = Some z
@@ -167,11 +160,7 @@ long_in v = None
 
 -- a value as a Long
 abbrev pub long_of : Option Known → Option ℤ
-long_of k = at (coerced type.long k)
-  where
-    at : Option Known → Option ℤ
-    at None = None
-    at (Some k) = long_in k.value
+long_of k = option_and_then (λ a. long_in a.value) (coerced type.long k)
 
 -- the length of a String * n: 1 to 65526
 abbrev pub as_length : Option ℤ → Option ℕ
@@ -191,8 +180,7 @@ constant_by names s c = at c.name.suffix c.type_clause
 
 -- a member of an Enum
 abbrev pub stepped : ℕ → Option ℤ → Option Known
-stepped steps None = None
-stepped steps (Some z) = let v = z +ℤ pos steps in if fits kind.Long v then Some (record { value = whole kind.Long v; of = type.long }) else None
+stepped steps first = option_and_then (λ z. let v = z +ℤ pos steps in if fits kind.Long v then Some (typed (whole kind.Long v)) else None) first
 
 abbrev pub first_by : (Scope → Expr → Option Known) → Scope → Option Expr → Option ℤ
 first_by names s None = Some (pos 0)
@@ -210,25 +198,17 @@ abbrev pub own_by : (Scope → Expr → Option Known) → Scope → Own → Opti
 own_by names s (a_local_constant c) = constant_by names s c
 own_by names s own = None
 
-abbrev pub typed_value : Option Val → Option Known
-typed_value None = None
-typed_value (Some v) = Some (typed v)
-
 abbrev pub meant_by : (Scope → Expr → Option Known) → Scope → Identifier → Option Meant → Option Known
 meant_by names s x (Some (of_procedure number l)) = own_by names s l.own
 meant_by names s x (Some (of_module space number e)) = entry_by names (home s space) e.what
-meant_by names s x (Some of_library) = typed_value (s.outside.constant x.name)
+meant_by names s x (Some of_library) = option_map typed (s.outside.constant x.name)
 meant_by names s x other = None
-
-abbrev pub behind_any : Scope → Option Qualifier → Identifier → Option Meant
-behind_any s None x = None
-behind_any s (Some q) x = behind plainly s q x
 
 -- the value of a name, through so many constants
 abbrev pub named_within : ℕ → Scope → Expr → Option Known
 named_within zero s e = None
 named_within (suc depth) s (name x) = meant_by (named_within depth) s x (declares plainly s x)
-named_within (suc depth) s (member base dot x) = meant_by (named_within depth) s x (behind_any s (qualifier_of s base) x)
+named_within (suc depth) s (member base dot x) = meant_by (named_within depth) s x (option_and_then (λ q. behind plainly s q x) (qualifier_of s base))
 named_within (suc depth) s e = None
 
 abbrev pub all_entries : List Space → ℕ
@@ -249,8 +229,7 @@ known_length s e = length_by (names_in s) s e
 -- ---- bounds
 
 abbrev pub bound_of : Option ℤ → Option ℤ → Option Bound
-bound_of (Some low) (Some high) = Some (record { low = low; high = high })
-bound_of low high = None
+bound_of low high = from_two (λ l h. record { low = l; high = h }) low high
 
 -- the base of the module where no low bound is written
 abbrev pub known_bound : Scope → Dim → Option Bound
@@ -259,12 +238,7 @@ known_bound s (Dim.range low to_word high) = bound_of (long_of (known_value s lo
 
 abbrev pub all_bounds : List (Option Bound) → Option (List Bound)
 all_bounds [] = Some []
-all_bounds (None ∷ bs) = None
-all_bounds (Some b ∷ bs) = at (all_bounds bs)
-  where
-    at : Option (List Bound) → Option (List Bound)
-    at None = None
-    at (Some rest) = Some (b ∷ rest)
+all_bounds (b ∷ bs) = from_two (λ x xs. x ∷ xs) b (all_bounds bs)
 
 abbrev pub known_bounds : Scope → Option Dims → List Bound
 known_bounds s ds = unwrap_or (all_bounds (map (known_bound s) (dims_of ds))) []

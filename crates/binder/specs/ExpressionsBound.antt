@@ -16,6 +16,7 @@ use Rattle.vba_tree.specs.declared.procedure.ProcedureWords.TheVariants as words
 use Rattle.bound_project.specs.Expressions.{Storage, Variable, err_number, err_source, err_description, Node, constant, load, element_value, field_value, err_value, Lvalue, variable, item, element, field, kept_place, Exprs}
 use Rattle.bound_project.specs.Expressions as bound
 use Rattle.bound_project.specs.Project.{Declaration, Parameter, UserType, no_name, nowhere}
+use Rattle.binder.specs.Options.{from_two, from_three}
 use Rattle.binder.specs.Declarations.{Written, What, a_variable, a_constant, an_enum, a_member, a_type, an_event, a_procedure, Entry, Own, the_result, a_parameter, a_local_constant, Local}
 use Rattle.binder.specs.Scopes.{Space, Scope, plainly, called, Meant, of_procedure, of_module, a_module, the_library, of_host, of_library, Qualifier, declares, behind, qualifier_of, is_named, first_at, seen_from}
 use Rattle.binder.specs.Names.{scope_in}
@@ -44,15 +45,13 @@ procedure_of what = None
 
 -- a procedure of a module that passes, by its name
 abbrev pub procedure_with : Scope → (ProcedureWords → Bool) → Space → Identifier → Option (ℕ × Written)
-procedure_with s test space x = at (first_at (λ (e : Entry). is_named x.name e.name && (seen_from s space e && passes e.what)) 0 space.entries)
+procedure_with s test space x =
+    option_and_then (λ f. option_map (λ p. (f.0, p)) (procedure_of f.1.what))
+    (first_at (λ (e : Entry). is_named x.name e.name && (seen_from s space e && passes e.what)) 0 space.entries)
   where
     passes : What → Bool
     passes (a_procedure p) = test p.kind
     passes what = false
-
-    at : Option (ℕ × Entry) → Option (ℕ × Written)
-    at None = None
-    at (Some f) = option_map (λ p. (f.0, p)) (procedure_of f.1.what)
 
 -- what is called where a value is wanted: of a property its Get
 abbrev pub reader : Scope → Space → ℕ → Written → Option (ℕ × Written)
@@ -88,17 +87,20 @@ abbrev pub element_place : Lvalue → Exprs → Lvalue
 element_place (variable x) es = item x es
 element_place x es = element x es
 
+-- no term where there is no answer
+abbrev pub if_there : Option Term → Term
+if_there t = unwrap_or t no_term
+
 abbrev pub with_type : Option Declared → Option Exprs → (Declared → Exprs → Term) → Term
-with_type (Some of) (Some es) term = term of es
-with_type of es term = no_term
+with_type of es term = if_there (from_two term of es)
 
 -- the value of a call whose arguments index what it gives, and of one that takes them
 abbrev pub indexed_value : Place → Node → Declared → Option Exprs → Term
 indexed_value place node of es = with_type (element_type of) es (λ u xs. a_value (element_value (expression_of node place of) xs) u)
 
 abbrev pub call_value : Env → Space → ℕ → Written → Option bound.Args → Term
-call_value env space number p None = no_term
-call_value env space number p (Some args) = a_value (bound.call (procedure_number env.scope space number) args) (call_type env.scope space p)
+call_value env space number p args =
+    if_there (option_map (λ xs. a_value (bound.call (procedure_number env.scope space number) xs) (call_type env.scope space p)) args)
 
 -- arguments behind a property without parameters index its value
 abbrev pub indexes_value : Written → List Given → Bool
@@ -110,11 +112,10 @@ node_or (a_value node of) term = term node of
 node_or other term = no_term
 
 abbrev pub call_with : (Term → Place → Option bound.Expr) → Env → Place → List Given → Space → ℕ → Written → Term
-call_with value env place gs space number p = at (reader env.scope space number p)
+call_with value env place gs space number p = if_there (option_map called_as (reader env.scope space number p))
   where
-    at : Option (ℕ × Written) → Term
-    at None = no_term
-    at (Some f) =
+    called_as : ℕ × Written → Term
+    called_as f =
         if indexes_value f.1 gs
         then node_or (call_value env space f.0 f.1 (Some bound.no_args)) (λ node of. indexed_value place node of (numbers_of value gs))
         else call_value env space f.0 f.1 (bound_arguments value (parameters_in env.scope space f.1) gs)
@@ -138,8 +139,7 @@ abbrev pub field_named : Env → ℕ → Identifier → Option (ℕ × Declarati
 field_named env number x = first_at (λ (d : Declaration). bytes_eq d.name.fold x.name) 0 (slice_index_or (user_types env.scope) number no_type).fields
 
 abbrev pub with_field : Option (ℕ × Declaration) → (ℕ → Declaration → Term) → Term
-with_field None term = no_term
-with_field (Some f) term = term f.0 f.1
+with_field found term = if_there (option_map (λ f. term f.0 f.1) found)
 
 abbrev pub has_bounds : Declaration → Bool
 has_bounds d = not (length d.bounds == 0)
@@ -171,8 +171,7 @@ member_of env place other f = no_term
 
 -- what stands behind a dot that begins a place
 abbrev pub kept_member : Env → Option Within → Identifier → Term
-kept_member env None f = no_term
-kept_member env (Some w) f = field_of_place env (kept_place w.header) w.of w.lends f
+kept_member env within f = if_there (option_map (λ w. field_of_place env (kept_place w.header) w.of w.lends f) within)
 
 -- what arguments in brackets make of a term
 abbrev pub indexed : Env → Place → Term → List Given → Term
@@ -183,19 +182,14 @@ indexed env place other gs = no_term
 
 -- ---- names
 
-abbrev pub known_term : Option Known → Term
-known_term None = no_term
-known_term (Some k) = a_value (constant k.value) k.of
-
 abbrev pub place_term : Storage → Declared → Bool → Term
 place_term storage of bounded = a_place (variable (record { storage = storage; of = of; bounded = bounded })) of bounded true
 
 abbrev pub declared_place : Storage → Option Declaration → Term
-declared_place storage None = no_term
-declared_place storage (Some d) = place_term storage d.of (has_bounds d)
+declared_place storage found = if_there (option_map (λ d. place_term storage d.of (has_bounds d)) found)
 
 abbrev pub constant_term : Env → Identifier → Option Meant → Term
-constant_term env x meant = known_term (meant_by (names_in env.scope) env.scope x meant)
+constant_term env x meant = if_there (option_map (λ k. a_value (constant k.value) k.of) (meant_by (names_in env.scope) env.scope x meant))
 
 abbrev pub own_term : Env → Identifier → ℕ → Local → Term
 own_term env x number l = at l.own
@@ -254,20 +248,18 @@ abbrev pub result_of : OpKind → Declared → Declared → Declared
 result_of o l r = unwrap_or (static_of o l r) type.variant
 
 abbrev pub unary_term : OpKind → Option bound.Expr → Term
-unary_term o None = no_term
-unary_term o (Some a) = a_value (bound.unary o a) (result_of o (bound.operand_type a) (bound.operand_type a))
+unary_term o operand = if_there (option_map (λ a. a_value (bound.unary o a) (result_of o (bound.operand_type a) (bound.operand_type a))) operand)
 
 abbrev pub binary_term : Env → Option OpKind → Option bound.Expr → Option bound.Expr → Term
-binary_term env (Some o) (Some a) (Some b) = a_value (bound.binary o (compare_in env.scope) a b) (result_of o (bound.operand_type a) (bound.operand_type b))
-binary_term env o a b = no_term
+binary_term env kind left right =
+    if_there (from_three (λ o a b. a_value (bound.binary o (compare_in env.scope) a b) (result_of o (bound.operand_type a) (bound.operand_type b))) kind left right)
 
 -- a parenthesised expression is a value
+abbrev pub value_term : bound.Expr → Term
+value_term (bound.expr node place of operand) = a_value node of
+
 abbrev pub as_value : Env → Term → Place → Term
-as_value env t place = at (value_of env t place)
-  where
-    at : Option bound.Expr → Term
-    at None = no_term
-    at (Some (bound.expr node p of operand)) = a_value node of
+as_value env t place = if_there (option_map value_term (value_of env t place))
 
 abbrev pub literal_term : Val → Term
 literal_term v = a_value (constant v) (value_type v)

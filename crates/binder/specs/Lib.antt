@@ -1,3 +1,4 @@
+pub mod Options
 pub mod Sources
 pub mod Declarations
 pub mod Said

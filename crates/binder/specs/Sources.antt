@@ -29,6 +29,7 @@ use Rattle.vba_tree.specs.declared.line.OptionChoice.TheVariants as choice
 use Rattle.vba_tree.specs.Tree.{Listed, Line, option_line, attribute_line}
 use Rattle.vba_module.specs.Parts.{Part, label, statement, whole_line}
 use Rattle.bound_project.specs.Project.{Spelled}
+use Rattle.binder.specs.Options.{or_else}
 
 -- a module: whether it is a class, its text, and its parts
 pub record Source : Type 0 where
@@ -55,10 +56,6 @@ name_given names values = at names.others values.first.minus values.first.litera
     at : List (Token × Identifier) → Option Token → LiteralValue → Option (List ℕ)
     at [] None (literal.Text units) = if bytes_eq names.first.name (codes "vb_name") then Some units else None
     at others minus value = None
-
-abbrev pub or_else : {A : Type 0} → Option A → Option A → Option A
-or_else None other = other
-or_else (Some x) other = Some x
 
 -- the first that is given
 abbrev pub given_name : List Part → Option (List ℕ)

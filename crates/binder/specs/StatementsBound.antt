@@ -34,7 +34,8 @@ use Rattle.bound_project.specs.Expressions as bound
 use Rattle.bound_project.specs.Statements as to
 use Rattle.bound_project.specs.Statements.{Statement, Block, Action, Tests, no_tests, test_is, test_range, Handling, passed_on, skipped, handled_at, Resizes, no_resizes, resize, Arrays, no_arrays, an_array}
 use Rattle.bound_project.specs.Project.{Parameter, no_name}
-use Rattle.binder.specs.Sources.{base_of, or_else}
+use Rattle.binder.specs.Sources.{base_of}
+use Rattle.binder.specs.Options.{or_else, from_two, from_three}
 use Rattle.binder.specs.Declarations.{Written}
 use Rattle.binder.specs.Scopes.{Space, Scope}
 use Rattle.binder.specs.Constants.{operator_kind, compare_in, place_of_expression}
@@ -132,9 +133,8 @@ called_place env (index base left args right) = called_with env base (givens env
 called_place env e = called_with env e []
 
 -- [Let] target = value
-abbrev pub let_to : Env → Space → List Given → bound.Expr → Option (ℕ × Written) → Option Action
-let_to env space gs v None = None
-let_to env space gs v (Some f) = at (parameters_in env.scope space f.1)
+abbrev pub let_to : Env → Space → List Given → bound.Expr → ℕ × Written → Option Action
+let_to env space gs v f = at (parameters_in env.scope space f.1)
   where
     but_last : List Parameter → List Parameter
     but_last [] = []
@@ -152,7 +152,7 @@ let_to env space gs v (Some f) = at (parameters_in env.scope space f.1)
 -- an element that nothing has is read and left
 abbrev pub assigned : Env → Place → bound.Expr → List Given → Term → Option Action
 assigned env place v gs (a_place x of bounded lends) = if is_object of then None else Some (to.assign x v)
-assigned env place v gs (a_routine space number p) = let_to env space gs v (writer env.scope space p)
+assigned env place v gs (a_routine space number p) = option_and_then (let_to env space gs v) (writer env.scope space p)
 assigned env place v gs (a_value node of) = option_map (λ x. to.assign_none x v) (value_of env (a_value node of) place)
 assigned env place v gs other = None
 
@@ -172,14 +172,11 @@ assigned_to env e v = assigned env (place_of_expression e) v [] (term_of env e)
 abbrev pub integer : Place → ℕ → bound.Expr
 integer place n = expression_of (constant (whole kind.Integer (pos n))) place type.integer
 
-abbrev pub two_exprs : Option bound.Expr → Option bound.Expr → Option Exprs → Option Exprs
-two_exprs (Some a) (Some b) (Some es) = Some (also a (also b es))
-two_exprs a b es = None
-
 abbrev pub redim_bounds : Env → List Dim → Option Exprs
 redim_bounds env [] = Some no_exprs
-redim_bounds env (upper e ∷ ds) = two_exprs (Some (integer (place_of_expression e) (base_of env.scope.here.source))) (bound_value env e) (redim_bounds env ds)
-redim_bounds env (Dim.range low to_word high ∷ ds) = two_exprs (bound_value env low) (bound_value env high) (redim_bounds env ds)
+redim_bounds env (upper e ∷ ds) = 
+    from_two (λ high es. also (integer (place_of_expression e) (base_of env.scope.here.source)) (also high es)) (bound_value env e) (redim_bounds env ds)
+redim_bounds env (Dim.range low to_word high ∷ ds) = from_three (λ a b es. also a (also b es)) (bound_value env low) (bound_value env high) (redim_bounds env ds)
 
 abbrev pub redim_type : Env → Option TypeClause → Option Declared
 redim_type env None = None
@@ -194,33 +191,21 @@ abbrev pub place_in : Term → Option Lvalue
 place_in (a_place x of bounded lends) = Some x
 place_in other = None
 
-abbrev pub resized : Option Lvalue → Option Exprs → Option Declared → Option Resizes → Option Resizes
-resized (Some x) (Some es) of (Some rs) = Some (resize x es of rs)
-resized x es of rs = None
-
 abbrev pub redim_arrays : Env → List ReDimArray → Option Resizes
 redim_arrays env [] = Some no_resizes
 redim_arrays env (a ∷ others) =
     if is_built_element (redim_type env a.type_clause)
-    then resized (place_in (term_of env a.place)) (redim_bounds env (all_of a.dims)) (redim_type env a.type_clause) (redim_arrays env others)
+    then from_three (λ x es rs. resize x es (redim_type env a.type_clause) rs) (place_in (term_of env a.place)) (redim_bounds env (all_of a.dims)) (redim_arrays env others)
     else None
-
-abbrev pub one_erased : Option Lvalue → Option Arrays → Option Arrays
-one_erased (Some x) (Some xs) = Some (an_array x xs)
-one_erased x xs = None
 
 abbrev pub erased_arrays : Env → List Expr → Option Arrays
 erased_arrays env [] = Some no_arrays
-erased_arrays env (e ∷ es) = one_erased (place_in (term_of env e)) (erased_arrays env es)
+erased_arrays env (e ∷ es) = from_two an_array (place_in (term_of env e)) (erased_arrays env es)
 
 -- Debug.Print
-abbrev pub one_shown : Option bound.Expr → Option Prints → Option Prints
-one_shown (Some e) (Some ps) = Some (shown e ps)
-one_shown e ps = None
-
 abbrev pub value_shown : Env → Option Expr → Option Prints → Option Prints
 value_shown env None ps = ps
-value_shown env (Some e) ps = one_shown (bound_operand env e) ps
+value_shown env (Some e) ps = from_two shown (bound_operand env e) ps
 
 abbrev pub mark_shown : PrintMark → Option Prints → Option Prints
 mark_shown print_mark.Semicolon ps = ps
@@ -287,12 +272,8 @@ step_value env place None = Some (integer place 1)
 step_value env place (Some s) = bound_operand env s.value
 
 abbrev pub for_action : Option Variable → Env → Option bound.Expr → Option bound.Expr → Option bound.Expr → (first behind : ℕ) → Option Action
-for_action (Some x) env (Some a) (Some b) (Some c) first behind = Some (to.for_to x (compare_in env.scope) a b c first behind)
-for_action x env a b c first behind = None
-
-abbrev pub each_action : Option Variable → Option bound.Expr → (first behind : ℕ) → Option Action
-each_action (Some x) (Some e) first behind = Some (to.for_each x e first behind)
-each_action x e first behind = None
+for_action counter env start last step first behind =
+    option_and_then (λ x. from_three (λ a b c. to.for_to x (compare_in env.scope) a b c first behind) start last step) counter
 
 -- the line that opened the innermost block
 abbrev pub line_of : Part → Option BlockLine
@@ -321,23 +302,11 @@ abbrev pub loop_action : Env → Option LoopCondition → (on behind : ℕ) → 
 loop_action env None on behind = Some (to.go_to on)
 loop_action env (Some c) on behind = option_map (λ e. to.test (is_while c.word) e on behind) (bound_operand env c.condition)
 
-abbrev pub one_test : Option bound.Expr → Option Tests → (bound.Expr → Tests → Tests) → Option Tests
-one_test (Some e) (Some ts) test = Some (test e ts)
-one_test e ts test = None
-
-abbrev pub range_test : Option bound.Expr → Option bound.Expr → Option Tests → Option Tests
-range_test (Some a) (Some b) (Some ts) = Some (test_range a b ts)
-range_test a b ts = None
-
-abbrev pub compared : Option OpKind → Option bound.Expr → Option Tests → Option Tests
-compared None e ts = None
-compared (Some o) e ts = one_test e ts (test_is o)
-
 abbrev pub case_tests : Env → List CaseTest → Option Tests
 case_tests env [] = Some no_tests
-case_tests env (value e ∷ ts) = one_test (bound_operand env e) (case_tests env ts) (test_is op.Eq)
-case_tests env (CaseTest.range low to_word high ∷ ts) = range_test (bound_operand env low) (bound_operand env high) (case_tests env ts)
-case_tests env (comparison is_word o token e ∷ ts) = compared (operator_kind o) (bound_operand env e) (case_tests env ts)
+case_tests env (value e ∷ ts) = from_two (test_is op.Eq) (bound_operand env e) (case_tests env ts)
+case_tests env (CaseTest.range low to_word high ∷ ts) = from_three test_range (bound_operand env low) (bound_operand env high) (case_tests env ts)
+case_tests env (comparison is_word o token e ∷ ts) = from_three test_is (operator_kind o) (bound_operand env e) (case_tests env ts)
 
 -- the value of the Select Case that stands open
 abbrev pub selected : Around → List Opened → Option bound.Expr
@@ -350,10 +319,6 @@ selected a (o ∷ os) = option_and_then at (line_of o.line)
     at : BlockLine → Option bound.Expr
     at (select_case select_word case_word e) = bound_operand env e
     at line = None
-
-abbrev pub case_action : Option bound.Expr → Option Tests → Env → (header first other : ℕ) → Option Action
-case_action (Some e) (Some ts) env header first other = Some (to.case_of ts header (bound.operand_type e) (compare_in env.scope) first other)
-case_action e ts env header first other = None
 
 abbrev pub with_action : Term → Env → Place → Option Action
 with_action (a_place x of bounded lends) env place = if is_object of then None else Some (to.with_place x)
@@ -379,10 +344,11 @@ block_action a s line = at line
     at (if_line if_word e then_word) = option_map (λ c. to.test true c first next_arm) (bound_operand env e)
     at (else_if_line else_if_word e then_word) = option_map (λ c. to.test true c first next_arm) (bound_operand env e)
     at (select_case select_word case_word e) = option_map (λ v. to.select v next_arm) (bound_operand env e)
-    at (case_line case_word tests) = case_action (selected a s.around) (case_tests env (all_of tests)) env (header_of s.around) first next_arm
+    at (case_line case_word tests) = 
+        from_two (λ v ts. to.case_of ts (header_of s.around) (bound.operand_type v) (compare_in env.scope) first next_arm) (selected a s.around) (case_tests env (all_of tests))
     at (for_line for_word x equal start to_word limit step) =
         for_action (loop_variable env x) env (bound_operand env start) (bound_operand env limit) (step_value env (place_of s.part) step) first behind
-    at (for_each for_word each_word x in_word group) = each_action (loop_variable env x) (bound_value env group) first behind
+    at (for_each for_word each_word x in_word group) = from_two (λ v e. to.for_each v e first behind) (loop_variable env x) (bound_value env group)
     at (next_line next_word x) = next_action env s.around
     at (do_line do_word c) = loop_action env c first behind
     at (loop_line loop_word c) = loop_action env c (header_of s.around) first
@@ -414,8 +380,7 @@ simple_action a s (block_line line) = block_action a s line
 simple_action a s other = None
 
 abbrev pub both : Option (List Statement) → Option (List Statement) → Option (List Statement)
-both (Some xs) (Some ys) = Some (xs ++ ys)
-both xs ys = None
+both xs ys = from_two (λ a b. a ++ b) xs ys
 
 abbrev pub one_statement : Place → (next : ℕ) → Option Action → Option (List Statement)
 one_statement place next action = option_map (λ x. record { action = x; place = place; next = next } ∷ []) action

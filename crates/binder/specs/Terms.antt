@@ -20,7 +20,7 @@ use Rattle.vba_tree.specs.declared.procedure.ProcedureWords.TheVariants as words
 use Rattle.bound_project.specs.Expressions.{Storage, Variable, ErrMember, err_number, err_source, err_description, Node, not_given, constant, load, element_value, field_value, call, err_value, Lvalue, variable, item, element, field, kept_place, Exprs, no_exprs, also}
 use Rattle.bound_project.specs.Expressions as bound
 use Rattle.bound_project.specs.Project.{Declaration, Parameter, UserType}
-use Rattle.binder.specs.Sources.{compare_of}
+use Rattle.binder.specs.Options.{from_two}
 use Rattle.binder.specs.Declarations.{Written, What, a_variable, a_constant, an_enum, a_member, a_type, an_event, a_procedure, Entry, Own, the_result, a_parameter, a_local, a_local_constant, an_array, undeclared, Local}
 use Rattle.binder.specs.Scopes.{Space, Scope, plainly, called, Meant, of_procedure, of_module, a_module, the_library, of_host, of_library, Qualifier, declares, behind, qualifier_of}
 use Rattle.binder.specs.Names.{scope_in}
@@ -111,12 +111,11 @@ taken_by value p g rest = at g.term
 -- the values of a ParamArray; one that isn't written is Missing
 abbrev pub listed_values : (Term → Place → Option bound.Expr) → List Given → Option Exprs
 listed_values value [] = Some no_exprs
-listed_values value (g ∷ gs) = at g.term (listed_values value gs)
+listed_values value (g ∷ gs) = from_two also (at g.term) (listed_values value gs)
   where
-    at : Option Term → Option Exprs → Option Exprs
-    at t None = None
-    at None (Some es) = Some (also (expression_of not_given g.place type.variant) es)
-    at (Some t) (Some es) = option_map (λ e. also e es) (value t g.place)
+    at : Option Term → Option bound.Expr
+    at None = Some (expression_of not_given g.place type.variant)
+    at (Some t) = value t g.place
 
 -- the parameter with a name, from a number on; a ParamArray has none
 abbrev pub parameter_named : ℕ → List Parameter → List ℕ → Option (ℕ × Parameter)
@@ -124,12 +123,10 @@ parameter_named number [] fold = None
 parameter_named number (p ∷ ps) fold = if not p.many && bytes_eq p.name.fold fold then Some (number, p) else parameter_named (suc number) ps fold
 
 abbrev pub cons_if : Option Item → Option (List Item) → Option (List Item)
-cons_if (Some i) (Some is) = Some (i ∷ is)
-cons_if i is = None
+cons_if i is = from_two (λ x xs. x ∷ xs) i is
 
 abbrev pub named_item : (Term → Place → Option bound.Expr) → Given → Option (ℕ × Parameter) → Option Item
-named_item value g None = None
-named_item value g (Some f) = Some (record { parameter = f.0; add = taken_by value f.1 g })
+named_item value g found = option_map (λ f. record { parameter = f.0; add = taken_by value f.1 g }) found
 
 -- arguments with names, for the parameters from a number on
 abbrev pub by_names : (Term → Place → Option bound.Expr) → ℕ → List Parameter → List Given → Option (List Item)

@@ -9,7 +9,7 @@ use Rattle.vba_expression.specs.declared.tree.TypeName.{TypeName}
 use Rattle.vba_expression.specs.declared.tree.TypeQualifier.{TypeQualifier}
 use Rattle.vba_expression.specs.Tree.{Expr}
 use Rattle.vba_tree.specs.Tree.{DeclaredType, named, fixed_text, TypeClause}
-use Rattle.binder.specs.Sources.{or_else}
+use Rattle.binder.specs.Options.{or_else}
 use Rattle.binder.specs.Declarations.{What, an_enum, a_type, an_event, Entry}
 use Rattle.binder.specs.Scopes.{Space, Scope, is_named, first_at, is_same, is_seen, seen_from}
 

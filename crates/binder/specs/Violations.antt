@@ -23,7 +23,8 @@ use Rattle.vba_tree.specs.Tree.{Variable, NewTypeClause, Parameter, ResultType, 
 use Rattle.vba_module.specs.Parts.{Part, label, statement, whole_line}
 use Rattle.vba_module.specs.Verdict.{broken}
 use Rattle.refusal_order.specs.Least.{least_of}
-use Rattle.binder.specs.Sources.{Source, has_choice, is_explicit, or_else}
+use Rattle.binder.specs.Sources.{Source, has_choice, is_explicit}
+use Rattle.binder.specs.Options.{or_else}
 use Rattle.binder.specs.Declarations.{Written, FieldWritten, What, a_variable, a_constant, an_enum, a_member, a_type, an_event, a_procedure, Entry, header_names, Own, a_local, a_local_constant, undeclared, Local}
 use Rattle.binder.specs.Said.{Said, type_named, new_named, constant_expression, expression, redimmed, goes_to, raises, entry_said, header_said, said_in_part, said_in_body}
 use Rattle.binder.specs.Said as say
