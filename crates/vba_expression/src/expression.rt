@@ -7,7 +7,6 @@ use vba_lexer::Token;
 
 /// An expression: its nodes in the order in which they are evaluated, and its tokens in the order in which they are
 /// written.
-#[derive(Drop)]
 pub struct Expression {
     pub(crate) nodes: Vec<ExpressionNode>,
     pub(crate) tokens: Vec<Token>,
@@ -15,9 +14,26 @@ pub struct Expression {
 }
 
 /// The arguments of a call statement, in the same form.
-#[derive(Drop)]
 pub struct Arguments {
     pub(crate) nodes: Vec<ExpressionNode>,
     pub(crate) tokens: Vec<Token>,
     ghost spelled: { tokens.items ≡ tokens_of_arguments (arguments_in nodes.items) },
+}
+
+impl Drop for Expression {
+    fn drop(self) {
+        let Expression {
+            nodes: _nodes,
+            tokens: _tokens,
+        } = self;
+    }
+}
+
+impl Drop for Arguments {
+    fn drop(self) {
+        let Arguments {
+            nodes: _nodes,
+            tokens: _tokens,
+        } = self;
+    }
 }
