@@ -61,8 +61,7 @@ place_kept ts rest p h = at (expression_at 1 ts) refl h
         → found_pair p rest ≡ kept_if b found.0 found.1 → (ts ≡ spell p ++ rest) × (is_place p ≡ true) × Fits p
     kept found true placed e h =
         let same = same_found p found.0 rest found.1 h in
-        let taken = takes 1 ts found.1 found.0 (omega arith) e in
-        (
+        let taken = takes 1 ts found.1 found.0 (omega arith) e in (
           taken.same ∙ ap (λ q. spell q ++ found.1) (sym same.0) ∙ ap (λ us. spell p ++ us) (sym same.1),
           ap is_place same.0 ∙ placed,
           subst Fits (sym same.0) taken.fits,
@@ -312,6 +311,12 @@ apart_index base l xs r us =
       calls = λ rest. ap (λ zs. calls_at base (marked l mark.LeftParenthesis ∷ zs)) (sym (joined rest));
     }
 
+abbrev member_part : List ReadToken → Start
+member_part us = record { left = suc (suc (length us)); is_bracket = false }
+
+abbrev index_part : Args → Token → List ReadToken → Start
+index_part xs r us = record { left = suc (length (spell_args xs ++ marked r mark.RightParenthesis ∷ us)); is_bracket = true }
+
 -- the place isn't called: what is shorter
 pub goes_back : (ts : List ReadToken) (wanted : Found Simple) (end n : ℕ) (parts init : List Start) (part : Start) → Calls ts wanted end n parts
     → parts ≡ init ++ part ∷ [] → None ≡ call_unless part.is_bracket (take n ts) (drop n ts) → Shrunk ts wanted end init part
@@ -319,10 +324,10 @@ goes_back ts wanted end n parts init part c popped none = at c.q refl
   where
     at : (q : Expr) → c.q ≡ q → Shrunk ts wanted end init part
     at (member base d x) e =
-        shrink ts wanted end n parts init part _ base c popped (subst (λ (p : Expr). Apart p base c.mid _) (sym e) (apart_member base d x c.mid))
+        shrink ts wanted end n parts init part (member_part c.mid) base c popped (subst (λ (p : Expr). Apart p base c.mid (member_part c.mid)) (sym e) (apart_member base d x c.mid))
         (ap is_place (sym e) ∙ c.place) (subst Fits e c.fits).1 none
     at (index base l xs r) e =
-        shrink ts wanted end n parts init part _ base c popped (subst (λ (p : Expr). Apart p base c.mid _) (sym e) (apart_index base l xs r c.mid))
+        shrink ts wanted end n parts init part (index_part xs r c.mid) base c popped (subst (λ (p : Expr). Apart p base c.mid (index_part xs r c.mid)) (sym e) (apart_index base l xs r c.mid))
         (ap is_place (sym e) ∙ c.place) (subst Fits e c.fits).1 none
     at other e = absurd (none_left init part (ap (λ p. outer p c.mid) (sym e) ∙ sym c.parted ∙ popped))
 
@@ -340,8 +345,8 @@ call_found ts wanted end n parts init part found c popped h = at c.q refl
         ap (λ o. or_else o (calls_at base (apart.more ++ (c.mid ++ c.tail)))) own ∙ sym (apart.calls (c.mid ++ c.tail)) ∙ c.same
 
     at : (q : Expr) → c.q ≡ q → Some found ≡ wanted
-    at (member base d x) e = by _ base (subst (λ (p : Expr). Apart p base c.mid _) (sym e) (apart_member base d x c.mid))
-    at (index base l xs r) e = by _ base (subst (λ (p : Expr). Apart p base c.mid _) (sym e) (apart_index base l xs r c.mid))
+    at (member base d x) e = by (member_part c.mid) base (subst (λ (p : Expr). Apart p base c.mid (member_part c.mid)) (sym e) (apart_member base d x c.mid))
+    at (index base l xs r) e = by (index_part xs r c.mid) base (subst (λ (p : Expr). Apart p base c.mid (index_part xs r c.mid)) (sym e) (apart_index base l xs r c.mid))
     at other e = absurd (none_left init part (ap (λ p. outer p c.mid) (sym e) ∙ sym c.parted ∙ popped))
 
 -- nothing is shorter

@@ -1,3 +1,4 @@
+use Rattle.std.proofs.Common.{arith}
 use Rattle.std.proofs.lemmas.List.{take_rest}
 use Rattle.vba_statements.proofs.Places.{calls_begin, goes_back, call_found, call_ends}
 use Rattle.vba_statements.proofs.call.read_longest_call.Goals as goal
@@ -18,4 +19,4 @@ targets-preserved c =
     (goes_back _ _ _ _ _ _ _ c.targets.invariant c.in-Some.ensures.items (rw (c.in_default-2.is, take_rest) at c.in_ok-call.ensures)).calls
 
 pub returns : goal.returns
-returns c = rw (take_rest, call_ends _ _ _ _ _ c.targets.invariant c.in_default.ensures.cases.0) at c.read_call.ensures
+returns c = rw (take_rest, call_ends _ _ _ _ _ c.targets.invariant (omega (arith, c.in_default.ensures.cases.0))) at c.read_call.ensures
