@@ -3,7 +3,7 @@ use std::alloc::Global;
 use std::io;
 use std::time::CpuClock;
 use vba_base::{NoMemory, Place};
-use vba_expression::{Expression, read_expression};
+use vba_expression::read_expression;
 use vba_lexer::{Number, NumberKind, Token, TokenKind};
 use vba_words::{Keyword, Mark, ReadToken, Reading};
 
@@ -75,7 +75,7 @@ fn time_reading(
     let found = read_expression(rt.alloc(), tokens.as_slice());
     let after = micros_now(rt)?;
     match found {
-        Ok(Some((expression, _))) => take_apart(expression, pairs),
+        Ok(Some(_)) => {}
         Ok(None) => return Err(io::Error::from(io::ErrorKind::InvalidData)),
         Err(_) => return Err(out_of_memory()),
     }
@@ -133,15 +133,4 @@ fn token_of(kind: TokenKind, reading: Reading) -> ReadToken {
         place,
     };
     ReadToken { token, reading }
-}
-
-// Drops a tree of this depth from outside, so that it takes no stack.
-fn take_apart(expression: Expression, depth: u32) {
-    let mut outer = expression;
-    for _ in 0..depth {
-        outer = match outer.into_inner() {
-            Some(inner) => inner,
-            None => return,
-        };
-    }
 }

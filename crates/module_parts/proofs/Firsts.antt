@@ -13,9 +13,16 @@ use Rattle.vba_tree.specs.Tree.{BlockLine, else_line, Simple, constants, assignm
 use Rattle.vba_tree.specs.Spelling.{spell_block_line, spell_simple, spell_statement, spell_statements, spell_line_label}
 use Rattle.vba_tree.specs.View.{Next, written, missing, put, put_all}
 use Rattle.vba_module.specs.Parts.{nowhere, first_place}
+use Rattle.vba_expression.specs.Tokens.{bare}
+use Rattle.module_parts.specs.Firsts.{place_of_first}
 
 abbrev place : List ReadToken → Place
 place = first_place nowhere
+
+-- tokens begin where the first of them stands
+pub first_of_bare : (ts : List ReadToken) → place_of_first (bare ts) ≡ first_place nowhere ts
+first_of_bare [] = refl
+first_of_bare (t ∷ ts) = refl
 
 -- what these tokens begin begins with them
 abbrev Leads : List ReadToken → Type 0

@@ -1,3 +1,4 @@
 pub mod View
 pub mod Brackets
 pub mod Nexts
+pub mod Firsts

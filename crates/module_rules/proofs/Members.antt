@@ -1,43 +1,39 @@
 -- Members of Enums, by their names and what stands behind.
-use Rattle.std.proofs.Common.{◌≡◌, Bool, true, false, ◌&&◌, List, [], ◌∷◌, length, map, Some, None, refl, ◌∙◌, ap, arith}
+use Rattle.std.proofs.Common.{◌≡◌, Bool, true, false, Option, Some, None, refl, ap}
+use Rattle.std.specs.Prelude.{◌&&◌}
 use Rattle.vba_lexer.specs.declared.token.Token.{Token}
-use Rattle.vba_expression.specs.declared.tree.Argument.{Argument}
+use Rattle.vba_words.specs.declared.identifier.Identifier.{Identifier}
+use Rattle.vba_expression.specs.Fitting.{is_none, has_no_arguments}
+use Rattle.vba_expression.specs.Reader.{name_in}
 use Rattle.vba_expression.specs.Tree as expressions
-use Rattle.vba_expression.specs.View.{Arg, missing, plain, named, put, put_all, argument_view, arguments_view}
 use Rattle.vba_tree.specs.Tree.{simple, call, assignment}
 use Rattle.vba_module.specs.Misplaced.{is_enum_member}
 use Rattle.module_rules.specs.Statements.{is_plain_name}
 
-abbrev has_none : expressions.Args → Bool
-has_none expressions.no_args = true
-has_none other = false
+and_true : (b : Bool) → (b && true) ≡ b
+and_true true = refl
+and_true false = refl
 
-has_some_put : (before : expressions.Args) (argument : Arg) → has_none (put before argument) ≡ false
-has_some_put before (missing comma) = refl
-has_some_put before (plain comma e) = refl
-has_some_put before (named comma name colon_equal e) = refl
+and_false : (b : Bool) → (b && false) ≡ false
+and_false true = refl
+and_false false = refl
 
-has_some_all : (before : expressions.Args) (arguments : List Arg) → has_none before ≡ false → has_none (put_all before arguments) ≡ false
-has_some_all before [] e = e
-has_some_all before (argument ∷ arguments) e = has_some_all (put before argument) arguments (has_some_put before argument)
+-- a name without a suffix, by the name
+pub plain_name : (e : expressions.Expr) (x : Identifier) → Some x ≡ name_in e → is_none x.suffix ≡ is_plain_name e
+plain_name (expressions.name y) x h = let same : x ≡ y = cc in ap (λ z. is_none z.suffix) same
+plain_name other x h = let no : Some x ≡ None = h in absurd cc
 
-called : (e : expressions.Expr) (arguments : expressions.Args) → is_enum_member (simple (call e arguments)) ≡ (has_none arguments && is_plain_name e)
-called (expressions.name x) expressions.no_args = refl
-called (expressions.name x) other = refl
-called e expressions.no_args = refl
-called e other = refl
+pub no_name : (e : expressions.Expr) → None ≡ name_in e → false ≡ is_plain_name e
+no_name (expressions.name y) h = let no : None ≡ Some y = h in absurd cc
+no_name other h = refl
 
 -- a name alone, and a name with arguments
-pub called_alone : (e : expressions.Expr) (arguments : List Argument) → length arguments ≡ 0 → is_enum_member (simple (call e (arguments_view arguments))) ≡ is_plain_name e
-called_alone e [] none = called e expressions.no_args
-called_alone e (argument ∷ arguments) none = absurd (omega (arith, none))
-
-pub called_with : (e : expressions.Expr) (arguments : List Argument) → (length arguments ≡ 0 → ⊥) → is_enum_member (simple (call e (arguments_view arguments))) ≡ false
-called_with e [] some = absurd (some refl)
-called_with e (argument ∷ arguments) some =
-    called e (arguments_view (argument ∷ arguments))
-    ∙ ap (λ b. b && is_plain_name e)
-    (has_some_all (put expressions.no_args (argument_view argument)) (map argument_view arguments) (has_some_put expressions.no_args (argument_view argument)))
+pub called : (e : expressions.Expr) (arguments : expressions.Args)
+    → (is_plain_name e && has_no_arguments arguments) ≡ is_enum_member (simple (call e arguments))
+called (expressions.name x) expressions.no_args = and_true (is_none x.suffix)
+called (expressions.name x) other = and_false (is_none x.suffix)
+called e expressions.no_args = refl
+called e other = refl
 
 -- a name with its value, without and with Let
 pub assigned : (e : expressions.Expr) (equal : Token) (value : expressions.Expr) → is_enum_member (simple (assignment None e equal value)) ≡ is_plain_name e

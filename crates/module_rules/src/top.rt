@@ -115,17 +115,18 @@ pub fn note_line_at_top(
 }
 
 /// Is it a name without a suffix?
+#[tactic(auto, using(crate::proofs::Members::plain_name, crate::proofs::Members::no_name))]
 fn is_plain_name(expression: &Expression) -> bool
     ensures { result ≡ is_plain_name (expression_view expression.now) }
 {
-    match expression {
-        Expression::Name(name) => name.suffix.is_none(),
-        _ => false,
+    match expression.name() {
+        Some(name) => name.suffix.is_none(),
+        None => false,
     }
 }
 
 /// Is it a member of an Enum, that is a name without a suffix, with `=` and its value where it is written?
-#[tactic(auto, using(crate::proofs::Members::called_alone, crate::proofs::Members::called_with, crate::proofs::Members::assigned, crate::proofs::Members::assigned_by_let))]
+#[tactic(auto, using(crate::proofs::Members::called, crate::proofs::Members::assigned, crate::proofs::Members::assigned_by_let))]
 fn is_simple_member(statement: &SimpleStatement) -> bool
     ensures { result ≡ places.is_enum_member (simple (simple_view statement.now)) }
 {

@@ -1,11 +1,16 @@
 -- Where the last `=` parts a length from a value.
-use Rattle.std.proofs.Common.{◌≡◌, ℕ, ◌+◌, ◌-◌, ◌<◌, ◌≤◌, List, [], ◌∷◌, ◌++◌, length, get_or, take, drop, Option, Some, None, refl, sym, ap, ◌∙◌, append_assoc, append-nil, arith}
-use Rattle.std.proofs.lemmas.List.{take_more, drop_more, drop_all, take-append-drop}
+use Rattle.std.proofs.Common.{◌≡◌, ℕ, zero, suc, Bool, true, false, length-append, ◌+◌, ◌-◌, ◌<◌, ◌≤◌, List, [], ◌∷◌, ◌++◌, length, get_or, take, drop, Option, Some, None, refl, sym, ap, ◌∙◌, append_assoc, append-nil, arith}
+use Rattle.std.specs.Prelude.{if◌then◌else◌}
+use Rattle.std.proofs.lemmas.List.{take_more, drop_more, drop_all, take-append-drop, length-drop}
 use Rattle.vba_words.specs.declared.reading.ReadToken.{ReadToken}
 use Rattle.vba_expression.specs.Tree.{Expr}
 use Rattle.vba_tree.specs.Tree.{DefaultValue}
-use Rattle.vba_grammar.specs.Front.{or_else}
-use Rattle.vba_grammar.specs.Clauses.{last_halves}
+use Rattle.vba_expression.specs.Spelling.{spell}
+use Rattle.vba_expression.specs.Reader.{expression_at}
+use Rattle.vba_expression.proofs.Inverses.{takes, longest}
+use Rattle.vba_grammar.specs.Front.{Found as Finds, ◌>>=◌, or_else, is_equal, is_nothing, whole_at}
+use Rattle.vba_grammar.specs.Clauses.{only_expression, last_halves}
+use Rattle.vba_grammar.proofs.Binding.{found_pair}
 use Rattle.vba_clauses.specs.Seen.{halves_between}
 
 -- what a later `=` allows goes before what an earlier one does
@@ -74,3 +79,59 @@ pub found_there : (ts before behind : List ReadToken) (n : ℕ) (x : (Expr × De
 found_there ts before behind n x some within front back after here =
     let there = before_one ts before behind n (Some x) some within front back after here in
     sym (ap (last_halves []) (sym (take-append-drop (n - 1) ts)) ∙ later [] (take (n - 1) ts) (drop (n - 1) ts) x there)
+
+abbrev nothing_found : Finds (Expr × DefaultValue)
+nothing_found = None
+
+-- what is found by both, none where the first is none
+only_none : (ts : List ReadToken) (k : ℕ) → only_expression (take k ts) ≡ None → halves_between (take k ts) (drop k ts) ≡ None
+only_none ts k h = at (drop k ts)
+  where
+    chosen : (b : Bool) → (if b then nothing_found else nothing_found) ≡ nothing_found
+    chosen true = refl
+    chosen false = refl
+
+    at : (us : List ReadToken) → halves_between (take k ts) us ≡ None
+    at [] = refl
+    at (u ∷ us) = rw h (chosen (is_equal u.reading))
+
+-- the longest expression at the front is no shorter than one that is all before an index
+no_longer : (ts rest : List ReadToken) (e : Expr) (k : ℕ) → found_pair e rest ≡ expression_at 15 ts → length ts - k < length rest
+    → only_expression (take k ts) ≡ None
+no_longer ts rest e k h short = at (whole_at (take k ts)) refl
+  where
+    whole : (found : Expr × List ReadToken) (b : Bool) → is_nothing found.1 ≡ b → whole_at (take k ts) ≡ Some found
+        → (if b then Some found.0 else None) ≡ None
+    whole found false n f = refl
+    whole (u, []) true n f =
+        let taken = takes 15 (take k ts) [] u (omega arith) f in
+        let same : ts ≡ spell u ++ drop k ts =
+        sym (take-append-drop k ts) ∙ ap (λ us. us ++ drop k ts) (taken.same ∙ append-nil (spell u)) in
+        let most = longest 15 ts rest (drop k ts) e u (sym h) taken.fits taken.under same in
+        absurd (omega (arith, most, length-drop k ts))
+    whole (u, t ∷ us) true n f = absurd cc
+
+    at : (o : Finds Expr) → whole_at (take k ts) ≡ o → (o >>= λ u us. if is_nothing us then Some u else None) ≡ None
+    at None f = refl
+    at (Some found) f = whole found (is_nothing found.1) refl f
+
+-- none ends behind that
+none_from : (ts rest : List ReadToken) (e : Expr) (k : ℕ) → found_pair e rest ≡ expression_at 15 ts → k < length rest → k ≤ length ts
+    → last_halves (take (length ts - k) ts) (drop (length ts - k) ts) ≡ None
+none_from ts rest e zero h short within = none_at_end ts (length ts - 0) (omega arith)
+none_from ts rest e (suc k) h short within =
+    let m : ℕ = length ts - suc k in
+    let next : m + 1 ≡ length ts - k = omega arith in
+    let inside : m < length ts = omega arith in
+    let later = none_from ts rest e k h (omega arith) (omega arith) in
+    parted ts m inside
+    ∙ ap (λ n. or_else (last_halves (take n ts) (drop n ts)) (halves_between (take m ts) (drop m ts))) next
+    ∙ ap (λ o. or_else o (halves_between (take m ts) (drop m ts))) later
+    ∙ only_none ts m (no_longer ts rest e m h (omega arith))
+
+pub none_behind : (ts behind : List ReadToken) (t : ReadToken) (e : Expr) → found_pair e (t ∷ behind) ≡ expression_at 15 ts
+    → last_halves (take (length ts - length behind) ts) (drop (length ts - length behind) ts) ≡ None
+none_behind ts behind t e h =
+    let taken = takes 15 ts (t ∷ behind) e (omega arith) (sym h) in
+    let long : length ts ≡ length (spell e) + length (t ∷ behind) = ap length taken.same ∙ length-append (spell e) (t ∷ behind) in
+    none_from ts (t ∷ behind) e (length behind) h (omega arith) (omega arith)

@@ -1,3 +1,4 @@
 pub mod Others
 pub mod Equals
 pub mod Cases
+pub mod Places

@@ -2,10 +2,10 @@
 
 ghost use Rattle.std.specs.Prelude.{◌≡◌, IfOk, option_map, is_some};
 ghost use Rattle.vba_expression.specs.View.{view};
-ghost use Rattle.vba_expression.specs.Fitting.{is_place};
 ghost use Rattle.vba_grammar.specs.Front.{begins, token_at, token_if, reads, name_at, plain_name_at, place_at, ends};
 ghost use Rattle.vba_grammar.specs.Clauses.{item_ends};
 ghost use Rattle.vba_clauses.specs.Meets.{meets};
+ghost use Rattle.vba_clauses.specs.Places.{begins_place};
 
 use crate::expected::{Expected, is_expected};
 use std::alloc::Global;
@@ -127,6 +127,7 @@ pub fn read_name(
 
 /// The place at the front, as long as it can be, and the tokens behind it: a name, `Me` or a member of a With block, and
 /// members and indices of these ([MS-VBAL] 5.6.10 to 5.6.13, 5.6.15).
+#[tactic(auto, using(crate::proofs::Places::place_begins))]
 pub fn read_place(
     alloc: Global,
     tokens: &[ReadToken],
@@ -136,25 +137,24 @@ pub fn read_place(
     let Some((place, rest)) = read_primary(alloc, tokens)? else {
         return Ok(None);
     };
-    if is_place(&place) {
+    if begins_place(tokens) {
         Ok(Some((place, rest)))
     } else {
         Ok(None)
     }
 }
 
-/// Is an expression a place?
-pub fn is_place(expression: &Expression) -> bool
-    ensures { result ≡ is_place (view expression.now) }
+/// Do tokens begin with what begins a place: a name, `Me` or a dot of a With block?
+fn begins_place(tokens: &[ReadToken]) -> bool
+    ensures { result ≡ begins begins_place tokens.now }
 {
-    let mut left = expression;
-    'places: while let Expression::Member { base, .. } | Expression::Index { base, .. } = left {
-        left = base;
+    match tokens {
+        [] => false,
+        [first, ..] => matches!(
+            first.reading,
+            Reading::Name { .. } | Reading::Keyword(Keyword::Me) | Reading::Mark(Mark::WithDot)
+        ),
     }
-    matches!(
-        left,
-        Expression::Me(_) | Expression::Name(_) | Expression::WithMember { .. }
-    )
 }
 
 /// Is nothing left of a statement? Its line ends, or a colon or an `Else` stands there.

@@ -1,6 +1,6 @@
 //! The length of a text and the value behind it, which the last `=` that allows it parts.
 
-ghost use Rattle.std.specs.Prelude.{◌≡◌, [], IfOk, option_map};
+ghost use Rattle.std.specs.Prelude.{◌≡◌, ◌≤◌, [], length, take, drop, None, IfOk, option_map};
 ghost use Rattle.vba_expression.specs.View.{view};
 ghost use Rattle.vba_grammar.specs.Clauses.{only_expression, halves, last_halves};
 ghost use Rattle.vba_clauses.specs.Seen.{halves_view, halves_between};
@@ -30,13 +30,29 @@ pub fn read_last_halves(
 ) -> Result<Option<(Halves, &[ReadToken])>, NoMemory>
     ensures { IfOk result (λ found. option_map (λ f. (halves_view f.0, f.1.now)) found ≡ last_halves [] tokens.now) }
 {
-    'ends: for end in (0..tokens.len()).rev() {
+    let limit = last_end(alloc, tokens)?;
+    'ends: for end in (0..limit).rev() {
         let (before, behind) = tokens.split_at(end);
         if let Some(found) = read_halves_between(alloc, before, behind)? {
             return Ok(Some(found));
         }
     }
     Ok(None)
+}
+
+/// No length ends from here on: it is no longer than the longest expression at the front.
+#[tactic(auto, using(crate::proofs::Equals::none_at_end, crate::proofs::Equals::none_behind))]
+fn last_end(alloc: Global, tokens: &[ReadToken]) -> Result<usize, NoMemory>
+    ensures within { IfOk result (λ end. end ≤ length tokens.now) }
+    ensures none { IfOk result (λ end. last_halves (take end tokens.now) (drop end tokens.now) ≡ None) }
+{
+    let Some((_, rest)) = read_expression(alloc, tokens)? else {
+        return Ok(tokens.len());
+    };
+    match rest {
+        [] => Ok(tokens.len()),
+        [_, behind @ ..] => Ok(tokens.len().saturating_sub(behind.len())),
+    }
 }
 
 /// A length before `=`, and a value behind it.

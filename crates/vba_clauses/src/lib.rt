@@ -20,8 +20,8 @@ pub use constants::{ConstantPart, read_constant, read_constants};
 pub use dims::{DimPart, DimsPart, read_dim, read_dim_list, read_dims};
 pub use expected::{Expected, is_expected};
 pub use front::{
-    begins_with, begins_with_word, ends, is_place, item_ends, read_name, read_place, read_token,
-    read_word, skip_token, skip_word,
+    begins_with, begins_with_word, ends, item_ends, read_name, read_place, read_token, read_word,
+    skip_token, skip_word,
 };
 pub use parameters::{
     ParameterPart, ParametersPart, ResultTypePart, read_brackets, read_brackets_if, read_parameter,

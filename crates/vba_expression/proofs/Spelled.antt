@@ -1,40 +1,30 @@
--- The tokens of arguments and one more.
-use Rattle.std.proofs.Common.{◌≡◌, ℕ, ◌+◌, ◌<◌, length, take, get_or, List, ◌++◌, refl, sym, ap, ◌∙◌, append_assoc}
-use Rattle.std.proofs.lemmas.List.{map-append, take_more}
+-- The tokens before the rest are those of what was read.
+use Rattle.std.proofs.Common.{◌≡◌, ℕ, ◌+◌, ◌-◌, ◌<◌, List, ◌++◌, [], ◌∷◌, length, take, get_or, take_at, length-append, sym, ap, ◌∙◌, arith}
+use Rattle.std.proofs.lemmas.List.{map_more}
 use Rattle.vba_lexer.specs.declared.token.Token.{Token}
 use Rattle.vba_words.specs.declared.reading.ReadToken.{ReadToken}
-use Rattle.vba_expression.specs.declared.tree.Argument.{Argument}
-use Rattle.vba_expression.specs.Tree.{Args}
-use Rattle.vba_expression.specs.Spelling.{spell_args}
-use Rattle.vba_expression.specs.View.{Arg, missing, plain, named, put, argument_view, arguments_view}
-use Rattle.vba_expression.specs.Tokens.{bare, spell_argument}
-use Rattle.vba_expression.proofs.Arguments.{arguments_push}
+use Rattle.vba_expression.specs.Tree.{Expr, Args}
+use Rattle.vba_expression.specs.Spelling.{spell, spell_args}
+use Rattle.vba_expression.specs.Tokens.{bare, tokens_of, tokens_of_arguments}
+use Rattle.vba_expression.specs.Reader.{expression_at, arguments_at}
+use Rattle.vba_expression.proofs.Inverses.{takes, args_takes, Found, FoundArgs}
 
-pub bare_append : (ts us : List ReadToken) → bare (ts ++ us) ≡ bare ts ++ bare us
-bare_append ts us = map-append (λ t. t.token) ts us
+-- the tokens up to the rest are what stands before it
+up_to : (ts read rest : List ReadToken) → ts ≡ read ++ rest → take (length ts - length rest) ts ≡ read
+up_to ts read rest same =
+    let long : length ts ≡ length read + length rest = ap length same ∙ length-append read rest in
+    let n : length read ≡ length ts - length rest = omega arith in
+    ap (take (length ts - length rest)) same ∙ take_at read rest (length ts - length rest) n
 
-spell_put : (before : Args) (a : Arg) → spell_args (put before a) ≡ spell_args before ++ spell_argument a
-spell_put before (missing comma) = refl
-spell_put before (plain comma e) = refl
-spell_put before (named comma x g e) = refl
+pub expression_before : (limit : ℕ) (ts rest : List ReadToken) (e : Expr) (before : List Token) → 0 < limit
+    → Found e rest ≡ expression_at limit ts → before ≡ bare (take (length ts - length rest) ts) → before ≡ tokens_of e
+expression_before limit ts rest e before h f b = b ∙ ap bare (up_to ts (spell e) rest (takes limit ts rest e h (sym f)).same)
 
-arguments_more : (arguments : List Argument) (i : ℕ) (d : Argument) → i < length arguments
-    → bare (spell_args (arguments_view (take (i + 1) arguments)))
-    ≡ bare (spell_args (arguments_view (take i arguments))) ++ bare (spell_argument (argument_view (get_or arguments i d)))
-arguments_more arguments i d h =
-    ap (λ xs. bare (spell_args (arguments_view xs))) (take_more arguments i d h)
-    ∙ (ap (λ xs. bare (spell_args xs)) (arguments_push (take i arguments) (get_or arguments i d))
-    ∙ (ap bare (spell_put (arguments_view (take i arguments)) (argument_view (get_or arguments i d)))
-    ∙ bare_append (spell_args (arguments_view (take i arguments))) (spell_argument (argument_view (get_or arguments i d)))))
+pub arguments_before : (ts rest : List ReadToken) (xs : Args) (before : List Token) → FoundArgs xs rest ≡ arguments_at ts
+    → before ≡ bare (take (length ts - length rest) ts) → before ≡ tokens_of_arguments xs
+arguments_before ts rest xs before f b = b ∙ ap bare (up_to ts (spell_args xs) rest (args_takes ts rest xs (sym f)).same)
 
--- a turn of the loop over arguments
-pub arguments_next : (old now new : List Token) (arguments : List Argument) (i : ℕ) (item d : Argument) → i < length arguments
-    → item ≡ get_or arguments i d
-    → now ≡ old ++ bare (spell_args (arguments_view (take i arguments)))
-    → new ≡ now ++ bare (spell_argument (argument_view item))
-    → new ≡ old ++ bare (spell_args (arguments_view (take (i + 1) arguments)))
-arguments_next old now new arguments i item d h same before pushed =
-    pushed ∙ (ap (λ ts. ts ++ bare (spell_argument (argument_view item))) before
-    ∙ (append_assoc old (bare (spell_args (arguments_view (take i arguments)))) (bare (spell_argument (argument_view item)))
-    ∙ ap (λ ts. old ++ ts) (ap (λ x. bare (spell_args (arguments_view (take i arguments))) ++ bare (spell_argument (argument_view x))) same
-    ∙ sym (arguments_more arguments i d h))))
+-- one token more
+pub bare_more : (ts : List ReadToken) (i : ℕ) (t d : ReadToken) → i < length ts → t ≡ get_or ts i d
+    → bare (take (i + 1) ts) ≡ bare (take i ts) ++ t.token ∷ []
+bare_more ts i t d h same = map_more (λ u. u.token) ts i d h ∙ ap (λ u. bare (take i ts) ++ u.token ∷ []) (sym same)

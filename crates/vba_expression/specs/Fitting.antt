@@ -51,6 +51,11 @@ abbrev pub is_lone : Args → Bool
 is_lone (missing no_args comma) = true
 is_lone other = false
 
+-- no argument at all
+abbrev pub has_no_arguments : Args → Bool
+has_no_arguments no_args = true
+has_no_arguments other = false
+
 -- the first argument has no comma before it, each other one has
 abbrev pub CommaFits : Args → Option Token → Type 0
 CommaFits no_args None = Unit {0}

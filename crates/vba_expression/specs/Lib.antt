@@ -1,9 +1,10 @@
 pub mod Tree
 pub mod Spelling
 pub mod Fitting
-pub mod View
 pub mod Parts
 pub mod Reader
 pub mod Taking
-pub mod Seen
 pub mod Tokens
+pub mod Nodes
+pub mod View
+pub mod Seen

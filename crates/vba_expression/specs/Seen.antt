@@ -1,6 +1,8 @@
--- Serves the code: the reader's states as contracts see them.
-use Rattle.std.specs.Prelude.{◌≡◌, List, map, reverse, Option, Some, None}
+-- Serves the code: the reader's states as contracts see them: frames, and the items of the nodes written so far, which
+-- are the operands and arguments that wait in frames.
+use Rattle.std.specs.Prelude.{◌≡◌, Bool, true, false, List, [], ◌∷◌, reverse, Option, Some, None}
 use Rattle.vba_lexer.specs.declared.token.Token.{Token}
+use Rattle.vba_words.specs.declared.identifier.Identifier.{Identifier}
 use Rattle.vba_expression.specs.declared.frame.Head.{Head}
 use Rattle.vba_expression.specs.declared.frame.Head.TheVariants as heads
 use Rattle.vba_expression.specs.declared.frame.Frame.{Frame}
@@ -10,40 +12,69 @@ use Rattle.vba_expression.specs.declared.frame.Mode.TheVariants as modes
 use Rattle.vba_expression.specs.declared.frame.Stepped.{Stepped}
 use Rattle.vba_expression.specs.declared.frame.Stepped.TheVariants.{On, End}
 use Rattle.vba_expression.specs.declared.part.Part.{Part}
-use Rattle.vba_expression.specs.View.{view, arguments_view}
+use Rattle.vba_expression.specs.Tree.{unary, binary}
+use Rattle.vba_expression.specs.Nodes.{Item, tree, last_tree, last_arguments, rest}
 use Rattle.vba_expression.specs.Reader as reader
 
-abbrev pub head_view : Head → reader.Head
-head_view heads.Call = reader.call
-head_view (heads.Behind base left) = reader.behind (view base) left
+-- what arguments belong to, below them
+abbrev pub head_of : Head → List Item → reader.Head
+head_of heads.Call items = reader.call
+head_of (heads.Behind left) items = reader.behind (last_tree items) left
 
-abbrev pub frame_view : Frame → reader.Frame
-frame_view (frames.Whole limit) = reader.whole limit
-frame_view (frames.RightOperand left operator token) = reader.right_operand (view left) operator token
-frame_view (frames.UnaryOperand operator token) = reader.unary_operand operator token
-frame_view (frames.Inner left) = reader.inner left
-frame_view (frames.TypeOfOperand word) = reader.type_of_operand word
-frame_view (frames.Argument head before comma) = reader.argument (head_view head) (arguments_view before.items) comma
-frame_view (frames.NamedArgument head before comma name colon_equal) =
-    reader.named_argument (head_view head) (arguments_view before.items) comma name colon_equal
+abbrev pub below_head : Head → List Item → List Item
+below_head heads.Call items = items
+below_head (heads.Behind left) items = rest items
+
+-- frames with what waits in them, the last one first
+abbrev pub waiting_on : List Frame → List Item → List reader.Frame
+waiting_on [] items = []
+waiting_on (frames.Whole limit ∷ fs) items = reader.whole limit ∷ waiting_on fs items
+waiting_on (frames.RightOperand operator token ∷ fs) items =
+    reader.right_operand (last_tree items) operator token ∷ waiting_on fs (rest items)
+waiting_on (frames.UnaryOperand operator token ∷ fs) items = reader.unary_operand operator token ∷ waiting_on fs items
+waiting_on (frames.Inner left ∷ fs) items = reader.inner left ∷ waiting_on fs items
+waiting_on (frames.TypeOfOperand word ∷ fs) items = reader.type_of_operand word ∷ waiting_on fs items
+waiting_on (frames.Argument head comma ∷ fs) items =
+    reader.argument (head_of head (rest items)) (last_arguments items) comma ∷ waiting_on fs (below_head head (rest items))
+waiting_on (frames.NamedArgument head comma name colon_equal ∷ fs) items =
+    reader.named_argument (head_of head (rest items)) (last_arguments items) comma name colon_equal
+    ∷ waiting_on fs (below_head head (rest items))
 
 -- the last frame is on top
-abbrev pub stack : List Frame → List reader.Frame
-stack held = reverse (map frame_view held)
+abbrev pub waiting : List Frame → List Item → List reader.Frame
+waiting held items = waiting_on (reverse held) items
 
-abbrev pub state : Mode → List Frame → reader.State
-state modes.Want held = reader.want (stack held)
-state (modes.Have e) held = reader.have (view e) (stack held)
-state (modes.Dotted base dot) held = reader.dotted (view base) dot (stack held)
-state (modes.WithDotted dot) held = reader.with_dotted dot (stack held)
-state (modes.NewWanted word) held = reader.new_wanted word (stack held)
-state (modes.ClassWanted word operand is_word) held = reader.class_wanted word (view operand) is_word (stack held)
+-- an operation that waits in a frame, behind its last operand
+abbrev pub behind_operation : Frame → List Item → List Item
+behind_operation (frames.RightOperand operator token) items =
+    tree (binary (last_tree (rest items)) operator token (last_tree items)) ∷ rest (rest items)
+behind_operation (frames.UnaryOperand operator token) items = tree (unary operator token (last_tree items)) ∷ rest items
+behind_operation other items = items
+
+-- the items without the last one, where that is this name
+abbrev pub without_name : Option Identifier → List Item → List Item
+without_name None items = items
+without_name (Some name) items = rest items
+
+-- what is found, where a test holds
+abbrev pub found_if : {A : Type 0} → Bool → A → Option A
+found_if true found = Some found
+found_if false found = None
+
+abbrev pub state : Mode → List Frame → List Item → reader.State
+state modes.Want held items = reader.want (waiting held items)
+state modes.Have held items = reader.have (last_tree items) (waiting held (rest items))
+state (modes.Dotted dot) held items = reader.dotted (last_tree items) dot (waiting held (rest items))
+state (modes.WithDotted dot) held items = reader.with_dotted dot (waiting held items)
+state (modes.NewWanted word) held items = reader.new_wanted word (waiting held items)
+state (modes.ClassWanted word is_word) held items =
+    reader.class_wanted word (last_tree items) is_word (waiting held (rest items))
 
 -- the reader went on to the next state, or, where there is none, kept what the old one comes to
-abbrev pub Comes : Option reader.State → reader.State → List Frame → Stepped → Type 0
-Comes meant old new (On mode) = meant ≡ Some (state mode new)
-Comes meant old new (End mode) = (meant ≡ None) × (reader.settled (state mode new) ≡ reader.settled old)
+abbrev pub Comes : Option reader.State → reader.State → List Frame → List Item → Stepped → Type 0
+Comes meant old held items (On mode) = meant ≡ Some (state mode held items)
+Comes meant old held items (End mode) = (meant ≡ None) × (reader.settled (state mode held items) ≡ reader.settled old)
 
 -- what a token did
-abbrev pub Does : reader.State → Token → Part → List Frame → Stepped → Type 0
-Does old token p new stepped = Comes (reader.after old token p) old new stepped
+abbrev pub Does : reader.State → Token → Part → List Frame → List Item → Stepped → Type 0
+Does old token p held items stepped = Comes (reader.after old token p) old held items stepped

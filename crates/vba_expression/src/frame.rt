@@ -1,24 +1,22 @@
 use crate::operator::{BinaryOperator, UnaryOperator};
-use crate::tree::{Argument, Expression};
 use vba_lexer::Token;
 use vba_words::Identifier;
 
 /// What arguments belong to.
-#[derive(Drop)]
+#[derive(Clone, Copy)]
 pub enum Head {
     /// A call statement.
     Call,
-    /// What stands before their bracket.
-    Behind { base: Expression, left: Token },
+    /// The operand before their bracket, which is this token.
+    Behind(Token),
 }
 
-/// What waits for an operand, by what the operand will be.
+/// What waits for an operand, by what the operand will be. The operands and arguments that wait too are the last nodes.
 #[derive(Drop)]
 pub enum Frame {
     /// The whole expression, below this level.
     Whole(u32),
     RightOperand {
-        left: Expression,
         operator: BinaryOperator,
         token: Token,
     },
@@ -31,12 +29,10 @@ pub enum Frame {
     TypeOfOperand(Token),
     Argument {
         head: Head,
-        before: Vec<Argument>,
         comma: Option<Token>,
     },
     NamedArgument {
         head: Head,
-        before: Vec<Argument>,
         comma: Option<Token>,
         name: Identifier,
         colon_equal: Token,
@@ -44,31 +40,24 @@ pub enum Frame {
 }
 
 /// What was read, above the frames.
-#[derive(Drop)]
+#[derive(Clone, Copy)]
 pub enum Mode {
     /// An operand is wanted.
     Want,
     /// A primary was read.
-    Have(Expression),
+    Have,
     /// And a dot behind it.
-    Dotted {
-        base: Expression,
-        dot: Token,
-    },
+    Dotted(Token),
     /// A dot of a With block was read.
     WithDotted(Token),
     /// New was read.
     NewWanted(Token),
     /// TypeOf, its operand and Is were read.
-    ClassWanted {
-        type_of_word: Token,
-        operand: Expression,
-        is_word: Token,
-    },
+    ClassWanted { type_of_word: Token, is_word: Token },
 }
 
 /// What a token did: the reader goes on, or it ends before the token.
-#[derive(Drop)]
+#[derive(Clone, Copy)]
 pub enum Stepped {
     On(Mode),
     End(Mode),

@@ -1,18 +1,23 @@
-ghost use Rattle.std.specs.Prelude.{◌≡◌, IfOk, option_map, [], ◌∷◌};
+ghost use Rattle.std.specs.Prelude.{◌≡◌, ◌<◌, ◌-◌, IfOk, option_map, length, take, List};
+ghost use Rattle.vba_expression.specs.Tree.{Expr};
 ghost use Rattle.vba_expression.specs.View.{view, arguments_view};
-ghost use Rattle.vba_expression.specs.Reader.{want, have, run, settled, finished, finished_arguments, with_rest, expression_at, arguments_at};
-ghost use Rattle.vba_expression.specs.Seen.{stack, frame_view, state};
+ghost use Rattle.vba_expression.specs.Tokens.{bare, tokens_of, tokens_of_arguments};
+ghost use Rattle.vba_expression.specs.Nodes.{Item, items_of, tree_in, arguments_in, last_tree, rest};
+ghost use Rattle.vba_expression.specs.Reader.{want, have, run, settled, finished, finished_arguments, expression_at, arguments_at};
+ghost use Rattle.vba_expression.specs.Seen.{waiting, state, found_if};
 
+use crate::expression::{Arguments, Expression};
 use crate::frame::{Frame, Head, Mode, Stepped};
-use crate::stack::{reduce, with_last_missing, with_named, with_plain};
-use crate::step::step;
-use crate::tree::{Argument, Expression};
+use crate::node::ExpressionNode;
+use crate::stack::{push_node, reduce};
+use crate::step::{push_last_missing, step};
 use std::alloc::Global;
 use vba_base::NoMemory;
+use vba_lexer::Token;
 use vba_words::ReadToken;
 
 /// The expression at the front of tokens, as long as it can be, and the tokens behind it; none where no expression that
-/// fits stands there. It takes time in proportion to the tokens that it reads, and parentheses take no stack.
+/// fits stands there. It takes time in proportion to the tokens that it reads, and no stack, however deep it nests.
 pub fn read_expression(
     alloc: Global,
     tokens: &[ReadToken],
@@ -34,200 +39,230 @@ pub fn read_primary(
 }
 
 /// The arguments of a call statement at the front of tokens, as many as there can be, and the tokens behind them.
+#[tactic(auto, using(crate::proofs::Spelled::arguments_before))]
 pub fn read_arguments(
     alloc: Global,
     tokens: &[ReadToken],
-) -> Result<Option<(Vec<Argument>, &[ReadToken])>, NoMemory>
-    ensures { IfOk result (λ found. option_map (λ f. (arguments_view f.0.items, f.1.now)) found ≡ arguments_at tokens.now) }
+) -> Result<Option<(Arguments, &[ReadToken])>, NoMemory>
+    ensures { IfOk result (λ found. option_map (λ f. (arguments_view f.0, f.1.now)) found ≡ arguments_at tokens.now) }
 {
-    let mut frames = Vec::new(alloc);
-    frames.push(Frame::Argument {
-        head: Head::Call,
-        before: Vec::new(alloc),
-        comma: None,
-    })?;
-    let (mode, frames, rest) = read_on(alloc, frames, tokens)?;
-    Ok(arguments_with_rest(finished_arguments(alloc, mode, frames)?, rest))
-}
-
-/// Arguments, where they are found, with the tokens behind them.
-fn arguments_with_rest(
-    found: Option<Vec<Argument>>,
-    rest: &[ReadToken],
-) -> Option<(Vec<Argument>, &[ReadToken])>
-    ensures { option_map (λ f. (arguments_view f.0.items, f.1.now)) result
-        ≡ with_rest rest.now (option_map (λ f. arguments_view f.items) found) }
-{
-    match found {
-        Some(arguments) => Some((arguments, rest)),
-        None => None,
-    }
+    let Some((nodes, rest)) = argument_nodes(alloc, tokens)? else {
+        return Ok(None);
+    };
+    let arguments = Arguments {
+        nodes,
+        tokens: tokens_before(alloc, tokens, rest)?,
+    };
+    Ok(Some((arguments, rest)))
 }
 
 /// The expression below a level at the front of tokens.
+#[tactic(auto, using(crate::proofs::Spelled::expression_before))]
 fn read_below(
     alloc: Global,
     limit: u32,
     tokens: &[ReadToken],
 ) -> Result<Option<(Expression, &[ReadToken])>, NoMemory>
+    requires { 0 < limit }
     ensures { IfOk result (λ found. option_map (λ f. (view f.0, f.1.now)) found ≡ expression_at limit tokens.now) }
 {
+    let Some((nodes, rest)) = expression_nodes(alloc, limit, tokens)? else {
+        return Ok(None);
+    };
+    let expression = Expression {
+        nodes,
+        tokens: tokens_before(alloc, tokens, rest)?,
+    };
+    Ok(Some((expression, rest)))
+}
+
+/// The nodes of the expression below a level at the front of tokens.
+fn expression_nodes(
+    alloc: Global,
+    limit: u32,
+    tokens: &[ReadToken],
+) -> Result<Option<(Vec<ExpressionNode>, &[ReadToken])>, NoMemory>
+    ensures { IfOk result (λ found. option_map (λ f. (tree_in f.0.items, f.1.now)) found ≡ expression_at limit tokens.now) }
+{
+    let mut nodes = Vec::new(alloc);
     let mut frames = Vec::new(alloc);
     frames.push(Frame::Whole(limit))?;
-    let (mode, frames, rest) = read_on(alloc, frames, tokens)?;
-    Ok(with_rest(finished(alloc, mode, frames)?, rest))
-}
-
-/// An expression, where one is found, with the tokens behind it.
-fn with_rest(found: Option<Expression>, rest: &[ReadToken]) -> Option<(Expression, &[ReadToken])>
-    ensures { option_map (λ f. (view f.0, f.1.now)) result ≡ with_rest rest.now (option_map view found) }
-{
-    match found {
-        Some(e) => Some((e, rest)),
-        None => None,
-    }
-}
-
-/// Reads on where an operand is wanted, as far as tokens can be read.
-fn read_on(
-    alloc: Global,
-    frames: Vec<Frame>,
-    tokens: &[ReadToken],
-) -> Result<(Mode, Vec<Frame>, &[ReadToken]), NoMemory>
-    ensures read { IfOk result (λ r. settled (state r.0 r.1.items) ≡ settled (run (want (stack frames.items)) tokens.now).0) }
-    ensures left { IfOk result (λ r. r.2.now ≡ (run (want (stack frames.items)) tokens.now).1) }
-{
-    let mut held = frames;
-    let mut mode = Mode::Want;
-    let mut left = tokens;
-    'reading: while let [token, rest @ ..] = left {
-        match step(alloc, mode, &mut held, token)? {
-            Stepped::On(next) => {
-                mode = next;
-                left = rest;
-            }
-            Stepped::End(last) => return Ok((last, held, left)),
-        }
-    }
-    Ok((mode, held, left))
-}
-
-/// The whole expression, where no other operand is waited for.
-fn finished(alloc: Global, mode: Mode, frames: Vec<Frame>) -> Result<Option<Expression>, NoMemory>
-    ensures { IfOk result (λ found. option_map view found ≡ finished (settled (state mode frames.items))) }
-{
-    match mode {
-        Mode::Have(operand) => {
-            let mut held = frames;
-            let value = reduce(alloc, 14, operand, &mut held)?;
-            Ok(whole_of(value, held))
-        }
-        _ => Ok(None),
-    }
-}
-
-/// The operand, where it is the whole expression.
-fn whole_of(operand: Expression, frames: Vec<Frame>) -> Option<Expression>
-    ensures { option_map view result ≡ finished (have (view operand) (stack frames.items)) }
-{
-    match frames.as_slice() {
-        [Frame::Whole(_)] => Some(operand),
-        _ => None,
-    }
-}
-
-/// The arguments of a call statement, where no other operand is waited for.
-fn finished_arguments(
-    alloc: Global,
-    mode: Mode,
-    frames: Vec<Frame>,
-) -> Result<Option<Vec<Argument>>, NoMemory>
-    ensures { IfOk result (λ found. option_map (λ f. arguments_view f.items) found ≡ finished_arguments (settled (state mode frames.items))) }
-{
-    match mode {
-        Mode::Have(operand) => {
-            let mut held = frames;
-            let value = reduce(alloc, 14, operand, &mut held)?;
-            last_argument(alloc, value, held)
-        }
-        Mode::Want => last_missing(frames),
-        _ => Ok(None),
-    }
-}
-
-/// The arguments of a call statement with the last one, which is whole.
-#[tactic(auto, using(crate::proofs::Steps::not_last))]
-fn last_argument(
-    alloc: Global,
-    value: Expression,
-    frames: Vec<Frame>,
-) -> Result<Option<Vec<Argument>>, NoMemory>
-    ensures { IfOk result (λ found. option_map (λ f. arguments_view f.items) found ≡ finished_arguments (have (view value) (stack frames.items))) }
-{
-    let mut held = frames;
-    let Some(frame) = held.pop() else {
-        return Ok(None);
-    };
-    if !held.is_empty() {
-        return Ok(None);
-    }
-    arguments_in(alloc, value, frame)
-}
-
-/// The arguments of a call statement in its frame, with the last one.
-fn arguments_in(
-    alloc: Global,
-    value: Expression,
-    frame: Frame,
-) -> Result<Option<Vec<Argument>>, NoMemory>
-    ensures { IfOk result (λ found. option_map (λ f. arguments_view f.items) found ≡ finished_arguments (have (view value) (frame_view frame ∷ []))) }
-{
-    match frame {
-        Frame::Argument {
-            head: Head::Call,
-            before,
-            comma,
-        } => Ok(Some(with_plain(alloc, before, comma, value)?)),
-        Frame::NamedArgument {
-            head: Head::Call,
-            before,
-            comma,
-            name,
-            colon_equal,
-        } => {
-            let arguments = with_named(alloc, before, comma, name, colon_equal, value)?;
-            Ok(Some(arguments))
-        }
-        _ => Ok(None),
-    }
-}
-
-/// The arguments of a call statement where one more is wanted.
-#[tactic(auto, using(crate::proofs::Steps::none_missing))]
-fn last_missing(frames: Vec<Frame>) -> Result<Option<Vec<Argument>>, NoMemory>
-    ensures { IfOk result (λ found. option_map (λ f. arguments_view f.items) found ≡ finished_arguments (want (stack frames.items))) }
-{
-    let mut held = frames;
-    let Some(frame) = held.pop() else {
-        return Ok(None);
-    };
-    if held.is_empty() {
-        missing_in(frame)
+    let (mode, rest) = read_on(alloc, &mut nodes, &mut frames, tokens)?;
+    if is_finished(mode, &mut nodes, &mut frames)? {
+        Ok(Some((nodes, rest)))
     } else {
         Ok(None)
     }
 }
 
-/// The arguments of a call statement in its frame, where one more is wanted.
-fn missing_in(frame: Frame) -> Result<Option<Vec<Argument>>, NoMemory>
-    ensures { IfOk result (λ found. option_map (λ f. arguments_view f.items) found ≡ finished_arguments (want (frame_view frame ∷ []))) }
+/// The nodes of the arguments of a call statement at the front of tokens.
+fn argument_nodes(
+    alloc: Global,
+    tokens: &[ReadToken],
+) -> Result<Option<(Vec<ExpressionNode>, &[ReadToken])>, NoMemory>
+    ensures { IfOk result (λ found. option_map (λ f. (arguments_in f.0.items, f.1.now)) found ≡ arguments_at tokens.now) }
 {
+    let mut nodes = Vec::new(alloc);
+    push_node(&mut nodes, ExpressionNode::NoArguments)?;
+    let mut frames = Vec::new(alloc);
+    frames.push(Frame::Argument {
+        head: Head::Call,
+        comma: None,
+    })?;
+    let (mode, rest) = read_on(alloc, &mut nodes, &mut frames, tokens)?;
+    if are_finished(mode, &mut nodes, &mut frames)? {
+        Ok(Some((nodes, rest)))
+    } else {
+        Ok(None)
+    }
+}
+
+/// The tokens up to the rest.
+fn tokens_before(
+    alloc: Global,
+    tokens: &[ReadToken],
+    rest: &[ReadToken],
+) -> Result<Vec<Token>, NoMemory>
+    ensures { IfOk result (λ before. before.items ≡ bare (take (length tokens.now - length rest.now) tokens.now)) }
+{
+    let count = tokens.len().saturating_sub(rest.len());
+    bare_tokens(alloc, &tokens[..count])
+}
+
+/// Tokens without what they are for the grammar.
+#[tactic(auto, using(crate::proofs::Spelled::bare_more))]
+fn bare_tokens(alloc: Global, tokens: &[ReadToken]) -> Result<Vec<Token>, NoMemory>
+    ensures { IfOk result (λ all. all.items ≡ bare tokens.now) }
+{
+    let mut all = Vec::new(alloc);
+    for token in tokens {
+        all.push(token.token)?;
+    }
+    Ok(all)
+}
+
+/// Reads on where an operand is wanted, as far as tokens can be read.
+fn read_on<'a>(
+    alloc: Global,
+    nodes: &mut Vec<ExpressionNode>,
+    frames: &mut Vec<Frame>,
+    tokens: &'a [ReadToken],
+) -> Result<(Mode, &'a [ReadToken]), NoMemory>
+    ensures read { IfOk result (λ r. settled (state r.0 frames.new.items (items_of nodes.new.items))
+        ≡ settled (run (want (waiting frames.old.items (items_of nodes.old.items))) tokens.now).0) }
+    ensures left { IfOk result (λ r. r.1.now ≡ (run (want (waiting frames.old.items (items_of nodes.old.items))) tokens.now).1) }
+{
+    let mut mode = Mode::Want;
+    let mut left = tokens;
+    'reading: while let [token, rest @ ..] = left {
+        match step(alloc, mode, nodes, frames, token)? {
+            Stepped::On(next) => {
+                mode = next;
+                left = rest;
+            }
+            Stepped::End(last) => return Ok((last, left)),
+        }
+    }
+    Ok((mode, left))
+}
+
+/// Ends the operands that no bracket holds, and says whether the expression is whole then.
+fn is_finished(
+    mode: Mode,
+    nodes: &mut Vec<ExpressionNode>,
+    frames: &mut Vec<Frame>,
+) -> Result<bool, NoMemory>
+    ensures { IfOk result (λ is. found_if is (tree_in nodes.new.items) ≡ finished (settled (state mode frames.old.items (items_of nodes.old.items)))) }
+{
+    match mode {
+        Mode::Have => {
+            reduce(14, nodes, frames)?;
+            Ok(is_whole(frames.as_slice()))
+        }
+        _ => Ok(false),
+    }
+}
+
+/// Does nothing wait for an operand but the whole expression?
+#[tactic(auto, using(crate::proofs::Ending::not_whole))]
+fn is_whole(frames: &[Frame]) -> bool
+    ensures { (e : Expr) (items : List Item) → found_if result e ≡ finished (have e (waiting frames.now items)) }
+{
+    matches!(frames, [Frame::Whole(_)])
+}
+
+/// Ends the last argument of a call statement, and says whether no other operand is waited for then.
+fn are_finished(
+    mode: Mode,
+    nodes: &mut Vec<ExpressionNode>,
+    frames: &mut Vec<Frame>,
+) -> Result<bool, NoMemory>
+    ensures { IfOk result (λ are. found_if are (arguments_in nodes.new.items) ≡ finished_arguments (settled (state mode frames.old.items (items_of nodes.old.items)))) }
+{
+    match mode {
+        Mode::Have => {
+            reduce(14, nodes, frames)?;
+            push_last_argument(nodes, frames)
+        }
+        Mode::Want => push_last_comma(nodes, frames.as_slice()),
+        _ => Ok(false),
+    }
+}
+
+/// Writes the last argument of a call statement, where no other operand is waited for.
+#[tactic(auto, using(crate::proofs::Ending::not_last))]
+fn push_last_argument(
+    nodes: &mut Vec<ExpressionNode>,
+    frames: &mut Vec<Frame>,
+) -> Result<bool, NoMemory>
+    ensures { IfOk result (λ are. found_if are (arguments_in nodes.new.items)
+        ≡ finished_arguments (have (last_tree (items_of nodes.old.items)) (waiting frames.old.items (rest (items_of nodes.old.items))))) }
+{
+    let Some(frame) = frames.pop() else {
+        return Ok(false);
+    };
+    if !frames.is_empty() {
+        return Ok(false);
+    }
     match frame {
         Frame::Argument {
             head: Head::Call,
-            before,
             comma,
-        } => Ok(Some(with_last_missing(before, comma)?)),
-        _ => Ok(None),
+        } => push_node(nodes, ExpressionNode::PlainArgument { comma })?,
+        Frame::NamedArgument {
+            head: Head::Call,
+            comma,
+            name,
+            colon_equal,
+        } => push_node(
+            nodes,
+            ExpressionNode::NamedArgument {
+                comma,
+                name,
+                colon_equal,
+            },
+        )?,
+        _ => return Ok(false),
+    }
+    Ok(true)
+}
+
+/// Ends the arguments of a call statement where one more is wanted, where no other operand is waited for.
+#[tactic(auto, using(crate::proofs::Ending::not_wanted))]
+fn push_last_comma(nodes: &mut Vec<ExpressionNode>, frames: &[Frame]) -> Result<bool, NoMemory>
+    ensures { IfOk result (λ are. found_if are (arguments_in nodes.new.items)
+        ≡ finished_arguments (want (waiting frames.now (items_of nodes.old.items)))) }
+{
+    match frames {
+        [
+            Frame::Argument {
+                head: Head::Call,
+                comma,
+            },
+        ] => {
+            push_last_missing(nodes, *comma)?;
+            Ok(true)
+        }
+        _ => Ok(false),
     }
 }

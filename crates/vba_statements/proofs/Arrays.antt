@@ -1,13 +1,16 @@
 -- The array of a ReDim, sought from the last bracket on.
-use Rattle.std.proofs.Common.{◌≡◌, ℕ, zero, suc, ◌-◌, ◌<◌, ◌≤◌, Bool, true, false, List, [], ◌∷◌, ◌++◌, length, take, drop, Some, None, refl, sym, ap, ◌∙◌, append_assoc, append-nil, take-append-drop, arith}
+use Rattle.std.proofs.Common.{◌≡◌, ℕ, zero, suc, ◌-◌, ◌<◌, ◌≤◌, Bool, true, false, List, [], ◌∷◌, ◌++◌, length, take, drop, Option, Some, None, refl, sym, ap, ◌∙◌, append_assoc, append-nil, take-append-drop, arith}
 use Rattle.std.specs.Prelude.{if◌then◌else◌}
 use Rattle.std.proofs.lemmas.List.{drop_all}
 use Rattle.vba_lexer.specs.declared.token.Token.{Token}
 use Rattle.vba_words.specs.declared.reading.ReadToken.{ReadToken}
+use Rattle.vba_expression.specs.Tree.{Expr}
+use Rattle.vba_tree.specs.Tree as tree
 use Rattle.vba_tree.specs.Tree.{ReDimArray}
-use Rattle.vba_grammar.specs.Front.{◌>>=◌, or_else, is_left}
+use Rattle.vba_grammar.specs.Front.{Found, ◌>>=◌, or_else, is_as, is_left, is_right, token_at, part_if, place_at, commas_at}
+use Rattle.vba_grammar.specs.Clauses.{dim_at, type_clause_at, item_ends}
 use Rattle.vba_grammar.specs.Statements.{array_here, last_array, array_at}
-use Rattle.vba_statements.specs.Arrays.{array_from}
+use Rattle.vba_statements.specs.Arrays.{Bounds, bounds_at, only_place, with_bounds, array_from}
 
 -- the tokens up to an index, and from it on
 record Cut (k : ℕ) (ts : List ReadToken) : Type 0 where
@@ -84,3 +87,49 @@ array_found ts n found h from e =
 -- no array from the front on
 pub no_array : (ts : List ReadToken) → NoneFrom ts 0 → None ≡ array_at ts
 no_array ts from = sym from.none
+
+abbrev array_of : Token → Expr → tree.Listed tree.Dim → Token → Option tree.TypeClause → tree.ReDimArray
+array_of left place dims right clause = record { place = place; left = left; dims = dims; right = right; type_clause = clause }
+
+-- an array by its bounds and its place
+module _ (left : Token) (p : Expr) where
+  ends_by : (dims : tree.Listed tree.Dim) (right : Token) (clause : Option tree.TypeClause) (rest : List ReadToken) (b : Bool)
+      → (if b then Some (array_of left p dims right clause, rest) else None)
+      ≡ with_bounds left (if b then Some ((dims, right, clause), rest) else None) (Some p)
+  ends_by dims right clause rest true = refl
+  ends_by dims right clause rest false = refl
+
+  clause_by : (dims : tree.Listed tree.Dim) (right : Token) (o : Found (Option tree.TypeClause))
+      → (o >>= λ clause rest. if item_ends rest then Some (array_of left p dims right clause, rest) else None)
+      ≡ with_bounds left (o >>= λ clause rest. if item_ends rest then Some ((dims, right, clause), rest) else None) (Some p)
+  clause_by dims right None = refl
+  clause_by dims right (Some found) = ends_by dims right found.0 found.1 (item_ends found.1)
+
+  right_by : (dims : tree.Listed tree.Dim) (o : Found Token)
+      → (o >>= λ right rest2. part_if is_as type_clause_at rest2 >>= λ clause rest3.
+      if item_ends rest3 then Some (array_of left p dims right clause, rest3) else None)
+      ≡ with_bounds left (o >>= λ right rest2. part_if is_as type_clause_at rest2 >>= λ clause rest3.
+      if item_ends rest3 then Some ((dims, right, clause), rest3) else None) (Some p)
+  right_by dims None = refl
+  right_by dims (Some found) = clause_by dims found.0 (part_if is_as type_clause_at found.1)
+
+  dims_by : (o : Found (tree.Listed tree.Dim))
+      → (o >>= λ dims rest. token_at is_right rest >>= λ right rest2. part_if is_as type_clause_at rest2 >>= λ clause rest3.
+      if item_ends rest3 then Some (array_of left p dims right clause, rest3) else None)
+      ≡ with_bounds left (o >>= λ dims rest. token_at is_right rest >>= λ right rest2. part_if is_as type_clause_at rest2 >>= λ clause rest3.
+      if item_ends rest3 then Some ((dims, right, clause), rest3) else None) (Some p)
+  dims_by None = refl
+  dims_by (Some found) = right_by found.0 (token_at is_right found.1)
+
+without_place : (left : Token) (o : Found Bounds) → None ≡ with_bounds left o None
+without_place left None = refl
+without_place left (Some found) = refl
+
+pub by_bounds : (before : List ReadToken) (left : Token) (ts : List ReadToken)
+    → array_here before left ts ≡ with_bounds left (bounds_at ts) (only_place (place_at before))
+by_bounds before left ts = at (place_at before) refl
+  where
+    at : (o : Found Expr) → place_at before ≡ o → array_here before left ts ≡ with_bounds left (bounds_at ts) (only_place (place_at before))
+    at None h = rw h (without_place left (bounds_at ts))
+    at (Some (p, [])) h = rw h (dims_by left p (commas_at dim_at ts))
+    at (Some (p, t ∷ rest)) h = rw h (without_place left (bounds_at ts))

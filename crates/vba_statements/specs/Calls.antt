@@ -1,14 +1,19 @@
 -- Serves the code: what stands behind a place: a value for it, or the arguments of its call.
-use Rattle.std.specs.Prelude.{ℕ, Bool, true, false, List, [], ◌∷◌, ◌++◌, length, Option, Some, None, option_map, if◌then◌else◌}
+use Rattle.std.specs.Prelude.{ℕ, zero, suc, Bool, true, false, ◌||◌, List, [], ◌∷◌, ◌++◌, length, Some, None, if◌then◌else◌}
 use Rattle.vba_lexer.specs.declared.token.Token.{Token}
 use Rattle.vba_words.specs.declared.mark.Mark.TheVariants as mark
+use Rattle.vba_words.specs.declared.reading.Reading.{Reading}
+use Rattle.vba_words.specs.declared.reading.Reading.TheVariants as reading
 use Rattle.vba_words.specs.declared.reading.ReadToken.{ReadToken}
-use Rattle.vba_words.specs.Spelling.{marked, naming}
-use Rattle.vba_expression.specs.Tree.{Expr, name, me, with_member, member, index, Args}
-use Rattle.vba_expression.specs.Spelling.{spell_args}
-use Rattle.vba_tree.specs.Tree.{Simple}
-use Rattle.vba_grammar.specs.Front.{Found, ◌>>=◌, found_as, is_equal, token_at, whole_at, ending}
-use Rattle.vba_grammar.specs.Places.{called_at}
+use Rattle.vba_expression.specs.Tree.{Expr, Args}
+use Rattle.vba_expression.specs.Reader.{arguments_at}
+use Rattle.vba_tree.specs.Forms.{begins_attribute, begins_print}
+use Rattle.vba_tree.specs.Tree.{Simple, call}
+use Rattle.vba_grammar.specs.Front.{Found, ◌>>=◌, found_as, is_equal, token_at, whole_at, place_at, ending}
+use Rattle.vba_grammar.specs.Places.{calls_at}
+use Rattle.vba_statements.specs.declared.call.Start.{Start}
+use Rattle.vba_statements.specs.declared.call.Turn.{Turn}
+use Rattle.vba_statements.specs.declared.call.Turn.TheVariants as turn
 
 -- `=` and a value
 abbrev pub equal_value : Token → Expr → Token × Expr
@@ -18,33 +23,46 @@ equal_value equal value = (equal, value)
 abbrev pub equal_value_at : List ReadToken → Found (Token × Expr)
 equal_value_at ts = ending (token_at is_equal ts >>= λ equal rest. found_as (equal_value equal) (whole_at rest))
 
--- a statement may call a place that doesn't end in a bracket
-abbrev pub may_be_called : Expr → Bool
-may_be_called (name identifier) = true
-may_be_called (me token) = true
-may_be_called (with_member dot identifier) = true
-may_be_called (member base dot identifier) = true
-may_be_called _ = false
+-- what a token does to brackets and members
+abbrev pub turn_of : Reading → Turn
+turn_of (reading.Mark mark.LeftParenthesis) = turn.Opens
+turn_of (reading.Mark mark.RightParenthesis) = turn.Closes
+turn_of (reading.Mark mark.Dot) = turn.Dots
+turn_of _ = turn.Stays
 
--- the call of this place
-abbrev pub call_at : Expr → List ReadToken → Found Simple
-call_at place ts = if may_be_called place then called_at place ts else None
+-- how many brackets are open behind it
+abbrev pub depth_behind : Turn → ℕ → ℕ
+depth_behind turn.Opens depth = suc depth
+depth_behind turn.Closes zero = zero
+depth_behind turn.Closes (suc depth) = depth
+depth_behind other depth = depth
 
--- the tokens of a bracket with arguments
-abbrev pub bracket : Token → Args → Token → List ReadToken
-bracket left arguments right = marked left mark.LeftParenthesis ∷ (spell_args arguments ++ marked right mark.RightParenthesis ∷ [])
+-- a member or a bracket that begins with it, outside of brackets, where so many tokens are left
+abbrev pub start_at : Turn → ℕ → ℕ → List Start
+start_at turn.Opens zero count = record { left = count; is_bracket = true } ∷ []
+start_at turn.Dots zero count = record { left = count; is_bracket = false } ∷ []
+start_at other depth count = []
 
--- a place without its last member or bracket, and the tokens of that
-abbrev pub shorter : Expr → Option (Expr × List ReadToken)
-shorter (member base dot identifier) = Some (base, marked dot mark.Dot ∷ naming identifier ∷ [])
-shorter (index base left arguments right) = Some (base, bracket left arguments right)
-shorter _ = None
+-- where members and brackets begin, outside of brackets
+abbrev pub starts : ℕ → List ReadToken → List Start
+starts depth [] = []
+starts depth (t ∷ ts) =
+    start_at (turn_of t.reading) depth (suc (length ts)) ++ starts (depth_behind (turn_of t.reading) depth) ts
 
--- a place without its last member or bracket, and how many tokens that has
-abbrev pub counted : Option (Expr × List ReadToken) → Option (Expr × ℕ)
-counted None = None
-counted (Some parts) = Some (parts.0, length parts.1)
+-- the call of the place that is these tokens
+abbrev pub with_target : Args → List ReadToken → Found Expr → Found Simple
+with_target arguments rest None = None
+with_target arguments rest (Some place) = Some (call place.0 arguments, rest)
 
--- how many tokens the last part of a place has, where that is a member or a bracket
-abbrev pub last_length : Expr → Option ℕ
-last_length place = option_map (λ parts. parts.1) (counted (shorter place))
+abbrev pub call_by : List ReadToken → List ReadToken → Found Simple
+call_by spelled ts =
+    if begins_attribute spelled || begins_print spelled then None
+    else (ending (arguments_at ts) >>= λ arguments rest. with_target arguments rest (place_at spelled))
+
+-- the same, unless the place ends in a bracket
+abbrev pub call_unless : Bool → List ReadToken → List ReadToken → Found Simple
+call_unless is_bracket spelled ts = if is_bracket then None else call_by spelled ts
+
+-- the calls of what begins the place at the front, the longest first
+abbrev pub place_calls : List ReadToken → Found Simple
+place_calls ts = place_at ts >>= calls_at

@@ -105,7 +105,7 @@ pub fn read_call_place(
 }
 
 /// An assignment without Let, or a call. What is assigned to or called is as long as it can be.
-#[tactic(auto, using(crate::proofs::Places::assigned_by_value, crate::proofs::Places::place_spans))]
+#[tactic(auto, using(crate::proofs::Places::assigned_by_value, crate::proofs::Places::place_ends))]
 fn read_assignment_or_call(
     alloc: Global,
     tokens: &[ReadToken],
@@ -125,7 +125,7 @@ fn read_assignment_or_call(
         return Ok(Some((statement, rest)));
     }
     let end = tokens.len() - behind.len();
-    read_longest_call(alloc, place, tokens, end)
+    read_longest_call(alloc, tokens, end)
 }
 
 /// A statement that begins with no kept word but `Me`: Debug.Print, an assignment without Let, or a call.

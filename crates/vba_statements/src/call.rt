@@ -1,23 +1,35 @@
 //! Reading a call without `Call` ([MS-VBAL] 5.4.2.1): what is called is the longest beginning of a place that a statement
 //! may call.
 
-ghost use Rattle.std.specs.Prelude.{◌≡◌, ◌≤◌, length, take, drop, IfOk, option_map};
-ghost use Rattle.vba_expression.specs.Spelling.{spell};
-ghost use Rattle.vba_expression.specs.View.{view, arguments_view};
+ghost use Rattle.std.specs.Prelude.{◌≡◌, ◌≤◌, length, take, drop, Some, IfOk, option_map};
 ghost use Rattle.vba_tree.specs.Forms.{begins_attribute};
-ghost use Rattle.vba_tree.specs.Tree as tree;
 ghost use Rattle.vba_tree.specs.View.{simple_view};
-ghost use Rattle.vba_grammar.specs.Places.{calls_at};
-ghost use Rattle.vba_statements.specs.Calls.{may_be_called, call_at, bracket, shorter, counted, last_length};
+ghost use Rattle.vba_grammar.specs.Front.{place_at};
+ghost use Rattle.vba_statements.specs.Calls.{turn_of, starts, call_by, call_unless, place_calls};
 
 use crate::print::begins_print;
 use std::alloc::Global;
 use vba_base::NoMemory;
-use vba_clauses::ends;
-use vba_expression::{Argument, Expression, push_arguments, read_arguments};
-use vba_lexer::Token;
+use vba_clauses::{ends, read_place};
+use vba_expression::read_arguments;
 use vba_tree::SimpleStatement;
-use vba_words::{ReadToken, reads_word};
+use vba_words::{Mark, ReadToken, Reading, reads_word};
+
+/// What a token does to brackets and members.
+#[derive(Clone, Copy)]
+pub enum Turn {
+    Opens,
+    Closes,
+    Dots,
+    Stays,
+}
+
+/// Where a member or a bracket of a place begins: how many tokens are left there.
+#[derive(Clone, Copy)]
+pub struct Start {
+    pub left: usize,
+    pub is_bracket: bool,
+}
 
 /// Do tokens begin with the word Attribute?
 fn begins_attribute(tokens: &[ReadToken]) -> bool
@@ -29,90 +41,92 @@ fn begins_attribute(tokens: &[ReadToken]) -> bool
     }
 }
 
-/// May a statement call what ends so? It doesn't end in a bracket.
-fn may_be_called(place: &Expression) -> bool
-    ensures { result ≡ may_be_called (view place.now) }
+fn turn_of(reading: &Reading) -> Turn
+    ensures { result ≡ turn_of reading.now }
 {
-    match place {
-        Expression::Name(_)
-        | Expression::Me(_)
-        | Expression::WithMember { .. }
-        | Expression::Member { .. } => true,
-        _ => false,
+    match reading {
+        Reading::Mark(Mark::LeftParenthesis) => Turn::Opens,
+        Reading::Mark(Mark::RightParenthesis) => Turn::Closes,
+        Reading::Mark(Mark::Dot) => Turn::Dots,
+        _ => Turn::Stays,
     }
 }
 
-/// The arguments of a call of a place with these tokens, and the end of the statement behind them.
-fn read_call_arguments<'a>(
+/// Where the members and brackets of a place begin that stand in no bracket of it.
+fn starts_of(alloc: Global, tokens: &[ReadToken]) -> Result<Vec<Start>, NoMemory>
+    ensures { IfOk result (λ found. found.items ≡ starts 0 tokens.now) }
+{
+    let mut found = Vec::new(alloc);
+    let mut depth: usize = 0;
+    let mut left = tokens;
+    'tokens: while let [first, rest @ ..] = left {
+        match turn_of(&first.reading) {
+            Turn::Opens => {
+                if depth == 0 {
+                    found.push(Start {
+                        left: left.len(),
+                        is_bracket: true,
+                    })?;
+                }
+                depth += 1;
+            }
+            Turn::Closes => {
+                if depth > 0 {
+                    depth -= 1;
+                }
+            }
+            Turn::Dots => {
+                if depth == 0 {
+                    found.push(Start {
+                        left: left.len(),
+                        is_bracket: false,
+                    })?;
+                }
+            }
+            Turn::Stays => {}
+        }
+        left = rest;
+    }
+    Ok(found)
+}
+
+/// The call of the place that is all of `spelled`, with the arguments at the front of tokens, and the end of the statement
+/// behind them.
+fn read_call<'a>(
     alloc: Global,
-    place: &Expression,
     spelled: &[ReadToken],
     tokens: &'a [ReadToken],
-) -> Result<Option<(Vec<Argument>, &'a [ReadToken])>, NoMemory>
-    requires { spelled.now ≡ spell (view place.now) }
-    ensures { IfOk result (λ found. option_map (λ f. (tree.call (view place.now) (arguments_view f.0.items), f.1.now)) found
-        ≡ call_at (view place.now) tokens.now) }
+) -> Result<Option<(SimpleStatement, &'a [ReadToken])>, NoMemory>
+    ensures { IfOk result (λ found. option_map (λ f. (simple_view f.0, f.1.now)) found ≡ call_by spelled.now tokens.now) }
 {
-    if !may_be_called(place) {
-        return Ok(None);
-    }
     if begins_attribute(spelled) || begins_print(spelled) {
         return Ok(None);
     }
     let Some((arguments, rest)) = read_arguments(alloc, tokens)? else {
         return Ok(None);
     };
-    if ends(rest) {
-        Ok(Some((arguments, rest)))
-    } else {
-        Ok(None)
+    if !ends(rest) {
+        return Ok(None);
     }
-}
-
-/// How many tokens a bracket with arguments has.
-#[tactic(auto, using(crate::proofs::Places::bracket_length))]
-fn bracket_length(
-    alloc: Global,
-    left: Token,
-    arguments: &[Argument],
-    right: Token,
-) -> Result<usize, NoMemory>
-    ensures { IfOk result (λ count. count ≡ length (bracket left (arguments_view arguments.now) right)) }
-{
-    let mut tokens = Vec::new(alloc);
-    tokens.push(left)?;
-    push_arguments(&mut tokens, arguments)?;
-    tokens.push(right)?;
-    Ok(tokens.len())
-}
-
-/// How many tokens the last part of a place has, where that is a member or a bracket.
-fn last_length(alloc: Global, place: &Expression) -> Result<Option<usize>, NoMemory>
-    ensures { IfOk result (λ found. found ≡ last_length (view place.now)) }
-{
-    match place {
-        Expression::Member { .. } => Ok(Some(2)),
-        Expression::Index {
-            left,
-            arguments,
-            right,
-            ..
-        } => Ok(Some(bracket_length(alloc, *left, arguments.as_slice(), *right)?)),
-        _ => Ok(None),
-    }
-}
-
-/// A place without its last part, a member or a bracket, and how many tokens that part has.
-#[tactic(auto, using(crate::proofs::Places::counted_apart))]
-fn without_last(alloc: Global, place: Expression) -> Result<Option<(Expression, usize)>, NoMemory>
-    ensures { IfOk result (λ found. option_map (λ f. (view f.0, f.1)) found ≡ counted (shorter (view place))) }
-{
-    let Some(count) = last_length(alloc, &place)? else {
+    let Some((target, _)) = read_place(alloc, spelled)? else {
         return Ok(None);
     };
-    match place.into_inner() {
-        Some(base) => Ok(Some((base, count))),
-        None => Ok(None),
+    Ok(Some((SimpleStatement::Call { target, arguments }, rest)))
+}
+
+/// The same, where the place doesn't end in a bracket: a statement calls none that does.
+fn read_call_unless<'a>(
+    alloc: Global,
+    is_bracket: bool,
+    spelled: &[ReadToken],
+    tokens: &'a [ReadToken],
+) -> Result<Option<(SimpleStatement, &'a [ReadToken])>, NoMemory>
+    ensures { IfOk result (λ found. option_map (λ f. (simple_view f.0, f.1.now)) found ≡ call_unless is_bracket spelled.now tokens.now) }
+{
+    if is_bracket {
+        Ok(None)
+    } else {
+        read_call(alloc, spelled, tokens)
     }
 }
 
@@ -121,25 +135,21 @@ fn without_last(alloc: Global, place: Expression) -> Result<Option<(Expression, 
 #[tactic(auto, using(crate::proofs::Places::calls_begin, crate::proofs::Places::call_found, crate::proofs::Places::call_ends))]
 pub fn read_longest_call(
     alloc: Global,
-    place: Expression,
     tokens: &[ReadToken],
     end: usize,
 ) -> Result<Option<(SimpleStatement, &[ReadToken])>, NoMemory>
     requires within { end ≤ length tokens.now }
-    requires spelled { take end tokens.now ≡ spell (view place) }
-    ensures { IfOk result (λ found. option_map (λ f. (simple_view f.0, f.1.now)) found ≡ calls_at (view place) (drop end tokens.now)) }
+    requires placed { option_map (λ f. f.1) (place_at tokens.now) ≡ Some (drop end tokens.now) }
+    ensures { IfOk result (λ found. option_map (λ f. (simple_view f.0, f.1.now)) found ≡ place_calls tokens.now) }
 {
-    let mut target = place;
+    let mut parts = starts_of(alloc, &tokens[..end])?;
     let mut behind = end;
-    'targets: loop {
-        let found = read_call_arguments(alloc, &target, &tokens[..behind], &tokens[behind..])?;
-        if let Some((arguments, rest)) = found {
-            return Ok(Some((SimpleStatement::Call { target, arguments }, rest)));
+    'targets: while let Some(part) = parts.pop() {
+        let spelled = &tokens[..behind];
+        if let Some(call) = read_call_unless(alloc, part.is_bracket, spelled, &tokens[behind..])? {
+            return Ok(Some(call));
         }
-        let Some((base, count)) = without_last(alloc, target)? else {
-            return Ok(None);
-        };
-        target = base;
-        behind -= count;
+        behind = end - part.left;
     }
+    read_call(alloc, &tokens[..behind], &tokens[behind..])
 }

@@ -7,7 +7,7 @@ ghost use Rattle.vba_tree.specs.Tree as tree;
 ghost use Rattle.vba_tree.specs.View.{array_view, simple_view};
 ghost use Rattle.vba_grammar.specs.Front.{found_as, place_at, commas_at};
 ghost use Rattle.vba_grammar.specs.Statements.{array_here, array_at, re_dim_at};
-ghost use Rattle.vba_statements.specs.Arrays.{array_behind, array_from};
+ghost use Rattle.vba_statements.specs.Arrays.{bounds_at, bounds_view, only_place, array_from};
 
 use std::alloc::Global;
 use vba_base::NoMemory;
@@ -17,17 +17,23 @@ use vba_clauses::{
 };
 use vba_expression::Expression;
 use vba_lexer::Token;
-use vba_tree::{ReDimArray, SimpleStatement};
+use vba_tree::{Dim, Listed, ReDimArray, SimpleStatement, TypeClause};
 use vba_words::ReadToken;
 
+/// What stands behind the place of an array of a ReDim and its bracket.
+#[derive(Drop)]
+pub struct Bounds {
+    dims: Listed<Dim>,
+    right: Token,
+    type_clause: Option<TypeClause>,
+}
+
 /// The bounds and the type of an array of a ReDim, behind its place and bracket.
-fn read_array_behind(
+fn read_bounds(
     alloc: Global,
-    place: Expression,
-    left: Token,
     tokens: &[ReadToken],
-) -> Result<Option<(ReDimArray, &[ReadToken])>, NoMemory>
-    ensures { IfOk result (λ found. option_map (λ f. (array_view f.0, f.1.now)) found ≡ array_behind (view place) left tokens.now) }
+) -> Result<Option<(Bounds, &[ReadToken])>, NoMemory>
+    ensures { IfOk result (λ found. option_map (λ f. (bounds_view f.0, f.1.now)) found ≡ bounds_at tokens.now) }
 {
     let Some((dims, behind_dims)) = read_dim_list(alloc, tokens)? else {
         return Ok(None);
@@ -46,6 +52,36 @@ fn read_array_behind(
     if !item_ends(rest) {
         return Ok(None);
     }
+    let bounds = Bounds {
+        dims,
+        right,
+        type_clause,
+    };
+    Ok(Some((bounds, rest)))
+}
+
+/// An array of a ReDim whose place is all that stands before this bracket. The bounds are read first: most brackets of a
+/// place have none that end the array, so that the place is read once.
+#[tactic(auto, using(crate::proofs::Arrays::by_bounds))]
+fn read_array_here<'a>(
+    alloc: Global,
+    before: &[ReadToken],
+    left: Token,
+    tokens: &'a [ReadToken],
+) -> Result<Option<(ReDimArray, &'a [ReadToken])>, NoMemory>
+    ensures { IfOk result (λ found. option_map (λ f. (array_view f.0, f.1.now)) found ≡ array_here before.now left tokens.now) }
+{
+    let Some((bounds, rest)) = read_bounds(alloc, tokens)? else {
+        return Ok(None);
+    };
+    let Some(place) = read_only_place(alloc, before)? else {
+        return Ok(None);
+    };
+    let Bounds {
+        dims,
+        right,
+        type_clause,
+    } = bounds;
     let array = ReDimArray {
         place,
         left,
@@ -56,20 +92,15 @@ fn read_array_behind(
     Ok(Some((array, rest)))
 }
 
-/// An array of a ReDim whose place is all that stands before this bracket.
-fn read_array_here<'a>(
-    alloc: Global,
-    before: &[ReadToken],
-    left: Token,
-    tokens: &'a [ReadToken],
-) -> Result<Option<(ReDimArray, &'a [ReadToken])>, NoMemory>
-    ensures { IfOk result (λ found. option_map (λ f. (array_view f.0, f.1.now)) found ≡ array_here before.now left tokens.now) }
+/// The place that the whole of tokens is.
+fn read_only_place(alloc: Global, tokens: &[ReadToken]) -> Result<Option<Expression>, NoMemory>
+    ensures { IfOk result (λ found. option_map view found ≡ only_place (place_at tokens.now)) }
 {
-    let Some((place, rest)) = read_place(alloc, before)? else {
+    let Some((place, rest)) = read_place(alloc, tokens)? else {
         return Ok(None);
     };
     match rest {
-        [] => read_array_behind(alloc, place, left, tokens),
+        [] => Ok(Some(place)),
         [_, ..] => Ok(None),
     }
 }

@@ -142,7 +142,7 @@ array_view array = record {
 }
 
 abbrev pub event_arguments_view : EventArguments → tree.EventArguments
-event_arguments_view a = record { left = a.left; arguments = arguments_view a.arguments.items; right = a.right }
+event_arguments_view a = record { left = a.left; arguments = arguments_view a.arguments; right = a.right }
 
 abbrev pub print_item_view : PrintItem → tree.PrintItem
 print_item_view item = record {
@@ -159,7 +159,7 @@ simple_view (simple.Assignment let_word place equal value) =
 simple_view (simple.SetAssignment set_word place equal value) =
     tree.set_assignment set_word (expression_view place) equal (expression_view value)
 simple_view (simple.CallPlace call_word place) = tree.call_place call_word (expression_view place)
-simple_view (simple.Call target arguments) = tree.call (expression_view target) (arguments_view arguments.items)
+simple_view (simple.Call target arguments) = tree.call (expression_view target) (arguments_view arguments)
 simple_view (simple.ReDim redim_word preserve_word arrays) = tree.re_dim redim_word preserve_word (listed_view array_view arrays)
 simple_view (simple.Erase erase_word places) = tree.erase erase_word (listed_view expression_view places)
 simple_view (simple.GoTo goto_word label) = tree.go_to goto_word label

@@ -1,7 +1,7 @@
 use crate::block::BlockLine;
 use crate::declaration::{Constants, Dim, TypeClause, Variables};
 use crate::list::Listed;
-use vba_expression::{Argument, Expression};
+use vba_expression::{Arguments, Expression};
 use vba_lexer::{Number, Token};
 use vba_words::Identifier;
 
@@ -124,7 +124,7 @@ impl Drop for ResumeTarget {
 /// `([arguments])` of a RaiseEvent statement.
 pub struct EventArguments {
     pub left: Token,
-    pub arguments: Vec<Argument>,
+    pub arguments: Arguments,
     pub right: Token,
 }
 
@@ -188,7 +188,7 @@ pub enum SimpleStatement {
     /// `target [arguments]`
     Call {
         target: Expression,
-        arguments: Vec<Argument>,
+        arguments: Arguments,
     },
     /// `ReDim [Preserve] place(dims) [As type], ..`
     ReDim {

@@ -22,7 +22,7 @@ use crate::simple::{
 };
 use crate::word_tokens::{push_behind, push_optional, push_two};
 use vba_base::NoMemory;
-use vba_expression::{Argument, Expression, push_arguments, push_tokens as push_expression};
+use vba_expression::{Arguments, Expression, push_arguments, push_tokens as push_expression};
 use vba_lexer::Token;
 use vba_words::Identifier;
 
@@ -171,7 +171,7 @@ fn push_event_arguments(
 {
     if let Some(arguments) = arguments {
         tokens.push(arguments.left)?;
-        push_arguments(tokens, arguments.arguments.as_slice())?;
+        push_arguments(tokens, &arguments.arguments)?;
         tokens.push(arguments.right)?;
     }
     Ok(())
@@ -269,7 +269,7 @@ fn push_set(
 fn push_call(
     tokens: &mut Vec<Token>,
     target: &Expression,
-    arguments: &[Argument],
+    arguments: &Arguments,
 ) -> Result<(), NoMemory>
     ensures { OnOk result (tokens.new.items ≡ tokens.old.items
         ++ tokens_of (spelling.spell_simple (tree.call (expression_view target.now) (arguments_view arguments.now)))) }
@@ -405,7 +405,7 @@ pub(crate) fn push_simple(
         } => push_set(tokens, *set_word, place, *equal, value),
         SimpleStatement::CallPlace { call_word, place } => push_behind(tokens, *call_word, place),
         SimpleStatement::Call { target, arguments } => {
-            push_call(tokens, target, arguments.as_slice())
+            push_call(tokens, target, arguments)
         }
         SimpleStatement::ReDim {
             redim_word,

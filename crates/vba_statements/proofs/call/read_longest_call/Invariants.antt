@@ -1,11 +1,10 @@
-use Rattle.std.proofs.Common.{drop}
-use Rattle.vba_expression.specs.View.{view}
-use Rattle.vba_grammar.specs.Places.{calls_at}
+use Rattle.std.proofs.Common.{vec_len}
+use Rattle.vba_statements.specs.Calls.{place_calls}
 use Rattle.vba_statements.proofs.Places.{Calls}
 use Rattle.vba_statements.proofs.call.read_longest_call.Given as goal
 
 abbrev pub invariant-targets : goal.invariant-targets
-invariant-targets l = Calls l.tokens (calls_at (view l.fn.place) (drop l.fn.end l.tokens)) (view l.target) l.behind
+invariant-targets l = Calls l.tokens (place_calls l.tokens) l.end l.behind l.parts.items
 
 abbrev pub decreases-targets : goal.decreases-targets
-decreases-targets l = l.behind
+decreases-targets l = vec_len l.parts
