@@ -4,10 +4,10 @@ ghost use Rattle.std.specs.Prelude.{◌≡◌, IfOk, bytes_eq, option_map};
 ghost use Rattle.std.specs.List.{list_any};
 ghost use Rattle.module_parts.specs.View.{parts_view};
 ghost use Rattle.vba_base.specs.Fold.{folded};
-ghost use Rattle.vba_module.specs.Headers.{name_given, module_name, type_names, is_here, is_named, is_type_clause};
+ghost use Rattle.vba_module.specs.Headers.{name_given, module_name, module_number, numbered_name, own_name, type_names, is_here, is_named, is_type_clause};
 ghost use Rattle.vba_tree.specs.View.{listed_view, type_clause_view};
 
-use module_parts::Part;
+use module_parts::{Part, place_of};
 use std::alloc::Global;
 use vba_base::{Name, NoMemory, Units, name_of};
 use vba_expression::{Literal, LiteralValue, TypeName, TypeQualifier};
@@ -16,10 +16,10 @@ use vba_tree::{AttributeLine, AttributeValue, DeclaredType, LineTree, TypeClause
 /// `vb_name`
 const VB_NAME: [u16; 7] = [0x76, 0x62, 0x5F, 0x6E, 0x61, 0x6D, 0x65];
 
-/// The Types of a module: the module's name, where an attribute gives one, and theirs.
+/// The Types of a module: the module's name and theirs.
 #[derive(Drop)]
 pub struct OwnTypes {
-    pub module_name: Option<Name>,
+    pub module_name: Name,
     pub names: Vec<Name>,
 }
 
@@ -61,13 +61,53 @@ fn module_name(alloc: Global, parts: &[Part]) -> Result<Option<Name>, NoMemory>
     Ok(None)
 }
 
+/// The number of the module that parts are.
+fn module_number(parts: &[Part]) -> u32
+    ensures { result ≡ module_number (parts_view parts.now) }
+{
+    match parts {
+        [] => 0,
+        [part, ..] => place_of(part).module,
+    }
+}
+
+/// An ASCII text as units.
+fn units_of(alloc: Global, text: &[u8]) -> Result<Units, NoMemory>
+    ensures { IfOk result (λ units. units ≡ text.now) }
+{
+    let mut units = Units::with_capacity(alloc, text.len())?;
+    for byte in text {
+        units.push(u16::from(*byte))?;
+    }
+    Ok(units)
+}
+
+/// The name of a module that no attribute names: Module and its number.
+fn numbered_name(alloc: Global, number: u32) -> Result<Name, NoMemory>
+    ensures { IfOk result (λ name. name ≡ numbered_name number) }
+{
+    let text = format!(in alloc; "Module{number}")?;
+    let units = units_of(alloc, text.as_bytes())?;
+    name_of(alloc, units.units())
+}
+
+/// The name of the module that parts are.
+fn own_name(alloc: Global, parts: &[Part]) -> Result<Name, NoMemory>
+    ensures { IfOk result (λ name. name ≡ own_name (parts_view parts.now)) }
+{
+    match module_name(alloc, parts)? {
+        Some(name) => Ok(name),
+        None => numbered_name(alloc, module_number(parts)),
+    }
+}
+
 /// The Types that parts declare.
 pub fn own_types(alloc: Global, parts: &[Part]) -> Result<OwnTypes, NoMemory>
-    ensures name { IfOk result (λ types. types.module_name ≡ module_name (parts_view parts.now)) }
+    ensures name { IfOk result (λ types. types.module_name ≡ own_name (parts_view parts.now)) }
     ensures names { IfOk result (λ types. types.names.items ≡ type_names (parts_view parts.now)) }
 {
     Ok(OwnTypes {
-        module_name: module_name(alloc, parts)?,
+        module_name: own_name(alloc, parts)?,
         names: type_names(alloc, parts)?,
     })
 }
@@ -94,13 +134,12 @@ fn is_among(names: &[Name], name: &Name) -> bool
 }
 
 /// Stands no qualifier there, or the name of the module?
-fn is_here(name: &Option<Name>, qualifier: &Option<TypeQualifier>) -> bool
+fn is_here(name: &Name, qualifier: &Option<TypeQualifier>) -> bool
     ensures { result ≡ is_here name.now qualifier.now }
 {
-    match (name, qualifier) {
-        (_, None) => true,
-        (None, Some(_)) => false,
-        (Some(name), Some(qualifier)) => qualifier.name.name == *name,
+    match qualifier {
+        None => true,
+        Some(qualifier) => qualifier.name.name == *name,
     }
 }
 

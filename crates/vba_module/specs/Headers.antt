@@ -1,5 +1,5 @@
 -- S14: headers of procedures and events, and bounds, of a form that may not be.
-use Rattle.std.specs.Prelude.{ℕ, Bool, true, false, ◌&&◌, ◌||◌, not, nat_lt, List, [], ◌∷◌, ◌++◌, length, codes, bytes_eq, Option, Some, None, is_some, if◌then◌else◌}
+use Rattle.std.specs.Prelude.{ℕ, Bool, true, false, ◌&&◌, ◌||◌, not, nat_lt, List, [], ◌∷◌, ◌++◌, length, codes, decimal, bytes_eq, Option, Some, None, is_some, if◌then◌else◌}
 use Rattle.std.specs.List.{list_any}
 use Rattle.vba_base.specs.declared.place.Place.{Place}
 use Rattle.vba_base.specs.Fold.{folded}
@@ -20,7 +20,7 @@ use Rattle.vba_tree.specs.declared.line.AttributeValue.{AttributeValue}
 use Rattle.vba_tree.specs.Spelling.{spell_parameter, spell_dim}
 use Rattle.vba_tree.specs.Tree.{Listed, DeclaredType, named, fixed_text, TypeClause, Dim, Dims, Variable, DefaultValue, Parameter, Parameters, variables, Stmt, simple, if_then, if_else, Stmts, nothing, one, gap, more, Line, attribute_line, type_member, event_line, procedure_header, type_header}
 use Rattle.vba_grammar.specs.Front.{or_else}
-use Rattle.vba_module.specs.Parts.{Part, label, statement, whole_line, nowhere, first_place}
+use Rattle.vba_module.specs.Parts.{Part, label, statement, whole_line, nowhere, first_place, place_of}
 use Rattle.vba_module.specs.Misplaced.{place_if}
 
 abbrev pub items_of : {A : Type 0} → List (Token × A) → List A
@@ -183,12 +183,28 @@ module_name [] = None
 module_name (whole_line (attribute_line attribute_word names equal values) ∷ parts) = or_else (name_given names values) (module_name parts)
 module_name (part ∷ parts) = module_name parts
 
+-- the name of a module that no attribute names: Module and the number of the module
+abbrev pub numbered_name : ℕ → List ℕ
+numbered_name number = folded (codes "Module" ++ decimal number)
+
+-- the number of the module that parts are: that of their places
+abbrev pub module_number : List Part → ℕ
+module_number [] = 0
+module_number (part ∷ parts) = (place_of part).«module»
+
+-- the name of the module that parts are
+abbrev pub own_name : List Part → List ℕ
+own_name parts = or_name (module_name parts)
+  where
+    or_name : Option (List ℕ) → List ℕ
+    or_name None = numbered_name (module_number parts)
+    or_name (Some name) = name
+
 -- no qualifier, or the name of the module
-abbrev pub is_here : Option (List ℕ) → Option TypeQualifier → Bool
+abbrev pub is_here : List ℕ → Option TypeQualifier → Bool
 is_here name None = true
-is_here None (Some qualifier) = false
-is_here (Some name) (Some qualifier) = bytes_eq qualifier.name.name name
+is_here name (Some qualifier) = bytes_eq qualifier.name.name name
 
 -- a type is one of these of a module, by its name alone or behind the module's
-abbrev pub is_named : Option (List ℕ) → List (List ℕ) → TypeName → Bool
+abbrev pub is_named : List ℕ → List (List ℕ) → TypeName → Bool
 is_named name names class = is_here name class.qualifier && list_any (bytes_eq class.name.name) names

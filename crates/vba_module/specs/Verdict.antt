@@ -9,7 +9,7 @@ use Rattle.vba_module.specs.Parts.{Part, parts_of_lines, nowhere, first_place}
 use Rattle.vba_module.specs.Outside.{form_of}
 use Rattle.vba_module.specs.Blocks.{block_faults}
 use Rattle.vba_module.specs.Misplaced.{all_misplaced, nothing_before}
-use Rattle.vba_module.specs.Headers.{header_faults, module_name, type_names, is_named}
+use Rattle.vba_module.specs.Headers.{header_faults, own_name, type_names, is_named}
 
 -- a rule is broken at these places
 abbrev pub broken : ℕ → List Place → List Refusal
@@ -41,7 +41,7 @@ abbrev pub part_violations : Bool → List Part → List Refusal
 part_violations is_class parts =
     broken 11 (block_faults [] parts)
     ++ (broken 12 (all_misplaced is_class nothing_before [] parts)
-    ++ broken 14 (flat_map (header_faults (is_named (module_name parts) (type_names parts))) parts))
+    ++ broken 14 (flat_map (header_faults (is_named (own_name parts) (type_names parts))) parts))
 
 -- the rules that the lines of a module break, each line by its tokens
 abbrev pub module_violations : Bool → List (List ReadToken) → List Refusal
