@@ -174,7 +174,7 @@ integer place n = expression_of (constant (whole kind.Integer (pos n))) place ty
 
 abbrev pub redim_bounds : Env → List Dim → Option Exprs
 redim_bounds env [] = Some no_exprs
-redim_bounds env (upper e ∷ ds) = 
+redim_bounds env (upper e ∷ ds) =
     from_two (λ high es. also (integer (place_of_expression e) (base_of env.scope.here.source)) (also high es)) (bound_value env e) (redim_bounds env ds)
 redim_bounds env (Dim.range low to_word high ∷ ds) = from_three (λ a b es. also a (also b es)) (bound_value env low) (bound_value env high) (redim_bounds env ds)
 
@@ -344,7 +344,7 @@ block_action a s line = at line
     at (if_line if_word e then_word) = option_map (λ c. to.test true c first next_arm) (bound_operand env e)
     at (else_if_line else_if_word e then_word) = option_map (λ c. to.test true c first next_arm) (bound_operand env e)
     at (select_case select_word case_word e) = option_map (λ v. to.select v next_arm) (bound_operand env e)
-    at (case_line case_word tests) = 
+    at (case_line case_word tests) =
         from_two (λ v ts. to.case_of ts (header_of s.around) (bound.operand_type v) (compare_in env.scope) first next_arm) (selected a s.around) (case_tests env (all_of tests))
     at (for_line for_word x equal start to_word limit step) =
         for_action (loop_variable env x) env (bound_operand env start) (bound_operand env limit) (step_value env (place_of s.part) step) first behind

@@ -404,9 +404,7 @@ pub(crate) fn push_simple(
             value,
         } => push_set(tokens, *set_word, place, *equal, value),
         SimpleStatement::CallPlace { call_word, place } => push_behind(tokens, *call_word, place),
-        SimpleStatement::Call { target, arguments } => {
-            push_call(tokens, target, arguments)
-        }
+        SimpleStatement::Call { target, arguments } => { push_call(tokens, target, arguments) }
         SimpleStatement::ReDim {
             redim_word,
             preserve_word,
