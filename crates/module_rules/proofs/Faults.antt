@@ -6,7 +6,7 @@ use Rattle.vba_base.specs.declared.place.Refusal.{Refusal}
 use Rattle.vba_lexer.specs.declared.token.Token.{Token}
 use Rattle.vba_expression.specs.Tree.{Expr}
 use Rattle.vba_expression.specs.View.{view as expression_view}
-use Rattle.vba_expression.specs.declared.tree.Expression.{Expression}
+use Rattle.vba_expression.specs.declared.expression.Expression.{Expression}
 use Rattle.vba_tree.specs.declared.statement.Statement.{Statement, the_lemmas}
 use Rattle.vba_tree.specs.declared.statement.Statement.TheVariants as statements
 use Rattle.vba_tree.specs.declared.statement.NextStatement.{NextStatement}
