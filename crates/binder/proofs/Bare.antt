@@ -1,7 +1,7 @@
 -- Statements without their places, to compare them.
 use Rattle.std.specs.Prelude.{List, [], ◌∷◌}
 use Rattle.bound_project.specs.Expressions.{Expr, expr, Node, not_given, constant, load, element_value, field_value, unary, binary, call, err_value, default_of, Lvalue, variable, item, element, field, kept_place, Args, no_args, by_place, by_copy, by_default, by_list, in_order, Exprs, no_exprs, also, Prints, no_prints, shown, zone}
-use Rattle.bound_project.specs.Statements.{Tests, no_tests, test_is, test_range, Resizes, no_resizes, resize, Arrays, no_arrays, an_array, Action, assign, assign_none, evaluate, let_property, print, raise, test, go_to, for_to, next, for_each, next_each, exit_each, select, case_of, redim, erase, with_place, with_value, Statement}
+use Rattle.bound_project.specs.Statements.{Tests, no_tests, test_is, test_range, Action, assign, assign_none, evaluate, let_property, print, raise, test, for_to, for_each, select, case_of, with_place, with_value, Statement}
 use Rattle.bound_project.specs.Project.{nowhere}
 
 abbrev mutual

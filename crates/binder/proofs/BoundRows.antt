@@ -1,10 +1,8 @@
 -- Worked rows: the statements that procedures are bound to, without their places; and where binding stops.
-use Rattle.std.specs.Prelude.{◌≡◌, ℕ, pos, Bool, true, false, List, [], ◌∷◌, refl, codes, Option, Some, None}
+use Rattle.std.specs.Prelude.{◌≡◌, ℕ, pos, true, false, List, [], ◌∷◌, refl, codes}
 use Rattle.std.specs.Fmt.{digits}
 use Rattle.caseless.proofs.Computing.{caseless}
 use Rattle.vba_base.specs.Fold.{folded}
-use Rattle.vba_values.specs.Arithmetic.{division}
-use Rattle.vba_values.specs.declared.types.OpKind.{OpKind}
 use Rattle.vba_values.specs.declared.types.OpKind.TheVariants as op
 use Rattle.vba_values.specs.declared.types.Compare.TheVariants.{Binary}
 use Rattle.vba_values.specs.declared.types.WholeKind.TheVariants as kind
@@ -14,7 +12,7 @@ use Rattle.vba_values.specs.Val.{whole}
 use Rattle.vba_meaning.specs.Effects.{Printed}
 use Rattle.bound_project.specs.Expressions.{local, shared, Variable, Expr, expr, Node, constant, load, binary, call, variable, no_args, by_place, by_copy, no_prints, shown}
 use Rattle.bound_project.specs.Statements.{Action, assign, print, for_to, next, select, case_of, no_tests, test_is, test_range, handled_at, on_error, exit_to, resume_again, Statement}
-use Rattle.bound_project.specs.Project.{Body, Project, nowhere}
+use Rattle.bound_project.specs.Project.{Body, nowhere}
 use Rattle.binder.specs.Bind.{Answer, bound_as}
 use Rattle.binder.proofs.Reading.{of_one, bound_of, ran_all, left_at, ends}
 use Rattle.binder.proofs.Bare.{bare_statements}

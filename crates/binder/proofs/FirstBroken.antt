@@ -1,5 +1,5 @@
 -- The verdict is the least refusal of the first module that breaks a rule.
-use Rattle.std.proofs.Common.{◌≡◌, List, [], ◌∷◌, Option, Some, None, refl, inl, inr}
+use Rattle.std.proofs.Common.{List, [], ◌∷◌, Option, Some, None, refl, inl, inr}
 use Rattle.vba_base.specs.declared.place.Refusal.{Refusal}
 use Rattle.vba_lexer.specs.Order.{IsLeastOf}
 use Rattle.refusal_order.specs.Least.{least_of}

@@ -1,12 +1,12 @@
 -- Worked rows: what projects are bound to, by what they then tell.
-use Rattle.std.specs.Prelude.{◌≡◌, pos, Bool, true, false, List, [], ◌∷◌, refl, codes}
+use Rattle.std.specs.Prelude.{◌≡◌, pos, true, false, [], ◌∷◌, refl, codes}
 use Rattle.std.specs.Fmt.{digits}
 use Rattle.caseless.proofs.Computing.{caseless}
 use Rattle.vba_base.specs.Fold.{folded}
 use Rattle.vba_values.specs.Arithmetic.{division}
 use Rattle.vba_values.specs.Operators.{join}
 use Rattle.vba_meaning.specs.Effects.{Printed, Raised}
-use Rattle.binder.proofs.Reading.{ran, ran_all, ends, left_at}
+use Rattle.binder.proofs.Reading.{ran, ends}
 
 -- an expression of literals
 sum : ran (codes "Sub Main()\nDebug.Print 2 + 3\nEnd Sub") ≡ ends (Printed (codes " 5 ") true ∷ [])

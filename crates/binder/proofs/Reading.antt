@@ -1,5 +1,5 @@
 -- Projects for worked rows, from their texts.
-use Rattle.std.specs.Prelude.{ℕ, suc, Bool, true, false, ◌&&◌, ◌||◌, not, pos, negsuc, List, [], ◌∷◌, map, codes, Option, Some, None, bytes_eq, if◌then◌else◌}
+use Rattle.std.specs.Prelude.{ℕ, suc, Bool, true, false, pos, List, [], ◌∷◌, map, codes, Option, Some, None, bytes_eq, if◌then◌else◌}
 use Rattle.std.specs.List.{list_any}
 use Rattle.vba_base.specs.declared.place.Refusal.{Refusal}
 use Rattle.vba_lexer.specs.Lexed.{lexed}
@@ -11,11 +11,10 @@ use Rattle.vba_module.specs.Verdict.{trees_of}
 use Rattle.binder.specs.Sources.{Source}
 use Rattle.binder.specs.Scopes.{Outside}
 use Rattle.binder.specs.Violations.{verdict}
-use Rattle.binder.specs.Bind.{Startup, Answer, refused, not_built_at, bound_as, bind_of}
-use Rattle.bound_project.specs.Project.{Project}
+use Rattle.binder.specs.Bind.{Answer, refused, not_built_at, bound_as, bind_of}
 use Rattle.vba_meaning.specs.Memory.{Ending, Ended}
 use Rattle.vba_meaning.specs.Effects.{Event, Printed}
-use Rattle.vba_meaning.specs.Meaning.{Run, meaning}
+use Rattle.vba_meaning.specs.Meaning.{meaning}
 
 -- a few names of the library and the host
 abbrev pub some_outside : Outside

@@ -1,5 +1,5 @@
 -- Worked rows: the verdicts of S15 to S22, each with its place.
-use Rattle.std.specs.Prelude.{◌≡◌, Bool, true, false, List, [], ◌∷◌, refl, codes}
+use Rattle.std.specs.Prelude.{◌≡◌, true, false, [], ◌∷◌, refl, codes}
 use Rattle.std.specs.Fmt.{digits}
 use Rattle.caseless.proofs.Computing.{caseless}
 use Rattle.vba_base.specs.Fold.{folded}

@@ -1,7 +1,7 @@
 -- The bound project of modules, or why there is none: a rule that is broken, or a part that the bound project can't say
 -- yet.
-use Rattle.std.specs.Prelude.{ℕ, zero, suc, ◌+◌, Bool, true, false, ◌&&◌, ◌||◌, not, List, [], ◌∷◌, ◌++◌, map, flat_map, Option, Some, None, is_some, is_none, option_map, option_and_then, bytes_eq, if◌then◌else◌, unwrap_or, length}
-use Rattle.std.specs.List.{list_any, list_all}
+use Rattle.std.specs.Prelude.{ℕ, suc, Bool, true, false, ◌&&◌, not, List, [], ◌∷◌, ◌++◌, map, flat_map, Option, Some, None, is_some, is_none, option_map, bytes_eq, if◌then◌else◌, unwrap_or, length}
+use Rattle.std.specs.List.{list_all}
 use Rattle.vba_base.specs.declared.place.Place.{Place}
 use Rattle.vba_base.specs.declared.place.Refusal.{Refusal}
 use Rattle.vba_lexer.specs.declared.number.TypeSuffix.{TypeSuffix}
@@ -10,8 +10,8 @@ use Rattle.vba_values.specs.Types.{Declared}
 use Rattle.vba_values.specs.Types as type
 use Rattle.vba_tree.specs.declared.procedure.ProcedureWords.{ProcedureWords}
 use Rattle.vba_tree.specs.declared.procedure.ProcedureWords.TheVariants as words
-use Rattle.vba_tree.specs.Tree.{DeclaredType, named, fixed_text, TypeClause, NewTypeClause, Variable, Parameter, ResultType, Simple, variables, Stmt, simple, Line, type_member, procedure_header}
-use Rattle.vba_module.specs.Parts.{Part, label, statement, whole_line, place_of}
+use Rattle.vba_tree.specs.Tree.{DeclaredType, named, fixed_text, TypeClause, NewTypeClause, Variable, Parameter, ResultType, variables, simple, type_member, procedure_header}
+use Rattle.vba_module.specs.Parts.{Part, statement, whole_line, place_of}
 use Rattle.vba_module.specs.Headers.{all_of, parameters_of}
 use Rattle.bound_project.specs.Statements.{Statement}
 use Rattle.bound_project.specs.Project as bound
@@ -21,12 +21,11 @@ use Rattle.binder.specs.Options.{or_else, from_two}
 use Rattle.binder.specs.Declarations.{Written, What, a_procedure, Entry}
 use Rattle.binder.specs.Scopes.{Outside, Space, Scope, spaces_from}
 use Rattle.binder.specs.Names.{scope_of, scope_in}
-use Rattle.binder.specs.Types.{TypeMeant, known, of_host, left_out, type_meant, is_object}
+use Rattle.binder.specs.Types.{TypeMeant, known, type_meant, is_object}
 use Rattle.binder.specs.Constants.{home}
 use Rattle.binder.specs.Numbering.{Standing, standings_in, body_count}
 use Rattle.binder.specs.Storage.{kind_of, declared_result, declarations_if, is_framed, user_types, shared_from, module_declarations, first_static, procedure_number}
 use Rattle.binder.specs.Storage as storage
-use Rattle.binder.specs.Terms.{Env}
 use Rattle.binder.specs.StatementsBound.{Around, part_statements, all_statements, blocks_in}
 use Rattle.binder.specs.Violations.{verdict}
 

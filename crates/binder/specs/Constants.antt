@@ -1,5 +1,5 @@
 -- The values of constant expressions ([MS-VBAL] 5.6.16.2), and S20.
-use Rattle.std.specs.Prelude.{ℕ, zero, suc, ◌+◌, ◌==◌, nat_le, Bool, true, false, ◌&&◌, ◌||◌, not, ℤ, pos, negsuc, ◌+ℤ◌, int_le, List, [], ◌∷◌, ◌++◌, length, map, flat_map, Option, Some, None, is_some, is_none, Result, Ok, Err, if◌then◌else◌, unwrap_or, option_map, option_and_then}
+use Rattle.std.specs.Prelude.{ℕ, zero, suc, ◌+◌, ◌==◌, nat_le, Bool, true, false, ◌&&◌, ◌||◌, not, ℤ, pos, negsuc, ◌+ℤ◌, List, [], ◌∷◌, ◌++◌, length, map, flat_map, Option, Some, None, is_none, Result, Ok, Err, if◌then◌else◌, unwrap_or, option_map, option_and_then}
 use Rattle.std.specs.List.{list_all}
 use Rattle.vba_base.specs.declared.place.Place.{Place}
 use Rattle.vba_lexer.specs.declared.number.Number.{Number}
@@ -29,15 +29,15 @@ use Rattle.vba_expression.specs.declared.tree.LiteralValue.{LiteralValue}
 use Rattle.vba_expression.specs.declared.tree.LiteralValue.TheVariants as literal_value
 use Rattle.vba_expression.specs.Tree.{Expr, literal, name, member, parenthesised, unary, binary}
 use Rattle.vba_expression.specs.Spelling as expression
-use Rattle.vba_tree.specs.Tree.{DeclaredType, named, fixed_text, TypeClause, NewTypeClause, Dim, upper, Dims, Constant, Parameter, DefaultValue}
+use Rattle.vba_tree.specs.Tree.{DeclaredType, named, fixed_text, TypeClause, Dim, upper, Dims, Constant, Parameter, DefaultValue}
 use Rattle.vba_module.specs.Parts.{nowhere, first_place}
 use Rattle.binder.specs.Options.{from_two}
 use Rattle.binder.specs.Sources.{base_of, compare_of}
-use Rattle.binder.specs.Declarations.{What, a_constant, a_member, Own, a_local_constant, Local, Entry}
+use Rattle.binder.specs.Declarations.{What, a_constant, a_member, Own, a_local_constant}
 use Rattle.binder.specs.Said.{dims_of}
-use Rattle.binder.specs.Scopes.{Outside, Space, Scope, plainly, Meant, of_procedure, of_module, of_library, Qualifier, declares, behind, qualifier_of}
+use Rattle.binder.specs.Scopes.{Space, Scope, plainly, Meant, of_procedure, of_module, of_library, declares, behind, qualifier_of}
 use Rattle.binder.specs.Names.{scope_of}
-use Rattle.binder.specs.Types.{clause_type, suffix_type}
+use Rattle.binder.specs.Types.{clause_type}
 
 -- a value and its declared type
 pub record Known : Type 0 where

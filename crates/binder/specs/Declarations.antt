@@ -1,9 +1,9 @@
 -- What modules and procedures declare, in text order.
-use Rattle.std.specs.Prelude.{ℕ, zero, suc, Bool, true, false, List, [], ◌∷◌, ◌++◌, map, Option, Some, None}
+use Rattle.std.specs.Prelude.{ℕ, suc, Bool, true, false, List, [], ◌∷◌, ◌++◌, map, Option, Some, None}
 use Rattle.vba_base.specs.declared.place.Place.{Place}
 use Rattle.vba_lexer.specs.declared.token.Token.{Token}
 use Rattle.vba_words.specs.declared.identifier.Identifier.{Identifier}
-use Rattle.vba_expression.specs.Tree.{Expr, name, Args, no_args}
+use Rattle.vba_expression.specs.Tree.{Expr, name, no_args}
 use Rattle.vba_tree.specs.declared.declaration.Access.{Access}
 use Rattle.vba_tree.specs.declared.declaration.Access.TheVariants as access
 use Rattle.vba_tree.specs.declared.declaration.AccessWord.{AccessWord}
@@ -11,8 +11,8 @@ use Rattle.vba_tree.specs.declared.declaration.VariableWord.{VariableWord}
 use Rattle.vba_tree.specs.declared.declaration.VariableWord.TheVariants as variable_word
 use Rattle.vba_tree.specs.declared.procedure.ProcedureWords.{ProcedureWords}
 use Rattle.vba_tree.specs.declared.procedure.ProcedureWords.TheVariants as words
-use Rattle.vba_tree.specs.Tree.{Listed, Variable, Constant, Parameter, Parameters, Dims, TypeClause, ResultType, Simple, variables, constants, assignment, call, Stmt, simple, Line, enum_header, end_enum, type_header, type_member, end_type, event_line, procedure_header, procedure_end}
-use Rattle.vba_module.specs.Parts.{Part, label, statement, whole_line, place_of}
+use Rattle.vba_tree.specs.Tree.{Variable, Constant, Parameter, Dims, TypeClause, ResultType, variables, constants, assignment, call, simple, enum_header, end_enum, type_header, type_member, end_type, event_line, procedure_header, procedure_end}
+use Rattle.vba_module.specs.Parts.{Part, statement, whole_line, place_of}
 use Rattle.vba_module.specs.Headers.{all_of, parameters_of}
 use Rattle.vba_module.specs.Misplaced.{is_public}
 

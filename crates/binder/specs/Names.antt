@@ -1,13 +1,12 @@
 -- The names of a procedure, also those that are declared nowhere: these are Variants of the procedure
 -- ([MS-VBAL] 5.6.10).
-use Rattle.std.specs.Prelude.{ℕ, Bool, true, false, ◌&&◌, ◌||◌, not, List, [], ◌∷◌, ◌++◌, flat_map, Option, Some, None, is_some, bytes_eq, if◌then◌else◌}
-use Rattle.std.specs.List.{list_any, filter_map}
+use Rattle.std.specs.Prelude.{Bool, true, false, ◌||◌, List, [], ◌∷◌, ◌++◌, flat_map, Option, is_some, if◌then◌else◌}
+use Rattle.std.specs.List.{list_any}
 use Rattle.vba_words.specs.declared.identifier.Identifier.{Identifier}
 use Rattle.vba_expression.specs.Tree.{Expr, literal, me, name, with_member, member, index, parenthesised, new, type_of, unary, binary, Args, no_args, missing, plain}
 use Rattle.vba_expression.specs.Tree as expr
 use Rattle.vba_tree.specs.Tree.{TypeClause}
-use Rattle.vba_module.specs.Parts.{Part}
-use Rattle.binder.specs.Declarations.{Written, header_names, Own, an_array, undeclared, Local}
+use Rattle.binder.specs.Declarations.{Written, header_names, an_array, undeclared, Local}
 use Rattle.binder.specs.Said.{Said, declares, expression, redimmed, said_in_body}
 use Rattle.binder.specs.Said as say
 use Rattle.binder.specs.Scopes.{Outside, Space, Scope, Use, plainly, before_dot, is_named}

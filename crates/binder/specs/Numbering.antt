@@ -1,15 +1,10 @@
 -- The statements of a procedure in one list: how many a part has, which blocks stand round it, and the numbers of the
 -- statements that control goes on at. A number is found in what follows a part, by counting statements and by the
 -- blocks that open and close on the way.
-use Rattle.std.specs.Prelude.{ℕ, zero, suc, ◌+◌, ◌==◌, Bool, true, false, ◌||◌, List, [], ◌∷◌, ◌++◌, map, Option, Some, None, if◌then◌else◌}
+use Rattle.std.specs.Prelude.{ℕ, zero, suc, ◌+◌, Bool, true, false, List, [], ◌∷◌, map, if◌then◌else◌}
 use Rattle.std.specs.List.{list_any}
-use Rattle.vba_base.specs.declared.place.Place.{Place}
-use Rattle.vba_values.specs.Types.{Declared}
-use Rattle.vba_values.specs.Types as type
-use Rattle.vba_words.specs.declared.identifier.Identifier.{Identifier}
-use Rattle.vba_expression.specs.Tree.{Expr}
 use Rattle.vba_tree.specs.Tree.{BlockLine, else_line, end_if, case_else, end_select, Simple, variables, constants, block_line, Stmt, simple, if_then, if_else, Stmts, nothing, one, gap, more}
-use Rattle.vba_module.specs.Parts.{Part, label, statement, whole_line}
+use Rattle.vba_module.specs.Parts.{Part, statement}
 use Rattle.vba_module.specs.Blocks.{Kind, select, with_block, same_kind, Role, opens, divides, closes, stands, role_of}
 
 -- ---- how many statements there are ([MS-VBAL] 5.4)

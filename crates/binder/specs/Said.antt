@@ -11,8 +11,8 @@ use Rattle.vba_tree.specs.declared.simple.ErrorHandling.{ErrorHandling}
 use Rattle.vba_tree.specs.declared.simple.ErrorHandling.TheVariants as handling
 use Rattle.vba_tree.specs.declared.simple.ResumeTarget.{ResumeTarget}
 use Rattle.vba_tree.specs.declared.simple.ResumeTarget.TheVariants as target
-use Rattle.vba_tree.specs.Tree.{Listed, DeclaredType, named, fixed_text, TypeClause, NewTypeClause, Dim, upper, Dims, Variable, Constant, Parameter, DefaultValue, ResultType, CaseTest, value, comparison, StepClause, LoopCondition, BlockLine, if_line, else_if_line, else_line, end_if, select_case, case_line, case_else, end_select, for_line, for_each, next_line, do_line, loop_line, while_line, wend, with_line, end_with, ReDimArray, EventArguments, PrintItem, Simple, variables, constants, assignment, set_assignment, call_place, call, re_dim, erase, go_to, go_sub, return_from, exit, end, stop, on_error, resume, raise_event, debug_print, block_line, Stmt, simple, if_then, if_else, Stmts, nothing, one, gap, more}
-use Rattle.vba_module.specs.Parts.{Part, label, statement, whole_line}
+use Rattle.vba_tree.specs.Tree.{Listed, DeclaredType, named, fixed_text, TypeClause, NewTypeClause, Dim, upper, Dims, Variable, Constant, Parameter, DefaultValue, ResultType, CaseTest, value, comparison, StepClause, LoopCondition, BlockLine, if_line, else_if_line, select_case, case_line, for_line, for_each, do_line, loop_line, while_line, with_line, ReDimArray, EventArguments, Simple, variables, constants, assignment, set_assignment, call_place, call, re_dim, erase, go_to, go_sub, on_error, resume, raise_event, debug_print, block_line, Stmt, simple, if_then, if_else, Stmts, nothing, one, gap, more}
+use Rattle.vba_module.specs.Parts.{Part, statement}
 use Rattle.vba_module.specs.Headers.{all_of}
 use Rattle.binder.specs.Declarations.{Written, FieldWritten, What, a_variable, a_constant, an_enum, a_member, a_type, an_event, a_procedure, Local, a_local, a_local_constant, is_static_word}
 

@@ -8,7 +8,7 @@ use Rattle.vba_expression.specs.Tree.{Expr, name, member}
 use Rattle.bound_project.specs.Project.{Spelled}
 use Rattle.binder.specs.Sources.{Source, name_or, given_name}
 use Rattle.binder.specs.Options.{or_else}
-use Rattle.binder.specs.Declarations.{What, a_variable, a_constant, an_enum, a_member, a_type, an_event, a_procedure, Entry, entries_in, in_module, Own, the_result, Local}
+use Rattle.binder.specs.Declarations.{What, an_enum, a_member, a_type, an_event, Entry, entries_in, in_module, Own, the_result, Local}
 
 -- what stands outside of a project, by the folds of names: a constant of the library; whether a name is the library's,
 -- written with `$` or without; whether it is the host's

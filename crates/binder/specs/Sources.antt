@@ -11,9 +11,7 @@
 -- 4. An expression is bound by what it is, a place or a value or a name of something else; what stands round it takes
 --    what it needs (Terms, Arguments, StatementsBound). What the bound project can't say yet is bound by nothing, and
 --    the first such part is where binding stops (Bind).
-use Rattle.std.specs.Prelude.{ℕ, suc, ◌+◌, ◌-◌, Bool, true, false, List, [], ◌∷◌, ◌++◌, length, take, drop, codes, decimal, Option, Some, None, bytes_eq, if◌then◌else◌}
-use Rattle.std.specs.List.{list_any}
-use Rattle.vba_base.specs.declared.place.Place.{Place}
+use Rattle.std.specs.Prelude.{ℕ, ◌-◌, Bool, true, false, List, [], ◌∷◌, ◌++◌, length, take, drop, codes, decimal, Option, Some, None, bytes_eq, if◌then◌else◌}
 use Rattle.vba_base.specs.Fold.{folded}
 use Rattle.vba_lexer.specs.declared.token.Token.{Token}
 use Rattle.vba_lexer.specs.Numbers.{without_suffix}
@@ -26,8 +24,8 @@ use Rattle.vba_expression.specs.declared.tree.LiteralValue.TheVariants as litera
 use Rattle.vba_tree.specs.declared.line.AttributeValue.{AttributeValue}
 use Rattle.vba_tree.specs.declared.line.OptionChoice.{OptionChoice}
 use Rattle.vba_tree.specs.declared.line.OptionChoice.TheVariants as choice
-use Rattle.vba_tree.specs.Tree.{Listed, Line, option_line, attribute_line}
-use Rattle.vba_module.specs.Parts.{Part, label, statement, whole_line}
+use Rattle.vba_tree.specs.Tree.{Listed, option_line, attribute_line}
+use Rattle.vba_module.specs.Parts.{Part, whole_line}
 use Rattle.bound_project.specs.Project.{Spelled}
 use Rattle.binder.specs.Options.{or_else}
 

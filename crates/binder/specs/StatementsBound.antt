@@ -1,19 +1,15 @@
 -- The statements of a procedure in one list ([MS-VBAL] 5.4).
-use Rattle.std.specs.Prelude.{ℕ, zero, suc, ◌+◌, ◌==◌, Bool, true, false, ◌&&◌, ◌||◌, not, pos, List, [], ◌∷◌, ◌++◌, length, map, codes, Option, Some, None, is_some, is_none, option_map, option_and_then, if◌then◌else◌}
-use Rattle.std.specs.List.{list_any, filter_map, find}
+use Rattle.std.specs.Prelude.{ℕ, zero, suc, ◌+◌, ◌==◌, Bool, true, false, ◌&&◌, not, pos, List, [], ◌∷◌, ◌++◌, length, codes, Option, Some, None, is_some, option_map, option_and_then, if◌then◌else◌}
 use Rattle.vba_base.specs.declared.place.Place.{Place}
-use Rattle.vba_lexer.specs.declared.token.Token.{Token}
-use Rattle.vba_values.specs.declared.types.OpKind.{OpKind}
 use Rattle.vba_values.specs.declared.types.OpKind.TheVariants as op
 use Rattle.vba_values.specs.declared.types.WholeKind.TheVariants as kind
 use Rattle.vba_values.specs.Types.{Declared}
 use Rattle.vba_values.specs.Types as type
 use Rattle.vba_values.specs.Val.{Val, missing, whole}
 use Rattle.vba_words.specs.declared.identifier.Identifier.{Identifier}
-use Rattle.vba_expression.specs.Tree.{Expr, name, member, index, Args, no_args}
+use Rattle.vba_expression.specs.Tree.{Expr, name, index}
 use Rattle.vba_tree.specs.declared.block.LoopWord.{LoopWord}
 use Rattle.vba_tree.specs.declared.block.LoopWord.TheVariants as loop_word
-use Rattle.vba_tree.specs.declared.line.LineLabel.{LineLabel}
 use Rattle.vba_tree.specs.declared.simple.LabelName.{LabelName}
 use Rattle.vba_tree.specs.declared.simple.ExitKind.{ExitKind}
 use Rattle.vba_tree.specs.declared.simple.ExitKind.TheVariants as exits
@@ -25,27 +21,27 @@ use Rattle.vba_tree.specs.declared.simple.PrintMark.{PrintMark}
 use Rattle.vba_tree.specs.declared.simple.PrintMark.TheVariants as print_mark
 use Rattle.vba_tree.specs.Tree as tree
 use Rattle.vba_tree.specs.Tree.{Listed, TypeClause, Dim, upper, CaseTest, value, comparison, StepClause, LoopCondition, BlockLine, if_line, else_if_line, select_case, case_line, for_line, for_each, next_line, do_line, loop_line, while_line, wend, with_line, end_with, ReDimArray, PrintItem, Simple, assignment, set_assignment, call_place, call, re_dim, erase, go_to, go_sub, return_from, exit, end, on_error, resume, debug_print, block_line, Stmt, simple, if_then, if_else, Stmts, nothing, one, gap, more}
-use Rattle.vba_module.specs.Parts.{Part, label, statement, whole_line, place_of}
-use Rattle.vba_module.specs.Blocks.{Kind, for_loop, do_loop, with_block, select, same_kind, Role, opens, divides, closes, stands, role_of}
+use Rattle.vba_module.specs.Parts.{Part, label, statement, place_of}
+use Rattle.vba_module.specs.Blocks.{for_loop, do_loop, select, same_kind, Role, opens, divides, closes, role_of}
 use Rattle.vba_module.specs.Headers.{all_of}
 use Rattle.vba_module.specs.Misplaced.{statement_place}
 use Rattle.bound_project.specs.Expressions.{Variable, Node, constant, Lvalue, variable, Exprs, no_exprs, also, Prints, no_prints, shown, zone}
 use Rattle.bound_project.specs.Expressions as bound
 use Rattle.bound_project.specs.Statements as to
 use Rattle.bound_project.specs.Statements.{Statement, Block, Action, Tests, no_tests, test_is, test_range, Handling, passed_on, skipped, handled_at, Resizes, no_resizes, resize, Arrays, no_arrays, an_array}
-use Rattle.bound_project.specs.Project.{Parameter, no_name}
+use Rattle.bound_project.specs.Project.{Parameter}
 use Rattle.binder.specs.Sources.{base_of}
 use Rattle.binder.specs.Options.{or_else, from_two, from_three}
 use Rattle.binder.specs.Declarations.{Written}
-use Rattle.binder.specs.Scopes.{Space, Scope}
+use Rattle.binder.specs.Scopes.{Space}
 use Rattle.binder.specs.Constants.{operator_kind, compare_in, place_of_expression}
-use Rattle.binder.specs.Storage.{plain_clause_type, procedure_number}
+use Rattle.binder.specs.Storage.{procedure_number}
 use Rattle.binder.specs.Types.{written_type, is_object}
 use Rattle.binder.specs.Constants.{known_length}
-use Rattle.binder.specs.Numbering.{count, count_list, simple_count, part_count, body_count, Sought, here, an_arm, behind_block, behind_kind, Opened, Standing, standings_in, sought_behind}
+use Rattle.binder.specs.Numbering.{count, count_list, simple_count, part_count, here, an_arm, behind_block, behind_kind, Opened, Standing, sought_behind}
 use Rattle.binder.specs.Violations.{same_label_name}
-use Rattle.binder.specs.Terms.{Within, Env, Term, a_place, a_value, a_routine, err_object, err_raise, err_clear, error_word, no_term, expression_of, Given, bound_arguments, listed_values, has_names}
-use Rattle.binder.specs.ExpressionsBound.{writer, bare_call, parameters_in, value_of, operand_of, indexed, callee, term_of, givens, bound_value, bound_operand, behind_term}
+use Rattle.binder.specs.Terms.{Within, Env, Term, a_place, a_value, a_routine, err_raise, err_clear, error_word, expression_of, Given, bound_arguments, has_names}
+use Rattle.binder.specs.ExpressionsBound.{writer, bare_call, parameters_in, value_of, indexed, callee, term_of, givens, bound_value, bound_operand}
 
 -- ---- the procedure round a statement
 

@@ -1,5 +1,5 @@
 -- Declarations of the bound project, and where variables are kept: counted among those that are declared before them.
-use Rattle.std.specs.Prelude.{ℕ, suc, ◌+◌, ◌==◌, Bool, true, false, ◌&&◌, ◌||◌, not, List, [], ◌∷◌, ◌++◌, length, map, take, Option, Some, None, is_some, option_map, bytes_eq, if◌then◌else◌}
+use Rattle.std.specs.Prelude.{ℕ, suc, ◌+◌, Bool, true, false, ◌||◌, not, List, [], ◌∷◌, ◌++◌, length, map, take, Option, Some, None, is_some, if◌then◌else◌}
 use Rattle.std.specs.Option.{option_map_or}
 use Rattle.vba_values.specs.Types.{Declared}
 use Rattle.vba_values.specs.Types as type
@@ -8,7 +8,6 @@ use Rattle.arrays_udt.specs.Fields.{Field}
 use Rattle.arrays_udt.specs.Fresh.{initial}
 use Rattle.vba_lexer.specs.declared.number.TypeSuffix.{TypeSuffix}
 use Rattle.vba_words.specs.declared.identifier.Identifier.{Identifier}
-use Rattle.vba_tree.specs.declared.declaration.Brackets.{Brackets}
 use Rattle.vba_tree.specs.declared.procedure.PassingWord.{PassingWord}
 use Rattle.vba_tree.specs.declared.procedure.ProcedureWords.{ProcedureWords}
 use Rattle.vba_tree.specs.declared.procedure.ProcedureWords.TheVariants as words
@@ -18,9 +17,9 @@ use Rattle.bound_project.specs.Expressions.{Storage, local, shared}
 use Rattle.bound_project.specs.Project as bound
 use Rattle.bound_project.specs.Project.{Declaration, UserType, field_of, is_sub, is_function, is_get, is_let, is_set, no_declaration}
 use Rattle.binder.specs.Sources.{spelled}
-use Rattle.binder.specs.Declarations.{Written, FieldWritten, What, a_variable, a_type, a_procedure, Entry, Own, the_result, a_parameter, a_local, a_local_constant, an_array, undeclared, Local}
-use Rattle.binder.specs.Scopes.{Outside, Space, Scope, is_same}
-use Rattle.binder.specs.Names.{scope_of, scope_in}
+use Rattle.binder.specs.Declarations.{Written, FieldWritten, What, a_variable, a_type, a_procedure, Entry, Own, the_result, a_parameter, a_local, an_array, undeclared, Local}
+use Rattle.binder.specs.Scopes.{Space, Scope, is_same}
+use Rattle.binder.specs.Names.{scope_in}
 use Rattle.binder.specs.Types.{counted, entries_before, suffix_type, written_type, clause_type}
 use Rattle.binder.specs.Constants.{Known, known_value, known_length, known_bounds, coerced, home}
 

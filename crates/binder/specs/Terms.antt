@@ -1,32 +1,19 @@
 -- Expressions by what they are: a place, a value, or a name of something else. What stands round an expression takes
 -- from that what it needs. What the bound project can't say yet is no term.
-use Rattle.std.specs.Prelude.{ℕ, zero, suc, ◌==◌, nat_lt, Bool, true, false, ◌&&◌, ◌||◌, not, List, [], ◌∷◌, ◌++◌, length, map, codes, Option, Some, None, is_some, is_none, option_map, option_and_then, bytes_eq, if◌then◌else◌, unwrap_or, slice_index_or}
+use Rattle.std.specs.Prelude.{ℕ, suc, ◌==◌, Bool, true, ◌&&◌, ◌||◌, not, List, [], ◌∷◌, ◌++◌, Option, Some, None, is_some, option_map, option_and_then, bytes_eq, if◌then◌else◌}
 use Rattle.std.specs.List.{list_any}
 use Rattle.vba_base.specs.declared.place.Place.{Place}
-use Rattle.vba_values.specs.declared.types.OpKind.{OpKind}
-use Rattle.vba_values.specs.declared.types.WholeKind.TheVariants as kind
 use Rattle.vba_values.specs.Coerce.{is_same_type}
-use Rattle.vba_values.specs.StaticTypes.{static_of}
 use Rattle.vba_values.specs.Types.{Declared}
 use Rattle.vba_values.specs.Types as type
-use Rattle.vba_values.specs.Val.{Val, object}
-use Rattle.vba_words.specs.declared.identifier.Identifier.{Identifier}
-use Rattle.vba_expression.specs.declared.operator.UnaryOperator.{UnaryOperator}
-use Rattle.vba_expression.specs.declared.operator.BinaryOperator.{BinaryOperator}
-use Rattle.vba_expression.specs.Tree.{Expr, literal, me, name, with_member, member, index, parenthesised, new, type_of, unary, binary, Args, no_args, missing, plain}
-use Rattle.vba_expression.specs.Tree as tree
-use Rattle.vba_tree.specs.declared.procedure.ProcedureWords.{ProcedureWords}
-use Rattle.vba_tree.specs.declared.procedure.ProcedureWords.TheVariants as words
 use Rattle.bound_project.specs.Expressions.{Storage, Variable, ErrMember, err_number, err_source, err_description, Node, not_given, constant, load, element_value, field_value, call, err_value, Lvalue, variable, item, element, field, kept_place, Exprs, no_exprs, also}
 use Rattle.bound_project.specs.Expressions as bound
-use Rattle.bound_project.specs.Project.{Declaration, Parameter, UserType}
+use Rattle.bound_project.specs.Project.{Parameter}
 use Rattle.binder.specs.Options.{from_two}
-use Rattle.binder.specs.Declarations.{Written, What, a_variable, a_constant, an_enum, a_member, a_type, an_event, a_procedure, Entry, Own, the_result, a_parameter, a_local, a_local_constant, an_array, undeclared, Local}
-use Rattle.binder.specs.Scopes.{Space, Scope, plainly, called, Meant, of_procedure, of_module, a_module, the_library, of_host, of_library, Qualifier, declares, behind, qualifier_of}
-use Rattle.binder.specs.Names.{scope_in}
+use Rattle.binder.specs.Declarations.{Written}
+use Rattle.binder.specs.Scopes.{Space, Scope}
 use Rattle.binder.specs.Types.{is_object}
-use Rattle.binder.specs.Constants.{Known, literal_meant, value_type, operator_kind, unary_kind, is_variant, compare_in, meant_by, names_in, home, place_of_expression}
-use Rattle.binder.specs.Storage.{parameter_type, result_type, parameters_of, own_declaration, declared_variable, user_types, module_storage, own_storage, procedure_number, gives_value}
+use Rattle.binder.specs.Constants.{is_variant}
 
 -- the With block round an expression: its number, the type of what it keeps, and whether that is a place
 pub record Within : Type 0 where

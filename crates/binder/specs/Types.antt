@@ -1,5 +1,5 @@
 -- What the names of types mean, and the types that declarations give ([MS-VBAL] 5.6.10, 5.2.3.1).
-use Rattle.std.specs.Prelude.{ℕ, suc, ◌+◌, Bool, true, false, ◌&&◌, List, [], ◌∷◌, take, codes, Option, Some, None, is_some, option_map, bytes_eq, if◌then◌else◌}
+use Rattle.std.specs.Prelude.{ℕ, ◌+◌, Bool, true, false, ◌&&◌, List, [], ◌∷◌, take, codes, Option, Some, None, bytes_eq, if◌then◌else◌}
 use Rattle.vba_lexer.specs.declared.number.TypeSuffix.{TypeSuffix}
 use Rattle.vba_lexer.specs.declared.number.TypeSuffix.TheVariants as suffix
 use Rattle.vba_values.specs.Types.{Declared}
@@ -10,7 +10,7 @@ use Rattle.vba_expression.specs.declared.tree.TypeQualifier.{TypeQualifier}
 use Rattle.vba_expression.specs.Tree.{Expr}
 use Rattle.vba_tree.specs.Tree.{DeclaredType, named, fixed_text, TypeClause}
 use Rattle.binder.specs.Options.{or_else}
-use Rattle.binder.specs.Declarations.{What, an_enum, a_type, an_event, Entry}
+use Rattle.binder.specs.Declarations.{What, an_enum, a_type, Entry}
 use Rattle.binder.specs.Scopes.{Space, Scope, is_named, first_at, is_same, is_seen, seen_from}
 
 -- ---- counting

@@ -1,5 +1,5 @@
 -- The rules S15 to S22: for each the places where it is broken, and the least of all.
-use Rattle.std.specs.Prelude.{◌≡◌, ◌⊎◌, ℕ, zero, suc, ◌+◌, ◌==◌, nat_lt, nat_le, Bool, true, false, ◌&&◌, ◌||◌, not, int_le, List, [], ◌∷◌, ◌++◌, length, map, flat_map, Option, Some, None, is_some, is_none, bytes_eq, if◌then◌else◌}
+use Rattle.std.specs.Prelude.{◌≡◌, ◌⊎◌, ℕ, zero, suc, ◌==◌, Bool, true, false, ◌&&◌, ◌||◌, not, int_le, List, [], ◌∷◌, ◌++◌, length, map, flat_map, Option, Some, None, is_some, is_none, bytes_eq, if◌then◌else◌}
 use Rattle.std.specs.List.{list_any}
 use Rattle.vba_base.specs.declared.place.Place.{Place}
 use Rattle.vba_base.specs.declared.place.Refusal.{Refusal}
@@ -19,8 +19,8 @@ use Rattle.vba_tree.specs.declared.simple.LabelName.{LabelName}
 use Rattle.vba_tree.specs.declared.simple.LabelName.TheVariants as label_name
 use Rattle.vba_tree.specs.declared.procedure.ProcedureWords.{ProcedureWords}
 use Rattle.vba_tree.specs.declared.procedure.ProcedureWords.TheVariants as words
-use Rattle.vba_tree.specs.Tree.{Variable, NewTypeClause, Parameter, ResultType, DeclaredType, Dims}
-use Rattle.vba_module.specs.Parts.{Part, label, statement, whole_line}
+use Rattle.vba_tree.specs.Tree.{Variable, NewTypeClause, Parameter, ResultType}
+use Rattle.vba_module.specs.Parts.{Part, label}
 use Rattle.vba_module.specs.Verdict.{broken}
 use Rattle.refusal_order.specs.Least.{least_of}
 use Rattle.binder.specs.Sources.{Source, has_choice, is_explicit}
@@ -28,11 +28,11 @@ use Rattle.binder.specs.Options.{or_else}
 use Rattle.binder.specs.Declarations.{Written, FieldWritten, What, a_variable, a_constant, an_enum, a_member, a_type, an_event, a_procedure, Entry, header_names, Own, a_local, a_local_constant, undeclared, Local}
 use Rattle.binder.specs.Said.{Said, type_named, new_named, constant_expression, expression, redimmed, goes_to, raises, entry_said, header_said, said_in_part, said_in_body}
 use Rattle.binder.specs.Said as say
-use Rattle.binder.specs.Scopes.{Outside, Space, Scope, spaces_from, Use, plainly, called, before_dot, Meant, of_procedure, of_module, Qualifier, declares, behind, qualifier_of, is_named, is_same}
+use Rattle.binder.specs.Scopes.{Outside, Space, Scope, spaces_from, Use, plainly, called, before_dot, Meant, of_procedure, Qualifier, declares, behind, qualifier_of, is_named, is_same}
 use Rattle.binder.specs.Names.{usings, declared_here, scope_of, scope_in}
 use Rattle.binder.specs.Types.{type_meant, is_made, is_asked, written_type, class_number, type_number}
-use Rattle.binder.specs.Constants.{unless, place_of_expression, clause_faults, type_faults, constant_faults, member_faults, default_faults, dims_faults}
-use Rattle.binder.specs.Numbering.{Standing, standings_in, in_with}
+use Rattle.binder.specs.Constants.{unless, clause_faults, type_faults, constant_faults, member_faults, default_faults, dims_faults}
+use Rattle.binder.specs.Numbering.{standings_in, in_with}
 
 -- ---- the parts of a project in which rules are asked for
 
