@@ -8,6 +8,7 @@ pub mod Steps
 pub mod AllObjects
 pub mod Emptied
 pub mod Exchanged
+pub mod Found
 pub mod Frames
 pub mod Ids
 pub mod KeptInOrder

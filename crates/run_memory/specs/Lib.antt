@@ -1,6 +1,7 @@
 pub mod Acts
 pub mod All
 pub mod Calls
+pub mod Elements
 pub mod Exchanges
 pub mod Keeps
 pub mod Locked

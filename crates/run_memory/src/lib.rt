@@ -3,6 +3,7 @@
 
 mod blocks;
 mod calls;
+mod elements;
 mod ends;
 mod err;
 mod errors;

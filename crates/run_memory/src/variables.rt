@@ -166,7 +166,11 @@ impl Memory {
     }
 }
 
-fn copy_inner(alloc: Global, root: &Value, steps: &[PathStep]) -> Result<Option<Value>, NoMemory>
+pub fn copy_inner(
+    alloc: Global,
+    root: &Value,
+    steps: &[PathStep],
+) -> Result<Option<Value>, NoMemory>
     ensures { IfOk result (λ value. option_map view value ≡ path_value (view root.now) steps.now) }
 {
     match inner_value(root, steps) {
