@@ -236,11 +236,21 @@ pub fn nth(alloc: Global, out: &mut String, words: &[&str]) -> Answer<()> {
         return Err(OrMemory::Fault(BadLine));
     };
     let place: u64 = number(place)?;
-    match area_of_word(alloc, word)? {
-        Ok(area) if place < u64::from(area.rows) * u64::from(area.columns) => {
-            push_area(alloc, out, Ok(nth_cell_of_area(area, place)))
-        }
-        _ => Err(OrMemory::Fault(BadLine)),
+    let area = area_inside(alloc, word)?;
+    if u64::from(area.rows) * u64::from(area.columns) <= place {
+        return Err(OrMemory::Fault(BadLine));
+    }
+    push_area(alloc, out, Ok(nth_cell_of_area(area, place)))
+}
+
+/// The area of the only sheet that a text is the address of. Another text makes no case.
+fn area_inside(alloc: Global, word: &str) -> Answer<Area>
+    ensures { IfOk result (λ area. IsAreaInside area) }
+{
+    let text = text_of_word(alloc, word)?;
+    match area_of_text(ONLY, text.units()) {
+        Ok(area) => Ok(area),
+        Err(_) => Err(OrMemory::Fault(BadLine)),
     }
 }
 
@@ -276,10 +286,8 @@ pub fn filled(alloc: Global, out: &mut String, words: &[&str]) -> Answer<()> {
             return Ok(());
         }
     }
-    match area_of_word(alloc, area)? {
-        Ok(area) => push_filled(out, &book, area),
-        Err(bad) => push_bad(out, bad),
-    }
+    let area = area_inside(alloc, area)?;
+    push_filled(out, &book, area)
 }
 
 /// Writes the row and the column of each cell of an area that isn't Empty, and `end` behind the last.
