@@ -14,14 +14,14 @@ mod sheets;
 mod source;
 
 use arrays::bench_arrays;
-use cells::{bench_cells, bench_filled};
+use cells::bench_cells;
 use conditions::bench_conditions;
 use expressions::bench_expressions;
 use lexing::bench_lex;
 use links::bench_links;
 use modules::{bench_modules, bench_places};
 use operators::bench_operators;
-use sheets::{bench_saving, bench_sheets};
+use sheets::bench_sheets;
 use std::env::Env;
 use std::process::ExitCode;
 use std::time::CpuClock;
@@ -58,9 +58,7 @@ fn main(rt: HostRuntime) -> io::Result<ExitCode> {
         "modules" => bench_modules(&rt, size)?,
         "places" if size <= MOST_PLACES => bench_places(&rt, size)?,
         "cells" if size <= MOST_CELLS => bench_cells(&rt, size)?,
-        "filled" if size <= MOST_CELLS => bench_filled(&rt, size)?,
         "sheets" if size <= MOST_ROWS => bench_sheets(&rt, size)?,
-        "saving" if size <= MOST_ROWS => bench_saving(&rt, size)?,
         _ => return usage(&rt),
     }
     Ok(ExitCode::SUCCESS)
@@ -71,9 +69,7 @@ fn usage(rt: &impl Eprint) -> io::Result<ExitCode> {
     eprintln!(rt;
         "lex, conditions, expressions, operators, arrays, links, modules: SIZE at most {MOST}"
     )?;
-    eprintln!(rt;
-        "cells, filled: SIZE at most {MOST_CELLS}; sheets, saving: SIZE at most {MOST_ROWS}"
-    )?;
+    eprintln!(rt; "cells: SIZE at most {MOST_CELLS}; sheets: SIZE at most {MOST_ROWS}")?;
     eprintln!(rt; "places: SIZE at most {MOST_PLACES}")?;
     Ok(ExitCode::from(2))
 }

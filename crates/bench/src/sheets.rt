@@ -1,10 +1,8 @@
 use crate::{micros_now, out_of_memory, tell};
 use csv_book::{read_sheet, write_sheet};
-use sheet_host::{Book, CellValue, SheetId};
 use std::alloc::{AllocError, Global};
 use std::io;
 use std::time::CpuClock;
-use vba_base::{NoMemory, Units};
 
 /// The files of sheets that are timed.
 #[derive(Clone, Copy)]
@@ -69,58 +67,5 @@ fn row_bytes(form: Form) -> &'static [u8] {
         Form::Short => b"12,ab,1.50\n",
         Form::Quoted => b"\"a,b\",\"say \"\"yes\"\"\",\"x\ny\"\r\n",
         Form::OneField => b"twenty bytes a row\n",
-    }
-}
-
-/// Saves a sheet of so many rows of short fields, and the same sheet after a cell of each row was written; and
-/// tells how many times as long the second takes.
-pub fn bench_saving(rt: &(impl Print + CpuClock + AllocGlobal), size: u32) -> io::Result<()> {
-    let unwritten = time_saving(rt, size, 0)?;
-    let written = time_saving(rt, size, size)?;
-    let tenths = written.saturating_mul(10) / unwritten.max(1);
-    let times = tenths / 10;
-    let tenth = tenths % 10;
-    println!(rt;
-        "saving: {size} rows took {unwritten} us, with as many written cells {times}.{tenth} times as long"
-    )
-}
-
-// The microseconds that saving takes after cells of so many rows were written.
-fn time_saving(rt: &(impl CpuClock + AllocGlobal), size: u32, written: u32) -> io::Result<u64> {
-    let Ok(book) = book_of_rows(rt.alloc(), size, written) else {
-        return Err(out_of_memory());
-    };
-    if book.sheets() < 1 {
-        return Err(out_of_memory());
-    }
-    let before = micros_now(rt)?;
-    if write_sheet(rt.alloc(), book.sheet(SheetId(1))).is_err() {
-        return Err(out_of_memory());
-    }
-    Ok(micros_now(rt)?.saturating_sub(before))
-}
-
-// A book of one sheet of short fields, with a written cell in the second column of each of the first rows.
-fn book_of_rows(alloc: Global, size: u32, written: u32) -> Result<Book, NoMemory> {
-    let file = file_of(alloc, Form::Short, size)?;
-    let Ok(sheet) = read_sheet(alloc, file.as_slice()) else {
-        return Err(NoMemory);
-    };
-    let mut book = Book::new(alloc);
-    book.add(Units::new(alloc), sheet)?;
-    for row in 0..written {
-        put_row(&mut book, row + 1)?;
-    }
-    Ok(book)
-}
-
-fn put_row(book: &mut Book, row: u32) -> Result<(), NoMemory> {
-    if book.sheets() < 1 || row < 1 || 1_048_576 < row {
-        return Err(NoMemory);
-    }
-    let cell = CellValue::Long(12);
-    match book.put_cell(SheetId(1), row, 2, cell) {
-        Ok(()) => Ok(()),
-        Err(_) => Err(NoMemory),
     }
 }
