@@ -10,4 +10,4 @@ abbrev pub begins_place : Reading → Bool
 begins_place (reading.Name name suffix is_bracketed) = true
 begins_place (reading.Keyword keyword.Me) = true
 begins_place (reading.Mark mark.WithDot) = true
-begins_place other = false
+begins_place _ = false
