@@ -1,6 +1,6 @@
 -- Statements without their places, to compare them.
 use Rattle.std.specs.Prelude.{List, [], ◌∷◌}
-use Rattle.bound_project.specs.Expressions.{Expr, expr, Node, not_given, constant, load, element_value, field_value, unary, binary, call, err_value, default_of, Lvalue, variable, item, element, field, kept_place, Args, no_args, by_place, by_copy, by_default, by_list, in_order, Exprs, no_exprs, also, Prints, no_prints, shown, zone}
+use Rattle.bound_project.specs.Expressions.{Expr, expr, Node, not_given, constant, load, element_value, field_value, unary, binary, call, err_value, default_of, default_if_any, host_object, same, is_type, library, bound_of, Lvalue, variable, item, element, field, kept_place, Args, no_args, by_place, by_copy, by_default, by_list, in_order, Exprs, no_exprs, also, Prints, no_prints, shown, zone}
 use Rattle.bound_project.specs.Statements.{Tests, no_tests, test_is, test_range, Action, assign, assign_none, evaluate, let_property, print, raise, test, for_to, for_each, select, case_of, with_place, with_value, Statement}
 use Rattle.bound_project.specs.Project.{nowhere}
 
@@ -19,6 +19,12 @@ abbrev mutual
   bare_node (call p args) = call p (bare_args args)
   bare_node (err_value m) = err_value m
   bare_node (default_of e) = default_of (bare e)
+  bare_node (default_if_any e) = default_if_any (bare e)
+  bare_node (host_object o) = host_object o
+  bare_node (same a b) = same (bare a) (bare b)
+  bare_node (is_type e of) = is_type (bare e) of
+  bare_node (library f text_form es compare base) = library f text_form (bare_exprs es) compare base
+  bare_node (bound_of upper x dimension) = bound_of upper (bare_place x) dimension
 
   pub bare_place : Lvalue → Lvalue
   bare_place (variable x) = variable x
