@@ -15,7 +15,7 @@ use Rattle.vba_module.specs.Parts.{Part, parts_of, parts_of_lines}
 use Rattle.vba_module.specs.Tree.{Nodes}
 use Rattle.vba_module.specs.Blocks.{block_faults}
 use Rattle.vba_module.specs.Misplaced.{all_misplaced, nothing_before}
-use Rattle.vba_module.specs.Headers.{header_faults, module_name, type_names, is_named}
+use Rattle.vba_module.specs.Headers.{header_faults, own_name, type_names, is_named}
 use Rattle.vba_module.specs.Verdict.{broken, trees_of, with_tree, unread, unread_line, part_violations, module_violations}
 use Rattle.vba_module.proofs.OneBracketing.{one_bracketing}
 use Rattle.module_parser.specs.Parsed.{verdict, IsModule}
@@ -118,7 +118,7 @@ no_block_faults is_class parts first second least there both none =
     no_places 11 (block_faults [] parts)
     (none_first (broken 11 (block_faults [] parts))
     (broken 12 (all_misplaced is_class nothing_before [] parts)
-    ++ broken 14 (flat_map (header_faults (is_named (module_name parts) (type_names parts))) parts)) unbroken)
+    ++ broken 14 (flat_map (header_faults (is_named (own_name parts) (type_names parts))) parts)) unbroken)
 
 -- what is found of lines and of their parts is the verdict
 pub verdict_found : (is_class : Bool) (lines : List (List ReadToken)) (parts : List Part) (first second least : Option Refusal) → parts ≡ parts_of_lines (trees_of lines)
