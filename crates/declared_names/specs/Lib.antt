@@ -1,0 +1,7 @@
+pub mod Lookup
+pub mod Outside
+pub mod Range
+pub mod View
+pub mod Entries
+pub mod Choices
+pub mod Names

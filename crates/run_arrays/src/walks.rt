@@ -1,0 +1,172 @@
+// What the For Each of a header walks.
+ghost use Rattle.std.specs.Prelude.{◌≡◌, ◌<◌, ◌≤◌, IfOk, OnOk, length, map, option_map, true};
+ghost use Rattle.vba_values.specs.View.{view};
+ghost use Rattle.vba_meaning.specs.Memory.{found, put, top, with_top};
+ghost use Rattle.run_memory.specs.Keeps.{is_kept, place_in};
+ghost use Rattle.run_memory.specs.View.{kept_at_view, kept_view, memory_view};
+ghost use Rattle.run_arrays.specs.Walks.{item_walked, rewalked, walk_of, walk_set, walks_set};
+
+use crate::exchange::inner_value;
+use arrays_udt::PathStep;
+use run_memory::{Kept, Memory};
+use std::alloc::Global;
+use vba_base::NoMemory;
+use vba_values::{Value, copy_value};
+
+/// Whether the loop of a header counts as begun, and the number of its next item, where it walks something.
+pub fn walk_at(memory: &Memory, header: u32) -> Option<(bool, usize)>
+    ensures walk { result ≡ walk_of (found (top (memory_view memory.now)).keeps header) }
+{
+    if !memory.stands {
+        return None;
+    }
+    match memory.top.kept(header) {
+        Some(
+            Kept::Walk {
+                is_begun,
+                value: _,
+                next,
+            },
+        ) => Some((*is_begun, *next)),
+        _ => None,
+    }
+}
+
+/// The next item of the loop of a header, where there is a further one.
+pub fn item_walked(memory: &Memory, alloc: Global, header: u32) -> Result<Option<Value>, NoMemory>
+    ensures { IfOk result (λ item. option_map view item ≡ item_walked (found (top (memory_view memory.now)).keeps header)) }
+{
+    if !memory.stands {
+        return Ok(None);
+    }
+    match memory.top.kept(header) {
+        Some(
+            Kept::Walk {
+                is_begun: _,
+                value,
+                next,
+            },
+        ) => {
+            let steps = [PathStep::Element(*next)];
+            match inner_value(value, &steps) {
+                Some(item) => Ok(Some(copy_value(alloc, item)?)),
+                None => Ok(None),
+            }
+        }
+        _ => Ok(None),
+    }
+}
+
+/// A block of the frame that runs keeps something else.
+#[tactic(auto, using(run_memory::proofs::Exchanged::with_top))]
+pub fn keep_at_top(
+    memory: &mut Memory,
+    alloc: Global,
+    header: u32,
+    kept: Kept,
+) -> Result<(), NoMemory>
+    ensures { OnOk result (memory_view memory.new ≡ with_top (memory_view memory.old) (record (top (memory_view memory.old)) {
+      keeps = put header (kept_view kept) (top (memory_view memory.old)).keeps;
+    })) }
+{
+    memory.stand(alloc);
+    let below = memory.below();
+    memory.put_kept_at(below, header, kept)
+}
+
+/// The loop of a header counts as begun or not, and has another next item; what it walks stays.
+pub fn set_walk(
+    memory: &mut Memory,
+    alloc: Global,
+    header: u32,
+    is_begun: bool,
+    next: usize,
+) -> Result<(), NoMemory>
+    requires { memory.old.stands ≡ true }
+    ensures { OnOk result (memory_view memory.new
+        ≡ walk_set header is_begun next (found (top (memory_view memory.old)).keeps header) (memory_view memory.old)) }
+{
+    if is_kept(memory.top.keeps.as_slice(), header) {
+        rewalk_at(&mut memory.top.keeps, header, is_begun, next);
+        return Ok(());
+    }
+    copy_walk(memory, alloc, header, is_begun, next)
+}
+
+/// The same where the headers' numbers don't rise.
+fn copy_walk(
+    memory: &mut Memory,
+    alloc: Global,
+    header: u32,
+    is_begun: bool,
+    next: usize,
+) -> Result<(), NoMemory>
+    requires { memory.old.stands ≡ true }
+    ensures { OnOk result (memory_view memory.new
+        ≡ walk_set header is_begun next (found (top (memory_view memory.old)).keeps header) (memory_view memory.old)) }
+{
+    let value = match memory.top.kept(header) {
+        Some(Kept::Walk { value, .. }) => copy_value(alloc, value)?,
+        _ => return Ok(()),
+    };
+    let walk = Kept::Walk {
+        is_begun,
+        value,
+        next,
+    };
+    keep_at_top(memory, alloc, header, walk)
+}
+
+#[tactic(auto, using(crate::proofs::Walked::walks_at))]
+fn rewalk_at(keeps: &mut Vec<(u32, Kept)>, header: u32, is_begun: bool, next: usize)
+    requires { is_kept header keeps.old.items ≡ true }
+    ensures { map kept_at_view keeps.new.items
+        ≡ walks_set header is_begun next (found (map kept_at_view keeps.old.items) header) (map kept_at_view keeps.old.items) }
+{
+    let place = place_in(keeps.as_slice(), header);
+    rewalk(&mut keeps[place].1, is_begun, next);
+}
+
+fn rewalk(kept: &mut Kept, is_begun: bool, next: usize)
+    ensures { kept_view kept.new ≡ rewalked is_begun next (kept_view kept.old) }
+{
+    if let Kept::Walk {
+        is_begun: begun,
+        value: _,
+        next: number,
+    } = kept
+    {
+        *begun = is_begun;
+        *number = next;
+    }
+}
+
+/// How many blocks stand before a header.
+fn place_in(keeps: &[(u32, Kept)], header: u32) -> usize
+    ensures place { result ≡ place_in header keeps.now }
+    ensures inside { result ≤ length keeps.now }
+    ensures kept { is_kept header keeps.now ≡ true → result < length keeps.now }
+{
+    match keeps {
+        [] => 0,
+        [first, keeps @ ..] => if first.0 < header {
+            place_in(keeps, header) + 1
+        } else {
+            0
+        },
+    }
+}
+
+/// Whether a block of a header stands at its place.
+fn is_kept(keeps: &[(u32, Kept)], header: u32) -> bool
+    ensures { result ≡ is_kept header keeps.now }
+{
+    match keeps {
+        [] => false,
+        [first, keeps @ ..] => if first.0 < header {
+            is_kept(keeps, header)
+        } else {
+            first.0 == header
+        },
+    }
+}
