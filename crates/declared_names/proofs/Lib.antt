@@ -1,7 +1,8 @@
 pub mod Bodies
+pub mod Choices
 pub mod Members
+pub mod Numbered
 pub mod Pushes
 pub mod Steps
-pub mod Choices
-pub mod Numbered
+pub mod Turned
 pub mod Walks

@@ -1,4 +1,5 @@
 pub mod Lookup
+pub mod Numbers
 pub mod Outside
 pub mod Range
 pub mod View

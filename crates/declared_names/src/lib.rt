@@ -13,7 +13,9 @@ mod local;
 mod lookup;
 mod member;
 mod naming;
+mod numbers;
 mod outside;
+mod profile;
 mod pushing;
 mod qualifiers;
 mod range;
@@ -21,6 +23,7 @@ mod scope;
 mod slices;
 mod sources;
 mod space;
+mod types;
 mod words;
 
 pub use entries::entries_of;
@@ -31,9 +34,13 @@ pub use lookup::{
     Wanted, counts, declares, entry_of, first_entry, has_dollar, is_same_space, is_seen, is_type,
 };
 pub use naming::spelled;
+pub use numbers::{
+    Counted, class_number, count_before, count_of, entries_before, first_entries, type_number,
+};
 pub use outside::{is_constant_name, is_host_name, is_library_name};
 pub use qualifiers::{as_qualifier, behind, enum_behind};
 pub use range::PartRange;
 pub use scope::{Meant, Qualifier, Scope, TypeMeant, Use};
 pub use sources::spaces_of;
 pub use space::{Source, Space};
+pub use types::{is_asked, is_made, is_object, meant_type, named_type, suffix_type, type_meant};

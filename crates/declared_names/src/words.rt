@@ -15,6 +15,14 @@ pub(crate) fn is_word(text: &[u16], word: &[u8]) -> bool
     }
 }
 
+/// Are these ASCII characters a text?
+#[tactic(auto, using(crate::proofs::Turned::bytes_eq_turned))]
+pub(crate) fn is_written(word: &[u8], text: &[u16]) -> bool
+    ensures { result ≡ bytes_eq word.now text.now }
+{
+    is_word(text, word)
+}
+
 /// Is a text one of these words?
 pub(crate) fn is_among(mut words: &[&[u8]], text: &[u16]) -> bool
     ensures { result ≡ list_any (bytes_eq text.now) (map (λ word. word.now) words.entry.now) }

@@ -1,0 +1,6 @@
+pub mod Takings
+pub mod Odd
+pub mod Given
+pub mod Waiting
+pub mod Carried
+mod Popped

@@ -1,0 +1,4 @@
+pub mod View
+pub mod Operands
+pub mod Odd
+pub mod Does

@@ -1,0 +1,38 @@
+//! The machine that runs a code, and what each instruction does to it.
+#![tactic(auto)]
+
+/// The value of an effect. Where there is none an error is raised or the run stops, or memory ran out.
+macro_rules! attempt {
+    ($machine:expr, $turns:expr, $effect:expr) => {
+        match $effect {
+            Ok(value) => value,
+            Err(OrMemory::Fault(Bad::Raise(number))) => {
+                return $machine.raise_number($turns, number);
+            }
+            Err(OrMemory::Fault(Bad::Outside(kind))) => {
+                return Ok(Step::Ended($machine.stopped(Why::Outside(kind))));
+            }
+            Err(OrMemory::NoMemory) => return Err(NoMemory),
+        }
+    };
+}
+
+mod arguments;
+mod backs;
+mod blocks;
+mod calls;
+mod control;
+mod dispatch;
+mod loops;
+mod machine;
+mod operands;
+mod operators;
+mod paths;
+mod step;
+mod telling;
+mod values;
+
+pub use backs::{After, Back, Backs, Mode};
+pub use machine::{Machine, Told};
+pub use operands::Operands;
+pub use step::{Ending, Event, Step, Why};

@@ -1,0 +1,5 @@
+pub mod OneKind
+pub mod Steps
+pub mod Counted
+pub mod Stacks
+pub mod Listing
