@@ -130,7 +130,11 @@ impl Machine {
         let Some(value) = self.operands.pop_value() else {
             return Ok(Step::Stuck);
         };
-        let count = attempt!(self, turns, each_begun(&mut self.memory, alloc, block, value));
+        let count = attempt!(
+            self,
+            turns,
+            each_begun(&mut self.memory, alloc, block, value)
+        );
         self.let_go(alloc, count, pc + 1);
         Ok(Step::On)
     }
@@ -148,7 +152,11 @@ impl Machine {
         requires { pc + 1 < 2 ^ 64 }
         ensures { IfOk result (λ step. Acted turns (code_view code.now) (plain.NextItem (variable_view control) block) pc self.old self.new step) }
     {
-        let holds = attempt!(self, turns, each_next(&mut self.memory, alloc, control, block));
+        let holds = attempt!(
+            self,
+            turns,
+            each_next(&mut self.memory, alloc, control, block)
+        );
         self.operands.push_value(Value::Boolean(holds))?;
         self.go_on(pc + 1);
         Ok(Step::On)

@@ -1,0 +1,4 @@
+pub mod Moves
+pub mod Running
+pub mod Tellings
+pub mod Waiting

@@ -1,0 +1,9 @@
+//! Projects run: compiled, and run by the machine, so that what is printed and how the run ends are those of the meaning.
+#![tactic(auto)]
+
+mod outcome;
+mod places;
+mod run;
+
+pub use outcome::{Outcome, RunFault};
+pub use run::run_project;
