@@ -1,10 +1,10 @@
 -- Arguments, one by one.
-use Rattle.std.proofs.Common.{◌≡◌, ℕ, ◌+◌, ◌<◌, List, [], ◌∷◌, ◌++◌, length, Option, Some, None, refl, ap, map, take, get_or}
+use Rattle.std.proofs.Common.{◌≡◌, ℕ, ◌+◌, ◌<◌, List, [], ◌∷◌, ◌++◌, length, Some, None, refl, ap, map, take, get_or}
 use Rattle.std.proofs.lemmas.List.{take_more}
 use Rattle.run_memory.specs.declared.frame.Slot.{Slot as RustSlot}
 use Rattle.run_memory.specs.View.{slot_view}
 use Rattle.std.specs.Prelude.{slice_index_or}
-use Rattle.vba_values.specs.Val.{Val, empty, missing}
+use Rattle.vba_values.specs.Val.{empty, missing}
 use Rattle.vba_meaning.specs.Memory.{Slot, value, path, value_in}
 use Rattle.vba_meaning.specs.Effects.{slot_value, slot_values, reordered}
 

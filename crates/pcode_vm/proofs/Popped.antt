@@ -1,15 +1,12 @@
 -- What is taken off the operands, by what the slot on top contains.
-use Rattle.std.proofs.Common.{◌≡◌, List, ◌∷◌, Option, Some, None, refl, ap, sym}
+use Rattle.std.proofs.Common.{◌≡◌, List, ◌∷◌, Option, Some, None, refl, ap}
 use Rattle.std.specs.Prelude.{option_map}
 use Rattle.vba_values.specs.declared.value.Value.{Value}
-use Rattle.vba_values.specs.Val.{Val}
 use Rattle.vba_values.specs.View.{view}
-use Rattle.vba_meaning.specs.Paths as paths
 use Rattle.vba_meaning.specs.Memory.{Slot, value, path, value_in}
 use Rattle.run_memory.specs.declared.path.Path.{Path}
 use Rattle.run_memory.specs.Slots.{path_in}
 use Rattle.run_memory.specs.View.{path_view}
-use Rattle.pcode.specs.Machine.{Move}
 use Rattle.pcode_vm.specs.Operands.{PopsValue, PopsPath}
 
 pub value_popped : (x : Slot) (st : List Slot) (r : Option Value) → option_map view r ≡ value_in (Some x) → PopsValue (x ∷ st) r st

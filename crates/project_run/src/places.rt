@@ -16,10 +16,7 @@ pub struct Places {
 }
 
 /// Adds the places of statements.
-fn push_statements(
-    places: &mut Vec<Place>,
-    mut left: &[StatementNode],
-) -> Result<(), NoMemory>
+fn push_statements(places: &mut Vec<Place>, mut left: &[StatementNode]) -> Result<(), NoMemory>
     ensures { OnOk result (places.new.items ≡ places.old.items ++ map (λ s. s.place) left.entry.now) }
 {
     while let [statement, rest @ ..] = left {

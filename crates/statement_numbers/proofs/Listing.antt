@@ -52,7 +52,7 @@ same_line wanted bracket.Stands (closes kind) is = absurd is
 listed_by : (wanted : BlockLines) (header : ℕ) (part : Part) (number : ℕ) (around : List Opened) (rest : List Part) (ss : List Standing)
     → lines_in (is_line wanted) header (record { part = part; number = number; around = around; rest = rest } ∷ ss)
     ≡ (if is_line_of wanted header (record { part = part; number = number; around = around; rest = rest })
-       then number ∷ lines_in (is_line wanted) header ss else lines_in (is_line wanted) header ss)
+    then number ∷ lines_in (is_line wanted) header ss else lines_in (is_line wanted) header ss)
 listed_by wanted header part number [] rest ss = refl
 listed_by wanted header part number (o ∷ around) rest ss = refl
 

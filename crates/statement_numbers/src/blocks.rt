@@ -30,7 +30,8 @@ fn is_line(wanted: BlockLines, bracket: Bracket) -> bool
     ensures { result ≡ is_line wanted (role_view bracket) }
 {
     match (wanted, bracket) {
-        (BlockLines::Arms, Bracket::Divides { .. }) | (BlockLines::Ends, Bracket::Closes(_)) => true,
+        (BlockLines::Arms, Bracket::Divides { .. }) | (BlockLines::Ends, Bracket::Closes(_)) =>
+            true,
         _ => false,
     }
 }
@@ -54,7 +55,12 @@ fn is_line_of(wanted: BlockLines, header: u32, standing: Standing) -> Result<boo
 }
 
 /// The numbers of such lines of the block with this header.
-fn lines_in(alloc: Global, wanted: BlockLines, header: u32, body: &[Part]) -> Result<Vec<u32>, NoMemory>
+fn lines_in(
+    alloc: Global,
+    wanted: BlockLines,
+    header: u32,
+    body: &[Part],
+) -> Result<Vec<u32>, NoMemory>
     ensures { IfOk result (λ numbers. numbers.items ≡ plain.lines_in (is_line wanted) header (standings_in (parts_view body.now))) }
 {
     let mut numbers = Vec::new(alloc);
@@ -94,7 +100,12 @@ fn is_opening(standing: Standing) -> bool
 }
 
 /// Adds the block that a part opens, where it opens one.
-fn push_block(alloc: Global, standing: Standing, body: &[Part], blocks: &mut Vec<Block>) -> Result<(), NoMemory>
+fn push_block(
+    alloc: Global,
+    standing: Standing,
+    body: &[Part],
+    blocks: &mut Vec<Block>,
+) -> Result<(), NoMemory>
     ensures { OnOk result (map block_view blocks.new.items
         ≡ map block_view blocks.old.items ++ blocks_at (standings_in (parts_view body.now)) (standing_view standing.entry)) }
 {

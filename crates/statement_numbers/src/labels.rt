@@ -38,7 +38,11 @@ fn is_label(part: &Part, label: &LabelName) -> bool
 }
 
 /// The number of what runs behind a label of a body.
-pub fn label_number(alloc: Global, body: &[Part], label: &LabelName) -> Result<Option<u32>, NoMemory>
+pub fn label_number(
+    alloc: Global,
+    body: &[Part],
+    label: &LabelName,
+) -> Result<Option<u32>, NoMemory>
     ensures { IfOk result (λ number. number ≡ label_number (standings_in (parts_view body.now)) label.now) }
 {
     let mut walk = Walk::start(alloc, body);

@@ -30,9 +30,7 @@ pub struct Opened {
 pub fn has_kind(opened: &[Opened], kind: BlockKind) -> bool
     ensures { result ≡ list_any (λ o. same_kind (kind_view kind) (kind_view o.kind)) opened.now }
 {
-    opened
-        .iter()
-        .any(|opened| is_same_kind(kind, opened.kind))
+    opened.iter().any(|opened| is_same_kind(kind, opened.kind))
 }
 
 /// The parts of a body behind one of them.
@@ -56,7 +54,13 @@ fn first_inside(number: u32, rest: &[Part], around: &[Opened]) -> Result<u32, No
 
 /// Goes behind a part of a body, with its number: a block that it opens stands open then, one that it closes doesn't,
 /// and behind an arm no arm is awaited.
-pub fn pass_part(opened: &mut Vec<Opened>, body: &[Part], at: usize, bracket: Bracket, number: u32) -> Result<(), NoMemory>
+pub fn pass_part(
+    opened: &mut Vec<Opened>,
+    body: &[Part],
+    at: usize,
+    bracket: Bracket,
+    number: u32,
+) -> Result<(), NoMemory>
     requires { at < length body.now }
     ensures { OnOk result (stack_view body.now opened.new.items
         ≡ numbering.opened_behind (part_at body.now at) (role_view bracket) number (parts_view (drop (at + 1) body.now)) (stack_view body.now opened.old.items)) }

@@ -7,8 +7,8 @@ ghost use Rattle.statement_numbers.specs.View.{awaited_view, sought_view};
 
 use crate::awaited::Awaited;
 use crate::counts::part_count;
-use crate::sums::plus;
 use crate::step::{Step, step_of};
+use crate::sums::plus;
 use module_parts::{BlockKind, Part, bracket_of};
 use vba_base::NoMemory;
 
@@ -26,7 +26,12 @@ pub enum Sought {
 }
 
 /// The number that is sought in these parts, of which the first has this number.
-pub fn number_sought(what: Sought, awaited: Awaited, number: u32, parts: &[Part]) -> Result<u32, NoMemory>
+pub fn number_sought(
+    what: Sought,
+    awaited: Awaited,
+    number: u32,
+    parts: &[Part],
+) -> Result<u32, NoMemory>
     ensures { IfOk result (λ n. n ≡ numbering.sought (sought_view what) (awaited_view awaited.entry) number (parts_view parts.now)) }
 {
     let mut what = what;

@@ -56,7 +56,12 @@ impl<'a> Standing<'a> {
         ensures { IfOk result (λ n. n ≡ numbering.sought_behind (sought_view what) (standing_view self.now)) }
     {
         let number = plus(self.number, part_count(self.part())?)?;
-        number_sought(what, behind(self.bracket(), self.around), number, self.rest())
+        number_sought(
+            what,
+            behind(self.bracket(), self.around),
+            number,
+            self.rest(),
+        )
     }
 
     /// What runs behind the part: behind a header its block, but behind Select Case what stands behind that.

@@ -7,8 +7,8 @@ ghost use Rattle.statement_numbers.specs.View.{awaited_view, role_view, sought_v
 
 use crate::awaited::{Awaited, begun, is_awaited, outer};
 use crate::kinds::is_same_kind;
-use crate::sums::plus;
 use crate::sought::Sought;
+use crate::sums::plus;
 use module_parts::{BlockKind, Bracket};
 use vba_base::NoMemory;
 
@@ -56,7 +56,12 @@ fn step_arm(depth: u32, awaited: Awaited, bracket: Bracket, count: u32) -> Resul
 }
 
 /// What a part does where what stands behind a block is sought.
-fn step_behind_block(depth: u32, awaited: Awaited, bracket: Bracket, count: u32) -> Result<Step, NoMemory>
+fn step_behind_block(
+    depth: u32,
+    awaited: Awaited,
+    bracket: Bracket,
+    count: u32,
+) -> Result<Step, NoMemory>
     ensures { IfOk result (λ s. step_view s ≡ numbering.step (numbering.behind_block depth) (awaited_view awaited.entry) (role_view bracket) count) }
 {
     Ok(match (bracket, depth) {
@@ -68,7 +73,13 @@ fn step_behind_block(depth: u32, awaited: Awaited, bracket: Bracket, count: u32)
 }
 
 /// What a part does where what stands behind the nearest block of a kind is sought.
-fn step_behind_kind(wanted: BlockKind, depth: u32, awaited: Awaited, bracket: Bracket, count: u32) -> Result<Step, NoMemory>
+fn step_behind_kind(
+    wanted: BlockKind,
+    depth: u32,
+    awaited: Awaited,
+    bracket: Bracket,
+    count: u32,
+) -> Result<Step, NoMemory>
     ensures { IfOk result (λ s. step_view s
         ≡ numbering.step (numbering.behind_kind (kind_view wanted) depth) (awaited_view awaited.entry) (role_view bracket) count) }
 {
@@ -108,7 +119,12 @@ fn step_behind_kind(wanted: BlockKind, depth: u32, awaited: Awaited, bracket: Br
 }
 
 /// What a part does to what is sought.
-pub fn step_of(what: Sought, awaited: Awaited, bracket: Bracket, count: u32) -> Result<Step, NoMemory>
+pub fn step_of(
+    what: Sought,
+    awaited: Awaited,
+    bracket: Bracket,
+    count: u32,
+) -> Result<Step, NoMemory>
     ensures { IfOk result (λ s. step_view s ≡ numbering.step (sought_view what) (awaited_view awaited.entry) (role_view bracket) count) }
 {
     match what {

@@ -60,7 +60,13 @@ impl<'a> Walk<'a> {
             return Ok(());
         };
         let count = part_count(part)?;
-        pass_part(&mut self.opened, self.body, self.at, bracket_of(part), self.number)?;
+        pass_part(
+            &mut self.opened,
+            self.body,
+            self.at,
+            bracket_of(part),
+            self.number,
+        )?;
         self.number = plus(self.number, count)?;
         self.at += 1;
         Ok(())

@@ -1,9 +1,7 @@
-use Rattle.std.proofs.Common.{◌≡◌, List, [], ◌∷◌, refl, sym, ap, ◌∙◌}
-use Rattle.vba_meaning.specs.Memory.{Object}
-use Rattle.vba_meaning.specs.Effects.{Event, Term}
+use Rattle.std.proofs.Common.{◌∙◌}
 use Rattle.bound_project.specs.Project.{class_at}
 use Rattle.bound_project.specs.View.{declarations_view}
-use Rattle.pcode.specs.Machine.{terminates_by, ends_by, looking, follow, tells}
+use Rattle.pcode.specs.Machine.{terminates_by, ends_by, looking}
 use Rattle.pcode.specs.View.{code_view}
 use Rattle.pcode_vm.specs.View.{after_view, backs_view, state_view, told_view}
 use Rattle.pcode_vm.proofs.Carried.{carried}

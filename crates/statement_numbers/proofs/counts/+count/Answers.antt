@@ -8,7 +8,7 @@ use Rattle.statement_numbers.proofs.counts.+count.Goals as goal
 pub count_list-returns : goal.count_list-returns
 count_list-returns t c =
     let sum : c.in_ok-first.first + c.in_ok-count_others.field-0 ≡ count_list (list_view c.args.list.now) =
-        list_counted c.args.list.now c.deref.result.now _ _ c.deref.ensures c.in_ok-first.ensures c.in_ok-count_others.ensures in
+    list_counted c.args.list.now c.deref.result.now _ _ c.deref.ensures c.in_ok-first.ensures c.in_ok-count_others.ensures in
     subst (λ (m : ℕ). IfOk c.plus.result (λ n. n ≡ m)) sum c.plus.ensures
 
 pub count_others-loop-next-preserved : goal.count_others-loop-next-preserved

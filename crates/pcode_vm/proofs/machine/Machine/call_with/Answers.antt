@@ -4,7 +4,7 @@ use Rattle.vba_values.specs.Val.{empty}
 use Rattle.vba_values.specs.View.{view}
 use Rattle.vba_values.specs.declared.value.Value.TheVariants as value
 use Rattle.run_memory.specs.View.{memory_view, slot_view}
-use Rattle.pcode.specs.Machine.{Back, enters, Caller}
+use Rattle.pcode.specs.Machine.{enters, Caller}
 use Rattle.pcode.specs.View.{code_view}
 use Rattle.pcode_vm.specs.View.{operands_view, back_view, backs_view, state_view}
 use Rattle.pcode_vm.proofs.Carried.{from_other, entered_same, view_empty}

@@ -1,4 +1,4 @@
-use Rattle.std.proofs.Common.{◌≡◌, ℕ, ◌-◌, ◌≤◌, length, ap, arith, ◌∙◌, reverse, take, drop}
+use Rattle.std.proofs.Common.{◌≤◌, length, arith, ◌∙◌}
 use Rattle.pcode_vm.proofs.Takings.{took_none, took_some}
 use Rattle.pcode_vm.proofs.operands.Operands.take.Goals as goal
 
