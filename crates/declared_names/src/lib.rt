@@ -43,4 +43,7 @@ pub use range::PartRange;
 pub use scope::{Meant, Qualifier, Scope, TypeMeant, Use};
 pub use sources::spaces_of;
 pub use space::{Source, Space};
-pub use types::{is_asked, is_made, is_object, meant_type, named_type, suffix_type, type_meant};
+pub use types::{
+    is_asked, is_made, is_object, meant_type, named_type, plain_type, suffix_type, type_behind,
+    type_meant,
+};

@@ -91,7 +91,7 @@ fn type_in_modules(scope: Scope, name: &Identifier) -> Result<Option<TypeMeant>,
 }
 
 /// What a name means as a type: own Types and Enums, classes, public Types and Enums, the profile's types.
-fn plain_type(scope: Scope, name: &Identifier) -> Result<Option<TypeMeant>, NoMemory>
+pub fn plain_type(scope: Scope, name: &Identifier) -> Result<Option<TypeMeant>, NoMemory>
     ensures { IfOk result (λ found. option_map type_meant_view found ≡ plain_type (scope_view scope.entry) name.now) }
 {
     if let Some(meant) = type_in(scope, true, scope.here, name)? {
@@ -117,7 +117,7 @@ fn type_shown(scope: Scope, space: &Space, name: &Identifier) -> Result<Option<T
 
 /// What a name means as a type behind another, which is a module's.
 #[tactic(auto, using(std::proofs::lemmas::List::drop_more))]
-fn type_behind(
+pub fn type_behind(
     scope: Scope,
     qualifier: &Identifier,
     name: &Identifier,

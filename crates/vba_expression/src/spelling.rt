@@ -3,7 +3,7 @@
 ghost use Rattle.std.specs.Prelude.{◌≡◌, ◌++◌, OnOk, option_map};
 ghost use Rattle.vba_expression.specs.Reader.{name_in};
 ghost use Rattle.vba_expression.specs.Fitting.{has_no_arguments};
-ghost use Rattle.vba_expression.specs.Nodes.{tree_in, node_name, is_argument};
+ghost use Rattle.vba_expression.specs.Nodes.{tree_in, arguments_in, node_name, is_argument};
 ghost use Rattle.vba_expression.specs.Tokens.{tokens_of, tokens_of_arguments};
 ghost use Rattle.vba_expression.specs.View.{view, arguments_view};
 
@@ -65,6 +65,13 @@ fn name_of(node: &ExpressionNode) -> Option<&Identifier>
 }
 
 impl Arguments {
+    /// Their nodes, in the order in which they are evaluated.
+    pub fn nodes(&self) -> &[ExpressionNode]
+        ensures { arguments_in result.now ≡ arguments_view self.now }
+    {
+        self.nodes.as_slice()
+    }
+
     /// Are there none?
     #[tactic(auto, using(crate::proofs::Steps::last_argument, crate::proofs::Steps::no_argument))]
     pub fn is_empty(&self) -> bool
