@@ -1,0 +1,11 @@
+pub mod AllBounds
+pub mod ByTables
+pub mod Folding
+pub mod Kept
+pub mod Looked
+pub mod Noting
+pub mod Pushes
+pub mod Rounded
+pub mod Same
+pub mod SameSlots
+pub mod Settled

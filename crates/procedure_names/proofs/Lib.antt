@@ -1,0 +1,4 @@
+pub mod Stacks
+pub mod Passing
+pub mod Usings
+pub mod Orders

@@ -1,0 +1,4 @@
+pub mod Used
+pub mod Using
+pub mod Added
+pub mod Own

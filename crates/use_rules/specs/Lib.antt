@@ -1,0 +1,6 @@
+pub mod Found
+pub mod Stacks
+pub mod TypesFound
+pub mod NamesFound
+pub mod View
+pub mod Walked
