@@ -1,0 +1,4 @@
+pub mod Taken
+pub mod Pushes
+pub mod Whole
+pub mod Named

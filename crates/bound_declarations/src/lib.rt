@@ -1,0 +1,25 @@
+//! The declarations of a project as it is bound, and where its variables are kept: counted among those that are
+//! declared before them.
+#![tactic(auto)]
+
+mod declared;
+mod kept;
+mod kinds;
+mod lists;
+mod not_yet;
+mod numbers;
+mod parameters;
+mod procedures;
+mod storage;
+mod types;
+
+pub use declared::{declared_result, declared_variable, own_declaration, variable_type};
+pub use kept::{Kept, count_before, count_kept, first_locals, is_kept, sum};
+pub use kinds::{gives_value, is_by_val, is_property, kind_of, takes_value};
+pub use lists::{kept_declarations, module_variables};
+pub use not_yet::NotYet;
+pub use numbers::procedure_number;
+pub use parameters::parameters_of;
+pub use procedures::{bound_module, bound_procedure};
+pub use storage::own_storage;
+pub use types::{arrayed, clause_type, new_clause_type, parameter_type, result_type, written_type};

@@ -1,0 +1,101 @@
+//! The variables of procedures and modules.
+
+ghost use Rattle.std.specs.Prelude.{◌≡◌, [], ◌∷◌, ◌++◌, map, OnOk};
+ghost use Rattle.binder.specs.Storage as storage;
+ghost use Rattle.bound_declarations.specs.Kept.{is_kept};
+ghost use Rattle.bound_project.specs.View.{declaration_view};
+ghost use Rattle.declared_names.specs.View.{entry_view, local_view, scope_view};
+
+use crate::declared::{declared_variable, own_declaration};
+use crate::kept::{Kept, is_kept};
+use crate::not_yet::NotYet;
+use bound_project::Declaration;
+use declared_names::{Entry, Local, Scope, What};
+use std::alloc::Global;
+use vba_base::{NoMemory, OrMemory};
+
+/// Adds a declaration.
+#[tactic(auto, using(crate::proofs::Pushes::declarations_push))]
+fn push_declaration(
+    declarations: &mut Vec<Declaration>,
+    declaration: Declaration,
+) -> Result<(), NoMemory>
+    ensures { OnOk result (map declaration_view declarations.new.items
+        ≡ map declaration_view declarations.old.items ++ declaration_view declaration ∷ []) }
+{
+    Ok(declarations.push(declaration)?)
+}
+
+/// Adds the declaration of a name of a procedure, where it is one of these.
+fn push_kept(
+    alloc: Global,
+    which: Kept,
+    scope: Scope,
+    local: &Local,
+    declarations: &mut Vec<Declaration>,
+) -> Result<(), OrMemory<NotYet>>
+    ensures { OnOk result (map declaration_view declarations.new.items
+        ≡ map declaration_view declarations.old.items ++ storage.declarations_if (is_kept which) (scope_view scope.entry) (local_view local.now ∷ [])) }
+{
+    if !is_kept(which, local) {
+        return Ok(());
+    }
+    match own_declaration(alloc, scope, local)? {
+        Some(declaration) => Ok(push_declaration(declarations, declaration)?),
+        None => Ok(()),
+    }
+}
+
+/// Adds the declarations of the names of a procedure that are these.
+#[tactic(auto, using(std::proofs::lemmas::List::drop_more, crate::proofs::Pushes::declarations_next))]
+pub fn kept_declarations(
+    alloc: Global,
+    which: Kept,
+    scope: Scope,
+    locals: &[Local],
+    declarations: &mut Vec<Declaration>,
+) -> Result<(), OrMemory<NotYet>>
+    ensures { OnOk result (map declaration_view declarations.new.items
+        ≡ map declaration_view declarations.old.items ++ storage.declarations_if (is_kept which) (scope_view scope.entry) (map local_view locals.now)) }
+{
+    for local in locals {
+        push_kept(alloc, which, scope, local, declarations)?;
+    }
+    Ok(())
+}
+
+/// Adds the variable that an entry of a module is, where it is one.
+fn push_variable(
+    alloc: Global,
+    scope: Scope,
+    entry: &Entry,
+    declarations: &mut Vec<Declaration>,
+) -> Result<(), OrMemory<NotYet>>
+    ensures { OnOk result (map declaration_view declarations.new.items
+        ≡ map declaration_view declarations.old.items ++ storage.module_declarations (scope_view scope.entry) (entry_view entry.now ∷ [])) }
+{
+    match entry.what {
+        What::Variable(variable) => {
+            let declaration = declared_variable(alloc, scope, variable)?;
+            Ok(push_declaration(declarations, declaration)?)
+        }
+        _ => Ok(()),
+    }
+}
+
+/// Adds the variables among the entries of a module.
+#[tactic(auto, using(std::proofs::lemmas::List::drop_more, crate::proofs::Pushes::variables_next))]
+pub fn module_variables(
+    alloc: Global,
+    scope: Scope,
+    entries: &[Entry],
+    declarations: &mut Vec<Declaration>,
+) -> Result<(), OrMemory<NotYet>>
+    ensures { OnOk result (map declaration_view declarations.new.items
+        ≡ map declaration_view declarations.old.items ++ storage.module_declarations (scope_view scope.entry) (map entry_view entries.now)) }
+{
+    for entry in entries {
+        push_variable(alloc, scope, entry, declarations)?;
+    }
+    Ok(())
+}
