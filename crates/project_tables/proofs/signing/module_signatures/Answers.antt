@@ -1,0 +1,20 @@
+use Rattle.std.proofs.Common.{◌≡◌, List, [], ◌++◌, map, sym, ap, ◌∙◌, drop, append-nil, arith}
+use Rattle.std.proofs.lemmas.List.{drop_all}
+use Rattle.declared_names.specs.View.{scope_view}
+use Rattle.project_tables.specs.declared.rows.ProcedureRow.{ProcedureRow}
+use Rattle.project_tables.specs.Rows.{row_view}
+use Rattle.project_tables.specs.Signed.{Signed, signed_view}
+use Rattle.project_tables.specs.Steps.{signed_row}
+use Rattle.project_tables.proofs.Found.{module_signed}
+use Rattle.project_tables.proofs.signing.module_signatures.Goals as goal
+
+pub returns : goal.returns
+returns c =
+    let s = scope_view c.args.scope in
+    let rows : List ProcedureRow = c.args.rows.now in
+    let now : List Signed = map signed_view c.loop-row.signatures.items in
+    let none : drop c.loop-row.row-index rows ≡ [] = drop_all c.loop-row.row-index rows (omega (arith, c.loop-row-test.false)) in
+    sym (append-nil now)
+    ∙ (ap (λ (xs : List ProcedureRow). now ++ map (signed_row s) (map row_view xs)) (sym none)
+    ∙ (c.loop-row.invariant.signed
+    ∙ module_signed s rows c.requires.rows_are))

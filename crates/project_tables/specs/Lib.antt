@@ -1,0 +1,4 @@
+pub mod Rows
+pub mod Signed
+pub mod Startups
+pub mod Steps

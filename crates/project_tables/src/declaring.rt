@@ -1,0 +1,257 @@
+//! All that a project declares.
+
+ghost use Rattle.std.specs.Prelude.{◌≡◌, [], ◌∷◌, ◌++◌, IfOk, OnOk, flat_map, if◌then◌else◌, map};
+ghost use Rattle.binder.specs.Bind as bind;
+ghost use Rattle.binder.specs.Constants.{home};
+ghost use Rattle.binder.specs.Names.{scope_of};
+ghost use Rattle.binder.specs.Storage as storage;
+ghost use Rattle.bound_project.specs.View.{declaration_view, declarations_view, module_view, procedure_view};
+ghost use Rattle.constant_values.specs.Rounds.{AreNumbered, IsPlaced};
+ghost use Rattle.constant_values.specs.Tables.{AreProjectValues};
+ghost use Rattle.declared_names.specs.Outside.{the_outside};
+ghost use Rattle.declared_names.specs.View.{scope_view, space_view};
+ghost use Rattle.project_tables.specs.Rows.{AreRows, AreRowsOf, row_view};
+ghost use Rattle.project_tables.specs.Signed.{whole_scope};
+ghost use Rattle.project_tables.specs.Steps.{ArePlain, HasValues, IsModule, IsPlain, module_scope, own_statics, procedure_of, statics_in};
+
+use crate::rows::{ProcedureRow, Rows};
+use crate::scopes::constants_of;
+use bound_declarations::{
+    Kept, NotYet, bound_module, bound_procedure, kept_declarations, module_variables,
+};
+use bound_project::{Declaration, Declarations, Module, Procedure};
+use constant_values::ProjectValues;
+use declared_names::{Counted, Scope, Space, count_of};
+use std::alloc::Global;
+use vba_base::{NoMemory, OrMemory};
+
+/// Goes on where a module is no class and declares no Type.
+fn check_plain(space: &Space) -> Result<(), OrMemory<NotYet>>
+    ensures { OnOk result (IsPlain (space_view space.now)) }
+{
+    let types = count_of(Counted::Types, space.entries.as_slice())?;
+    if space.source.is_class || types != 0 {
+        return Err(OrMemory::Fault(NotYet));
+    }
+    Ok(())
+}
+
+/// Goes on where no module is a class or declares a Type.
+#[tactic(auto, using(std::proofs::lemmas::List::drop_more))]
+fn check_all_plain(spaces: &[Space]) -> Result<(), OrMemory<NotYet>>
+    ensures { OnOk result (ArePlain (map space_view spaces.now)) }
+{
+    for space in spaces {
+        check_plain(space)?;
+    }
+    Ok(())
+}
+
+/// Adds a module.
+#[tactic(auto, using(crate::proofs::Shared::modules_push))]
+fn push_bound_module(modules: &mut Vec<Module>, made: Module) -> Result<(), NoMemory>
+    ensures { OnOk result (map module_view modules.new.items ≡ map module_view modules.old.items ++ module_view made ∷ []) }
+{
+    Ok(modules.push(made)?)
+}
+
+/// The modules of a project.
+#[tactic(auto, using(std::proofs::lemmas::List::drop_more))]
+fn bound_modules(alloc: Global, spaces: &[Space]) -> Result<Vec<Module>, NoMemory>
+    ensures { IfOk result (λ modules. map module_view modules.items ≡ map bind.bound_module (map space_view spaces.now)) }
+{
+    let mut modules = Vec::new(alloc);
+    for space in spaces {
+        push_bound_module(&mut modules, bound_module(alloc, space)?)?;
+    }
+    Ok(modules)
+}
+
+/// Adds the variables of a module, unless it is a class.
+fn push_variables<'a>(
+    alloc: Global,
+    scope: Scope<'a>,
+    shared: &mut Vec<Declaration>,
+) -> Result<(), OrMemory<NotYet>>
+    ensures { OnOk result (map declaration_view shared.new.items ≡ map declaration_view shared.old.items
+        ++ (if (scope_view scope.entry).here.source.is_class then [] else storage.module_declarations (scope_view scope.entry) (scope_view scope.entry).here.entries)) }
+{
+    if scope.here.source.is_class {
+        return Ok(());
+    }
+    module_variables(alloc, scope, scope.here.entries.as_slice(), shared)
+}
+
+/// Adds the statics of a procedure.
+fn push_own_statics<'a>(
+    alloc: Global,
+    scope: Scope<'a>,
+    row: &ProcedureRow<'a>,
+    shared: &mut Vec<Declaration>,
+) -> Result<(), OrMemory<NotYet>>
+    ensures { OnOk result (map declaration_view shared.new.items
+        ≡ map declaration_view shared.old.items ++ own_statics (scope_view scope.entry) (row_view row.now)) }
+{
+    let locals = row.locals.as_slice();
+    let inside = Scope {
+        spaces: scope.spaces,
+        here: scope.here,
+        locals,
+    };
+    kept_declarations(alloc, Kept::Static, inside, locals, shared)
+}
+
+/// Adds the statics of procedures.
+#[tactic(auto, using(std::proofs::lemmas::List::drop_more))]
+fn push_statics<'a>(
+    alloc: Global,
+    scope: Scope<'a>,
+    rows: &[ProcedureRow<'a>],
+    shared: &mut Vec<Declaration>,
+) -> Result<(), OrMemory<NotYet>>
+    ensures { OnOk result (map declaration_view shared.new.items
+        ≡ map declaration_view shared.old.items ++ statics_in (scope_view scope.entry) (map row_view rows.now)) }
+{
+    for row in rows {
+        push_own_statics(alloc, scope, row, shared)?;
+    }
+    Ok(())
+}
+
+/// Adds what a module shares: its variables, and the statics of its procedures.
+#[tactic(auto, using(crate::proofs::Shared::shared_is))]
+fn push_shared<'a>(
+    alloc: Global,
+    spaces: &'a [Space<'a>],
+    space: &'a Space<'a>,
+    rows: &[ProcedureRow<'a>],
+    shared: &mut Vec<Declaration>,
+) -> Result<(), OrMemory<NotYet>>
+    requires { AreRowsOf (module_scope spaces.now space.now) rows.now }
+    ensures { OnOk result (map declaration_view shared.new.items
+        ≡ map declaration_view shared.old.items ++ storage.shared_of (module_scope spaces.now space.now)) }
+{
+    let scope = Scope {
+        spaces,
+        here: space,
+        locals: &[],
+    };
+    push_variables(alloc, scope, shared)?;
+    push_statics(alloc, scope, rows, shared)?;
+    Ok(())
+}
+
+/// The variables that a project shares.
+#[tactic(auto, using(std::proofs::lemmas::List::drop_more))]
+fn shared_variables<'a>(
+    alloc: Global,
+    spaces: &'a [Space<'a>],
+    rows: &Rows<'a>,
+) -> Result<Vec<Declaration>, OrMemory<NotYet>>
+    requires { AreRows rows.now (map space_view spaces.now) }
+    ensures { IfOk result (λ shared. map declaration_view shared.items ≡ storage.shared_from (whole_scope (map space_view spaces.now)) (map space_view spaces.now)) }
+{
+    let mut shared = Vec::new(alloc);
+    for (number, space) in spaces.iter().enumerate() {
+        let of = rows.of[number].as_slice();
+        push_shared(alloc, spaces, space, of, &mut shared)?;
+    }
+    Ok(shared)
+}
+
+/// A procedure as it is bound.
+fn procedure_of<'a>(
+    alloc: Global,
+    scope: Scope<'a>,
+    project: &ProjectValues,
+    row: &ProcedureRow<'a>,
+) -> Result<Procedure, OrMemory<NotYet>>
+    requires placed { IsPlaced (scope_view scope) }
+    requires values { AreProjectValues project.now (scope_view scope).spaces }
+    requires own { HasValues (scope_view scope) row.now }
+    ensures { IfOk result (λ procedure. procedure_view procedure ≡ procedure_of (scope_view scope.entry) (row_view row.now)) }
+{
+    let constants = constants_of(scope, &*project, &*row);
+    bound_procedure(alloc, constants, row.written)
+}
+
+/// Adds a procedure.
+#[tactic(auto, using(crate::proofs::Shared::procedures_push))]
+fn push_procedure(
+    procedures: &mut Vec<Procedure>,
+    procedure: Procedure,
+) -> Result<(), OrMemory<NotYet>>
+    ensures { OnOk result (map procedure_view procedures.new.items ≡ map procedure_view procedures.old.items ++ procedure_view procedure ∷ []) }
+{
+    Ok(procedures.push(procedure)?)
+}
+
+/// Adds the procedures of a module.
+#[tactic(auto, using(std::proofs::lemmas::List::drop_more, crate::proofs::Steps::own_values_of, crate::proofs::Shared::module_bound))]
+fn push_procedures<'a>(
+    alloc: Global,
+    spaces: &'a [Space<'a>],
+    space: &'a Space<'a>,
+    project: &ProjectValues,
+    rows: &[ProcedureRow<'a>],
+    procedures: &mut Vec<Procedure>,
+) -> Result<(), OrMemory<NotYet>>
+    requires { IsModule (module_scope spaces.now space.now) project.now rows.now }
+    ensures { OnOk result (map procedure_view procedures.new.items
+        ≡ map procedure_view procedures.old.items ++ bind.procedures_of (module_scope spaces.now space.now)) }
+{
+    let scope = Scope {
+        spaces,
+        here: space,
+        locals: &[],
+    };
+    for row in rows {
+        push_procedure(procedures, procedure_of(alloc, scope, project, row)?)?;
+    }
+    Ok(())
+}
+
+/// The procedures of a project.
+#[tactic(auto, using(std::proofs::lemmas::List::drop_more))]
+fn bound_procedures<'a>(
+    alloc: Global,
+    spaces: &'a [Space<'a>],
+    rows: &Rows<'a>,
+) -> Result<Vec<Procedure>, OrMemory<NotYet>>
+    requires numbered { AreNumbered (map space_view spaces.now) }
+    requires rows { AreRows rows.now (map space_view spaces.now) }
+    ensures { IfOk result (λ procedures. map procedure_view procedures.items
+        ≡ flat_map (λ space. bind.procedures_of (home (whole_scope (map space_view spaces.now)) space)) (map space_view spaces.now)) }
+{
+    let mut procedures = Vec::new(alloc);
+    for (number, space) in spaces.iter().enumerate() {
+        let of = rows.of[number].as_slice();
+        push_procedures(alloc, spaces, space, &rows.values, of, &mut procedures)?;
+    }
+    Ok(procedures)
+}
+
+/// All that a project declares. A Type or a class anywhere isn't written yet.
+#[tactic(auto, using(crate::proofs::Shared::no_types, crate::proofs::Shared::no_classes))]
+pub fn declarations<'a>(
+    alloc: Global,
+    spaces: &'a [Space<'a>],
+    rows: &Rows<'a>,
+) -> Result<Declarations, OrMemory<NotYet>>
+    requires numbered { AreNumbered (map space_view spaces.now) }
+    requires rows { AreRows rows.now (map space_view spaces.now) }
+    ensures { IfOk result (λ declared. declarations_view declared
+        ≡ bind.declarations_of the_outside (scope_of the_outside (map space_view spaces.now) bind.no_space) (map space_view spaces.now)) }
+{
+    check_all_plain(spaces)?;
+    let modules = bound_modules(alloc, spaces)?;
+    let shared = shared_variables(alloc, spaces, rows)?;
+    let procedures = bound_procedures(alloc, spaces, rows)?;
+    Ok(Declarations {
+        modules,
+        types: Vec::new(alloc),
+        classes: Vec::new(alloc),
+        shared,
+        procedures,
+    })
+}
