@@ -13,7 +13,7 @@ use Rattle.declared_names.specs.View.{local_view, space_view}
 use Rattle.declared_names.specs.declared.space.Space.{Space as SpaceHere}
 use Rattle.constant_values.specs.Rounds.{IsPlaced}
 use Rattle.constant_values.specs.Tables.{AreOwnValues, AreProjectValues}
-use Rattle.constant_values.specs.declared.own.ProjectValues.{ProjectValues}
+use Rattle.constant_values.specs.declared.project.ProjectValues.{ProjectValues}
 use Rattle.project_tables.specs.declared.rows.ProcedureRow.{ProcedureRow}
 use Rattle.project_tables.specs.Rows.{Row, AreRowsOf}
 use Rattle.project_tables.specs.Signed.{Signed}
