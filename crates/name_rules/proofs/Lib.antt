@@ -1,0 +1,7 @@
+pub mod DeclaredHere
+pub mod Gathered
+pub mod Inside
+pub mod Judged
+pub mod Later
+pub mod RowsTold
+pub mod TypesHeld

@@ -1,0 +1,4 @@
+pub mod Naming
+pub mod Held
+pub mod Judged
+pub mod Rows
