@@ -5,4 +5,4 @@ mod laws;
 mod parse;
 
 pub use laws::{modules_are_refused_by_the_least, modules_have_one_tree};
-pub use parse::{check_module, parse_module};
+pub use parse::{check_module, parse_module, read_module};

@@ -36,7 +36,7 @@ pub fn parse_module(
     ensures tree { IfOk result (λ tree. IsModule is_class (read_lexed source.now (lines_view lines.now)) (tree_view part_view tree)) }
     ensures refused { IfErr result (IsRefused is_class (read_lexed source.now (lines_view lines.now))) }
 {
-    let parts = read_unbroken(alloc, source, lines, is_class)?;
+    let parts = read_module(alloc, source, lines, is_class)?;
     Ok(bracket(alloc, parts)?)
 }
 
@@ -52,12 +52,13 @@ pub fn check_module(
     ensures unbroken { IfOk result (λ done. verdict is_class (read_lexed source.now (lines_view lines.now)) ≡ None) }
     ensures refused { IfErr result (IsRefused is_class (read_lexed source.now (lines_view lines.now))) }
 {
-    read_unbroken(alloc, source, lines, is_class)?;
+    read_module(alloc, source, lines, is_class)?;
     Ok(())
 }
 
-/// The parts of the lines of a module that breaks none of the rules.
-fn read_unbroken(
+/// The parts of the module with these lines, in a class or not: what `parse_module` reads, with the same refusals, before it is
+/// bracketed. The tokens of the lines have to lie in the source.
+pub fn read_module(
     alloc: Global,
     source: &Units,
     lines: &[Line],

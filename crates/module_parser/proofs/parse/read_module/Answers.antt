@@ -5,7 +5,7 @@ use Rattle.vba_module.specs.Verdict.{part_violations}
 use Rattle.module_parts.specs.View.{parts_view}
 use Rattle.module_parser.specs.Parsed.{read_lexed}
 use Rattle.module_parser.proofs.Parses.{no_block_faults, verdict_found}
-use Rattle.module_parser.proofs.parse.read_unbroken.Goals as goal
+use Rattle.module_parser.proofs.parse.read_module.Goals as goal
 
 -- what is found is the verdict
 pub returns-in-Some-clause-refused : goal.returns-in-Some-clause-refused
