@@ -1,0 +1,19 @@
+use Rattle.std.proofs.Common.{Option, sym, subst}
+use Rattle.vba_expression.specs.View.{view as expression_view}
+use Rattle.bound_project.specs.declared.declared_type.DeclaredType.{DeclaredType}
+use Rattle.bound_project.specs.DraftView.{draft_view}
+use Rattle.binder.specs.ExpressionsBound.{bound_operand}
+use Rattle.bound_terms.specs.Steps.{Binds}
+use Rattle.bound_terms.specs.View.{env_view}
+use Rattle.bound_terms.proofs.Acting.{action_assigned}
+use Rattle.bound_terms.proofs.actions.bind_assignment.Goals as goal
+
+pub returns : goal.returns
+returns c =
+    let env = env_view c.args.env in
+    let value = expression_view c.args.value.now in
+    let d = draft_view c.args.draft.now in
+    let e = draft_view c.bind_operand.new.draft in
+    let A : Option DeclaredType → Type 0 = λ (o : Option DeclaredType). Binds (bound_operand env value) d e o in
+    action_assigned env value (expression_view c.args.place.now) c.in-Some._of c.in_ok-tree.tree d e (draft_view c.tree_of.new.draft) (draft_view c.assign.new.draft) c.requires.empty (subst A c.in-Some.is c.in_ok-found.ensures)
+    c.in_ok-tree.ensures c.in_ok-assign.ensures

@@ -1,0 +1,28 @@
+use Rattle.std.proofs.Common.{◌≡◌, Option, Some, sym, ap, subst, ◌∙◌}
+use Rattle.std.specs.Prelude.{is_some, option_map}
+use Rattle.bound_project.specs.DraftView.{draft_view}
+use Rattle.binder.specs.Scopes.{Meant, plainly}
+use Rattle.binder.specs.ExpressionsBound.{meant_term}
+use Rattle.constant_values.specs.Rounds.{IsThere}
+use Rattle.constant_values.proofs.Looked.{behind_there}
+use Rattle.declared_names.specs.View.{qualifier_view, scope_view}
+use Rattle.bound_terms.specs.Steps.{MakesLeaf}
+use Rattle.bound_terms.specs.View.{env_view}
+use Rattle.bound_terms.proofs.Dotted.{makes_behind}
+use Rattle.bound_terms.proofs.members.behind_qualifier.Goals as goal
+
+pub meant_term-requires-clause-there : goal.meant_term-requires-clause-there
+meant_term-requires-clause-there c =
+    let s = scope_view c.args.env.constants.scope in
+    let A : Option Meant → Type 0 = λ (m : Option Meant). IsThere s m in
+    subst A (sym c.behind-meant.ensures) (behind_there plainly s (qualifier_view c.args.qualifier) c.args.member.now c.requires.there)
+
+pub returns : goal.returns
+returns c =
+    let env = env_view c.args.env in
+    let f = c.args.member.now in
+    let d = draft_view c.args.draft.now in
+    let e = draft_view c.meant_term.new.draft in
+    let A : Option Meant → Type 0 = λ (m : Option Meant). MakesLeaf env d e c.in_ok-term.term (meant_term env f m) in
+    λ k. makes_behind env c.args.tree f (qualifier_view c.args.qualifier) d e c.in_ok-term.term c.is_there-is_qualifier.result (subst A c.behind-meant.ensures c.in_ok-term.ensures)
+    (c.is_there-is_qualifier.ensures ∙ ap is_some c.enum_behind.ensures) k

@@ -1,0 +1,30 @@
+use Rattle.std.proofs.Common.{refl, sym, subst, Option, Some, false}
+use Rattle.std.specs.Prelude.{reverse}
+use Rattle.vba_expression.specs.Tree.{name}
+use Rattle.bound_project.specs.DraftView.{draft_view}
+use Rattle.binder.specs.Scopes.{Scope, Meant, plainly}
+use Rattle.binder.specs.ExpressionsBound.{meant_term}
+use Rattle.declared_names.specs.View.{scope_view}
+use Rattle.constant_values.specs.Rounds.{IsThere}
+use Rattle.constant_values.proofs.Looked.{declared_there}
+use Rattle.bound_terms.specs.Steps.{MakesLeaf}
+use Rattle.bound_terms.specs.View.{env_view}
+use Rattle.bound_terms.proofs.Steps.{goes_leaf}
+use Rattle.bound_terms.proofs.step.step_name.Goals as goal
+
+pub meant_term-requires-clause-there : goal.meant_term-requires-clause-there
+meant_term-requires-clause-there c =
+    let s = scope_view c.args.env.constants.scope in
+    let A : Option Meant → Type 0 = λ (m : Option Meant). IsThere s m in
+    subst A (sym c.declares-meant.ensures) (declared_there plainly s c.args.name.now c.requires.env.placed)
+
+pub returns : goal.returns
+returns c =
+    let env = env_view c.args.env in
+    let x = c.args.name.now in
+    let d = draft_view c.args.draft.now in
+    let e = draft_view c.settle.new.draft in
+    let f = draft_view c.meant_term.new.draft in
+    let A : Option Meant → Type 0 = λ m. MakesLeaf env e f c.in_ok-term.term (meant_term env x m) in
+    goes_leaf env (reverse c.args.stack.now.items) (reverse c.settle.new.stack.items) (reverse c.put_item.new.stack.items) d e f (record { place = x.token.place; name = Some c.args.name; is_qualifier = false; term = c.in_ok-term.term }) (name x)
+    (c.in_ok-settle.ensures env) (subst A c.declares-meant.ensures c.in_ok-term.ensures) refl refl tt c.in_ok-put_item.ensures

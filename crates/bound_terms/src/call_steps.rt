@@ -1,0 +1,139 @@
+ghost use Rattle.std.specs.Prelude.{◌≡◌, OnOk, Option, reverse};
+ghost use Rattle.vba_lexer.specs.declared.token.Token.{Token};
+ghost use Rattle.vba_expression.specs.declared.node.ExpressionNode.TheVariants as node;
+ghost use Rattle.vba_expression.specs.Nodes.{behind_node};
+ghost use Rattle.bound_project.specs.DraftView.{draft_view};
+ghost use Rattle.binder.specs.Terms as plain;
+ghost use Rattle.bound_terms.specs.Calls.{passed_in, with_passed};
+ghost use Rattle.bound_terms.specs.Standing.{AllNamed};
+ghost use Rattle.bound_terms.specs.Steps.{Goes};
+ghost use Rattle.bound_terms.specs.View.{EnvStands, env_view};
+
+use crate::arguments::{pass_missing, pass_plain};
+use crate::calls::{call_ending, called};
+use crate::env::Env;
+use crate::stack::{put_item, take_item};
+use crate::term::{Call, Item, Passed, Term, Tree};
+use bound_declarations::NotYet;
+use bound_project::Draft;
+use std::alloc::Global;
+use vba_base::OrMemory;
+
+/// Arguments begin: the expression on top is called.
+pub fn step_no_arguments<'a>(
+    alloc: Global,
+    draft: &mut Draft,
+    env: Env<'a>,
+    stack: &mut Vec<Item<'a>>,
+) -> Result<(), OrMemory<NotYet>>
+    requires env { EnvStands env }
+    requires named { AllNamed (draft_view draft.old).tables (reverse stack.old.items) }
+    ensures { OnOk result (Goes (env_view env.entry) (draft_view draft.old) (reverse stack.old.items) (draft_view draft.new) (reverse stack.new.items) (behind_node node.NoArguments)) }
+{
+    let Some(Item::Tree(tree)) = take_item(stack) else {
+        return Err(OrMemory::NoMemory);
+    };
+    let routine = called(alloc, draft, env, tree)?;
+    put_item(
+        stack,
+        Item::Call(Call {
+            place: tree.place,
+            routine,
+            passed: Passed {
+                left: routine.parameters,
+                count: 0,
+            },
+        }),
+    )?;
+    Ok(())
+}
+
+/// The arguments of an item.
+fn passed_in<'a>(item: Item<'a>) -> Option<Passed<'a>>
+    ensures { result ≡ passed_in item.entry }
+{
+    match item {
+        Item::Call(call) => Some(call.passed),
+        Item::Listed(passed) => Some(passed),
+        _ => None,
+    }
+}
+
+/// An item with other arguments.
+fn with_passed<'a>(item: Item<'a>, passed: Passed<'a>) -> Item<'a>
+    ensures { result ≡ with_passed item.entry passed.entry }
+{
+    match item {
+        Item::Call(call) => Item::Call(Call { passed, ..call }),
+        Item::Listed(_) => Item::Listed(passed),
+        _ => item,
+    }
+}
+
+/// One more argument: the expression on top.
+pub fn step_plain_argument<'a>(
+    alloc: Global,
+    draft: &mut Draft,
+    stack: &mut Vec<Item<'a>>,
+) -> Result<(), OrMemory<NotYet>>
+    requires { AllNamed (draft_view draft.old).tables (reverse stack.old.items) }
+    ensures { OnOk result ((env : plain.Env) (comma : Option Token) → Goes env (draft_view draft.old) (reverse stack.old.items) (draft_view draft.new) (reverse stack.new.items) (behind_node (node.PlainArgument comma))) }
+{
+    let Some(Item::Tree(tree)) = take_item(stack) else {
+        return Err(OrMemory::NoMemory);
+    };
+    let Some(item) = take_item(stack) else {
+        return Err(OrMemory::NoMemory);
+    };
+    let Some(passed) = passed_in(item) else {
+        return Err(OrMemory::NoMemory);
+    };
+    let passed = pass_plain(alloc, draft, passed, tree)?;
+    put_item(stack, with_passed(item, passed))?;
+    Ok(())
+}
+
+/// One more argument, which isn't written.
+pub fn step_missing_argument<'a>(
+    alloc: Global,
+    draft: &mut Draft,
+    stack: &mut Vec<Item<'a>>,
+) -> Result<(), OrMemory<NotYet>>
+    requires { AllNamed (draft_view draft.old).tables (reverse stack.old.items) }
+    ensures { OnOk result ((env : plain.Env) (comma : Option Token) → Goes env (draft_view draft.old) (reverse stack.old.items) (draft_view draft.new) (reverse stack.new.items) (behind_node (node.MissingArgument comma))) }
+{
+    let Some(item) = take_item(stack) else {
+        return Err(OrMemory::NoMemory);
+    };
+    let Some(passed) = passed_in(item) else {
+        return Err(OrMemory::NoMemory);
+    };
+    let passed = pass_missing(alloc, draft, passed)?;
+    put_item(stack, with_passed(item, passed))?;
+    Ok(())
+}
+
+/// Arguments end: a call.
+pub fn step_index<'a>(
+    alloc: Global,
+    draft: &mut Draft,
+    stack: &mut Vec<Item<'a>>,
+) -> Result<(), OrMemory<NotYet>>
+    requires { AllNamed (draft_view draft.old).tables (reverse stack.old.items) }
+    ensures { OnOk result ((env : plain.Env) (left right : Token) → Goes env (draft_view draft.old) (reverse stack.old.items) (draft_view draft.new) (reverse stack.new.items) (behind_node (node.Index left right))) }
+{
+    let Some(Item::Call(call)) = take_item(stack) else {
+        return Err(OrMemory::NoMemory);
+    };
+    let ending = call_ending(alloc, draft, call.routine, call.passed)?;
+    put_item(
+        stack,
+        Item::Tree(Tree {
+            place: call.place,
+            name: None,
+            is_qualifier: false,
+            term: Term::Value(ending),
+        }),
+    )?;
+    Ok(())
+}

@@ -1,0 +1,140 @@
+ghost use Rattle.std.specs.Prelude.{◌≡◌, OnOk, IfOk, reverse};
+ghost use Rattle.vba_expression.specs.Nodes.{behind_node, behind_nodes, tree_in};
+ghost use Rattle.vba_expression.specs.View.{view as expression_view};
+ghost use Rattle.bound_project.specs.DraftView.{draft_view};
+ghost use Rattle.binder.specs.ExpressionsBound.{bound_operand, bound_value};
+ghost use Rattle.bound_terms.specs.Standing.{AllNamed, TermNamed};
+ghost use Rattle.bound_terms.specs.Steps.{Binds, Goes, Leaves, PushesValue};
+ghost use Rattle.bound_terms.specs.View.{EnvStands, env_view};
+
+use crate::call_steps::{
+    step_index, step_missing_argument, step_no_arguments, step_plain_argument,
+};
+use crate::env::Env;
+use crate::members::step_member;
+use crate::stack::{push_operand, take_item};
+use crate::step::{step_binary, step_literal, step_name, step_parenthesised, step_unary};
+use crate::take::{push_ending, value_ending};
+use crate::term::{Item, Tree};
+use bound_declarations::NotYet;
+use bound_project::{DeclaredType, Draft};
+use std::alloc::Global;
+use vba_base::OrMemory;
+use vba_expression::{Expression, ExpressionNode};
+
+/// Reads one node.
+fn step<'a>(
+    alloc: Global,
+    draft: &mut Draft,
+    env: Env<'a>,
+    stack: &mut Vec<Item<'a>>,
+    node: &'a ExpressionNode,
+) -> Result<(), OrMemory<NotYet>>
+    requires env { EnvStands env }
+    requires named { AllNamed (draft_view draft.old).tables (reverse stack.old.items) }
+    ensures { OnOk result (Goes (env_view env.entry) (draft_view draft.old) (reverse stack.old.items) (draft_view draft.new) (reverse stack.new.items) (behind_node node.now)) }
+{
+    match node {
+        ExpressionNode::Literal(literal) => step_literal(alloc, draft, stack, literal),
+        ExpressionNode::Name(name) => step_name(alloc, draft, env, stack, name),
+        ExpressionNode::Member { member, .. } => step_member(alloc, draft, env, stack, member),
+        ExpressionNode::Parenthesised { left, .. } => step_parenthesised(
+            alloc, draft, stack, *left,
+        ),
+        ExpressionNode::Unary { operator, token } => {
+            step_unary(alloc, draft, stack, *operator, *token)
+        }
+        ExpressionNode::Binary { operator, .. } => {
+            step_binary(alloc, draft, env.compare, stack, *operator)
+        }
+        ExpressionNode::NoArguments => step_no_arguments(alloc, draft, env, stack),
+        ExpressionNode::MissingArgument { .. } => step_missing_argument(alloc, draft, stack),
+        ExpressionNode::PlainArgument { .. } => step_plain_argument(alloc, draft, stack),
+        ExpressionNode::Index { .. } => step_index(alloc, draft, stack),
+        _ => Err(OrMemory::Fault(NotYet)),
+    }
+}
+
+/// Reads nodes in order.
+pub fn run<'a>(
+    alloc: Global,
+    draft: &mut Draft,
+    env: Env<'a>,
+    stack: &mut Vec<Item<'a>>,
+    nodes: &'a [ExpressionNode],
+) -> Result<(), OrMemory<NotYet>>
+    requires env { EnvStands env }
+    requires named { AllNamed (draft_view draft.old).tables (reverse stack.old.items) }
+    ensures { OnOk result (Goes (env_view env.entry) (draft_view draft.old) (reverse stack.old.items) (draft_view draft.new) (reverse stack.new.items) (λ is. behind_nodes is nodes.now)) }
+{
+    for node in nodes {
+        step(alloc, draft, env, stack, node)?;
+    }
+    Ok(())
+}
+
+/// What an expression is; all of its nodes but the last one are pushed.
+pub fn tree_of<'a>(
+    alloc: Global,
+    draft: &mut Draft,
+    env: Env<'a>,
+    expression: &'a Expression,
+) -> Result<Tree<'a>, OrMemory<NotYet>>
+    requires { EnvStands env }
+    ensures { IfOk result (λ tree. Leaves (env_view env.entry) (expression_view expression.now) (draft_view draft.old) (draft_view draft.new) tree) }
+{
+    let mut stack = Vec::new(alloc);
+    run(alloc, draft, env, &mut stack, expression.nodes())?;
+    let Some(Item::Tree(tree)) = take_item(&mut stack) else {
+        return Err(OrMemory::NoMemory);
+    };
+    if stack.is_empty() {
+        Ok(tree)
+    } else {
+        Err(OrMemory::NoMemory)
+    }
+}
+
+/// Pushes an expression as a value; answers its type.
+pub fn push_value<'a>(
+    alloc: Global,
+    draft: &mut Draft,
+    tree: Tree<'a>,
+) -> Result<Option<DeclaredType>, OrMemory<NotYet>>
+    requires { TermNamed (draft_view draft.old).tables tree.term }
+    ensures { IfOk result (λ of. PushesValue tree.entry (draft_view draft.old) (draft_view draft.new) of) }
+{
+    let ending = value_ending(alloc, draft, tree.term, tree.place)?;
+    let of = push_ending(draft, ending, tree.place)?;
+    Ok(of)
+}
+
+/// Pushes the nodes of an expression as an operand; answers the type that it has as one, and none where it isn't bound.
+pub fn bind_operand<'a>(
+    alloc: Global,
+    draft: &mut Draft,
+    env: Env<'a>,
+    expression: &'a Expression,
+) -> Result<Option<DeclaredType>, OrMemory<NotYet>>
+    requires { EnvStands env }
+    ensures { IfOk result (λ of. Binds (bound_operand (env_view env.entry) (expression_view expression.now)) (draft_view draft.old) (draft_view draft.new) of) }
+{
+    let tree = tree_of(alloc, draft, env, expression)?;
+    let of = push_operand(alloc, draft, tree)?;
+    Ok(of)
+}
+
+/// Pushes the nodes of an expression as a value; answers its type, and none where it isn't bound.
+pub fn bind_value<'a>(
+    alloc: Global,
+    draft: &mut Draft,
+    env: Env<'a>,
+    expression: &'a Expression,
+) -> Result<Option<DeclaredType>, OrMemory<NotYet>>
+    requires { EnvStands env }
+    ensures { IfOk result (λ of. Binds (bound_value (env_view env.entry) (expression_view expression.now)) (draft_view draft.old) (draft_view draft.new) of) }
+{
+    let tree = tree_of(alloc, draft, env, expression)?;
+    let of = push_value(alloc, draft, tree)?;
+    Ok(of)
+}

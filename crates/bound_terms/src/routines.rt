@@ -1,0 +1,71 @@
+ghost use Rattle.std.specs.Prelude.{◌≡◌, IfOk, Some};
+ghost use Rattle.bound_project.specs.View.{declared_view};
+ghost use Rattle.binder.specs.Constants as constants;
+ghost use Rattle.binder.specs.Declarations.{a_procedure};
+ghost use Rattle.binder.specs.ExpressionsBound as bound;
+ghost use Rattle.binder.specs.Scopes.{of_module};
+ghost use Rattle.binder.specs.Terms.{a_routine};
+ghost use Rattle.constant_values.specs.Rounds.{IsThere};
+ghost use Rattle.declared_names.specs.View.{entry_view, scope_view, space_view, what_view, written_view};
+ghost use Rattle.bound_terms.specs.Owned.{IsRoutine};
+ghost use Rattle.bound_terms.specs.View.{EnvStands, env_view};
+
+use crate::env::Env;
+use crate::term::Routine;
+use bound_declarations::{NotYet, gives_value, is_property, procedure_number, result_type};
+use bound_project::{DeclaredType, ElementType};
+use declared_names::{Entry, Scope, Space, Written};
+use vba_base::OrMemory;
+
+/// The scope of the declarations of a module.
+pub fn home<'a>(scope: Scope<'a>, space: &'a Space<'a>) -> Scope<'a>
+    ensures { scope_view result ≡ constants.home (scope_view scope.entry) (space_view space.now) }
+{
+    Scope {
+        spaces: scope.spaces,
+        here: space,
+        locals: &[],
+    }
+}
+
+/// The type of what a procedure gives.
+fn call_type<'a>(
+    scope: Scope<'a>,
+    space: &'a Space<'a>,
+    written: Written<'a>,
+) -> Result<DeclaredType, OrMemory<NotYet>>
+    ensures { IfOk result (λ of. declared_view of ≡ bound.call_type (scope_view scope.entry) (space_view space.now) (written_view written.entry)) }
+{
+    if gives_value(written.header.words) {
+        result_type(home(scope, space), written)
+    } else {
+        Ok(DeclaredType::Plain(ElementType::Variant))
+    }
+}
+
+/// What a call of a procedure needs, by its entry in a module of the project; properties aren't bound yet.
+pub fn routine_of<'a>(
+    env: Env<'a>,
+    space: &'a Space<'a>,
+    number: usize,
+    entry: Entry<'a>,
+    written: Written<'a>,
+) -> Result<Routine<'a>, OrMemory<NotYet>>
+    requires env { EnvStands env }
+    requires there { IsThere (scope_view env.constants.scope) (Some (of_module (space_view space.now) number (entry_view entry))) }
+    requires what { what_view entry.what ≡ a_procedure (written_view written) }
+    ensures { IfOk result (λ routine. IsRoutine (env_view env.entry) routine (a_routine (space_view space.now) number (written_view written.entry))) }
+{
+    if is_property(written.header.words) {
+        return Err(OrMemory::Fault(NotYet));
+    }
+    let scope = env.constants.scope;
+    let procedure = procedure_number(scope, space, number)?;
+    let of = call_type(scope, space, written)?;
+    let parameters = env.signatures.parameters(scope, space, number)?;
+    Ok(Routine {
+        procedure,
+        parameters,
+        of,
+    })
+}

@@ -1,0 +1,177 @@
+ghost use Rattle.std.specs.Prelude.{◌≡◌, OnOk, reverse};
+ghost use Rattle.vba_lexer.specs.declared.token.Token.{Token};
+ghost use Rattle.vba_expression.specs.declared.node.ExpressionNode.TheVariants as node;
+ghost use Rattle.vba_expression.specs.Nodes.{behind_node};
+ghost use Rattle.bound_project.specs.DraftView.{draft_view};
+ghost use Rattle.binder.specs.Constants.{compare_in};
+ghost use Rattle.binder.specs.Terms as plain;
+ghost use Rattle.bound_terms.specs.Standing.{AllNamed};
+ghost use Rattle.bound_terms.specs.Steps.{Goes, as_term};
+ghost use Rattle.bound_terms.specs.View.{EnvStands, env_view};
+
+use crate::constants::value_term;
+use crate::env::Env;
+use crate::names::meant_term;
+use crate::operators::{binary_term, unary_term};
+use crate::stack::{push_operand, put_item, settle, take_item};
+use crate::take::value_ending;
+use crate::term::{Ending, Item, Term, Tree};
+use bound_declarations::NotYet;
+use bound_project::Draft;
+use constant_values::{literal_meant, value_type};
+use declared_names::{Use, declares};
+use std::alloc::Global;
+use vba_base::OrMemory;
+use vba_expression::{BinaryOperator, Literal, UnaryOperator};
+use vba_lexer::Token;
+use vba_values::Compare;
+use vba_words::Identifier;
+
+/// A literal: a value.
+pub fn step_literal<'a>(
+    alloc: Global,
+    draft: &mut Draft,
+    stack: &mut Vec<Item<'a>>,
+    literal: &Literal,
+) -> Result<(), OrMemory<NotYet>>
+    requires { AllNamed (draft_view draft.old).tables (reverse stack.old.items) }
+    ensures { OnOk result ((env : plain.Env) → Goes env (draft_view draft.old) (reverse stack.old.items) (draft_view draft.new) (reverse stack.new.items) (behind_node (node.Literal literal.now))) }
+{
+    settle(alloc, draft, stack)?;
+    let value = literal_meant(alloc, &literal.value)?;
+    let of = value_type(&value);
+    let term = value_term(draft, value, of)?;
+    put_item(
+        stack,
+        Item::Tree(Tree {
+            place: literal.token.place,
+            name: None,
+            is_qualifier: false,
+            term,
+        }),
+    )?;
+    Ok(())
+}
+
+/// A value as a term.
+fn as_term<'a>(ending: Option<Ending>) -> Term<'a>
+    ensures { result ≡ as_term ending }
+{
+    match ending {
+        Some(ending) => Term::Value(ending),
+        None => Term::Nothing,
+    }
+}
+
+/// Parentheses: what stands in them is a value.
+pub fn step_parenthesised<'a>(
+    alloc: Global,
+    draft: &mut Draft,
+    stack: &mut Vec<Item<'a>>,
+    left: Token,
+) -> Result<(), OrMemory<NotYet>>
+    requires { AllNamed (draft_view draft.old).tables (reverse stack.old.items) }
+    ensures { OnOk result ((env : plain.Env) (right : Token) → Goes env (draft_view draft.old) (reverse stack.old.items) (draft_view draft.new) (reverse stack.new.items) (behind_node (node.Parenthesised left right))) }
+{
+    let Some(Item::Tree(tree)) = take_item(stack) else {
+        return Err(OrMemory::NoMemory);
+    };
+    let ending = value_ending(alloc, draft, tree.term, tree.place)?;
+    put_item(
+        stack,
+        Item::Tree(Tree {
+            place: left.place,
+            name: None,
+            is_qualifier: false,
+            term: as_term(ending),
+        }),
+    )?;
+    Ok(())
+}
+
+/// An operator of one operand.
+pub fn step_unary<'a>(
+    alloc: Global,
+    draft: &mut Draft,
+    stack: &mut Vec<Item<'a>>,
+    operator: UnaryOperator,
+    token: Token,
+) -> Result<(), OrMemory<NotYet>>
+    requires { AllNamed (draft_view draft.old).tables (reverse stack.old.items) }
+    ensures { OnOk result ((env : plain.Env) → Goes env (draft_view draft.old) (reverse stack.old.items) (draft_view draft.new) (reverse stack.new.items) (behind_node (node.Unary operator token))) }
+{
+    let Some(Item::Tree(tree)) = take_item(stack) else {
+        return Err(OrMemory::NoMemory);
+    };
+    let of = push_operand(alloc, draft, tree)?;
+    let term = unary_term(alloc, operator, of)?;
+    put_item(
+        stack,
+        Item::Tree(Tree {
+            place: token.place,
+            name: None,
+            is_qualifier: false,
+            term,
+        }),
+    )?;
+    Ok(())
+}
+
+/// An operator of two operands.
+pub fn step_binary<'a>(
+    alloc: Global,
+    draft: &mut Draft,
+    compare: Compare,
+    stack: &mut Vec<Item<'a>>,
+    operator: BinaryOperator,
+) -> Result<(), OrMemory<NotYet>>
+    requires { AllNamed (draft_view draft.old).tables (reverse stack.old.items) }
+    ensures { OnOk result ((env : plain.Env) (token : Token) → compare ≡ compare_in env.scope
+        → Goes env (draft_view draft.old) (reverse stack.old.items) (draft_view draft.new) (reverse stack.new.items) (behind_node (node.Binary operator token))) }
+{
+    let Some(Item::Tree(right)) = take_item(stack) else {
+        return Err(OrMemory::NoMemory);
+    };
+    let Some(Item::Operand(left)) = take_item(stack) else {
+        return Err(OrMemory::NoMemory);
+    };
+    let of = push_operand(alloc, draft, right)?;
+    let term = binary_term(alloc, compare, operator, left.of, of)?;
+    put_item(
+        stack,
+        Item::Tree(Tree {
+            place: left.place,
+            name: None,
+            is_qualifier: false,
+            term,
+        }),
+    )?;
+    Ok(())
+}
+
+/// A name, as it is used plainly.
+pub fn step_name<'a>(
+    alloc: Global,
+    draft: &mut Draft,
+    env: Env<'a>,
+    stack: &mut Vec<Item<'a>>,
+    name: &'a Identifier,
+) -> Result<(), OrMemory<NotYet>>
+    requires env { EnvStands env }
+    requires named { AllNamed (draft_view draft.old).tables (reverse stack.old.items) }
+    ensures { OnOk result (Goes (env_view env.entry) (draft_view draft.old) (reverse stack.old.items) (draft_view draft.new) (reverse stack.new.items) (behind_node (node.Name name.now))) }
+{
+    settle(alloc, draft, stack)?;
+    let meant = declares(Use::Plainly, env.constants.scope, name);
+    let term = meant_term(alloc, draft, env, name, meant)?;
+    put_item(
+        stack,
+        Item::Tree(Tree {
+            place: name.token.place,
+            name: Some(name),
+            is_qualifier: false,
+            term,
+        }),
+    )?;
+    Ok(())
+}
