@@ -1,6 +1,5 @@
 //! Trees are not let go here but forgotten: so this crate needn't prove again how a tree of each kind is dropped.
 
-use built_form::{LineTree, ProcedureEnd};
 use module_parser::{check_module, parse_module};
 use std::alloc::Global;
 use std::mem;
@@ -175,17 +174,4 @@ fn word(start: u32, end: u32) -> Token {
             column: 1,
         },
     }
-}
-
-/// `End Sub` as a line of the form that runs.
-#[test]
-fn lines_that_run_are_spelled(rt: HostRuntime) -> Result<(), Fail> {
-    let line = LineTree::ProcedureEnd(ProcedureEnd {
-        end_word: word(0, 3),
-        sub_word: word(4, 7),
-    });
-    let tokens = built_form::spell(rt.alloc(), &line);
-    mem::forget(line);
-    assert_eq!(rt; tokens?.as_slice(), [word(0, 3), word(4, 7)].as_slice());
-    Ok(())
 }

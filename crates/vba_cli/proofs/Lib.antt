@@ -1,11 +1,5 @@
-pub mod Words
-pub mod Digits
-pub mod Parts
-pub mod Trees
-pub mod Laws
-pub mod Running
+pub mod SameText
 pub mod Steps
 pub mod Promise
-pub mod Whole
-pub mod Endings
-pub mod Rows
+pub mod Bound
+pub mod Bytes

@@ -4,7 +4,7 @@ use Rattle.std.specs.Prelude.{Option, Some, None, IfSome, IsSomeAnd, unwrap_or, 
 use Rattle.vba_base.specs.Causes.{Adds, AddsPrefix}
 use Rattle.vba_base.specs.Outside.{Told}
 use Rattle.vba_cli.specs.declared.status.Status.{Status}
-use Rattle.vba_cli.specs.declared.status.Status.TheVariants.{Ended, Faulted, Usage, Refused, Going, ReadFault, WriteFault, TooLong, NotBuilt, NoMemory}
+use Rattle.vba_cli.specs.declared.status.Status.TheVariants.{Ended, Faulted, Usage, Refused, Stopped, Going, ReadFault, WriteFault, TooLong, NotBuilt, NoMemory}
 use Rattle.vba_cli.specs.Command.{file_of}
 use Rattle.vba_cli.specs.Answer.{Shown, shown_of_command, answer, path_of, err_of}
 use Rattle.vba_cli.specs.Contract.{World, NoneRose, IsAnswer, UnlessFault, UnlessUnwritten, Cause, Noticed, Quiet, names_of, ReadsOnly, Says, Commands}
@@ -31,6 +31,7 @@ meets_part shown (ReadFault number) old new m = none_prefix old new shown.out m
 meets_part shown WriteFault old new m = m
 meets_part shown (TooLong number) old new m = adds_prefix_whole old new shown.out m.1
 meets_part shown (Refused refusal) old new m = adds_prefix_whole old new shown.out m.1
+meets_part shown (Stopped why place) old new m = adds_prefix_whole old new shown.out m.1
 meets_part shown (NotBuilt place) old new m = adds_prefix_whole old new shown.out m.1
 meets_part shown NoMemory old new m = m
 
@@ -44,13 +45,14 @@ meets_status shown (ReadFault number) old new m = tt
 meets_status shown WriteFault old new m = tt
 meets_status shown (TooLong number) old new m = m.0
 meets_status shown (Refused refusal) old new m = m.0
+meets_status shown (Stopped why place) old new m = m.0
 meets_status shown (NotBuilt place) old new m = m.0
 meets_status shown NoMemory old new m = tt
 
 module _ (words : List (List ℕ)) (performed : Status) (old new : World) (p : Performs (file_of words) performed old new) where
   -- the bytes of `out` are a prefix of the answer's, whatever came
-  part : IfSome old.told (λ told. AddsPrefix old.out new.out (answer words told.files).out)
-  part = map_told old.told (λ told m. meets_part (shown_of_command told.files (file_of words)) performed old.out new.out m) p.meets
+  part : IfSome old.told (λ told. AddsPrefix old.out new.out (answer p.left words told.files).out)
+  part = map_told old.told (λ told m. meets_part (shown_of_command p.left told.files (file_of words)) performed old.out new.out m) p.meets
 
   -- a status that is told as it was performed, or the answer's, unless a fault came
   unless_of : (result : Status) (meant : Status) → UnlessFault performed meant → Tells (path_of (file_of words)) performed result old.err new.err old.err_faults new.err_faults → UnlessFault result meant
@@ -62,6 +64,7 @@ module _ (words : List (List ℕ)) (performed : Status) (old new : World) (p : P
   unless_of WriteFault meant u t = tt
   unless_of (TooLong number) meant u t = subst (λ s. UnlessFault s meant) (sym t.0) u
   unless_of (Refused refusal) meant u t = subst (λ s. UnlessFault s meant) (sym t.0) u
+  unless_of (Stopped why place) meant u t = subst (λ s. UnlessFault s meant) (sym t.0) u
   unless_of (NotBuilt place) meant u t = subst (λ s. UnlessFault s meant) (sym t.0) u
   unless_of NoMemory meant u t = tt
 
@@ -74,6 +77,7 @@ module _ (words : List (List ℕ)) (performed : Status) (old new : World) (p : P
   usage_of WriteFault u t = tt
   usage_of (TooLong number) u t = t.0 ∙ u
   usage_of (Refused refusal) u t = t.0 ∙ u
+  usage_of (Stopped why place) u t = t.0 ∙ u
   usage_of (NotBuilt place) u t = t.0 ∙ u
   usage_of NoMemory u t = tt
 
@@ -93,7 +97,8 @@ module _ (words : List (List ℕ)) (performed : Status) (old new : World) (p : P
   cause_of WriteFault t = elim t [ inl own ↦ inl (leaves_as WriteFault (sym own.0)) | inr failed ↦ inr failed.0 ]
   cause_of (TooLong number) t = let r = reads_as (TooLong number) t.0 in (r.0, r.1, r.2)
   cause_of (Refused refusal) t = tt
-  cause_of (NotBuilt place) t = let r = reads_as (NotBuilt place) t.0 in r.0
+  cause_of (Stopped why place) t = tt
+  cause_of (NotBuilt place) t = tt
   cause_of NoMemory t = tt
 
   noticed_of : (result : Status) → Tells (path_of (file_of words)) performed result old.err new.err old.err_faults new.err_faults → Noticed old new result
@@ -109,8 +114,10 @@ module _ (words : List (List ℕ)) (performed : Status) (old new : World) (p : P
       let r = reads_as (TooLong number) t.0 in let l = leaves_as (TooLong number) t.0 in record { read_faults = r.3; out_faults = l.0; err_faults = t.1 }
   noticed_of (Refused refusal) t =
       let l = leaves_as (Refused refusal) t.0 in record { read_faults = reads_as (Refused refusal) t.0; out_faults = l.0; err_faults = t.1 }
+  noticed_of (Stopped why place) t =
+      record { read_faults = reads_as (Stopped why place) t.0; out_faults = leaves_as (Stopped why place) t.0; err_faults = t.1 }
   noticed_of (NotBuilt place) t =
-      let r = reads_as (NotBuilt place) t.0 in let l = leaves_as (NotBuilt place) t.0 in record { read_faults = r.1; out_faults = l.0; err_faults = t.1 }
+      let l = leaves_as (NotBuilt place) t.0 in record { read_faults = reads_as (NotBuilt place) t.0; out_faults = l.0; err_faults = t.1 }
   noticed_of NoMemory t = tt
 
   quiet_of : (result : Status) → Tells (path_of (file_of words)) performed result old.err new.err old.err_faults new.err_faults → Quiet old new result
@@ -122,6 +129,7 @@ module _ (words : List (List ℕ)) (performed : Status) (old new : World) (p : P
   quiet_of WriteFault t = tt
   quiet_of (TooLong number) t = let l = leaves_as (TooLong number) t.0 in l.1
   quiet_of (Refused refusal) t = let l = leaves_as (Refused refusal) t.0 in l.1
+  quiet_of (Stopped why place) t = tt
   quiet_of (NotBuilt place) t = let l = leaves_as (NotBuilt place) t.0 in l.1
   quiet_of NoMemory t = tt
 
@@ -134,26 +142,27 @@ module _ (words : List (List ℕ)) (performed : Status) (old new : World) (p : P
   says_of WriteFault t = elim t [ inl own ↦ inl own.2 | inr failed ↦ inr failed ]
   says_of (TooLong number) t = t.2
   says_of (Refused refusal) t = t.2
+  says_of (Stopped why place) t = t.2
   says_of (NotBuilt place) t = t.2
   says_of NoMemory t = t.1
 
   -- the files hold what the answer says, that is what they held
-  files_of : (told : Told) → (new_told : Option Told) → IsSomeAnd new_told (λ after. ReadsOnly (names_of (file_of words)) told after) → IsSomeAnd new_told (λ after. after.files ≡ (answer words told.files).files)
+  files_of : (told : Told) → (new_told : Option Told) → IsSomeAnd new_told (λ after. ReadsOnly (names_of (file_of words)) told after) → IsSomeAnd new_told (λ after. after.files ≡ (answer p.left words told.files).files)
   files_of told None h = h
   files_of told (Some after) h = h.files
 
   -- a status that was shown and told is the answer's, with its bytes and files
   answers_as : (result : Status) → ((shown : Shown) → Meets shown result old.out new.out → (result ≡ shown.status) × Adds old.out new.out shown.out) →
-      result ≡ performed → Adds old.err new.err (err_of (path_of (file_of words)) result) → IfSome old.told (λ told. IsAnswer (answer words told.files) result old new)
+      result ≡ performed → Adds old.err new.err (err_of (path_of (file_of words)) result) → IfSome old.told (λ told. IsAnswer (answer p.left words told.files) result old new)
   answers_as result shows is err =
       map_both old.told
       (λ told meets only.
-      let m = shows (shown_of_command told.files (file_of words)) (subst (λ s. Meets (shown_of_command told.files (file_of words)) s old.out new.out) (sym is) meets) in
+      let m = shows (shown_of_command p.left told.files (file_of words)) (subst (λ s. Meets (shown_of_command p.left told.files (file_of words)) s old.out new.out) (sym is) meets) in
       record { status = m.0; out = m.1; err = subst (λ s. Adds old.err new.err (err_of (path_of (file_of words)) s)) m.0 err; files = files_of told new.told only })
       p.meets p.reads_only
 
   answers_of : (result : Status) → Tells (path_of (file_of words)) performed result old.err new.err old.err_faults new.err_faults →
-      NoneRose old new → ¬ (result ≡ NoMemory) → IfSome old.told (λ told. IsAnswer (answer words told.files) result old new)
+      NoneRose old new → ¬ (result ≡ NoMemory) → IfSome old.told (λ told. IsAnswer (answer p.left words told.files) result old new)
   answers_of Ended t none memory = answers_as Ended (λ shown m. m) t.0 t.2
   answers_of (Faulted number place) t none memory = answers_as (Faulted number place) (λ shown m. m) t.0 t.2
   answers_of Usage t none memory = answers_as Usage (λ shown m. m) t.0 t.2
@@ -163,13 +172,15 @@ module _ (words : List (List ℕ)) (performed : Status) (old new : World) (p : P
       absurd (elim t [ inl own ↦ none.out_faults (leaves_as WriteFault (sym own.0)) | inr failed ↦ none.err_faults failed.0 ])
   answers_of (TooLong number) t none memory = answers_as (TooLong number) (λ shown m. m) t.0 t.2
   answers_of (Refused refusal) t none memory = answers_as (Refused refusal) (λ shown m. m) t.0 t.2
+  answers_of (Stopped why place) t none memory = answers_as (Stopped why place) (λ shown m. m) t.0 t.2
   answers_of (NotBuilt place) t none memory = answers_as (NotBuilt place) (λ shown m. m) t.0 t.2
   answers_of NoMemory t none memory = absurd (memory refl)
 
   pub promised : (result : Status) → Tells (path_of (file_of words)) performed result old.err new.err old.err_faults new.err_faults → Commands words result old new
   promised result t = record {
+    left = p.left;
     answers = answers_of result t;
-    has_status = map_told old.told (λ told m. unless_of result (answer words told.files).status (meets_status (shown_of_command told.files (file_of words)) performed old.out new.out m) t) p.meets;
+    has_status = map_told old.told (λ told m. unless_of result (answer p.left words told.files).status (meets_status (shown_of_command p.left told.files (file_of words)) performed old.out new.out m) t) p.meets;
     part = part;
     usage = λ none. usage_of result (p.usage none) t;
     cause = cause_of result t;
@@ -189,6 +200,7 @@ bare w = record { told = w.told; counts = w.counts; out = w.out; out_faults = w.
 with_err : (file : Option (List ℕ)) (performed : Status) (old new : World) → Performs file performed (bare old) (bare new) → Performs file performed old new
 with_err file performed old new p = record {
   leaves = p.leaves;
+  left = p.left;
   meets = p.meets;
   reads = reads_over performed p.reads;
   usage = p.usage;
@@ -206,6 +218,7 @@ with_err file performed old new p = record {
     reads_over WriteFault r = r
     reads_over (TooLong number) r = r
     reads_over (Refused refusal) r = r
+    reads_over (Stopped why place) r = r
     reads_over (NotBuilt place) r = r
     reads_over NoMemory r = r
 

@@ -5,23 +5,17 @@ use Rattle.std.proofs.lemmas.Bool.{le-ltb}
 use Rattle.vba_base.proofs.Causes.{adds_prefix_whole, adds_prefix_none}
 use Rattle.vba_base.specs.Causes.{Adds, AddsPrefix}
 use Rattle.vba_base.specs.Outside.{Told, Counts, CountsRead, TellsRead}
-use Rattle.vba_base.specs.declared.place.Refusal.{Refusal}
+use Rattle.vba_base.specs.declared.place.Place.{Place}
 use Rattle.vba_cli.specs.declared.status.Status.{Status}
-use Rattle.vba_cli.specs.declared.status.Status.TheVariants.{Ended, Faulted, Usage, Refused, Going, ReadFault, WriteFault, TooLong, NotBuilt, NoMemory}
-use Rattle.built_meaning.specs.declared.outcome.Outcome.{Outcome}
-use Rattle.built_meaning.specs.Meaning.{Statements, Run, meaning}
-use Rattle.built_meaning.specs.Texts.{events_text}
-use Rattle.vba_cli.specs.Form.{program_of}
-use Rattle.vba_cli.specs.Answer.{Shown, status_of, default_turns, shown_of_run, shown_of_program, shown_of_file, shown_of_command, refused, err_of, file_limit}
+use Rattle.vba_cli.specs.declared.status.Status.TheVariants.{Ended, Faulted, Usage, Refused, Stopped, Going, ReadFault, WriteFault, TooLong, NotBuilt, NoMemory}
+use Rattle.vba_cli.specs.Program.{program_of}
+use Rattle.vba_cli.specs.Answer.{Shown, shown_of_program, shown_of_file, shown_of_command, refused, err_of, file_limit}
 use Rattle.vba_cli.specs.Contract.{World, names_of, ReadsOnly}
-use Rattle.vba_cli.specs.Steps.{Meets, IsOfRun, Ran, Reads, Performs, Puts, Tells}
+use Rattle.vba_cli.specs.Steps.{Meets, IsOfRun, Ran, RanProgram, Reads, Performs, Puts, Tells}
 
 -- a sink that took nothing took a prefix of any bytes
 pub none_prefix : (old new : Option (List ℕ)) (bytes : List ℕ) → new ≡ old → AddsPrefix old new bytes
 none_prefix old new bytes same = subst (λ after. AddsPrefix old after bytes) (sym same) (adds_prefix_none old bytes)
-
-abbrev shown_from : Status → List ℕ → Shown
-shown_from status out = record { status = status; out = out }
 
 -- the status was told by its own line
 told_whole : (path : List ℕ) (performed result : Status) (old new : Option (List ℕ)) (faults_old faults_new : ℕ) →
@@ -34,6 +28,7 @@ told_whole path performed (ReadFault number) old new fo fn is same added = (is, 
 told_whole path performed WriteFault old new fo fn is same added = inl (sym is, same, added)
 told_whole path performed (TooLong number) old new fo fn is same added = (is, same, added)
 told_whole path performed (Refused refusal) old new fo fn is same added = (is, same, added)
+told_whole path performed (Stopped why place) old new fo fn is same added = (is, same, added)
 told_whole path performed (NotBuilt place) old new fo fn is same added = (is, same, added)
 told_whole path performed NoMemory old new fo fn is same added =
     (same, record { of_status = NoMemory; part = adds_prefix_whole old new (err_of path NoMemory) added })
@@ -65,9 +60,9 @@ told_by path performed status result old new fo fn which puts =
     ]
 
 -- a file whose bytes are within the limit shows what its source shows
-shown_within : (source : List ℕ) → length source ≤ file_limit → shown_of_file (Some source) ≡ shown_of_program (program_of source)
-shown_within source h =
-    ap (λ b. if b then refused (TooLong 0) else shown_of_program (program_of source)) (le-ltb file_limit (length source) h)
+shown_within : (left : Option Place) (source : List ℕ) → length source ≤ file_limit → shown_of_file left (Some source) ≡ shown_of_program left (program_of source)
+shown_within left source h =
+    ap (λ b. if b then refused (TooLong 0) else shown_of_program left (program_of source)) (le-ltb file_limit (length source) h)
 
 -- a world in which nothing is said of `err`
 abbrev pub world : Option Told → Counts → Option (List ℕ) → ℕ → World
@@ -83,15 +78,16 @@ reads_of_run name (ReadFault number) old new is same = absurd is
 reads_of_run name WriteFault old new is same = same
 reads_of_run name (TooLong number) old new is same = absurd is
 reads_of_run name (Refused refusal) old new is same = same
-reads_of_run name (NotBuilt place) old new is same = (is, same)
+reads_of_run name (Stopped why place) old new is same = same
+reads_of_run name (NotBuilt place) old new is same = same
 reads_of_run name NoMemory old new is same = same
 
-meets_read : {X : Type 0} (x : X) (name source : List ℕ) (result : Status) (told_old told_new : Option Told) (out_old out_new : Option (List ℕ)) →
-    length source ≤ file_limit → TellsRead told_old told_new name file_limit source (Ok x) → Meets (shown_of_program (program_of source)) result out_old out_new →
-    IfSome told_old (λ told. Meets (shown_of_command told.files (Some name)) result out_old out_new)
-meets_read x name source result None told_new out_old out_new h tells meets = tt
-meets_read x name source result (Some told) told_new out_old out_new h tells meets =
-    subst (λ shown. Meets shown result out_old out_new) (sym (ap shown_of_file tells.1 ∙ shown_within source h)) meets
+meets_read : {X : Type 0} (x : X) (left : Option Place) (name source : List ℕ) (result : Status) (told_old told_new : Option Told) (out_old out_new : Option (List ℕ)) →
+    length source ≤ file_limit → TellsRead told_old told_new name file_limit source (Ok x) → Meets (shown_of_program left (program_of source)) result out_old out_new →
+    IfSome told_old (λ told. Meets (shown_of_command left told.files (Some name)) result out_old out_new)
+meets_read x left name source result None told_new out_old out_new h tells meets = tt
+meets_read x left name source result (Some told) told_new out_old out_new h tells meets =
+    subst (λ shown. Meets shown result out_old out_new) (sym (ap (shown_of_file left) tells.1 ∙ shown_within left source h)) meets
 
 reads_only_read : {X : Type 0} (x : X) (name source : List ℕ) (told_old told_new : Option Told) → TellsRead told_old told_new name file_limit source (Ok x) →
     IfSome told_old (λ before. IsSomeAnd told_new (λ after. ReadsOnly (names_of (Some name)) before after))
@@ -102,25 +98,15 @@ reads_only_read x name source (Some told) told_new tells =
 
 pub file_run : {X : Type 0} (x : X) (name source : List ℕ) (result : Status) (told_old told_new : Option Told) (counts_old counts_new : Counts) (out_old out_new : Option (List ℕ)) (faults_old faults_new : ℕ) →
     length source ≤ file_limit → CountsRead counts_old counts_new (Ok x) → TellsRead told_old told_new name file_limit source (Ok x) →
-    Ran (shown_of_program (program_of source)) result out_old out_new faults_old faults_new →
+    RanProgram (program_of source) result out_old out_new faults_old faults_new →
     Performs (Some name) result (world told_old counts_old out_old faults_old) (world told_new counts_new out_new faults_new)
 file_run x name source result told_old told_new counts_old counts_new out_old out_new fo fn h counts tells ran = record {
-  leaves = ran.leaves;
-  meets = meets_read x name source result told_old told_new out_old out_new h tells ran.meets;
-  reads = reads_of_run name result (world told_old counts_old out_old fo) (world told_new counts_new out_new fn) ran.of_run counts.read_faults;
+  leaves = ran.ran.leaves;
+  left = ran.left;
+  meets = meets_read x ran.left name source result told_old told_new out_old out_new h tells ran.ran.meets;
+  reads = reads_of_run name result (world told_old counts_old out_old fo) (world told_new counts_new out_new fn) ran.ran.of_run counts.read_faults;
   usage = λ none. absurd cc;
   writes = counts.writes;
   write_faults = counts.write_faults;
   reads_only = reads_only_read x name source told_old told_new tells;
 }
-
--- what is shown of a report is what is shown of its run
-pub shown_report : (outcome : Outcome) (text shown : List ℕ) (run : Run) → outcome ≡ run.outcome → text ≡ events_text run.state.events → shown ≡ text →
-    shown_from (status_of outcome) shown ≡ shown_of_run run
-shown_report outcome text shown run ends same is = ap (λ o. shown_from (status_of o) shown) ends ∙ ap (shown_from (status_of run.outcome)) (is ∙ same)
-
--- a program that is there shows what its run shows
-pub shown_program : (program : Result (Option Statements) Refusal) (statements items : Statements) → Ok (Some items) ≡ program → statements ≡ items →
-    shown_of_run (meaning statements default_turns) ≡ shown_of_program program
-shown_program program statements items is same =
-    ap (λ ss. shown_of_run (meaning ss default_turns)) same ∙ ap shown_of_program is

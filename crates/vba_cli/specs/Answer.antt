@@ -1,16 +1,17 @@
--- The answer to a command: a function of its words and of what the files hold, alone.
-use Rattle.std.specs.Prelude.{ℕ, nat_lt, List, [], length, Option, Some, None, Result, Ok, Err, if◌then◌else◌}
+-- The answer to a command: a function of its words and of what the files hold, but for what isn't built yet.
+use Rattle.std.specs.Prelude.{ℕ, nat_lt, List, [], length, Option, Some, None, if◌then◌else◌}
 use Rattle.vba_base.specs.declared.place.Place.{Place}
 use Rattle.vba_base.specs.declared.place.Refusal.{Refusal}
 use Rattle.vba_base.specs.Map.{FileMap, bytes_of}
-use Rattle.built_meaning.specs.declared.outcome.Outcome.{Outcome}
-use Rattle.built_meaning.specs.declared.outcome.Outcome.TheVariants as outcome
-use Rattle.built_meaning.specs.Meaning.{Statements, Run, meaning}
-use Rattle.built_meaning.specs.Texts.{events_text}
+use Rattle.bound_project.specs.Project.{Project}
+use Rattle.binder.specs.Bind as bind
+use Rattle.project_run.specs.declared.outcome.Outcome.{Outcome}
+use Rattle.project_run.specs.declared.outcome.Outcome.TheVariants as outcome
+use Rattle.project_run.specs.Meant.{meant_outcome, meant_text}
 use Rattle.vba_cli.specs.declared.status.Status.{Status}
 use Rattle.vba_cli.specs.declared.status.Status.TheVariants as status
 use Rattle.vba_cli.specs.Command.{file_of}
-use Rattle.vba_cli.specs.Form.{program_of}
+use Rattle.vba_cli.specs.Program.{program_of}
 use Rattle.vba_cli.specs.Messages.{status_text, error_line}
 
 -- a status, and the bytes on `out`
@@ -33,10 +34,6 @@ default_turns = 10000000
 abbrev pub file_limit : ℕ
 file_limit = 67108864
 
--- module 1, line 1, column 1
-abbrev pub first_place : Place
-first_place = record { «module» = 1; line = 1; column = 1 }
-
 -- what is written on `err` for a status of the file with this path
 abbrev pub err_of : List ℕ → Status → List ℕ
 err_of path status = error_line (status_text path default_turns status)
@@ -45,32 +42,35 @@ err_of path status = error_line (status_text path default_turns status)
 abbrev pub status_of : Outcome → Status
 status_of outcome.Ended = status.Ended
 status_of (outcome.Faulted number place) = status.Faulted number place
+status_of (outcome.Stopped why place) = status.Stopped why place
 status_of outcome.Going = status.Going
 
 -- a refusal shows nothing on `out`
 abbrev pub refused : Status → Shown
 refused status = record { status = status; out = [] }
 
--- a run shows the text of its events
-abbrev pub shown_of_run : Run → Shown
-shown_of_run run = record { status = status_of run.outcome; out = events_text run.state.events }
+-- a run shows how it ends and what it prints, as its project means
+abbrev pub shown_of_run : Project → Shown
+shown_of_run pr = record { status = status_of (meant_outcome pr default_turns); out = meant_text pr default_turns }
 
--- a source that breaks a rule is refused, one that has not the built form is not built, any other is run
-abbrev pub shown_of_program : Result (Option Statements) Refusal → Shown
-shown_of_program (Err refusal) = refused (status.Refused refusal)
-shown_of_program (Ok None) = refused (status.NotBuilt first_place)
-shown_of_program (Ok (Some statements)) = shown_of_run (meaning statements default_turns)
+-- a source that breaks a rule is refused; where vbarun tells that a part isn't built yet, it shows nothing else; any other is run
+abbrev pub shown_of_program : (left : Option Place) → bind.Answer → Shown
+shown_of_program left (bind.refused refusal) = refused (status.Refused refusal)
+shown_of_program (Some place) (bind.not_built_at other) = refused (status.NotBuilt place)
+shown_of_program (Some place) (bind.bound_as pr) = refused (status.NotBuilt place)
+shown_of_program None (bind.not_built_at place) = refused (status.NotBuilt place)
+shown_of_program None (bind.bound_as pr) = shown_of_run pr
 
 -- a name that isn't there can't be read, and a file may be too long
-abbrev pub shown_of_file : Option (List ℕ) → Shown
-shown_of_file None = refused (status.ReadFault 0)
-shown_of_file (Some source) =
-    if nat_lt file_limit (length source) then refused (status.TooLong 0) else shown_of_program (program_of source)
+abbrev pub shown_of_file : (left : Option Place) → Option (List ℕ) → Shown
+shown_of_file left None = refused (status.ReadFault 0)
+shown_of_file left (Some source) =
+    if nat_lt file_limit (length source) then refused (status.TooLong 0) else shown_of_program left (program_of source)
 
 -- words that name no file are answered by the usage
-abbrev pub shown_of_command : FileMap → Option (List ℕ) → Shown
-shown_of_command files None = refused status.Usage
-shown_of_command files (Some path) = shown_of_file (bytes_of files path)
+abbrev pub shown_of_command : (left : Option Place) → FileMap → Option (List ℕ) → Shown
+shown_of_command left files None = refused status.Usage
+shown_of_command left files (Some path) = shown_of_file left (bytes_of files path)
 
 -- the path that a text on `err` names
 abbrev pub path_of : Option (List ℕ) → List ℕ
@@ -82,6 +82,7 @@ abbrev pub answer_with : List ℕ → FileMap → Shown → Answer
 answer_with path files shown =
     record { status = shown.status; out = shown.out; err = err_of path shown.status; files = files }
 
--- the answer to these words
-abbrev pub answer : List (List ℕ) → FileMap → Answer
-answer words files = answer_with (path_of (file_of words)) files (shown_of_command files (file_of words))
+-- the answer to these words. Which forms vbarun builds grows from version to version and isn't told here: `left` is the place of a part
+-- that it doesn't build yet, or none where it builds all
+abbrev pub answer : (left : Option Place) → List (List ℕ) → FileMap → Answer
+answer left words files = answer_with (path_of (file_of words)) files (shown_of_command left files (file_of words))

@@ -1,7 +1,10 @@
 -- The words of a command. Words and names are lists of bytes.
 use Rattle.std.specs.Prelude.{ℕ, ◌-◌, Bool, false, ◌==◌, ◌&&◌, not, List, [], ◌∷◌, length, drop, codes, Option, Some, None, if◌then◌else◌}
-use Rattle.built_form.specs.Standing.{matches}
-use Rattle.vba_lexer.specs.Tokens.{same_text}
+use Rattle.vba_lexer.specs.Tokens.{is_the_word, same_text}
+
+-- a text is a word, which is given in lower case, in any case
+abbrev pub matches : List ℕ → List ℕ → Bool
+matches text word = is_the_word word text
 
 -- the last four bytes are `.bas`, in any case
 abbrev pub ends_in_bas : List ℕ → Bool

@@ -1,11 +1,12 @@
 -- What `run_cli` promises.
 use Rattle.std.specs.Prelude.{◌≡◌, ℕ, List, [], ◌∷◌, ◌++◌, Option, Some, None, IfSome, IsSomeAnd, ◌⊎◌}
+use Rattle.vba_base.specs.declared.place.Place.{Place}
 use Rattle.vba_base.specs.Causes.{up, Rose, Adds, AddsPrefix}
 use Rattle.vba_base.specs.Outside.{Told, Counts}
 use Rattle.vba_cli.specs.declared.status.Status.{Status}
 use Rattle.vba_cli.specs.declared.status.Status.TheVariants as status
 use Rattle.vba_cli.specs.Command.{file_of}
-use Rattle.vba_cli.specs.Answer.{Answer, answer, path_of, err_of, first_place}
+use Rattle.vba_cli.specs.Answer.{Answer, answer, path_of, err_of}
 
 -- the number with which the program ends
 abbrev pub code_of : Status → ℕ
@@ -13,6 +14,7 @@ code_of status.Ended = 0
 code_of (status.Faulted number place) = 1
 code_of status.Usage = 2
 code_of (status.Refused refusal) = 3
+code_of (status.Stopped why place) = 4
 code_of status.Going = 5
 code_of (status.ReadFault number) = 6
 code_of status.WriteFault = 7
@@ -64,7 +66,6 @@ Cause words old new (status.ReadFault number) =
 Cause words old new status.WriteFault = Rose old.out_faults new.out_faults ⊎ Rose old.err_faults new.err_faults
 Cause words old new (status.TooLong number) =
     (number ≡ 0) × Rose old.counts.long_reads new.counts.long_reads × (new.counts.reads ≡ up old.counts.reads)
-Cause words old new (status.NotBuilt place) = place ≡ first_place
 Cause words old new result = Unit {0}
 
 -- no count of faults changed
@@ -115,13 +116,15 @@ Says path old new result = Adds old.err new.err (err_of path result)
 
 -- what a command does with these words, from a first world to a second
 pub record Commands (words : List (List ℕ)) (result : Status) (old new : World) : Type 0 where
+  -- where a part of the source stands that isn't built yet, if any
+  pub left : Option Place
   -- The headline: where the files tell their map, no count of faults rose, and memory didn't run out, the status, the bytes on
   -- `out` and `err`, and the files afterwards are those of the answer.
-  pub answers : NoneRose old new → ¬ (result ≡ status.NoMemory) → IfSome old.told (λ told. IsAnswer (answer words told.files) result old new)
+  pub answers : NoneRose old new → ¬ (result ≡ status.NoMemory) → IfSome old.told (λ told. IsAnswer (answer left words told.files) result old new)
   -- Where the files tell their map, the status is the answer's, unless a fault came.
-  pub has_status : IfSome old.told (λ told. UnlessFault result (answer words told.files).status)
+  pub has_status : IfSome old.told (λ told. UnlessFault result (answer left words told.files).status)
   -- Where the files tell their map, `out` took a prefix of the answer's bytes, whatever came.
-  pub part : IfSome old.told (λ told. AddsPrefix old.out new.out (answer words told.files).out)
+  pub part : IfSome old.told (λ told. AddsPrefix old.out new.out (answer left words told.files).out)
   -- Words that are no command give Usage; so with its cause Usage comes exactly there.
   pub usage : file_of words ≡ None → UnlessUnwritten result status.Usage
   pub cause : Cause words old new result

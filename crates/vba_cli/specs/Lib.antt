@@ -1,14 +1,10 @@
 pub mod Command
-pub mod Form
 pub mod Messages
-pub mod Reading
+pub mod Program
+pub mod Programs
 pub mod Answer
 pub mod Contract
-pub mod Report
 pub mod Steps
 pub use Rattle.vba_base.specs.Causes
 pub use Rattle.vba_base.specs.Map
 pub use Rattle.vba_base.specs.Outside
-pub use Rattle.built_meaning.specs.Meaning
-pub use Rattle.built_meaning.specs.Texts
-pub use Rattle.built_form.specs.Standing

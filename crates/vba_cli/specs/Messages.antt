@@ -2,31 +2,13 @@
 use Rattle.std.specs.Prelude.{ℕ, ℤ, pos, negsuc, ◌==◌, List, [], ◌∷◌, ◌++◌, codes, if◌then◌else◌}
 use Rattle.std.specs.Fmt.{decimal, signed_decimal}
 use Rattle.vba_base.specs.declared.place.Place.{Place}
+use Rattle.vba_values.specs.Messages.{message_of}
+use Rattle.vba_values.specs.declared.fault.OutKind.{OutKind}
+use Rattle.vba_values.specs.declared.fault.OutKind.TheVariants as out
+use Rattle.pcode_vm.specs.declared.step.Why.{Why}
+use Rattle.pcode_vm.specs.declared.step.Why.TheVariants as why
 use Rattle.vba_cli.specs.declared.status.Status.{Status}
 use Rattle.vba_cli.specs.declared.status.Status.TheVariants as status
-
--- the message of an error's number
-abbrev pub message_of : ℤ → List ℕ
-message_of (pos n) =
-    if n == 3 then codes "Return without GoSub"
-    else if n == 5 then codes "Invalid procedure call or argument"
-    else if n == 6 then codes "Overflow"
-    else if n == 9 then codes "Subscript out of range"
-    else if n == 10 then codes "This array is fixed or temporarily locked"
-    else if n == 11 then codes "Division by zero"
-    else if n == 13 then codes "Type mismatch"
-    else if n == 20 then codes "Resume without error"
-    else if n == 28 then codes "Out of stack space"
-    else if n == 91 then codes "Object variable or With block variable not set"
-    else if n == 92 then codes "For loop not initialized"
-    else if n == 94 then codes "Invalid use of Null"
-    else if n == 424 then codes "Object required"
-    else if n == 438 then codes "Object doesn't support this property or method"
-    else if n == 449 then codes "Argument not optional"
-    else if n == 450 then codes "Wrong number of arguments or invalid property assignment"
-    else if n == 457 then codes "This key is already associated with an element of this collection"
-    else codes "Application-defined or object-defined error"
-message_of (negsuc n) = codes "Application-defined or object-defined error"
 
 -- PATH:LINE:COLUMN
 abbrev pub place_text : List ℕ → Place → List ℕ
@@ -36,6 +18,21 @@ place_text path place = path ++ codes ":" ++ decimal place.line ++ codes ":" ++ 
 abbrev pub fault_text : List ℕ → ℤ → Place → List ℕ
 fault_text path number place =
     codes "vbarun: fault " ++ signed_decimal number ++ codes " at " ++ place_text path place ++ codes ": " ++ message_of number
+
+-- why a run was stopped
+abbrev pub why_text : Why → List ℕ
+why_text why.StopStatement = codes "Stop statement"
+why_text (why.Outside out.DoubleResult) = codes "Double result"
+why_text (why.Outside out.NumberText) = codes "number text"
+why_text (why.Outside out.Elements) = codes "too many elements"
+why_text (why.Outside out.Objects) = codes "too many objects"
+why_text (why.Outside out.Cells) = codes "too many cells"
+why_text (why.Outside out.TextLength) = codes "text too long"
+why_text (why.Outside out.Links) = codes "too many links"
+
+-- the text of a run that was stopped
+abbrev pub stop_text : List ℕ → Why → Place → List ℕ
+stop_text path why place = codes "vbarun: stopped: " ++ why_text why ++ codes " at " ++ place_text path place
 
 -- the word of a rule that is built
 unfoldable pub rule_word : ℕ → List ℕ
@@ -54,6 +51,14 @@ rule_word rule =
     else if rule == 12 then codes "misplaced declaration"
     else if rule == 13 then codes "form outside the profile"
     else if rule == 14 then codes "header form"
+    else if rule == 15 then codes "duplicate name"
+    else if rule == 16 then codes "unknown type"
+    else if rule == 17 then codes "unknown name"
+    else if rule == 18 then codes "unknown label"
+    else if rule == 19 then codes "duplicate label"
+    else if rule == 20 then codes "bad constant expression"
+    else if rule == 21 then codes "recursive type"
+    else if rule == 22 then codes "bad WithEvents"
     else []
 
 -- the text of a rule that the source breaks: SR at PATH:LINE:COLUMN: WORD
@@ -68,6 +73,7 @@ status_text path turns (status.Faulted number place) = fault_text path number pl
 status_text path turns status.Usage =
     codes "vbarun: usage: run [--turns N] [--trace] [--save SUFFIX] LIST, check LIST, code LIST, gen N"
 status_text path turns (status.Refused refusal) = refusal_text path refusal.rule refusal.place
+status_text path turns (status.Stopped why place) = stop_text path why place
 status_text path turns status.Going = codes "vbarun: going after " ++ decimal turns ++ codes " turns"
 status_text path turns (status.ReadFault number) = codes "vbarun: cannot read " ++ path
 status_text path turns status.WriteFault = codes "vbarun: cannot write"

@@ -1,9 +1,11 @@
 -- Serves the code: what the steps of a command do: running a source, performing the command, and telling its status.
 use Rattle.std.specs.Prelude.{◌≡◌, ℕ, List, Option, None, IfSome, IsSomeAnd, ◌⊎◌}
 use Rattle.vba_base.specs.Causes.{up, Rose, Adds, AddsPrefix}
+use Rattle.vba_base.specs.declared.place.Place.{Place}
+use Rattle.binder.specs.Bind as bind
 use Rattle.vba_cli.specs.declared.status.Status.{Status}
 use Rattle.vba_cli.specs.declared.status.Status.TheVariants as status
-use Rattle.vba_cli.specs.Answer.{Shown, shown_of_command, err_of, first_place}
+use Rattle.vba_cli.specs.Answer.{Shown, shown_of_program, shown_of_command, err_of}
 use Rattle.vba_cli.specs.Contract.{World, TakesSome, ReadsOnly, names_of}
 
 -- a step gave a status; its count of faults rose with WriteFault alone, and a refusal put nothing on `out`
@@ -28,7 +30,6 @@ abbrev pub IsOfRun : Status → Type 0
 IsOfRun status.Usage = ⊥
 IsOfRun (status.ReadFault number) = ⊥
 IsOfRun (status.TooLong number) = ⊥
-IsOfRun (status.NotBuilt place) = place ≡ first_place
 IsOfRun result = Unit {0}
 
 -- a source, of which this is to be shown, was run
@@ -36,6 +37,11 @@ pub record Ran (meant : Shown) (result : Status) (old new : Option (List ℕ)) (
   pub leaves : Leaves result old new faults_old faults_new
   pub meets : Meets meant result old new
   pub of_run : IsOfRun result
+
+-- a program was run, or a part of it isn't built yet
+pub record RanProgram (program : bind.Answer) (result : Status) (old new : Option (List ℕ)) (faults_old faults_new : ℕ) : Type 0 where
+  pub left : Option Place
+  pub ran : Ran (shown_of_program left program) result old new faults_old faults_new
 
 -- how often files were read and how often that failed, where a command that names this file, or none, gave a status
 abbrev pub Reads : Option (List ℕ) → Status → World → World → Type 0
@@ -45,13 +51,13 @@ Reads file (status.ReadFault number) old new =
 Reads file (status.TooLong number) old new =
     (number ≡ 0) × Rose old.counts.long_reads new.counts.long_reads × (new.counts.reads ≡ up old.counts.reads)
     × (new.counts.read_faults ≡ old.counts.read_faults)
-Reads file (status.NotBuilt place) old new = (place ≡ first_place) × (new.counts.read_faults ≡ old.counts.read_faults)
 Reads file result old new = new.counts.read_faults ≡ old.counts.read_faults
 
 -- a command that names this file, or none, was performed, up to the text on `err`
 pub record Performs (file : Option (List ℕ)) (result : Status) (old new : World) : Type 0 where
   pub leaves : Leaves result old.out new.out old.out_faults new.out_faults
-  pub meets : IfSome old.told (λ told. Meets (shown_of_command told.files file) result old.out new.out)
+  pub left : Option Place
+  pub meets : IfSome old.told (λ told. Meets (shown_of_command left told.files file) result old.out new.out)
   pub reads : Reads file result old new
   pub usage : file ≡ None → result ≡ status.Usage
   pub writes : new.counts.writes ≡ old.counts.writes

@@ -1,21 +1,21 @@
 ghost use Rattle.std.specs.Prelude.{◌≡◌, ℕ, List, map, string_bytes, option_map, Some, length, ◌≤◌, None};
 ghost use Rattle.vba_base.specs.Causes.{AddsPrefix};
-ghost use Rattle.vba_cli.specs.Answer.{shown_of_program, status_of, shown_of_run, default_turns, path_of, file_limit};
+ghost use Rattle.vba_cli.specs.Answer.{status_of, shown_of_run, default_turns, path_of, file_limit};
 ghost use Rattle.vba_cli.specs.Command.{file_of};
 ghost use Rattle.vba_cli.specs.Contract.{World, Commands, TakesSome};
-ghost use Rattle.vba_cli.specs.Form.{program_of};
-ghost use Rattle.vba_cli.specs.Steps.{Leaves, Meets, Ran, Performs, Puts, Tells};
-ghost use Rattle.built_meaning.specs.Meaning.{meaning};
+ghost use Rattle.vba_cli.specs.Program.{program_of};
+ghost use Rattle.bound_project.specs.Bodies.{Fits, project_view};
+ghost use Rattle.vba_cli.specs.Steps.{Leaves, Meets, Ran, RanProgram, Performs, Puts, Tells};
 
 use crate::command::file_named;
-use crate::form::program;
 use crate::messages::status_line;
-use crate::run::run;
+use crate::reading::program;
 use crate::status::Status;
-use built_form::PrintStatement;
-use built_meaning::Outcome;
+use bind_project::Bound;
+use bound_project::Project;
+use project_run::{Outcome, RunFault, run_project};
 use std::alloc::Global;
-use vba_base::{Files, OrMemory, Place, ReadAnswer, Sink, WriteAnswer};
+use vba_base::{Files, OrMemory, ReadAnswer, Sink, WriteAnswer};
 
 /// The bound on turns where the words name none.
 const DEFAULT_TURNS: u64 = 10_000_000;
@@ -76,44 +76,25 @@ fn run_file<F: Files, O: Sink>(alloc: Global, name: &str, files: &mut F, out: &m
 // Runs the bytes of a file.
 fn run_source<O: Sink>(alloc: Global, source: &[u8], out: &mut O) -> Status
     requires { length source.now ≤ file_limit }
-    ensures { Ran (shown_of_program (program_of source.now)) result (O.taken out.old) (O.taken out.new) (O.faults out.old) (O.faults out.new) }
+    ensures { RanProgram (program_of source.now) result (O.taken out.old) (O.taken out.new) (O.faults out.old) (O.faults out.new) }
 {
     match program(alloc, source) {
-        Ok(Some(statements)) => run_statements(alloc, &statements, out),
-        Ok(None) => Status::NotBuilt(FIRST_PLACE),
+        Ok(Bound::Runs(project)) => run_meant(alloc, project, out),
+        Ok(Bound::NotBuilt(place)) => Status::NotBuilt(place),
         Err(OrMemory::Fault(refusal)) => Status::Refused(refusal),
         Err(OrMemory::NoMemory) => Status::NoMemory,
     }
 }
 
-const FIRST_PLACE: Place = Place {
-    module: 1,
-    line: 1,
-    column: 1,
-};
-
-// Runs the statements of Main, and puts the text of the run on `out`.
-fn run_statements<O: Sink>(alloc: Global, statements: &[PrintStatement], out: &mut O) -> Status
-    ensures { Ran (shown_of_run (meaning statements.now default_turns)) result (O.taken out.old) (O.taken out.new) (O.faults out.old) (O.faults out.new) }
+// Runs a project, and puts what it prints on `out`.
+fn run_meant<O: Sink>(alloc: Global, project: Project, out: &mut O) -> Status
+    requires { Fits project }
+    ensures { Ran (shown_of_run (project_view project)) result (O.taken out.old) (O.taken out.new) (O.faults out.old) (O.faults out.new) }
 {
-    match run(alloc, statements, DEFAULT_TURNS) {
-        Ok(report) => show(&report.text, report.outcome, out),
-        Err(_) => Status::NoMemory,
-    }
-}
-
-// Puts the text of a run that ended so on `out`; a run without text makes no put.
-fn show<O: Sink>(text: &[u8], outcome: Outcome, out: &mut O) -> Status
-    ensures { Ran (record { status = status_of outcome; out = text.now }) result (O.taken out.old) (O.taken out.new) (O.faults out.old) (O.faults out.new) }
-{
-    let status = ended_as(outcome);
-    if text.is_empty() {
-        return status;
-    }
-    match out.put(text) {
-        Ok(()) => status,
-        Err(WriteAnswer::Failed) => Status::WriteFault,
-        Err(WriteAnswer::NoMemory) => Status::NoMemory,
+    match run_project(alloc, project, DEFAULT_TURNS, out) {
+        Ok(outcome) => ended_as(outcome),
+        Err(RunFault::WriteFault) => Status::WriteFault,
+        Err(RunFault::NoMemory) => Status::NoMemory,
     }
 }
 
@@ -124,6 +105,7 @@ fn ended_as(outcome: Outcome) -> Status
     match outcome {
         Outcome::Ended => Status::Ended,
         Outcome::Faulted(number, place) => Status::Faulted(number, place),
+        Outcome::Stopped(why, place) => Status::Stopped(why, place),
         Outcome::Going => Status::Going,
     }
 }

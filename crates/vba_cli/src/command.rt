@@ -24,7 +24,7 @@ fn module_named<'a>(command: &str, name: &'a str) -> Option<&'a str>
     }
 }
 
-#[tactic(auto, using(built_form::proofs::SameText::same_text_sizes))]
+#[tactic(auto, using(crate::proofs::SameText::same_text_sizes))]
 fn is_run(command: &[u8]) -> bool
     ensures { result ≡ same_text command.now (codes "run") }
 {
@@ -51,7 +51,7 @@ fn begins_with_dash(name: &[u8]) -> bool
     }
 }
 
-#[tactic(auto, using(built_form::proofs::SameText::same_text_sizes))]
+#[tactic(auto, using(crate::proofs::SameText::same_text_sizes))]
 fn ends_in_bas(name: &[u8]) -> bool
     ensures { result ≡ ends_in_bas name.now }
 {

@@ -3,13 +3,10 @@
 
 mod cli;
 mod command;
-mod form;
-mod literals;
 mod messages;
 mod reading;
-mod run;
 mod status;
 
 pub use cli::run_cli;
-pub use form::{program, reading_law, runs_end};
+pub use reading::program;
 pub use status::Status;

@@ -1,36 +1,12 @@
 ghost use Rattle.std.specs.Prelude.{◌≡◌, ◌++◌, ◌∷◌, [], IfOk, string_bytes, codes};
 ghost use Rattle.std.specs.Fmt.{decimal, signed_decimal};
-ghost use Rattle.vba_cli.specs.Messages.{message_of, place_text, fault_text, rule_word, refusal_text, status_text, error_line};
+ghost use Rattle.vba_cli.specs.Messages.{place_text, fault_text, rule_word, refusal_text, why_text, stop_text, status_text, error_line};
 
 use crate::status::Status;
+use pcode_vm::Why;
 use std::alloc::{AllocError, Global};
 use vba_base::{NoMemory, Place};
-
-// The message of an error's number.
-fn message(number: i32) -> &'static str
-    ensures { result.now ≡ message_of number }
-{
-    match number {
-        3 => "Return without GoSub",
-        5 => "Invalid procedure call or argument",
-        6 => "Overflow",
-        9 => "Subscript out of range",
-        10 => "This array is fixed or temporarily locked",
-        11 => "Division by zero",
-        13 => "Type mismatch",
-        20 => "Resume without error",
-        28 => "Out of stack space",
-        91 => "Object variable or With block variable not set",
-        92 => "For loop not initialized",
-        94 => "Invalid use of Null",
-        424 => "Object required",
-        438 => "Object doesn't support this property or method",
-        449 => "Argument not optional",
-        450 => "Wrong number of arguments or invalid property assignment",
-        457 => "This key is already associated with an element of this collection",
-        _ => "Application-defined or object-defined error",
-    }
-}
+use vba_values::{OutKind, message_of};
 
 // PATH:LINE:COLUMN
 fn place_named(alloc: Global, path: &str, place: Place) -> Result<String, AllocError>
@@ -54,7 +30,7 @@ fn fault_message(alloc: Global, path: &str, number: i32, place: Place) -> Result
     let fault = fault_number(alloc, number)?;
     let at = place_named(alloc, path, place)?;
     let fault = joined(alloc, fault.as_str(), " at ", at.as_str())?;
-    joined(alloc, fault.as_str(), ": ", message(number))
+    joined(alloc, fault.as_str(), ": ", message_of(number))
 }
 
 // The number of an error, as the text of a run that it ended begins.
@@ -69,6 +45,31 @@ fn joined(alloc: Global, left: &str, between: &str, right: &str) -> Result<Strin
     ensures { IfOk result (λ text. string_bytes text ≡ left.now ++ between.now ++ right.now) }
 {
     format!(in alloc; "{left}{between}{right}")
+}
+
+// Why a run was stopped.
+fn why_message(why: Why) -> &'static str
+    ensures { result.now ≡ why_text why }
+{
+    match why {
+        Why::StopStatement => "Stop statement",
+        Why::Outside(OutKind::DoubleResult) => "Double result",
+        Why::Outside(OutKind::NumberText) => "number text",
+        Why::Outside(OutKind::Elements) => "too many elements",
+        Why::Outside(OutKind::Objects) => "too many objects",
+        Why::Outside(OutKind::Cells) => "too many cells",
+        Why::Outside(OutKind::TextLength) => "text too long",
+        Why::Outside(OutKind::Links) => "too many links",
+    }
+}
+
+// The text of a run that was stopped.
+fn stop_message(alloc: Global, path: &str, why: Why, place: Place) -> Result<String, AllocError>
+    ensures { IfOk result (λ text. string_bytes text ≡ stop_text path.now why place) }
+{
+    let at = place_named(alloc, path, place)?;
+    let stopped = joined(alloc, "vbarun: stopped: ", why_message(why), " at ")?;
+    joined(alloc, stopped.as_str(), "", at.as_str())
 }
 
 // The word of a rule that is built.
@@ -91,6 +92,14 @@ fn rule_word(rule: u8) -> &'static str
         12 => "misplaced declaration",
         13 => "form outside the profile",
         14 => "header form",
+        15 => "duplicate name",
+        16 => "unknown type",
+        17 => "unknown name",
+        18 => "unknown label",
+        19 => "duplicate label",
+        20 => "bad constant expression",
+        21 => "recursive type",
+        22 => "bad WithEvents",
         _ => "",
     }
 }
@@ -126,6 +135,7 @@ pub fn status_message(
         Status::Faulted(number, place) => fault_message(alloc, path, number, place),
         Status::Usage => String::from_str(alloc, USAGE),
         Status::Refused(refusal) => refusal_message(alloc, path, refusal.rule, refusal.place),
+        Status::Stopped(why, place) => stop_message(alloc, path, why, place),
         Status::Going => format!(in alloc; "vbarun: going after {turns} turns"),
         Status::ReadFault(_) => format!(in alloc; "vbarun: cannot read {path}"),
         Status::WriteFault => String::from_str(alloc, "vbarun: cannot write"),

@@ -1,6 +1,7 @@
 ghost use Rattle.std.specs.Prelude.{◌≡◌};
 ghost use Rattle.vba_cli.specs.Contract.{code_of};
 
+use pcode_vm::Why;
 use vba_base::{Place, Refusal};
 
 /// How a command ended. The numbers in `ReadFault` and `TooLong` tell which file it was, from 0 in the order of reading.
@@ -14,6 +15,8 @@ pub enum Status {
     Usage,
     /// The source breaks this rule at this place, and none before it.
     Refused(Refusal),
+    /// `Stop`, or a value or a size that is outside of what vbarun has, stopped the run at the statement at this place.
+    Stopped(Why, Place),
     /// One more turn than the bound was due.
     Going,
     /// A file can't be read.
@@ -22,7 +25,7 @@ pub enum Status {
     WriteFault,
     /// A file has more bytes than the limit.
     TooLong(u32),
-    /// The source isn't of a form that is built so far.
+    /// The source has a part that isn't built yet, at this place.
     NotBuilt(Place),
     /// Memory ran out.
     NoMemory,
@@ -38,6 +41,7 @@ impl Status {
             Status::Faulted(_, _) => 1,
             Status::Usage => 2,
             Status::Refused(_) => 3,
+            Status::Stopped(_, _) => 4,
             Status::Going => 5,
             Status::ReadFault(_) => 6,
             Status::WriteFault => 7,

@@ -1,12 +1,12 @@
-use Rattle.std.proofs.Common.{subst, sym}
-use Rattle.vba_cli.specs.Answer.{Shown}
-use Rattle.vba_cli.specs.Form.{program_of}
-use Rattle.vba_cli.specs.Steps.{Ran}
-use Rattle.vba_cli.proofs.Steps.{shown_program}
+use Rattle.std.proofs.Common.{sym, subst}
+use Rattle.std.specs.Prelude.{Ok}
+use Rattle.vba_cli.specs.Program.{program_of}
+use Rattle.vba_cli.specs.Programs.{IsProgram}
+use Rattle.vba_cli.proofs.Bound.{ran_left}
 use Rattle.vba_cli.proofs.cli.run_source.Goals as goal
 
-pub returns-in-Ok-Some : goal.returns-in-Ok-Some
-returns-in-Ok-Some g c =
-    let is = rw c.in-Ok-Some.field-0-is at c.in-Ok-Some.ensures in
-    subst (λ (shown : Shown). Ran shown c.run_statements.result (g.O.Sink.taken c.args.out.now) (g.O.Sink.taken c.run_statements.new.out) (g.O.Sink.faults c.args.out.now) (g.O.Sink.faults c.run_statements.new.out))
-    (shown_program (program_of c.args.source.now) c.deref.result.now c.in-Ok-Some.statements.items (sym is) c.deref.ensures.value) c.run_statements.ensures
+-- a part that isn't built yet is told, and nothing is put
+pub returns-in-Ok-NotBuilt : goal.returns-in-Ok-NotBuilt
+returns-in-Ok-NotBuilt g c =
+    ran_left (program_of c.args.source.now) c.in-Ok-NotBuilt.place (g.O.Sink.taken c.args.out.now) (g.O.Sink.faults c.args.out.now)
+    (subst (λ b. IsProgram (program_of c.args.source.now) (Ok b)) c.in-Ok-NotBuilt.field-0-is c.in-Ok-NotBuilt.ensures)

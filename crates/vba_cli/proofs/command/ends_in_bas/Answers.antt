@@ -2,7 +2,7 @@ use Rattle.std.proofs.Common.{◌-◌, length, drop, map, sym, arith, length-dro
 use Rattle.std.specs.Prelude.{codes}
 use Rattle.std.proofs.lemmas.List.{length-map, length-take}
 use Rattle.vba_lexer.specs.Tokens.{lower}
-use Rattle.built_form.proofs.SameText.{same_text_sizes}
+use Rattle.vba_cli.proofs.SameText.{same_text_sizes}
 use Rattle.vba_cli.proofs.command.ends_in_bas.Goals as goal
 
 -- a text with fewer than four bytes doesn't match one of four

@@ -1,0 +1,178 @@
+//! Declarations of types that run: no objects, and no types that the profile hasn't.
+
+ghost use Rattle.std.specs.Prelude.{◌≡◌, IfOk, option_map};
+ghost use Rattle.std.specs.List.{list_all};
+ghost use Rattle.binder.specs.Bind as plain;
+ghost use Rattle.bound_project.specs.View.{declared_view, element_view};
+ghost use Rattle.declared_names.specs.View.{scope_view, type_meant_view};
+ghost use Rattle.vba_module.specs.Headers.{all_of, parameters_of};
+ghost use Rattle.vba_tree.specs.View.{listed_view, declared_type_view, type_clause_view, new_type_clause_view, variable_view, parameter_view, parameters_view, result_type_view};
+
+use bound_project::{DeclaredType, ElementType};
+use declared_names::{Scope, TypeMeant, type_meant};
+use vba_base::NoMemory;
+use vba_lexer::TypeSuffix;
+use vba_tree::{
+    DeclaredType as WrittenType, Listed, NewTypeClause, Parameter, Parameters, ResultType,
+    TypeClause, Variable,
+};
+
+fn is_built_element(of: ElementType) -> bool
+    ensures { result ≡ plain.is_built_type (element_view of) }
+{
+    match of {
+        ElementType::Object
+        | ElementType::Class(_)
+        | ElementType::Collection
+        | ElementType::Worksheet
+        | ElementType::Range => false,
+        ElementType::Boolean
+        | ElementType::Byte
+        | ElementType::Integer
+        | ElementType::Long
+        | ElementType::LongLong
+        | ElementType::Currency
+        | ElementType::Text
+        | ElementType::FixedText(_)
+        | ElementType::Variant
+        | ElementType::UserType(_) => true,
+    }
+}
+
+fn is_built_type(of: DeclaredType) -> bool
+    ensures { result ≡ plain.is_built_type (declared_view of) }
+{
+    match of {
+        DeclaredType::Plain(of) => is_built_element(of),
+        DeclaredType::ArrayOf(of) => is_built_element(of),
+    }
+}
+
+fn is_built_meant(meant: Option<TypeMeant>) -> bool
+    ensures { result ≡ plain.is_built_meant (option_map type_meant_view meant) }
+{
+    match meant {
+        Some(TypeMeant::Known(of)) => is_built_type(of),
+        Some(TypeMeant::OfHost) => false,
+        Some(TypeMeant::LeftOut) => false,
+        None => false,
+    }
+}
+
+/// Does a type as it is written run?
+pub(crate) fn is_built_written(scope: Scope, of: &WrittenType) -> Result<bool, NoMemory>
+    ensures { IfOk result (λ built. built ≡ plain.is_built_written (scope_view scope.entry) (declared_type_view of.now)) }
+{
+    match of {
+        WrittenType::Named(name) => Ok(is_built_meant(type_meant(scope, name)?)),
+        WrittenType::FixedText { .. } => Ok(true),
+    }
+}
+
+/// Does the type of a suffix run?
+pub(crate) fn is_built_suffix(suffix: Option<TypeSuffix>) -> bool
+    ensures { result ≡ plain.is_built_suffix suffix }
+{
+    match suffix {
+        Some(TypeSuffix::Single) => false,
+        Some(TypeSuffix::Double) => false,
+        _ => true,
+    }
+}
+
+fn is_built_clause(
+    scope: Scope,
+    suffix: Option<TypeSuffix>,
+    clause: &Option<TypeClause>,
+) -> Result<bool, NoMemory>
+    ensures { IfOk result (λ built. built ≡ plain.is_built_clause (scope_view scope.entry) suffix (option_map type_clause_view clause.now)) }
+{
+    if !is_built_suffix(suffix) {
+        return Ok(false);
+    }
+    match clause {
+        None => Ok(true),
+        Some(clause) => is_built_written(scope, &clause.declared_type),
+    }
+}
+
+fn is_built_new(
+    scope: Scope,
+    suffix: Option<TypeSuffix>,
+    clause: &Option<NewTypeClause>,
+) -> Result<bool, NoMemory>
+    ensures { IfOk result (λ built. built ≡ plain.is_built_new (scope_view scope.entry) suffix (option_map new_type_clause_view clause.now)) }
+{
+    if !is_built_suffix(suffix) {
+        return Ok(false);
+    }
+    match clause {
+        None => Ok(true),
+        Some(clause) => match clause.new_word {
+            Some(_) => Ok(false),
+            None => is_built_written(scope, &clause.declared_type),
+        },
+    }
+}
+
+/// Does the type of a procedure's result run?
+pub(crate) fn is_built_result(
+    scope: Scope,
+    result_type: &Option<ResultType>,
+) -> Result<bool, NoMemory>
+    ensures { IfOk result (λ built. built ≡ plain.is_built_result (scope_view scope.entry) (option_map result_type_view result_type.now)) }
+{
+    match result_type {
+        None => Ok(true),
+        Some(of) => is_built_written(scope, &of.declared_type),
+    }
+}
+
+/// Do the types of variables run?
+pub(crate) fn are_built_variables(scope: Scope, list: &Listed<Variable>) -> Result<bool, NoMemory>
+    ensures { IfOk result (λ built. built ≡ list_all (plain.is_built_variable (scope_view scope.entry)) (all_of (listed_view variable_view list.now))) }
+{
+    if !is_built_new(scope, list.first.name.suffix, &list.first.type_clause)? {
+        return Ok(false);
+    }
+    let mut left = list.others.as_slice();
+    'variables: while let [next, behind @ ..] = left {
+        if !is_built_new(scope, next.item.name.suffix, &next.item.type_clause)? {
+            return Ok(false);
+        }
+        left = behind;
+    }
+    Ok(true)
+}
+
+fn is_built_list(scope: Scope, list: &Listed<Parameter>) -> Result<bool, NoMemory>
+    ensures { IfOk result (λ built. built ≡ list_all (plain.is_built_parameter (scope_view scope.entry)) (all_of (listed_view parameter_view list.now))) }
+{
+    if !is_built_clause(scope, list.first.name.suffix, &list.first.type_clause)? {
+        return Ok(false);
+    }
+    let mut left = list.others.as_slice();
+    'parameters: while let [next, behind @ ..] = left {
+        if !is_built_clause(scope, next.item.name.suffix, &next.item.type_clause)? {
+            return Ok(false);
+        }
+        left = behind;
+    }
+    Ok(true)
+}
+
+/// Do the types of parameters run?
+pub(crate) fn are_built_parameters(
+    scope: Scope,
+    parameters: &Option<Parameters>,
+) -> Result<bool, NoMemory>
+    ensures { IfOk result (λ built. built ≡ list_all (plain.is_built_parameter (scope_view scope.entry)) (parameters_of (option_map parameters_view parameters.now))) }
+{
+    match parameters {
+        None => Ok(true),
+        Some(parameters) => match &parameters.parameters {
+            None => Ok(true),
+            Some(list) => is_built_list(scope, list),
+        },
+    }
+}

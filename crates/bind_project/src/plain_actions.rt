@@ -1,0 +1,126 @@
+//! What statements without expressions do.
+
+ghost use Rattle.std.specs.Prelude.{◌≡◌, true, IfOk, Some, option_map};
+ghost use Rattle.bind_project.specs.Actions.{done_alone, is_alone};
+ghost use Rattle.bind_project.specs.Plain.{PlainRound};
+ghost use Rattle.bind_project.specs.Round.{around_view};
+ghost use Rattle.binder.specs.StatementsBound as plain;
+ghost use Rattle.bound_project.specs.Statements as plain_to;
+ghost use Rattle.statement_numbers.specs.View.{standing_view};
+
+use crate::around::Around;
+use bound_declarations::NotYet;
+use bound_project::{ActionKind, Handling};
+use module_parts::BlockKind;
+use statement_numbers::{Sought, Standing, label_number};
+use std::alloc::Global;
+use vba_base::{NoMemory, OrMemory};
+use vba_tree::{ErrorHandling, ExitKind, LabelName, ResumeTarget};
+
+/// The number of what runs behind a label of the procedure.
+fn number_of(alloc: Global, around: Around, label: &LabelName) -> Result<u32, OrMemory<NotYet>>
+    ensures { IfOk result (λ number. plain.label_number (around_view around.entry).parts label.now ≡ Some number) }
+{
+    match label_number(alloc, around.body.slice(), label)? {
+        Some(number) => Ok(number),
+        None => Err(OrMemory::Fault(NotYet)),
+    }
+}
+
+/// `GoTo label`
+pub(crate) fn go_to(
+    alloc: Global,
+    around: Around,
+    label: &LabelName,
+) -> Result<ActionKind, OrMemory<NotYet>>
+    ensures alone { IfOk result (λ kind. is_alone kind ≡ true) }
+    ensures is { IfOk result (λ kind. (option_map plain_to.go_to (plain.label_number (around_view around.entry).parts label.now)) ≡ done_alone kind) }
+{
+    let to = number_of(alloc, around, label)?;
+    Ok(ActionKind::GoTo { to })
+}
+
+/// `GoSub label`
+pub(crate) fn go_sub(
+    alloc: Global,
+    around: Around,
+    label: &LabelName,
+) -> Result<ActionKind, OrMemory<NotYet>>
+    ensures alone { IfOk result (λ kind. is_alone kind ≡ true) }
+    ensures is { IfOk result (λ kind. (option_map plain_to.go_sub (plain.label_number (around_view around.entry).parts label.now)) ≡ done_alone kind) }
+{
+    let to = number_of(alloc, around, label)?;
+    Ok(ActionKind::GoSub { to })
+}
+
+/// `On Error ..`
+pub(crate) fn on_error(
+    alloc: Global,
+    around: Around,
+    handling: &ErrorHandling,
+) -> Result<ActionKind, OrMemory<NotYet>>
+    ensures alone { IfOk result (λ kind. is_alone kind ≡ true) }
+    ensures is { IfOk result (λ kind. (plain.on_handling (around_view around.entry) handling.now) ≡ done_alone kind) }
+{
+    match handling {
+        ErrorHandling::GoTo { label, .. } => {
+            let statement = number_of(alloc, around, label)?;
+            Ok(ActionKind::OnError(Handling::HandledAt { statement }))
+        }
+        ErrorHandling::GoToZero { .. } => Ok(ActionKind::OnError(Handling::PassedOn)),
+        ErrorHandling::GoToMinusOne { .. } => Ok(ActionKind::EndHandler),
+        ErrorHandling::ResumeNext { .. } => Ok(ActionKind::OnError(Handling::Skipped)),
+    }
+}
+
+/// `Resume ..`
+pub(crate) fn resume(
+    alloc: Global,
+    around: Around,
+    target: &Option<ResumeTarget>,
+) -> Result<ActionKind, OrMemory<NotYet>>
+    ensures alone { IfOk result (λ kind. is_alone kind ≡ true) }
+    ensures is { IfOk result (λ kind. (plain.on_resume (around_view around.entry) target.now) ≡ done_alone kind) }
+{
+    match target {
+        None => Ok(ActionKind::ResumeAgain),
+        Some(ResumeTarget::Zero(_)) => Ok(ActionKind::ResumeAgain),
+        Some(ResumeTarget::Next(_)) => Ok(ActionKind::ResumeNext),
+        Some(ResumeTarget::Label(label)) => {
+            let to = number_of(alloc, around, label)?;
+            Ok(ActionKind::ResumeAt { to })
+        }
+    }
+}
+
+/// `Exit ..`, where no For Each stands open.
+#[tactic(auto, using(crate::proofs::Rounds::no_each))]
+pub(crate) fn exit(
+    around: Around,
+    standing: Standing,
+    kind: ExitKind,
+) -> Result<ActionKind, NoMemory>
+    requires { PlainRound (standing_view standing).around }
+    ensures alone { IfOk result (λ done. is_alone done ≡ true) }
+    ensures is { IfOk result (λ done. (Some (plain.exit_action (around_view around.entry) (standing_view standing.entry) kind)) ≡ done_alone done) }
+{
+    match kind {
+        ExitKind::For => {
+            let to = standing.sought_behind(Sought::BehindKind {
+                kind: BlockKind::For,
+                depth: 0,
+            })?;
+            Ok(ActionKind::GoTo { to })
+        }
+        ExitKind::Do => {
+            let to = standing.sought_behind(Sought::BehindKind {
+                kind: BlockKind::Do,
+                depth: 0,
+            })?;
+            Ok(ActionKind::GoTo { to })
+        }
+        ExitKind::Sub | ExitKind::Function | ExitKind::Property => {
+            Ok(ActionKind::ExitTo { end: around.end })
+        }
+    }
+}

@@ -1,0 +1,104 @@
+//! The modules of a project, bound in order.
+
+ghost use Rattle.std.specs.Prelude.{◌≡◌, OnOk, map, unwrap_or};
+ghost use Rattle.bind_project.specs.Homes.{HomeStands};
+ghost use Rattle.bind_project.specs.Modules as modules;
+ghost use Rattle.bind_project.specs.Modules.{IsFront, SpaceAdded, SpacesAdded};
+ghost use Rattle.binder.specs.Bind as plain;
+ghost use Rattle.bound_project.specs.DraftView.{draft_view};
+ghost use Rattle.constant_values.specs.Rounds.{AreNumbered};
+ghost use Rattle.declared_names.specs.Outside.{the_outside};
+ghost use Rattle.declared_names.specs.View.{scope_view, space_view};
+ghost use Rattle.module_parts.specs.View.{parts_view};
+ghost use Rattle.project_tables.specs.Rows.{AreRows, AreRowsOf};
+ghost use Rattle.project_tables.specs.Signed.{AreSignatures};
+
+use crate::home::Home;
+use crate::modules::bind_parts;
+use bound_project::Draft;
+use declared_names::{Scope, Space};
+use module_parts::{Part, place_of};
+use project_tables::{ProcedureRow, Rows, Signatures};
+use std::alloc::Global;
+use vba_base::{OrMemory, Place};
+
+/// Where a project is told that isn't bound, if no part of it is.
+pub(crate) fn front() -> Place
+    ensures { result ≡ modules.front }
+{
+    Place {
+        module: 1,
+        line: 1,
+        column: 1,
+    }
+}
+
+/// The place of the first of these parts.
+fn first_place(parts: &[Part]) -> Place
+    ensures { result ≡ unwrap_or (plain.first_part (parts_view parts.now)) modules.front }
+{
+    match parts {
+        [part, ..] => place_of(part),
+        [] => front(),
+    }
+}
+
+/// Binds a module. Classes aren't bound yet.
+#[tactic(auto, using(crate::proofs::Rows::rows_numbered, crate::proofs::Rows::rows_fit, crate::proofs::ByModule::space_added))]
+fn bind_space<'a>(
+    alloc: Global,
+    draft: &mut Draft,
+    home: Home<'a>,
+    rows: &'a [ProcedureRow<'a>],
+) -> Result<(), OrMemory<Place>>
+    requires home { HomeStands home }
+    requires front { IsFront (draft_view draft.old) }
+    requires rows { AreRowsOf (scope_view home.scope) rows.now }
+    ensures { OnOk result (SpaceAdded (scope_view home.entry.scope) (draft_view draft.old) (draft_view draft.new)) }
+{
+    let source = home.scope.here.source;
+    let parts = source.parts.as_slice();
+    if source.is_class {
+        return Err(OrMemory::Fault(first_place(parts)));
+    }
+    bind_parts(alloc, draft, home, rows, parts)
+}
+
+/// Binds the modules of a project.
+#[tactic(auto, using(crate::proofs::ByModule::spaces_begin, crate::proofs::ByModule::space_walked, crate::proofs::ByModule::spaces_end, crate::proofs::Rows::all_placed))]
+pub(crate) fn bind_spaces<'a>(
+    alloc: Global,
+    draft: &mut Draft,
+    spaces: &'a [Space<'a>],
+    rows: &'a Rows<'a>,
+    signatures: &'a Signatures,
+) -> Result<(), OrMemory<Place>>
+    requires front { IsFront (draft_view draft.old) }
+    requires numbered { AreNumbered (map space_view spaces.now) }
+    requires rows { AreRows rows.now (map space_view spaces.now) }
+    requires signed { AreSignatures signatures.now (map space_view spaces.now) }
+    ensures { OnOk result (SpacesAdded the_outside (map space_view spaces.now) (draft_view draft.old) (draft_view draft.new)) }
+{
+    let values = &rows.values;
+    let mut waiting = rows.of.as_slice();
+    let mut left = spaces;
+    'spaces: while let [here, behind @ ..] = left {
+        let [of_here, others @ ..] = waiting else {
+            return Err(OrMemory::Fault(front()));
+        };
+        let scope = Scope {
+            spaces: &*spaces,
+            here,
+            locals: &[],
+        };
+        let home = Home {
+            scope,
+            values,
+            signatures: &*signatures,
+        };
+        bind_space(alloc, draft, home, of_here.as_slice())?;
+        waiting = others;
+        left = behind;
+    }
+    Ok(())
+}

@@ -1,5 +1,0 @@
-pub mod Values
-pub mod State
-pub mod Meaning
-pub mod Texts
-pub mod Laws
