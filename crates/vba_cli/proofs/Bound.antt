@@ -1,6 +1,7 @@
 -- A module that is bound is the program of its file.
 use Rattle.std.proofs.Common.{◌≡◌, ℕ, List, [], ◌∷◌, refl, sym, ap, ◌∙◌, subst}
-use Rattle.std.specs.Prelude.{map, Option, Some, None, Ok}
+use Rattle.vba_cli.specs.declared.status.Status.{Status}
+use Rattle.std.specs.Prelude.{Bool, map, Option, Some, None, Ok}
 use Rattle.vba_base.specs.declared.place.Place.{Place}
 use Rattle.vba_base.specs.declared.place.Refusal.{Refusal}
 use Rattle.bound_project.specs.Project.{Project}
@@ -8,15 +9,16 @@ use Rattle.binder.specs.Sources.{Source}
 use Rattle.binder.specs.Scopes.{Space, spaces_from}
 use Rattle.binder.specs.Names.{scope_of}
 use Rattle.binder.specs.Violations.{violations, first_broken}
-use Rattle.binder.specs.Bind.{Answer, Startup, refused, not_built_at, bound_as, answer_by, not_built, project_of, left_in_spaces}
+use Rattle.binder.specs.Bind.{Answer, refused, not_built_at, bound_as, answer_by, not_built, project_of}
 use Rattle.constant_values.specs.Rounds.{AreNumbered}
 use Rattle.constant_values.proofs.Looked.{spaces_from_numbered}
 use Rattle.declared_names.specs.Outside.{the_outside}
-use Rattle.bind_project.specs.Bound.{IsBound, project_in}
+use Rattle.bind_project.specs.Bound.{IsBound}
 use Rattle.bind_project.specs.declared.bound.Bound.{Bound}
 use Rattle.bind_project.specs.declared.bound.Bound.TheVariants as bound
 use Rattle.vba_base.proofs.Causes.{adds_none}
-use Rattle.vba_cli.specs.Answer.{shown_of_program, refused as refused_as}
+use Rattle.command_words.specs.Words.{run, check}
+use Rattle.vba_cli.specs.Answer.{shown_of_program, shown_of_check, all_right, refused as refused_as}
 use Rattle.vba_cli.specs.declared.status.Status.TheVariants as status
 use Rattle.vba_cli.specs.Program.{main_of, bound_module}
 use Rattle.vba_cli.specs.Programs.{IsProgram, IsUnbroken}
@@ -57,21 +59,40 @@ module_bound m spaces (bound.Runs pr) e whole is =
     )
 
 -- what isn't built yet shows that alone
-pub shown_left : (answer : Answer) (place : Place) → IsUnbroken answer → refused_as (status.NotBuilt place) ≡ shown_of_program (Some place) answer
-shown_left (refused refusal) place h = absurd h
-shown_left (not_built_at other) place h = refl
-shown_left (bound_as pr) place h = refl
+pub shown_left : (turns : ℕ) (answer : Answer) (place : Place) → IsUnbroken answer → refused_as (status.NotBuilt place) ≡ shown_of_program (Some place) turns answer
+shown_left turns (refused refusal) place h = absurd h
+shown_left turns (not_built_at other) place h = refl
+shown_left turns (bound_as pr) place h = refl
 
 -- and nothing is put
-pub ran_left : (answer : Answer) (place : Place) (taken : Option (List ℕ)) (faults : ℕ) → IsUnbroken answer
-    → RanProgram answer (status.NotBuilt place) taken taken faults faults
-ran_left answer place taken faults h = record {
+pub ran_left : (path : List ℕ) (turns : ℕ) (trace : Bool) (answer : Answer) (place : Place) (taken : Option (List ℕ)) (faults : ℕ) → IsUnbroken answer
+    → RanProgram (run path turns trace) answer (status.NotBuilt place) taken taken faults faults
+ran_left path turns trace answer place taken faults h = record {
   left = Some place;
-  ran = subst (λ s. Ran s (status.NotBuilt place) taken taken faults faults) (shown_left answer place h) (record {
+  ran = subst (λ s. Ran s (status.NotBuilt place) taken taken faults faults) (shown_left turns answer place h) (record {
     leaves = (refl, refl);
     meets = (refl, adds_none taken);
     of_run = tt;
   });
+}
+
+-- a check of what breaks no rule shows that all is right
+pub all_right_of : (answer : Answer) → IsUnbroken answer → shown_of_check answer ≡ all_right
+all_right_of (refused refusal) h = absurd h
+all_right_of (not_built_at place) h = refl
+all_right_of (bound_as pr) h = refl
+
+-- of a project that is read no rule is broken
+pub read_unbroken : (answer : Answer) (b : Bound) → IsProgram answer (Ok b) → IsUnbroken answer
+read_unbroken answer (bound.NotBuilt place) h = h
+read_unbroken answer (bound.Runs pr) h = subst IsUnbroken (sym h.1) tt
+
+-- what was put is what the check shows
+pub checked : (path : List ℕ) (answer : Answer) (b : Bound) (result : Status) (old new : Option (List ℕ)) (faults_old faults_new : ℕ) → IsProgram answer (Ok b)
+    → Ran all_right result old new faults_old faults_new → RanProgram (check path) answer result old new faults_old faults_new
+checked path answer b result old new faults_old faults_new h ran = record {
+  left = None;
+  ran = subst (λ s. Ran s result old new faults_old faults_new) (sym (all_right_of answer (read_unbroken answer b h))) ran;
 }
 
 -- the fold by which the macro to begin with is looked up

@@ -1,6 +1,6 @@
 -- What a file is, from its bytes to what is bound.
 use Rattle.std.proofs.Common.{◌≡◌, ℕ, List, sym, subst}
-use Rattle.std.specs.Prelude.{Option, None, Result, Ok, false}
+use Rattle.std.specs.Prelude.{None, Result, Ok, false}
 use Rattle.vba_base.specs.Decode.{decoded}
 use Rattle.vba_base.specs.declared.fault.OrMemory.{OrMemory}
 use Rattle.vba_base.specs.declared.place.Refusal.{Refusal}

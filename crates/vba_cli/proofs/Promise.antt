@@ -1,12 +1,13 @@
 -- Performing a command and telling its status is what a command promises.
-use Rattle.std.proofs.Common.{◌≡◌, ℕ, List, [], Bor, refl, sym, ap, subst, ◌∙◌, inl, inr}
-use Rattle.std.specs.Prelude.{Option, Some, None, IfSome, IsSomeAnd, unwrap_or, option_map}
+use Rattle.std.proofs.Common.{◌≡◌, ℕ, List, refl, sym, subst, inl, inr}
+use Rattle.std.specs.Prelude.{Option, Some, None, IfSome, IsSomeAnd}
 use Rattle.vba_base.specs.Causes.{Adds, AddsPrefix}
 use Rattle.vba_base.specs.Outside.{Told}
 use Rattle.vba_cli.specs.declared.status.Status.{Status}
 use Rattle.vba_cli.specs.declared.status.Status.TheVariants.{Ended, Faulted, Usage, Refused, Stopped, Going, ReadFault, WriteFault, TooLong, NotBuilt, NoMemory}
-use Rattle.vba_cli.specs.Command.{file_of}
-use Rattle.vba_cli.specs.Answer.{Shown, shown_of_command, answer, path_of, err_of}
+use Rattle.command_words.specs.Words.{Command}
+use Rattle.vba_cli.specs.Command.{command_in}
+use Rattle.vba_cli.specs.Answer.{Shown, shown_of_command, answer, err_of}
 use Rattle.vba_cli.specs.Contract.{World, NoneRose, IsAnswer, UnlessFault, UnlessUnwritten, Cause, Noticed, Quiet, names_of, ReadsOnly, Says, Commands}
 use Rattle.vba_cli.specs.Steps.{Leaves, Meets, Reads, Performs, Tells}
 use Rattle.vba_base.proofs.Causes.{adds_prefix_whole}
@@ -16,6 +17,10 @@ use Rattle.vba_cli.proofs.Steps.{none_prefix}
 map_told : {P Q : Told → Type 0} (told : Option Told) → ((t : Told) → P t → Q t) → IfSome told P → IfSome told Q
 map_told None f h = tt
 map_told (Some t) f h = f t h
+
+map_any : {P : Told → Type 0} (told : Option Told) → ((t : Told) → P t) → IfSome told P
+map_any None f = tt
+map_any (Some t) f = f t
 
 map_both : {P Q R : Told → Type 0} (told : Option Told) → ((t : Told) → P t → Q t → R t) → IfSome told P → IfSome told Q → IfSome told R
 map_both None f h k = tt
@@ -49,13 +54,13 @@ meets_status shown (Stopped why place) old new m = m.0
 meets_status shown (NotBuilt place) old new m = m.0
 meets_status shown NoMemory old new m = tt
 
-module _ (words : List (List ℕ)) (performed : Status) (old new : World) (p : Performs (file_of words) performed old new) where
+module _ (words : List (List ℕ)) (performed : Status) (old new : World) (p : Performs (command_in words) performed old new) where
   -- the bytes of `out` are a prefix of the answer's, whatever came
   part : IfSome old.told (λ told. AddsPrefix old.out new.out (answer p.left words told.files).out)
-  part = map_told old.told (λ told m. meets_part (shown_of_command p.left told.files (file_of words)) performed old.out new.out m) p.meets
+  part = map_told old.told (λ told m. meets_part (shown_of_command p.left told.files (command_in words)) performed old.out new.out m) p.meets
 
   -- a status that is told as it was performed, or the answer's, unless a fault came
-  unless_of : (result : Status) (meant : Status) → UnlessFault performed meant → Tells (path_of (file_of words)) performed result old.err new.err old.err_faults new.err_faults → UnlessFault result meant
+  unless_of : (result : Status) (meant : Status) → UnlessFault performed meant → Tells (command_in words) performed result old.err new.err old.err_faults new.err_faults → UnlessFault result meant
   unless_of Ended meant u t = subst (λ s. UnlessFault s meant) (sym t.0) u
   unless_of (Faulted number place) meant u t = subst (λ s. UnlessFault s meant) (sym t.0) u
   unless_of Usage meant u t = subst (λ s. UnlessFault s meant) (sym t.0) u
@@ -68,27 +73,27 @@ module _ (words : List (List ℕ)) (performed : Status) (old new : World) (p : P
   unless_of (NotBuilt place) meant u t = subst (λ s. UnlessFault s meant) (sym t.0) u
   unless_of NoMemory meant u t = tt
 
-  usage_of : (result : Status) → performed ≡ Usage → Tells (path_of (file_of words)) performed result old.err new.err old.err_faults new.err_faults → UnlessUnwritten result Usage
-  usage_of Ended u t = t.0 ∙ u
-  usage_of (Faulted number place) u t = t.0 ∙ u
+  usage_of : (result : Status) → UnlessUnwritten performed Usage → Tells (command_in words) performed result old.err new.err old.err_faults new.err_faults → UnlessUnwritten result Usage
+  usage_of Ended u t = subst (λ s. UnlessUnwritten s Usage) (sym t.0) u
+  usage_of (Faulted number place) u t = subst (λ s. UnlessUnwritten s Usage) (sym t.0) u
   usage_of Usage u t = refl
-  usage_of Going u t = t.0 ∙ u
-  usage_of (ReadFault number) u t = t.0 ∙ u
+  usage_of Going u t = subst (λ s. UnlessUnwritten s Usage) (sym t.0) u
+  usage_of (ReadFault number) u t = subst (λ s. UnlessUnwritten s Usage) (sym t.0) u
   usage_of WriteFault u t = tt
-  usage_of (TooLong number) u t = t.0 ∙ u
-  usage_of (Refused refusal) u t = t.0 ∙ u
-  usage_of (Stopped why place) u t = t.0 ∙ u
-  usage_of (NotBuilt place) u t = t.0 ∙ u
+  usage_of (TooLong number) u t = subst (λ s. UnlessUnwritten s Usage) (sym t.0) u
+  usage_of (Refused refusal) u t = subst (λ s. UnlessUnwritten s Usage) (sym t.0) u
+  usage_of (Stopped why place) u t = subst (λ s. UnlessUnwritten s Usage) (sym t.0) u
+  usage_of (NotBuilt place) u t = subst (λ s. UnlessUnwritten s Usage) (sym t.0) u
   usage_of NoMemory u t = tt
 
   -- what reading and `out` say of a status that was performed
-  reads_as : (result : Status) → result ≡ performed → Reads (file_of words) result old new
-  reads_as result is = subst (λ s. Reads (file_of words) s old new) (sym is) p.reads
+  reads_as : (result : Status) → result ≡ performed → Reads (command_in words) result old new
+  reads_as result is = subst (λ s. Reads (command_in words) s old new) (sym is) p.reads
 
   leaves_as : (result : Status) → result ≡ performed → Leaves result old.out new.out old.out_faults new.out_faults
   leaves_as result is = subst (λ s. Leaves s old.out new.out old.out_faults new.out_faults) (sym is) p.leaves
 
-  cause_of : (result : Status) → Tells (path_of (file_of words)) performed result old.err new.err old.err_faults new.err_faults → Cause words old new result
+  cause_of : (result : Status) → Tells (command_in words) performed result old.err new.err old.err_faults new.err_faults → Cause words old new result
   cause_of Ended t = tt
   cause_of (Faulted number place) t = tt
   cause_of Usage t = let r = reads_as Usage t.0 in r.0
@@ -101,7 +106,7 @@ module _ (words : List (List ℕ)) (performed : Status) (old new : World) (p : P
   cause_of (NotBuilt place) t = tt
   cause_of NoMemory t = tt
 
-  noticed_of : (result : Status) → Tells (path_of (file_of words)) performed result old.err new.err old.err_faults new.err_faults → Noticed old new result
+  noticed_of : (result : Status) → Tells (command_in words) performed result old.err new.err old.err_faults new.err_faults → Noticed old new result
   noticed_of Ended t = record { read_faults = reads_as Ended t.0; out_faults = leaves_as Ended t.0; err_faults = t.1 }
   noticed_of (Faulted number place) t =
       record { read_faults = reads_as (Faulted number place) t.0; out_faults = leaves_as (Faulted number place) t.0; err_faults = t.1 }
@@ -120,7 +125,7 @@ module _ (words : List (List ℕ)) (performed : Status) (old new : World) (p : P
       let l = leaves_as (NotBuilt place) t.0 in record { read_faults = reads_as (NotBuilt place) t.0; out_faults = l.0; err_faults = t.1 }
   noticed_of NoMemory t = tt
 
-  quiet_of : (result : Status) → Tells (path_of (file_of words)) performed result old.err new.err old.err_faults new.err_faults → Quiet old new result
+  quiet_of : (result : Status) → Tells (command_in words) performed result old.err new.err old.err_faults new.err_faults → Quiet old new result
   quiet_of Ended t = tt
   quiet_of (Faulted number place) t = tt
   quiet_of Usage t = let l = leaves_as Usage t.0 in l.1
@@ -133,7 +138,7 @@ module _ (words : List (List ℕ)) (performed : Status) (old new : World) (p : P
   quiet_of (NotBuilt place) t = let l = leaves_as (NotBuilt place) t.0 in l.1
   quiet_of NoMemory t = tt
 
-  says_of : (result : Status) → Tells (path_of (file_of words)) performed result old.err new.err old.err_faults new.err_faults → Says (path_of (file_of words)) old new result
+  says_of : (result : Status) → Tells (command_in words) performed result old.err new.err old.err_faults new.err_faults → Says (command_in words) old new result
   says_of Ended t = t.2
   says_of (Faulted number place) t = t.2
   says_of Usage t = t.2
@@ -147,21 +152,21 @@ module _ (words : List (List ℕ)) (performed : Status) (old new : World) (p : P
   says_of NoMemory t = t.1
 
   -- the files hold what the answer says, that is what they held
-  files_of : (told : Told) → (new_told : Option Told) → IsSomeAnd new_told (λ after. ReadsOnly (names_of (file_of words)) told after) → IsSomeAnd new_told (λ after. after.files ≡ (answer p.left words told.files).files)
+  files_of : (told : Told) → (new_told : Option Told) → IsSomeAnd new_told (λ after. ReadsOnly (names_of (command_in words)) told after) → IsSomeAnd new_told (λ after. after.files ≡ (answer p.left words told.files).files)
   files_of told None h = h
   files_of told (Some after) h = h.files
 
   -- a status that was shown and told is the answer's, with its bytes and files
   answers_as : (result : Status) → ((shown : Shown) → Meets shown result old.out new.out → (result ≡ shown.status) × Adds old.out new.out shown.out) →
-      result ≡ performed → Adds old.err new.err (err_of (path_of (file_of words)) result) → IfSome old.told (λ told. IsAnswer (answer p.left words told.files) result old new)
+      result ≡ performed → Adds old.err new.err (err_of (command_in words) result) → IfSome old.told (λ told. IsAnswer (answer p.left words told.files) result old new)
   answers_as result shows is err =
       map_both old.told
       (λ told meets only.
-      let m = shows (shown_of_command p.left told.files (file_of words)) (subst (λ s. Meets (shown_of_command p.left told.files (file_of words)) s old.out new.out) (sym is) meets) in
-      record { status = m.0; out = m.1; err = subst (λ s. Adds old.err new.err (err_of (path_of (file_of words)) s)) m.0 err; files = files_of told new.told only })
+      let m = shows (shown_of_command p.left told.files (command_in words)) (subst (λ s. Meets (shown_of_command p.left told.files (command_in words)) s old.out new.out) (sym is) meets) in
+      record { status = m.0; out = m.1; err = subst (λ s. Adds old.err new.err (err_of (command_in words) s)) m.0 err; files = files_of told new.told only })
       p.meets p.reads_only
 
-  answers_of : (result : Status) → Tells (path_of (file_of words)) performed result old.err new.err old.err_faults new.err_faults →
+  answers_of : (result : Status) → Tells (command_in words) performed result old.err new.err old.err_faults new.err_faults →
       NoneRose old new → ¬ (result ≡ NoMemory) → IfSome old.told (λ told. IsAnswer (answer p.left words told.files) result old new)
   answers_of Ended t none memory = answers_as Ended (λ shown m. m) t.0 t.2
   answers_of (Faulted number place) t none memory = answers_as (Faulted number place) (λ shown m. m) t.0 t.2
@@ -176,11 +181,11 @@ module _ (words : List (List ℕ)) (performed : Status) (old new : World) (p : P
   answers_of (NotBuilt place) t none memory = answers_as (NotBuilt place) (λ shown m. m) t.0 t.2
   answers_of NoMemory t none memory = absurd (memory refl)
 
-  pub promised : (result : Status) → Tells (path_of (file_of words)) performed result old.err new.err old.err_faults new.err_faults → Commands words result old new
+  pub promised : (result : Status) → Tells (command_in words) performed result old.err new.err old.err_faults new.err_faults → Commands words result old new
   promised result t = record {
     left = p.left;
     answers = answers_of result t;
-    has_status = map_told old.told (λ told m. unless_of result (answer p.left words told.files).status (meets_status (shown_of_command p.left told.files (file_of words)) performed old.out new.out m) t) p.meets;
+    has_status = map_told old.told (λ told m. unless_of result (answer p.left words told.files).status (meets_status (shown_of_command p.left told.files (command_in words)) performed old.out new.out m) t) p.meets;
     part = part;
     usage = λ none. usage_of result (p.usage none) t;
     cause = cause_of result t;
@@ -197,8 +202,8 @@ abbrev bare : World → World
 bare w = record { told = w.told; counts = w.counts; out = w.out; out_faults = w.out_faults; err = None; err_faults = 0 }
 
 -- performing says nothing of `err`
-with_err : (file : Option (List ℕ)) (performed : Status) (old new : World) → Performs file performed (bare old) (bare new) → Performs file performed old new
-with_err file performed old new p = record {
+with_err : (command : Option Command) (performed : Status) (old new : World) → Performs command performed (bare old) (bare new) → Performs command performed old new
+with_err command performed old new p = record {
   leaves = p.leaves;
   left = p.left;
   meets = p.meets;
@@ -209,7 +214,7 @@ with_err file performed old new p = record {
   reads_only = p.reads_only;
 }
   where
-    reads_over : (status : Status) → Reads file status (bare old) (bare new) → Reads file status old new
+    reads_over : (status : Status) → Reads command status (bare old) (bare new) → Reads command status old new
     reads_over Ended r = r
     reads_over (Faulted number place) r = r
     reads_over Usage r = r
@@ -222,15 +227,33 @@ with_err file performed old new p = record {
     reads_over (NotBuilt place) r = r
     reads_over NoMemory r = r
 
--- the command that names this file, or none, was performed and told
-pub commanded : (words : List (List ℕ)) (file : Option (List ℕ)) (path : List ℕ) (performed result : Status) (old new : World) →
-    file ≡ file_of words → path ≡ path_of file → Performs file performed (bare old) (bare new) →
-    Tells path performed result old.err new.err old.err_faults new.err_faults → Commands words result old new
-commanded words file path performed result old new named same p t =
-    promised words performed old new (subst (λ f. Performs f performed old new) named (with_err file performed old new p)) result
-    (subst (λ q. Tells q performed result old.err new.err old.err_faults new.err_faults) (same ∙ ap path_of named) t)
+-- the command, or none, was performed and told
+pub commanded : (words : List (List ℕ)) (command : Option Command) (performed result : Status) (old new : World) →
+    command ≡ command_in words → Performs command performed (bare old) (bare new) →
+    Tells command performed result old.err new.err old.err_faults new.err_faults → Commands words result old new
+commanded words command performed result old new named p t =
+    promised words performed old new (subst (λ c. Performs c performed old new) named (with_err command performed old new p)) result
+    (subst (λ c. Tells c performed result old.err new.err old.err_faults new.err_faults) named t)
 
--- the name that is there, or no bytes, is the path
-pub path_is : (file : Option (Bor (List ℕ))) (nothing : Bor (List ℕ)) → nothing.now ≡ [] → (unwrap_or file nothing).now ≡ path_of (option_map (λ (name : Bor (List ℕ)). name.now) file)
-path_is None nothing empty = empty
-path_is (Some name) nothing empty = refl
+-- files that are as they were hold what they held
+unread : (command : Option Command) (told : Option Told) → IfSome told (λ before. IsSomeAnd told (λ after. ReadsOnly (names_of command) before after))
+unread command None = tt
+unread command (Some told) = record { files = refl; names_written = refl; names_read = inl refl }
+
+-- memory ran out before the command was known: nothing was read and nothing put on `out`
+pub wanted : (words : List (List ℕ)) (result : Status) (old : World) (new_err : Option (List ℕ)) (new_faults : ℕ) →
+    ((command : Option Command) → Tells command NoMemory result old.err new_err old.err_faults new_faults) →
+    Commands words result old (record { told = old.told; counts = old.counts; out = old.out; out_faults = old.out_faults; err = new_err; err_faults = new_faults })
+wanted words result old new_err new_faults t =
+    promised words NoMemory old (record { told = old.told; counts = old.counts; out = old.out; out_faults = old.out_faults; err = new_err; err_faults = new_faults })
+    (record {
+      leaves = refl;
+      left = None;
+      meets = map_any old.told (λ told. none_prefix old.out old.out (shown_of_command None told.files (command_in words)).out refl);
+      reads = refl;
+      usage = λ none. tt;
+      writes = refl;
+      write_faults = refl;
+      reads_only = unread (command_in words) old.told;
+    })
+    result (t (command_in words))

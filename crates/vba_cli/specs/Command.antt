@@ -1,6 +1,7 @@
 -- The words of a command. Words and names are lists of bytes.
-use Rattle.std.specs.Prelude.{ℕ, ◌-◌, Bool, false, ◌==◌, ◌&&◌, not, List, [], ◌∷◌, length, drop, codes, Option, Some, None, if◌then◌else◌}
-use Rattle.vba_lexer.specs.Tokens.{is_the_word, same_text}
+use Rattle.std.specs.Prelude.{ℕ, ◌-◌, Bool, ◌&&◌, not, List, length, drop, codes, Option, Some, None, if◌then◌else◌}
+use Rattle.vba_lexer.specs.Tokens.{is_the_word}
+use Rattle.command_words.specs.Words.{Command, run, check, command_of}
 
 -- a text is a word, which is given in lower case, in any case
 abbrev pub matches : List ℕ → List ℕ → Bool
@@ -10,15 +11,25 @@ matches text word = is_the_word word text
 abbrev pub ends_in_bas : List ℕ → Bool
 ends_in_bas name = matches (drop (length name - 4) name) (codes ".bas")
 
--- is the first byte a `-`
-abbrev pub begins_with_dash : List ℕ → Bool
-begins_with_dash [] = false
-begins_with_dash (first ∷ name) = first == 45
+-- a list is one standard module so far, and no run is traced
+abbrev pub is_built : Command → Bool
+is_built (run path turns trace) = ends_in_bas path && not trace
+is_built (check path) = ends_in_bas path
 
--- the file that a command names: `run` and a name that ends in `.bas` and doesn't begin with `-`. All other words are no command
-abbrev pub file_of : List (List ℕ) → Option (List ℕ)
-file_of [] = None
-file_of (command ∷ []) = None
-file_of (command ∷ name ∷ []) =
-    if same_text command (codes "run") && ends_in_bas name && not (begins_with_dash name) then Some name else None
-file_of (command ∷ name ∷ word ∷ words) = None
+abbrev pub if_built : Option Command → Option Command
+if_built None = None
+if_built (Some command) = if is_built command then Some command else None
+
+-- the command that the words name. All other words are no command
+abbrev pub command_in : List (List ℕ) → Option Command
+command_in words = if_built (command_of words)
+
+-- the path of a command's list
+abbrev pub path_in : Command → List ℕ
+path_in (run path turns trace) = path
+path_in (check path) = path
+
+-- the bound on the turns of a run
+abbrev pub turns_in : Command → ℕ
+turns_in (run path turns trace) = turns
+turns_in (check path) = 0

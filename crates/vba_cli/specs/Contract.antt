@@ -5,8 +5,9 @@ use Rattle.vba_base.specs.Causes.{up, Rose, Adds, AddsPrefix}
 use Rattle.vba_base.specs.Outside.{Told, Counts}
 use Rattle.vba_cli.specs.declared.status.Status.{Status}
 use Rattle.vba_cli.specs.declared.status.Status.TheVariants as status
-use Rattle.vba_cli.specs.Command.{file_of}
-use Rattle.vba_cli.specs.Answer.{Answer, answer, path_of, err_of}
+use Rattle.command_words.specs.Words.{Command}
+use Rattle.vba_cli.specs.Command.{command_in, path_in}
+use Rattle.vba_cli.specs.Answer.{Answer, answer, err_of}
 
 -- the number with which the program ends
 abbrev pub code_of : Status → ℕ
@@ -60,7 +61,7 @@ UnlessUnwritten result meant = result ≡ meant
 
 -- why a status came: the words, a read that failed, a put that failed, a file with too many bytes
 abbrev pub Cause : List (List ℕ) → World → World → Status → Type 0
-Cause words old new status.Usage = file_of words ≡ None
+Cause words old new status.Usage = command_in words ≡ None
 Cause words old new (status.ReadFault number) =
     (number ≡ 0) × Rose old.counts.read_faults new.counts.read_faults × (new.counts.reads ≡ up old.counts.reads)
 Cause words old new status.WriteFault = Rose old.out_faults new.out_faults ⊎ Rose old.err_faults new.err_faults
@@ -92,9 +93,9 @@ Quiet old new (status.NotBuilt place) = new.out ≡ old.out
 Quiet old new result = Unit {0}
 
 -- the names that a command reads
-abbrev pub names_of : Option (List ℕ) → List (List ℕ)
+abbrev pub names_of : Option Command → List (List ℕ)
 names_of None = []
-names_of (Some path) = path ∷ []
+names_of (Some command) = path_in command ∷ []
 
 -- the files hold what they held; the names read in this call are none or those of the command, the names written are none
 pub record ReadsOnly (names : List (List ℕ)) (old new : Told) : Type 0 where
@@ -103,16 +104,16 @@ pub record ReadsOnly (names : List (List ℕ)) (old new : Told) : Type 0 where
   pub names_read : (new.names_read ≡ old.names_read) ⊎ (new.names_read ≡ old.names_read ++ names)
 
 -- `err` took a prefix of the line of one status
-pub record TakesSome (path : List ℕ) (old new : Option (List ℕ)) : Type 0 where
+pub record TakesSome (command : Option Command) (old new : Option (List ℕ)) : Type 0 where
   pub of_status : Status
-  pub part : AddsPrefix old new (err_of path of_status)
+  pub part : AddsPrefix old new (err_of command of_status)
 
 -- `err` took the line of the status; where its own count rose, or memory ran out, a prefix of the line of one status
-abbrev pub Says : List ℕ → World → World → Status → Type 0
-Says path old new status.WriteFault =
-    Adds old.err new.err (err_of path status.WriteFault) ⊎ (Rose old.err_faults new.err_faults × TakesSome path old.err new.err)
-Says path old new status.NoMemory = TakesSome path old.err new.err
-Says path old new result = Adds old.err new.err (err_of path result)
+abbrev pub Says : Option Command → World → World → Status → Type 0
+Says command old new status.WriteFault =
+    Adds old.err new.err (err_of command status.WriteFault) ⊎ (Rose old.err_faults new.err_faults × TakesSome command old.err new.err)
+Says command old new status.NoMemory = TakesSome command old.err new.err
+Says command old new result = Adds old.err new.err (err_of command result)
 
 -- what a command does with these words, from a first world to a second
 pub record Commands (words : List (List ℕ)) (result : Status) (old new : World) : Type 0 where
@@ -126,12 +127,12 @@ pub record Commands (words : List (List ℕ)) (result : Status) (old new : World
   -- Where the files tell their map, `out` took a prefix of the answer's bytes, whatever came.
   pub part : IfSome old.told (λ told. AddsPrefix old.out new.out (answer left words told.files).out)
   -- Words that are no command give Usage; so with its cause Usage comes exactly there.
-  pub usage : file_of words ≡ None → UnlessUnwritten result status.Usage
+  pub usage : command_in words ≡ None → UnlessUnwritten result status.Usage
   pub cause : Cause words old new result
   pub noticed : Noticed old new result
   pub quiet : Quiet old new result
-  pub says : Says (path_of (file_of words)) old new result
+  pub says : Says (command_in words) old new result
   -- Nothing is written to files.
   pub writes : new.counts.writes ≡ old.counts.writes
   pub write_faults : new.counts.write_faults ≡ old.counts.write_faults
-  pub reads_only : IfSome old.told (λ before. IsSomeAnd new.told (λ after. ReadsOnly (names_of (file_of words)) before after))
+  pub reads_only : IfSome old.told (λ before. IsSomeAnd new.told (λ after. ReadsOnly (names_of (command_in words)) before after))

@@ -1,9 +1,8 @@
 -- The texts that are written on `err`.
-use Rattle.std.specs.Prelude.{ℕ, ℤ, pos, negsuc, ◌==◌, List, [], ◌∷◌, ◌++◌, codes, if◌then◌else◌}
+use Rattle.std.specs.Prelude.{ℕ, ℤ, ◌==◌, List, [], ◌∷◌, ◌++◌, codes, if◌then◌else◌}
 use Rattle.std.specs.Fmt.{decimal, signed_decimal}
 use Rattle.vba_base.specs.declared.place.Place.{Place}
 use Rattle.vba_values.specs.Messages.{message_of}
-use Rattle.vba_values.specs.declared.fault.OutKind.{OutKind}
 use Rattle.vba_values.specs.declared.fault.OutKind.TheVariants as out
 use Rattle.pcode_vm.specs.declared.step.Why.{Why}
 use Rattle.pcode_vm.specs.declared.step.Why.TheVariants as why

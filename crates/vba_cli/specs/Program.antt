@@ -1,5 +1,5 @@
 -- What a file is: a project that runs, or why it is none.
-use Rattle.std.specs.Prelude.{ℕ, suc, List, [], ◌∷◌, codes, false, Option, Some, None, Result, Ok, Err}
+use Rattle.std.specs.Prelude.{ℕ, List, [], ◌∷◌, codes, false, Option, Some, None, Result, Ok, Err}
 use Rattle.vba_base.specs.Decode.{decoded}
 use Rattle.vba_base.specs.declared.place.Refusal.{Refusal}
 use Rattle.vba_lexer.specs.Lexed.{LexedLine, lexed}

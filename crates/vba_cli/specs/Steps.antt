@@ -5,8 +5,9 @@ use Rattle.vba_base.specs.declared.place.Place.{Place}
 use Rattle.binder.specs.Bind as bind
 use Rattle.vba_cli.specs.declared.status.Status.{Status}
 use Rattle.vba_cli.specs.declared.status.Status.TheVariants as status
-use Rattle.vba_cli.specs.Answer.{Shown, shown_of_program, shown_of_command, err_of}
-use Rattle.vba_cli.specs.Contract.{World, TakesSome, ReadsOnly, names_of}
+use Rattle.command_words.specs.Words.{Command}
+use Rattle.vba_cli.specs.Answer.{Shown, shown_of_source, shown_of_command, err_of}
+use Rattle.vba_cli.specs.Contract.{World, UnlessUnwritten, TakesSome, ReadsOnly, names_of}
 
 -- a step gave a status; its count of faults rose with WriteFault alone, and a refusal put nothing on `out`
 abbrev pub Leaves : Status → Option (List ℕ) → Option (List ℕ) → ℕ → ℕ → Type 0
@@ -38,31 +39,31 @@ pub record Ran (meant : Shown) (result : Status) (old new : Option (List ℕ)) (
   pub meets : Meets meant result old new
   pub of_run : IsOfRun result
 
--- a program was run, or a part of it isn't built yet
-pub record RanProgram (program : bind.Answer) (result : Status) (old new : Option (List ℕ)) (faults_old faults_new : ℕ) : Type 0 where
+-- a program was run or checked, or a part of it isn't built yet
+pub record RanProgram (command : Command) (program : bind.Answer) (result : Status) (old new : Option (List ℕ)) (faults_old faults_new : ℕ) : Type 0 where
   pub left : Option Place
-  pub ran : Ran (shown_of_program left program) result old new faults_old faults_new
+  pub ran : Ran (shown_of_source left command program) result old new faults_old faults_new
 
--- how often files were read and how often that failed, where a command that names this file, or none, gave a status
-abbrev pub Reads : Option (List ℕ) → Status → World → World → Type 0
-Reads file status.Usage old new = (file ≡ None) × (new.counts.read_faults ≡ old.counts.read_faults)
-Reads file (status.ReadFault number) old new =
+-- how often files were read and how often that failed, where a command, or none, gave a status
+abbrev pub Reads : Option Command → Status → World → World → Type 0
+Reads command status.Usage old new = (command ≡ None) × (new.counts.read_faults ≡ old.counts.read_faults)
+Reads command (status.ReadFault number) old new =
     (number ≡ 0) × Rose old.counts.read_faults new.counts.read_faults × (new.counts.reads ≡ up old.counts.reads)
-Reads file (status.TooLong number) old new =
+Reads command (status.TooLong number) old new =
     (number ≡ 0) × Rose old.counts.long_reads new.counts.long_reads × (new.counts.reads ≡ up old.counts.reads)
     × (new.counts.read_faults ≡ old.counts.read_faults)
-Reads file result old new = new.counts.read_faults ≡ old.counts.read_faults
+Reads command result old new = new.counts.read_faults ≡ old.counts.read_faults
 
--- a command that names this file, or none, was performed, up to the text on `err`
-pub record Performs (file : Option (List ℕ)) (result : Status) (old new : World) : Type 0 where
+-- a command, or none, was performed, up to the text on `err`
+pub record Performs (command : Option Command) (result : Status) (old new : World) : Type 0 where
   pub leaves : Leaves result old.out new.out old.out_faults new.out_faults
   pub left : Option Place
-  pub meets : IfSome old.told (λ told. Meets (shown_of_command left told.files file) result old.out new.out)
-  pub reads : Reads file result old new
-  pub usage : file ≡ None → result ≡ status.Usage
+  pub meets : IfSome old.told (λ told. Meets (shown_of_command left told.files command) result old.out new.out)
+  pub reads : Reads command result old new
+  pub usage : command ≡ None → UnlessUnwritten result status.Usage
   pub writes : new.counts.writes ≡ old.counts.writes
   pub write_faults : new.counts.write_faults ≡ old.counts.write_faults
-  pub reads_only : IfSome old.told (λ before. IsSomeAnd new.told (λ after. ReadsOnly (names_of file) before after))
+  pub reads_only : IfSome old.told (λ before. IsSomeAnd new.told (λ after. ReadsOnly (names_of command) before after))
 
 -- a line was put for a status: all of it was taken, the put failed, or memory ran out
 abbrev pub Puts : List ℕ → Status → Status → Option (List ℕ) → Option (List ℕ) → ℕ → ℕ → Type 0
@@ -72,10 +73,10 @@ Puts line performed result old new faults_old faults_new =
     ⊎ ((result ≡ status.NoMemory) × (faults_new ≡ faults_old) × AddsPrefix old new line)
 
 -- the status of a command was told on `err`, which gave this status
-abbrev pub Tells : List ℕ → Status → Status → Option (List ℕ) → Option (List ℕ) → ℕ → ℕ → Type 0
-Tells path performed status.WriteFault old new faults_old faults_new =
-    ((performed ≡ status.WriteFault) × (faults_new ≡ faults_old) × Adds old new (err_of path status.WriteFault))
-    ⊎ (Rose faults_old faults_new × TakesSome path old new)
-Tells path performed status.NoMemory old new faults_old faults_new = (faults_new ≡ faults_old) × TakesSome path old new
-Tells path performed result old new faults_old faults_new =
-    (result ≡ performed) × (faults_new ≡ faults_old) × Adds old new (err_of path result)
+abbrev pub Tells : Option Command → Status → Status → Option (List ℕ) → Option (List ℕ) → ℕ → ℕ → Type 0
+Tells command performed status.WriteFault old new faults_old faults_new =
+    ((performed ≡ status.WriteFault) × (faults_new ≡ faults_old) × Adds old new (err_of command status.WriteFault))
+    ⊎ (Rose faults_old faults_new × TakesSome command old new)
+Tells command performed status.NoMemory old new faults_old faults_new = (faults_new ≡ faults_old) × TakesSome command old new
+Tells command performed result old new faults_old faults_new =
+    (result ≡ performed) × (faults_new ≡ faults_old) × Adds old new (err_of command result)

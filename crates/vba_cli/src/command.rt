@@ -1,53 +1,88 @@
-ghost use Rattle.std.specs.Prelude.{◌≡◌, List, ℕ, map, string_bytes, option_map, ◌&&◌, not, ◌∷◌, [], codes};
-ghost use Rattle.vba_cli.specs.Command.{file_of, ends_in_bas, begins_with_dash};
-ghost use Rattle.vba_lexer.specs.Tokens.{lower, same_text};
+ghost use Rattle.std.specs.Prelude.{◌≡◌, map, string_bytes, option_map, IfOk};
+ghost use Rattle.command_words.specs.View.{command_view};
+ghost use Rattle.vba_cli.specs.Answer.{path_of, turns_of};
+ghost use Rattle.vba_cli.specs.Command.{command_in, ends_in_bas, if_built, is_built, path_in, turns_in};
+ghost use Rattle.vba_lexer.specs.Tokens.{lower};
 
-/// The file that the words name, where they are `run` and a name that ends in `.bas`, in any case, and doesn't begin
-/// with `-`.
-pub fn file_named(words: &Vec<String>) -> Option<&str>
-    ensures { option_map (λ name. name.now) result ≡ file_of (map string_bytes words.now.items) }
+use command_words::{Command, command_of};
+use std::alloc::Global;
+use vba_base::NoMemory;
+
+/// The command that the words name: `run [--turns N] NAME.bas` or `check NAME.bas`, with `.bas` in any case. All other
+/// words are none.
+pub fn command_named<'a>(
+    alloc: Global,
+    words: &'a [String],
+) -> Result<Option<Command<'a>>, NoMemory>
+    ensures { IfOk result (λ found. option_map command_view found ≡ command_in (map string_bytes words.entry.now)) }
 {
-    match words.as_slice() {
-        [command, name] => module_named(command.as_str(), name.as_str()),
-        _ => None,
-    }
+    let found = command_of(alloc, words)?;
+    Ok(if_built(found))
 }
 
-// The name, where the words are `run` and the name of a module.
-fn module_named<'a>(command: &str, name: &'a str) -> Option<&'a str>
-    ensures { option_map (λ name. name.now) result ≡ file_of (command.now ∷ name.now ∷ []) }
-{
-    if is_run(command.as_bytes()) && is_module_name(name) {
-        Some(name)
-    } else {
-        None
-    }
-}
-
-#[tactic(auto, using(crate::proofs::SameText::same_text_sizes))]
-fn is_run(command: &[u8]) -> bool
-    ensures { result ≡ same_text command.now (codes "run") }
+// A command that is built.
+fn if_built<'a>(command: Option<Command<'a>>) -> Option<Command<'a>>
+    ensures { option_map command_view result ≡ if_built (option_map command_view command.entry) }
 {
     match command {
-        [r, u, n] => *r == b'r' && *u == b'u' && *n == b'n',
-        _ => false,
+        Some(command) => {
+            if is_built(command) {
+                Some(command)
+            } else {
+                None
+            }
+        }
+        None => None,
     }
 }
 
-// Does a name end in `.bas` and not begin with `-`?
-fn is_module_name(name: &str) -> bool
-    ensures { result ≡ (ends_in_bas name.now && not (begins_with_dash name.now)) }
+// Is the command's list one standard module, and is it no traced run?
+fn is_built(command: Command) -> bool
+    ensures { result ≡ is_built (command_view command.entry) }
 {
-    let bytes = name.as_bytes();
-    ends_in_bas(bytes) && !begins_with_dash(bytes)
+    match command {
+        Command::Run { file, trace, .. } => ends_in_bas(file.as_bytes()) && !trace,
+        Command::Check { file } => ends_in_bas(file.as_bytes()),
+    }
 }
 
-fn begins_with_dash(name: &[u8]) -> bool
-    ensures { result ≡ begins_with_dash name.now }
+/// The path of a command's list.
+pub fn path_in<'a>(command: Command<'a>) -> &'a str
+    ensures { result.now ≡ path_in (command_view command.entry) }
 {
-    match name {
-        [first, ..] => *first == b'-',
-        [] => false,
+    match command {
+        Command::Run { file, .. } => file,
+        Command::Check { file } => file,
+    }
+}
+
+// The bound on the turns of a run.
+fn turns_in(command: Command) -> u64
+    ensures { result ≡ turns_in (command_view command.entry) }
+{
+    match command {
+        Command::Run { turns, .. } => turns,
+        Command::Check { .. } => 0,
+    }
+}
+
+/// The path that a text on `err` names.
+pub fn path_of<'a>(command: Option<Command<'a>>) -> &'a str
+    ensures { result.now ≡ path_of (option_map command_view command.entry) }
+{
+    match command {
+        Some(command) => path_in(command),
+        None => "",
+    }
+}
+
+/// The bound on turns that a text on `err` names.
+pub fn turns_of(command: Option<Command>) -> u64
+    ensures { result ≡ turns_of (option_map command_view command.entry) }
+{
+    match command {
+        Some(command) => turns_in(command),
+        None => 0,
     }
 }
 

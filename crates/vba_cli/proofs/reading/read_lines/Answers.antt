@@ -1,4 +1,3 @@
-use Rattle.std.proofs.Common.{sym, subst}
 use Rattle.vba_lexer.specs.Lexed.{lines_view}
 use Rattle.module_parts.specs.View.{parts_view}
 use Rattle.vba_cli.proofs.Bytes.{lines_read}

@@ -1,0 +1,3 @@
+mod Rows
+pub mod Digits
+pub mod Found
