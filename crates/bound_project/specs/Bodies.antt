@@ -11,7 +11,7 @@ use Rattle.bound_project.specs.declared.project.Block.{Block}
 use Rattle.bound_project.specs.declared.project.Body.{Body}
 use Rattle.bound_project.specs.declared.project.Project.{Project}
 use Rattle.bound_project.specs.Expressions.{Expr, Lvalue, Args, no_args, in_order, no_prints}
-use Rattle.bound_project.specs.Statements.{no_tests, no_resizes, no_arrays, Action, assign, assign_none, evaluate, let_property, print, raise, test, go_to, for_to, next, for_each, next_each, exit_each, select, case_of, redim, erase, with_place, with_value, end_with, go_sub, return_sub, exit_to, on_error, end_handler, clear_err, resume_again, resume_next, resume_at, stop, end_run}
+use Rattle.bound_project.specs.Statements.{no_tests, no_resizes, no_arrays, Action, assign, assign_none, set, assign_default, evaluate, let_property, set_property, print, raise, test, go_to, for_to, next, for_each, next_each, exit_each, select, case_of, redim, erase, with_place, with_value, end_with, go_sub, return_sub, exit_to, on_error, end_handler, clear_err, resume_again, resume_next, resume_at, stop, end_run}
 use Rattle.bound_project.specs.Statements as plain
 use Rattle.bound_project.specs.Project as project
 use Rattle.bound_project.specs.View.{declared_view, variable_view, declarations_view}
@@ -53,10 +53,17 @@ action_of t kind.Assign (a_place x ∷ an_expr e ∷ []) = Some (assign x e)
 action_of t kind.Assign st = None
 action_of t kind.AssignNone (an_expr x ∷ an_expr e ∷ []) = Some (assign_none x e)
 action_of t kind.AssignNone st = None
+action_of t kind.Set (a_place x ∷ an_expr e ∷ []) = Some (set x e)
+action_of t kind.Set st = None
+action_of t kind.AssignDefault (an_expr x ∷ an_expr e ∷ []) = Some (assign_default x e)
+action_of t kind.AssignDefault st = None
 action_of t kind.Evaluate st = one_value st (λ e. evaluate e)
 action_of t (kind.LetProperty p count of) st = behind_value (arguments_off count st no_args) (λ args e. let_property p args e (declared_view of))
 action_of t (kind.LetPropertyInOrder p count order of) st =
     behind_value (arguments_off count st no_args) (λ args e. let_property p (in_order (order_in t order) args) e (declared_view of))
+action_of t (kind.SetProperty p count of) st = behind_value (arguments_off count st no_args) (λ args e. set_property p args e (declared_view of))
+action_of t (kind.SetPropertyInOrder p count order of) st =
+    behind_value (arguments_off count st no_args) (λ args e. set_property p (in_order (order_in t order) args) e (declared_view of))
 action_of t (kind.Print count ends) st = whole (prints_off count st no_prints) (λ ps. print ps ends)
 action_of t (kind.Raise count) st = whole (arguments_off count st no_args) (λ args. raise args)
 action_of t (kind.Test sense to other) st = one_value st (λ e. test sense e to other)

@@ -8,10 +8,10 @@ use Rattle.bound_project.specs.declared.declared_type.DeclaredType.{DeclaredType
 use Rattle.bound_project.specs.declared.node.NodeKind.{NodeKind}
 use Rattle.bound_project.specs.declared.node.NodeKind.TheVariants as node
 use Rattle.bound_project.specs.declared.node.Node.{Node}
-use Rattle.bound_project.specs.Expressions.{Expr, expr, not_given, constant, load, element_value, field_value, unary, binary, call, err_value, default_of, Lvalue, variable, item, element, field, kept_place, Args, no_args, by_place, by_copy, by_default, by_list, in_order, Exprs, no_exprs, also, Prints, no_prints, shown, zone}
+use Rattle.bound_project.specs.Expressions.{Expr, expr, not_given, constant, load, element_value, field_value, unary, binary, call, err_value, default_of, default_if_any, same, is_type, library, bound_of, host_object, Lvalue, variable, item, element, field, kept_place, Args, no_args, by_place, by_copy, by_default, by_list, in_order, Exprs, no_exprs, also, Prints, no_prints, shown, zone}
 use Rattle.bound_project.specs.Expressions as plain
 use Rattle.bound_project.specs.Statements.{Tests, test_is, test_range, Resizes, resize, Arrays, an_array}
-use Rattle.bound_project.specs.View.{declared_view, variable_view, member_view}
+use Rattle.bound_project.specs.View.{declared_view, variable_view, member_view, base_view}
 
 -- an argument by itself
 pub data Argument : Type 0 where
@@ -154,7 +154,13 @@ put_kind t n (node.Binary o compare left right) st = of_both (λ a b. expr_of n 
 put_kind t n (node.Call p count) st = of_found (λ args. expr_of n (call p args)) (arguments_off count st no_args)
 put_kind t n (node.CallInOrder p count order) st = of_found (λ args. expr_of n (call p (in_order (order_in t order) args))) (arguments_off count st no_args)
 put_kind t n (node.ErrValue member) st = expr_of n (err_value (member_view member)) ∷ st
+put_kind t n (node.Library f text_form count compare one) st = of_found (λ es. expr_of n (library f text_form es compare (base_view one))) (exprs_off count st no_exprs)
+put_kind t n (node.BoundOf upper z) st = of_place (λ x. expr_of n (bound_of upper x z)) st
 put_kind t n node.DefaultOf st = of_value (λ e. expr_of n (default_of e)) st
+put_kind t n node.DefaultIfAny st = of_value (λ e. expr_of n (default_if_any e)) st
+put_kind t n node.Same st = of_both (λ a b. expr_of n (same a b)) st
+put_kind t n (node.IsType of) st = of_value (λ e. expr_of n (is_type e (declared_view of))) st
+put_kind t n (node.HostObject reference) st = expr_of n (host_object reference) ∷ st
 put_kind t n node.ByPlace st = of_place (λ x. an_argument (place_lent x)) st
 put_kind t n (node.ByCopy of) st = of_value (λ e. an_argument (value_copied e (declared_view of))) st
 put_kind t n (node.ByDefault i) st = an_argument (default_taken (constant_in t i)) ∷ st

@@ -1,5 +1,5 @@
 -- Serves the code: the plain data that types, variables and declarations stand for.
-use Rattle.std.specs.Prelude.{map, option_map}
+use Rattle.std.specs.Prelude.{ℤ, pos, Bool, true, false, map, option_map}
 use Rattle.vba_values.specs.Types.{Declared}
 use Rattle.vba_values.specs.Types as type
 use Rattle.vba_values.specs.View.{view as value_view}
@@ -57,6 +57,11 @@ abbrev pub member_view : ErrMember → plain.ErrMember
 member_view Number = plain.err_number
 member_view Source = plain.err_source
 member_view Description = plain.err_description
+
+-- from where an Array counts
+abbrev pub base_view : (is_one : Bool) → ℤ
+base_view true = pos 1
+base_view false = pos 0
 
 -- ---- declarations
 

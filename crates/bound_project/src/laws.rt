@@ -1,10 +1,12 @@
+ghost use Rattle.vba_lib.specs.declared.function.LibraryFunction.{LibraryFunction};
+ghost use Rattle.vba_values.specs.declared.types.Compare.{Compare};
 ghost use Rattle.std.specs.Prelude.{◌≡◌, ℕ, Bool, None, Option, Some, List, [], ◌∷◌, length, map};
 ghost use Rattle.bound_project.specs.declared.node.Node.{Node};
 ghost use Rattle.bound_project.specs.declared.node.NodeKind.TheVariants as node;
 ghost use Rattle.bound_project.specs.declared.statement.ActionKind.TheVariants as kind;
 ghost use Rattle.bound_project.specs.declared.variable.Variable.{Variable};
-ghost use Rattle.bound_project.specs.View.{variable_view};
-ghost use Rattle.bound_project.specs.Expressions.{Expr, call, item};
+ghost use Rattle.bound_project.specs.View.{base_view, variable_view};
+ghost use Rattle.bound_project.specs.Expressions.{Expr, call, item, library};
 ghost use Rattle.bound_project.specs.Statements.{print};
 ghost use Rattle.bound_project.specs.Pieces.{Argument, Piece, Tables, a_place, an_argument, an_expr, expr_of, put_kind};
 ghost use Rattle.bound_project.specs.Bodies.{action_of};
@@ -21,6 +23,13 @@ pub fn statements_past_the_end_are_next()
 pub fn calls_take_their_arguments()
     ensures { (t : Tables) (n : Node) (p : ℕ) (args : List Argument) (st : List Piece)
         → put_kind t n (node.Call p (length args)) (above (map an_argument args) st) ≡ expr_of n (call p (args_of args)) ∷ st }
+{}
+
+/// A function of the library takes just the values that were put for it. It holds of the definitions alone, and changes
+/// nothing.
+pub fn functions_take_their_arguments()
+    ensures { (t : Tables) (n : Node) (f : LibraryFunction) (text_form : Bool) (es : List Expr) (compare : Compare) (one : Bool) (st : List Piece)
+        → put_kind t n (node.Library f text_form (length es) compare one) (above (map an_expr es) st) ≡ expr_of n (library f text_form (exprs_of es) compare (base_view one)) ∷ st }
 {}
 
 /// An element takes just the numbers that were put for it. It holds of the definitions alone, and changes nothing.

@@ -1,7 +1,8 @@
 use crate::declared_type::DeclaredType;
 use crate::variable::{ErrMember, Variable};
 use vba_base::Place;
-use vba_values::{Compare, OpKind};
+use vba_lib::LibraryFunction;
+use vba_values::{Compare, HostRef, OpKind};
 
 /// What a node makes of the pieces before it: the nodes of an expression stand in the order in which it is evaluated,
 /// those of its parts before it. Numbers of constants and orders are places in the lists of the project.
@@ -66,8 +67,30 @@ pub enum NodeKind {
         order: u32,
     },
     ErrValue(ErrMember),
+    /// A function of the library, behind so many values: whether `$` stands behind its name, how its module compares
+    /// texts, and whether an Array counts from 1 there, and not from 0.
+    Library {
+        function: LibraryFunction,
+        is_text_form: bool,
+        values: u32,
+        compare: Compare,
+        is_base_one: bool,
+    },
+    /// UBound, or LBound, of what is at the place before it, for the dimension of this number.
+    BoundOf {
+        is_upper: bool,
+        dimension: i32,
+    },
     /// The value before it; an object gives way to the value of its default member.
     DefaultOf,
+    /// The same, but an object whose default member needs an argument stays, and so does Nothing.
+    DefaultIfAny,
+    /// Is: whether both values before it are the same object.
+    Same,
+    /// TypeOf: whether the object before it is of the type.
+    IsType(DeclaredType),
+    /// An object of the host that is always there, as Err.
+    HostObject(HostRef),
     /// An argument: the place before it, the value before it made one of a type, a default, so many values before it.
     ByPlace,
     ByCopy(DeclaredType),

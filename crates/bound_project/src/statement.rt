@@ -19,6 +19,10 @@ pub enum ActionKind {
     Assign,
     /// The same where nothing has the target, behind the value and the target's value.
     AssignNone,
+    /// `Set target = value`, behind the value and the target's place.
+    Set,
+    /// `[Let] target = value` where the target gives an object, behind the value and the target's value.
+    AssignDefault,
     Evaluate,
     /// An assignment to a property, behind the value and so many other arguments, and its parameter's type.
     LetProperty {
@@ -28,6 +32,20 @@ pub enum ActionKind {
     },
     /// The same with arguments that are the parameters' by this order.
     LetPropertyInOrder {
+        procedure: u32,
+        arguments: u32,
+        order: u32,
+        of: DeclaredType,
+    },
+    /// An assignment to a property that is given the object itself, behind the object and so many other arguments, and its
+    /// parameter's type.
+    SetProperty {
+        procedure: u32,
+        arguments: u32,
+        of: DeclaredType,
+    },
+    /// The same with arguments that are the parameters' by this order.
+    SetPropertyInOrder {
         procedure: u32,
         arguments: u32,
         order: u32,

@@ -63,7 +63,14 @@ node_emits t u added g around n (node.CallInOrder p count order) st there =
     along around _ st _ _ (ap (λ o. plain.Reorder o count ∷ plain.Call p (length (order_in t order)) ∷ []) (sym (g.order order)))
     (args_emit around count st _ (λ c. plain.Reorder (order_in t order) c ∷ plain.Call p (length (order_in t order)) ∷ []) (λ args. append_assoc (args_code args) (plain.Reorder (order_in t order) (count_of args) ∷ []) (plain.Call p (length (order_in t order)) ∷ []))) there
 node_emits t u added g around n (node.ErrValue told) st there = (refl, there.1)
+node_emits t u added g around n (node.Library f text_form count compare one) st there =
+    found_emits around count st _ (λ c. map (instr_view u) (node_instrs added t.orders around (node.Library f text_form c compare one))) (λ es. refl) there
+node_emits t u added g around n (node.BoundOf upper z) st there = place_emits around _ _ (λ x. refl) st there
 node_emits t u added g around n node.DefaultOf st there = value_emits around _ _ (λ e. refl) st there
+node_emits t u added g around n node.DefaultIfAny st there = value_emits around _ _ (λ e. refl) st there
+node_emits t u added g around n node.Same st there = both_emits around _ _ (λ a b. refl) st there
+node_emits t u added g around n (node.IsType of) st there = value_emits around _ _ (λ e. refl) st there
+node_emits t u added g around n (node.HostObject reference) st there = (refl, there.1)
 node_emits t u added g around n node.ByPlace st there = place_emits around _ _ (λ x. refl) st there
 node_emits t u added g around n (node.ByCopy of) st there = value_emits around _ _ (λ e. refl) st there
 node_emits t u added g around n (node.ByDefault i) st there = (ap (λ v. codes around st ++ plain.Push v ∷ []) (sym (g.constant i)), there.1)

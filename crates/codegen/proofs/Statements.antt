@@ -218,6 +218,10 @@ action_made t u added g row p i next kind.Assign (a_place x ∷ an_expr e ∷ []
 action_made t u added g row p i next kind.Assign st = tt
 action_made t u added g row p i next kind.AssignNone (an_expr x ∷ an_expr e ∷ []) = (sym (append_assoc (expr_code e) (expr_code x) _), (tt, (tt, tt)))
 action_made t u added g row p i next kind.AssignNone st = tt
+action_made t u added g row p i next kind.Set (a_place x ∷ an_expr e ∷ []) = (sym (append_assoc (expr_code e) (place_code x) _), (tt, (tt, tt)))
+action_made t u added g row p i next kind.Set st = tt
+action_made t u added g row p i next kind.AssignDefault (an_expr x ∷ an_expr e ∷ []) = (sym (append_assoc (expr_code e) (expr_code x) _), (tt, (tt, tt)))
+action_made t u added g row p i next kind.AssignDefault st = tt
 action_made t u added g row p i next kind.Evaluate st = value_made (around_of row kind.Evaluate) (action_code (entry row) p i next) [] _ _ (λ e. refl) st
 action_made t u added g row p i next (kind.LetProperty q count of) st =
     behind_made (around_of row (kind.LetProperty q count of)) (action_code (entry row) p i next) (λ n. back t u row p i next (kind.LetProperty q n of)) _ (λ args e. sym (append_assoc (expr_code e) (args_code args) _)) count st (arguments_off count st no_args) (args_are (around_of row (kind.LetProperty q count of)) count st no_args)
@@ -229,6 +233,16 @@ action_made t u added g row p i next (kind.LetPropertyInOrder q n order of) st =
     (behind_made (around_of row k) (action_code (entry row) p i next) (λ m. plain.Reorder o m ∷ after) _
     (λ args e. ap (λ c. expr_code e ++ c) (append_assoc (args_code args) (plain.Reorder o (count args) ∷ []) after) ∙ sym (append_assoc (expr_code e) (args_code args) (plain.Reorder o (count args) ∷ after)))
     n st (arguments_off n st no_args) (args_are (around_of row (kind.LetPropertyInOrder q n order of)) n st no_args))
+action_made t u added g row p i next (kind.SetProperty q count of) st =
+    behind_made (around_of row (kind.SetProperty q count of)) (action_code (entry row) p i next) (λ n. back t u row p i next (kind.SetProperty q n of)) _ (λ args e. sym (append_assoc (expr_code e) (args_code args) _)) count st (arguments_off count st no_args) (args_are (around_of row (kind.SetProperty q count of)) count st no_args)
+action_made t u added g row p i next (kind.SetPropertyInOrder q n order of) st =
+    let k = kind.SetPropertyInOrder q n order of in
+    let o = order_in t order in
+    let after = plain.Lift (length o) ∷ plain.FitObject (declared_view of) ∷ plain.Call q (suc (length o)) ∷ plain.Drop ∷ plain.Finish (slice_index row next) ∷ [] in
+    subst (λ (l : List ℕ). Made (around_of row k) (action_code (entry row) p i next) [] (plain.Reorder l n ∷ after) st (action_of t k st)) (sym (g.order order))
+    (behind_made (around_of row k) (action_code (entry row) p i next) (λ m. plain.Reorder o m ∷ after) _
+    (λ args e. ap (λ c. expr_code e ++ c) (append_assoc (args_code args) (plain.Reorder o (count args) ∷ []) after) ∙ sym (append_assoc (expr_code e) (args_code args) (plain.Reorder o (count args) ∷ after)))
+    n st (arguments_off n st no_args) (args_are (around_of row (kind.SetPropertyInOrder q n order of)) n st no_args))
 action_made t u added g row p i next (kind.Print count ends) st =
     prints_made (around_of row (kind.Print count ends)) (action_code (entry row) p i next) (λ n. back t u row p i next (kind.Print n ends)) _ (λ ps. refl) count st (prints_off count st no_prints) (prints_are (around_of row (kind.Print count ends)) count st no_prints)
 action_made t u added g row p i next (kind.Raise count) st =

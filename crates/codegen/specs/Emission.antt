@@ -61,7 +61,13 @@ last_instr added orders around (node.Binary o compare left right) = instr.Operat
 last_instr added orders around (node.Call p count) = instr.Call p count
 last_instr added orders around (node.CallInOrder p count order) = instr.Call p (order_length orders order)
 last_instr added orders around (node.ErrValue member) = instr.LoadErr member
+last_instr added orders around (node.Library f text_form count compare one) = instr.Library f text_form compare one count
+last_instr added orders around (node.BoundOf upper z) = instr.BoundAt upper z
 last_instr added orders around node.DefaultOf = instr.Plain
+last_instr added orders around node.DefaultIfAny = instr.PlainIfAny
+last_instr added orders around node.Same = instr.Same
+last_instr added orders around (node.IsType of) = instr.IsType of
+last_instr added orders around (node.HostObject reference) = instr.PushHost reference
 last_instr added orders around node.ByPlace = instr.Lend
 last_instr added orders around (node.ByCopy of) = instr.Fit of
 last_instr added orders around (node.ByDefault i) = instr.Push (constant_number added i)
@@ -107,13 +113,21 @@ policy_in (HandledAt to) = Handler (record { 0 = to })
 abbrev pub property_instrs : (procedure arguments : ℕ) → DeclaredType → List Instr
 property_instrs q count of = instr.Lift count ∷ instr.Plain ∷ instr.Fit of ∷ instr.Call q (suc count) ∷ instr.Drop ∷ []
 
+-- the same of a property that is given the object itself
+abbrev pub object_property_instrs : (procedure arguments : ℕ) → DeclaredType → List Instr
+object_property_instrs q count of = instr.Lift count ∷ instr.FitObject of ∷ instr.Call q (suc count) ∷ instr.Drop ∷ []
+
 -- what is done behind its nodes
 abbrev pub work_instrs : List (List ℕ) → (statement next : ℕ) → ActionKind → List Instr
 work_instrs orders i next kind.Assign = instr.Store ∷ []
 work_instrs orders i next kind.AssignNone = instr.Drop ∷ instr.Drop ∷ []
+work_instrs orders i next kind.Set = instr.SetAt ∷ []
+work_instrs orders i next kind.AssignDefault = instr.StoreDefault ∷ []
 work_instrs orders i next kind.Evaluate = instr.Drop ∷ []
 work_instrs orders i next (kind.LetProperty q count of) = property_instrs q count of
 work_instrs orders i next (kind.LetPropertyInOrder q count order of) = instr.Reorder order count ∷ property_instrs q (order_length orders order) of
+work_instrs orders i next (kind.SetProperty q count of) = object_property_instrs q count of
+work_instrs orders i next (kind.SetPropertyInOrder q count order of) = instr.Reorder order count ∷ object_property_instrs q (order_length orders order) of
 work_instrs orders i next (kind.Print count ends) = instr.Show ends count ∷ []
 work_instrs orders i next (kind.For x compare last step first behind) = instr.LoopOn x i compare last step ∷ []
 work_instrs orders i next (kind.Next x header first) = instr.NextRound x header ∷ []

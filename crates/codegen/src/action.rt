@@ -1,5 +1,5 @@
 ghost use Rattle.std.specs.Prelude.{◌≡◌, suc, [], ◌∷◌, ◌++◌, IfOk, OnOk, slice_index};
-ghost use Rattle.codegen.specs.Emission.{action_instrs, around_of, before_instrs, end_instr, lists_of, order_length, policy_in, property_instrs, work_instrs};
+ghost use Rattle.codegen.specs.Emission.{action_instrs, around_of, before_instrs, end_instr, lists_of, object_property_instrs, order_length, policy_in, property_instrs, work_instrs};
 
 use crate::node::{Added, Around, emit_nodes, order_length, put};
 use bound_project::{ActionKind, DeclaredType, ElementType, Handling, Node, TooLong};
@@ -114,6 +114,28 @@ fn put_property(
     Ok(())
 }
 
+// The same of a property that is given the object itself.
+fn put_object_property(
+    code: &mut Vec<Instr>,
+    procedure: u32,
+    arguments: u32,
+    of: DeclaredType,
+) -> Result<(), OrMemory<TooLong>>
+    ensures { OnOk result (code.new.items ≡ code.old.items ++ object_property_instrs procedure arguments of) }
+{
+    let all = one_more(arguments)?;
+    code.extend_from_slice(&[
+        Instr::Lift { arguments },
+        Instr::FitObject(of),
+        Instr::Call {
+            procedure,
+            arguments: all,
+        },
+        Instr::Drop,
+    ])?;
+    Ok(())
+}
+
 fn put_two(code: &mut Vec<Instr>, first: Instr, second: Instr) -> Result<(), OrMemory<TooLong>>
     ensures { OnOk result (code.new.items ≡ code.old.items ++ first ∷ second ∷ []) }
 {
@@ -137,6 +159,22 @@ fn put_property_in_order(
     put_property(code, procedure, all, of)
 }
 
+fn put_object_property_in_order(
+    code: &mut Vec<Instr>,
+    orders: &[Vec<u32>],
+    procedure: u32,
+    arguments: u32,
+    order: u32,
+    of: DeclaredType,
+) -> Result<(), OrMemory<TooLong>>
+    ensures { OnOk result (code.new.items ≡ code.old.items
+        ++ Instr.Reorder order arguments ∷ object_property_instrs procedure (order_length (lists_of orders.now) order) of) }
+{
+    put(code, Instr::Reorder { order, arguments })?;
+    let all = order_length(orders, order)?;
+    put_object_property(code, procedure, all, of)
+}
+
 fn put_work(
     code: &mut Vec<Instr>,
     orders: &[Vec<u32>],
@@ -150,6 +188,8 @@ fn put_work(
     match action {
         ActionKind::Assign => put(code, Instr::Store),
         ActionKind::AssignNone => put_two(code, Instr::Drop, Instr::Drop),
+        ActionKind::Set => put(code, Instr::SetAt),
+        ActionKind::AssignDefault => put(code, Instr::StoreDefault),
         ActionKind::Evaluate => put(code, Instr::Drop),
         ActionKind::LetProperty {
             procedure,
@@ -162,6 +202,17 @@ fn put_work(
             order,
             of,
         } => put_property_in_order(code, orders, procedure, arguments, order, of),
+        ActionKind::SetProperty {
+            procedure,
+            arguments,
+            of,
+        } => put_object_property(code, procedure, arguments, of),
+        ActionKind::SetPropertyInOrder {
+            procedure,
+            arguments,
+            order,
+            of,
+        } => put_object_property_in_order(code, orders, procedure, arguments, order, of),
         ActionKind::Print { items, ends } => put(code, Instr::Show { ends, items }),
         ActionKind::For {
             counter,

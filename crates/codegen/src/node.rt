@@ -133,7 +133,31 @@ fn last_of(
             arguments: order_length(orders, order)?,
         },
         NodeKind::ErrValue(member) => Instr::LoadErr(member),
+        NodeKind::Library {
+            function,
+            is_text_form,
+            values,
+            compare,
+            is_base_one,
+        } => Instr::Library {
+            function,
+            is_text_form,
+            compare,
+            is_base_one,
+            arguments: values,
+        },
+        NodeKind::BoundOf {
+            is_upper,
+            dimension,
+        } => Instr::BoundAt {
+            is_upper,
+            dimension,
+        },
         NodeKind::DefaultOf => Instr::Plain,
+        NodeKind::DefaultIfAny => Instr::PlainIfAny,
+        NodeKind::Same => Instr::Same,
+        NodeKind::IsType(of) => Instr::IsType(of),
+        NodeKind::HostObject(reference) => Instr::PushHost(reference),
         NodeKind::ByPlace => Instr::Lend,
         NodeKind::ByCopy(of) => Instr::Fit(of),
         NodeKind::ByDefault { constant } => Instr::Push {

@@ -1,6 +1,7 @@
 use bound_project::{DeclaredType, ErrMember, Variable};
 use error_frames::Policy;
-use vba_values::{Compare, OpKind};
+use vba_lib::LibraryFunction;
+use vba_values::{Compare, HostRef, OpKind};
 
 /// One instruction. Operands stand on a stack, the last one on top. Numbers of constants and orders are places in the
 /// tables of the code; `to` and `other` are addresses; `block` and `statement` are numbers of statements of the
@@ -14,6 +15,8 @@ pub enum Instr {
     Push {
         constant: u32,
     },
+    /// An object of the host that is always there.
+    PushHost(HostRef),
     LoadErr(ErrMember),
     /// The path of a variable; the value at the path on top.
     PathOf(Variable),
@@ -53,8 +56,28 @@ pub enum Instr {
     },
     /// An object gives way to the value of its default member.
     Plain,
-    /// A value becomes one of this type.
+    /// The same, but an object without such a value stays.
+    PlainIfAny,
+    /// Is and TypeOf.
+    Same,
+    IsType(DeclaredType),
+    /// A function of the library, with so many arguments: whether `$` stands behind its name, how its module compares
+    /// texts, and whether an Array counts from 1 there, and not from 0.
+    Library {
+        function: LibraryFunction,
+        is_text_form: bool,
+        compare: Compare,
+        is_base_one: bool,
+        arguments: u32,
+    },
+    /// UBound, or LBound, of what is at the path on top, for the dimension of this number.
+    BoundAt {
+        is_upper: bool,
+        dimension: i32,
+    },
+    /// A value becomes one of this type; or is tested as Set does for a variable of this type.
     Fit(DeclaredType),
+    FitObject(DeclaredType),
     Drop,
     /// Arguments, and a call with so many of them.
     Lend,
@@ -74,6 +97,9 @@ pub enum Instr {
     },
     /// What statements do with their operands.
     Store,
+    SetAt,
+    /// The default member of an object is written with the value below it.
+    StoreDefault,
     ShowText,
     Show {
         ends: bool,

@@ -31,8 +31,9 @@ pub fn packed(alloc: Global, slots: Vec<Slot>) -> Result<Value, NoMemory>
     Ok(Value::Array(Box::new(alloc, array)?))
 }
 
+/// What slots contain; a path counts as nothing.
 #[tactic(auto, using(crate::proofs::Given::values_more))]
-fn values_of(alloc: Global, slots: Vec<Slot>) -> Result<Vec<Value>, NoMemory>
+pub fn values_of(alloc: Global, slots: Vec<Slot>) -> Result<Vec<Value>, NoMemory>
     ensures { IfOk result (λ values. map view values.items ≡ slot_values (map slot_view slots.items)) }
 {
     let mut values = Vec::with_capacity(alloc, slots.len())?;

@@ -12,3 +12,5 @@ pub mod Found
 pub mod Frames
 pub mod Ids
 pub mod KeptInOrder
+pub mod Bounds
+pub mod Named

@@ -6,6 +6,7 @@ pub mod Exchanges
 pub mod Keeps
 pub mod Locked
 pub mod Looks
+pub mod Named
 pub mod Slots
 pub mod Told
 pub mod View

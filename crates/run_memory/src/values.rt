@@ -88,7 +88,7 @@ impl Memory {
     }
 
     /// Whether Set lets a variable of this type have an object that isn't Nothing ([MS-VBAL] 5.4.3.9).
-    fn takes_object(&self, of: &VType, reference: ObjRef) -> bool
+    pub fn takes_object(&self, of: &VType, reference: ObjRef) -> bool
         ensures { result ≡ takes_object (declared of.now) reference (memory_view self.now) }
     {
         match of {
