@@ -80,18 +80,27 @@ by_reference : bound_to (codes "Dim g As Long\nSub Main()\nDebug.Print F(g, (g))
 unfolding bound_to folded caseless digits
 by_reference = refl
 
--- where binding stops: a variable of an object type, a library function, Set, and a class
+-- where binding stops: a variable of an object type, a library function without an argument that it needs, and a class
 left_variable : ran_all (of_one (codes "Sub Main()\nDebug.Print 1\nDim o As Object\nEnd Sub")) ≡ left_at 1 3 1
 unfolding ran_all folded caseless digits
 left_variable = refl
 
-left_library : ran_all (of_one (codes "Dim s As String\nSub Main()\ns = Left(s, 1)\nEnd Sub")) ≡ left_at 1 3 1
+left_library : ran_all (of_one (codes "Dim s As String\nSub Main()\ns = Left(s)\nEnd Sub")) ≡ left_at 1 3 1
 unfolding ran_all folded caseless digits
 left_library = refl
 
 left_class : ran_all ((false, codes "Sub Main()\nEnd Sub") ∷ (true, codes "\nDim x") ∷ []) ≡ left_at 2 2 1
 unfolding ran_all folded caseless digits
 left_class = refl
+
+-- functions of the library; behind VBA an Array counts from 0
+library_called : ran_all (of_one (codes "Sub Main()\nDebug.Print Left$(\"abc\", 2); Left(\"xyz\", 1)\nEnd Sub")) ≡ ends (Printed (codes "abx") true ∷ [])
+unfolding ran_all folded caseless digits
+library_called = refl
+
+array_counts : ran_all (of_one (codes "Option Base 1\nSub Main()\nDebug.Print UBound(Array(5, 6)); UBound(VBA.Array(5, 6))\nEnd Sub")) ≡ ends (Printed (codes " 2  1 ") true ∷ [])
+unfolding ran_all folded caseless digits
+array_counts = refl
 
 -- two modules: a public variable by its name and behind its module, and a private procedure of the same name in each
 two_modules : ran_all ((false, codes "Sub Main()\nx = 2\nWork\nDebug.Print M.x\nEnd Sub\nPrivate Sub Work()\nx = x + 1\nEnd Sub")

@@ -1,5 +1,5 @@
 -- Expressions as terms ([MS-VBAL] 5.6).
-use Rattle.std.specs.Prelude.{ℕ, ◌==◌, Bool, true, false, ◌&&◌, not, List, [], ◌∷◌, ◌++◌, length, codes, Option, Some, None, is_some, option_map, option_and_then, bytes_eq, if◌then◌else◌, unwrap_or, slice_index_or}
+use Rattle.std.specs.Prelude.{ℕ, ◌==◌, Bool, true, false, ◌&&◌, ◌||◌, not, pos, List, [], ◌∷◌, ◌++◌, length, codes, Option, Some, None, is_some, option_map, option_and_then, bytes_eq, if◌then◌else◌, unwrap_or, nat_le, slice_index_or}
 use Rattle.vba_base.specs.declared.place.Place.{Place}
 use Rattle.vba_values.specs.declared.types.OpKind.{OpKind}
 use Rattle.vba_values.specs.StaticTypes.{static_of}
@@ -11,16 +11,21 @@ use Rattle.vba_expression.specs.Tree.{Expr, literal, me, name, with_member, memb
 use Rattle.vba_expression.specs.Tree as tree
 use Rattle.vba_tree.specs.declared.procedure.ProcedureWords.{ProcedureWords}
 use Rattle.vba_tree.specs.declared.procedure.ProcedureWords.TheVariants as words
+use Rattle.vba_lib.specs.declared.function.LibraryFunction.{LibraryFunction}
+use Rattle.vba_lib.specs.declared.function.LibraryFunction.TheVariants as function
+use Rattle.vba_lib.specs.Library.{arity_of, declared_of}
+use Rattle.vba_lib.specs.Names.{function_named}
 use Rattle.bound_project.specs.Expressions.{Storage, Variable, err_number, err_source, err_description, Node, constant, load, element_value, field_value, err_value, Lvalue, variable, item, element, field, kept_place, Exprs}
 use Rattle.bound_project.specs.Expressions as bound
 use Rattle.bound_project.specs.Project.{Declaration, Parameter, UserType, no_name, nowhere}
 use Rattle.binder.specs.Options.{from_two, from_three}
+use Rattle.binder.specs.Sources.{base_of}
 use Rattle.binder.specs.Declarations.{Written, What, a_variable, a_constant, a_member, a_procedure, Entry, Own, the_result, a_parameter, a_local_constant, Local}
-use Rattle.binder.specs.Scopes.{Space, Scope, plainly, called, Meant, of_procedure, of_module, of_host, of_library, Qualifier, declares, behind, qualifier_of, is_named, first_at, seen_from}
+use Rattle.binder.specs.Scopes.{Space, Scope, plainly, called, Meant, of_procedure, of_module, of_host, of_library, Qualifier, declares, behind, qualifier_of, is_named, first_at, seen_from, has_dollar}
 use Rattle.binder.specs.Names.{scope_in}
 use Rattle.binder.specs.Constants.{literal_meant, value_type, operator_kind, unary_kind, compare_in, meant_by, names_in, home, place_of_expression}
 use Rattle.binder.specs.Storage.{parameter_type, result_type, parameters_of, own_declaration, declared_variable, user_types, module_storage, own_storage, procedure_number, gives_value}
-use Rattle.binder.specs.Terms.{Within, Env, Term, a_place, a_value, a_routine, err_object, err_raise, err_clear, error_word, no_term, expression_of, value_with, Given, listed_values, bound_arguments, has_names}
+use Rattle.binder.specs.Terms.{Within, Env, Term, a_place, a_value, a_routine, a_function, err_object, err_raise, err_clear, error_word, no_term, expression_of, value_with, Given, listed_values, bound_arguments, has_names}
 
 -- ---- calls
 
@@ -171,11 +176,43 @@ member_of env place other f = no_term
 abbrev pub kept_member : Env → Option Within → Identifier → Term
 kept_member env within f = if_there (option_map (λ w. field_of_place env (kept_place w.header) w.of w.lends f) within)
 
+-- ---- functions of the library ([MS-VBAL] 6.1.2)
+
+-- what a function of the library takes: a value that is of no Type
+abbrev pub is_user_type : Declared → Bool
+is_user_type (type.udt number) = true
+is_user_type other = false
+
+abbrev pub plain_value : bound.Expr → Option bound.Expr
+plain_value e = if is_user_type (bound.operand_type e) then None else Some e
+
+abbrev pub function_value : (Term → Place → Option bound.Expr) → Term → Place → Option bound.Expr
+function_value value t place = option_and_then plain_value (value t place)
+
+-- its arguments: each is given, and none by a name
+abbrev pub all_given : List Given → Bool
+all_given [] = true
+all_given (g ∷ gs) = (is_some g.term && not (is_some g.name)) && all_given gs
+
+-- whether it takes so many: 255 is no limit
+abbrev pub takes_count : LibraryFunction → ℕ → Bool
+takes_count f count = at (arity_of f)
+  where
+    at : ℕ × ℕ → Bool
+    at (least, greatest) = nat_le least count && (greatest == 255 || nat_le count greatest)
+
+abbrev pub function_called : Env → LibraryFunction → (text_form : Bool) → (base : ℕ) → List Given → Term
+function_called env f text_form base gs =
+    if all_given gs && takes_count f (length gs)
+    then if_there (option_map (λ es. a_value (bound.library f text_form es (compare_in env.scope) (pos base)) (declared_of f text_form)) (listed_values (function_value (value_of env)) gs))
+    else no_term
+
 -- what arguments in brackets make of a term
 abbrev pub indexed : Env → Place → Term → List Given → Term
 indexed env place (a_place x of bounded lends) gs = with_type (element_type of) (numbers_of (value_of env) gs) (λ u es. a_place (element_place x es) u false lends)
 indexed env place (a_value node of) gs = indexed_value place node of (numbers_of (value_of env) gs)
 indexed env place (a_routine space number p) gs = call_with (value_of env) env place gs space number p
+indexed env place (a_function f text_form base) gs = function_called env f text_form base gs
 indexed env place other gs = no_term
 
 -- ---- names
@@ -217,8 +254,17 @@ entry_term env x space number e = if space.source.is_class then of_class e.what 
     at (a_procedure p) = a_routine space number p
     at what = no_term
 
+-- from where the array counts that Array makes: no other function asks it
+abbrev pub array_base : Env → LibraryFunction → ℕ
+array_base env function.Array = base_of env.scope.here.source
+array_base env f = 0
+
 abbrev pub library_term : Env → Identifier → Term
-library_term env x = if bytes_eq x.name (codes "error") then error_word else constant_term env x (Some of_library)
+library_term env x = if bytes_eq x.name (codes "error") then error_word else at (function_named x.name)
+  where
+    at : Option LibraryFunction → Term
+    at (Some f) = a_function f (has_dollar x) (array_base env f)
+    at None = constant_term env x (Some of_library)
 
 abbrev pub host_term : Identifier → Term
 host_term x = if bytes_eq x.name (codes "err") then err_object else no_term
@@ -235,10 +281,15 @@ abbrev pub callee : Env → Expr → Term → Term
 callee env (name x) t = meant_term env x (declares called env.scope x)
 callee env e t = t
 
+-- behind VBA an array that Array makes counts from 0
+abbrev pub from_zero : Term → Term
+from_zero (a_function f text_form base) = a_function f text_form 0
+from_zero t = t
+
 -- behind a module, an Enum or VBA, or else behind a term
 abbrev pub behind_term : Env → Option Qualifier → Identifier → Term → Term
 behind_term env None x t = t
-behind_term env (Some q) x t = meant_term env x (behind plainly env.scope q x)
+behind_term env (Some q) x t = from_zero (meant_term env x (behind plainly env.scope q x))
 
 -- ---- operators
 

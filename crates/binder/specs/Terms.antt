@@ -6,6 +6,7 @@ use Rattle.vba_base.specs.declared.place.Place.{Place}
 use Rattle.vba_values.specs.Coerce.{is_same_type}
 use Rattle.vba_values.specs.Types.{Declared}
 use Rattle.vba_values.specs.Types as type
+use Rattle.vba_lib.specs.declared.function.LibraryFunction.{LibraryFunction}
 use Rattle.bound_project.specs.Expressions.{Storage, Variable, ErrMember, err_number, err_source, err_description, Node, not_given, constant, load, element_value, field_value, call, err_value, Lvalue, variable, item, element, field, kept_place, Exprs, no_exprs, also}
 use Rattle.bound_project.specs.Expressions as bound
 use Rattle.bound_project.specs.Project.{Parameter}
@@ -33,6 +34,8 @@ pub data Term : Type 0 where
   a_value : Node → Declared → Term
   -- a procedure or a property of a module, by an entry of it
   a_routine : Space → ℕ → Written → Term
+  -- a function of the library: whether $ stands behind its name, and from where the array counts that Array makes
+  a_function : LibraryFunction → (text_form : Bool) → (base : ℕ) → Term
   err_object : Term
   err_raise : Term
   err_clear : Term
