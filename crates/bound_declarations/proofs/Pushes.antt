@@ -4,12 +4,13 @@ use Rattle.std.specs.Prelude.{if◌then◌else◌}
 use Rattle.std.proofs.lemmas.List.{map-append}
 use Rattle.binder.specs.Declarations.{Entry, Own, the_result, a_parameter, a_local, a_local_constant, an_array, undeclared, Local}
 use Rattle.binder.specs.Scopes.{Scope}
-use Rattle.binder.specs.Storage.{declarations_if, module_declarations, bound_parameter, bound_parameters}
+use Rattle.binder.specs.Storage.{declarations_if, module_declarations, types_of_space, bound_parameter, bound_parameters}
 use Rattle.bound_declarations.specs.Parameters.{next_items}
 use Rattle.bound_project.specs.Project as project
-use Rattle.bound_project.specs.View.{declaration_view, parameter_view}
+use Rattle.bound_project.specs.View.{declaration_view, parameter_view, user_type_view}
 use Rattle.bound_project.specs.declared.declarations.Declaration.{Declaration}
 use Rattle.bound_project.specs.declared.declarations.Parameter.{Parameter as Bound}
+use Rattle.bound_project.specs.declared.declarations.UserType.{UserType}
 use Rattle.vba_tree.specs.declared.list.Next.{Next}
 use Rattle.vba_tree.specs.declared.procedure.Parameter.{Parameter}
 use Rattle.vba_tree.specs.Tree as tree
@@ -21,6 +22,9 @@ declarations_push ds d = map-append declaration_view ds (d ∷ [])
 
 pub parameters_push : (ps : List Bound) (p : Bound) → map parameter_view (ps ++ p ∷ []) ≡ map parameter_view ps ++ parameter_view p ∷ []
 parameters_push ps p = map-append parameter_view ps (p ∷ [])
+
+pub types_push : (ts : List UserType) (t : UserType) → map user_type_view (ts ++ t ∷ []) ≡ map user_type_view ts ++ user_type_view t ∷ []
+types_push ts t = map-append user_type_view ts (t ∷ [])
 
 -- ---- one name, entry or parameter before others
 
@@ -47,6 +51,9 @@ declarations_next test s l ls = next_by test s l.name l.own ls
 
 pub variables_next : (s : Scope) (e : Entry) (es : List Entry) → module_declarations s (e ∷ es) ≡ module_declarations s (e ∷ []) ++ module_declarations s es
 variables_next s e es = sym (append_assoc _ [] (module_declarations s es))
+
+pub types_next : (s : Scope) (e : Entry) (es : List Entry) → types_of_space s (e ∷ es) ≡ types_of_space s (e ∷ []) ++ types_of_space s es
+types_next s e es = sym (append_assoc _ [] (types_of_space s es))
 
 last_by : (s : Scope) (takes : Bool) (p : tree.Parameter) → bound_parameters s takes (p ∷ []) ≡ bound_parameter s (takes && true) p ∷ []
 last_by s true p = refl

@@ -1,61 +1,105 @@
 //! Variables and results as they are declared.
 
-ghost use Rattle.std.specs.Prelude.{◌≡◌, [], IfOk, None, option_map};
+ghost use Rattle.std.specs.Prelude.{◌≡◌, [], IfOk, option_map};
+ghost use Rattle.binder.specs.ExpressionsBound.{has_bounds};
 ghost use Rattle.binder.specs.Storage as storage;
+ghost use Rattle.bound_declarations.specs.Forms.{declared_as, redimmed_as};
 ghost use Rattle.bound_project.specs.Project as project;
 ghost use Rattle.bound_project.specs.View.{declaration_view, declared_view};
+ghost use Rattle.constant_values.specs.Tables.{AreConstants};
 ghost use Rattle.declared_names.specs.View.{local_view, scope_view, written_view};
-ghost use Rattle.vba_tree.specs.View.{variable_view};
+ghost use Rattle.said_parts.specs.View.{field_view};
+ghost use Rattle.vba_tree.specs.View.{type_clause_view, variable_view};
 
 use crate::kinds::gives_value;
 use crate::not_yet::NotYet;
-use crate::types::{arrayed, clause_type, new_clause_type, result_type};
+use crate::types::{arrayed, new_clause_type, result_type};
 use bound_project::{Declaration, DeclaredType, ElementType, Spelled};
+use constant_values::{Constants, clause_type, known_bounds, written_type};
 use declared_names::{Local, Own, Scope, Written, spelled};
 use std::alloc::Global;
 use vba_base::{NoMemory, OrMemory, Place, Units, name_of};
-use vba_tree::Variable;
+use vba_tree::{TypeClause, TypeMember, Variable};
+use vba_values::Bound;
 use vba_words::Identifier;
 
-/// A variable that is declared without bounds.
+/// What a name is declared as, with its type and its bounds.
 fn declaration(
     alloc: Global,
     scope: Scope,
     name: &Identifier,
     of: DeclaredType,
+    bounds: Vec<Bound>,
 ) -> Result<Declaration, NoMemory>
-    ensures { IfOk result (λ made. declaration_view made ≡ storage.declaration (scope_view scope.entry) name.now (declared_view of) None) }
+    ensures { IfOk result (λ made. declaration_view made ≡ declared_as (scope_view scope.entry) name.now (declared_view of) bounds.items) }
 {
     let here = scope.here;
     Ok(Declaration {
         name: spelled(alloc, here.source.text, name)?,
         place: name.token.place,
         of,
-        bounds: Vec::new(alloc),
+        bounds,
     })
 }
 
-/// The type of a variable that is declared without bounds.
-pub fn variable_type(scope: Scope, variable: &Variable) -> Result<DeclaredType, OrMemory<NotYet>>
-    ensures { IfOk result (λ of. ((storage.declared_variable (scope_view scope.entry) (variable_view variable.now)).of ≡ declared_view of)
-        × ((storage.declared_variable (scope_view scope.entry) (variable_view variable.now)).bounds ≡ [])) }
+/// The type of a variable.
+pub fn variable_type(
+    alloc: Global,
+    constants: Constants,
+    variable: &Variable,
+) -> Result<DeclaredType, OrMemory<NotYet>>
+    requires { AreConstants constants }
+    ensures { IfOk result (λ of. (storage.declared_variable (scope_view constants.entry.scope) (variable_view variable.now)).of ≡ declared_view of) }
 {
-    match variable.dims {
-        None => new_clause_type(scope, variable.name.suffix, &variable.type_clause),
-        Some(_) => Err(OrMemory::Fault(NotYet)),
-    }
+    let of = new_clause_type(
+        alloc,
+        constants,
+        variable.name.suffix,
+        &variable.type_clause,
+    )?;
+    arrayed(variable.dims.is_some(), of)
+}
+
+/// Is a variable an array that is declared with bounds?
+pub fn is_bounded(
+    alloc: Global,
+    constants: Constants,
+    variable: &Variable,
+) -> Result<bool, NoMemory>
+    requires { AreConstants constants }
+    ensures { IfOk result (λ is. is ≡ has_bounds (storage.declared_variable (scope_view constants.entry.scope) (variable_view variable.now))) }
+{
+    let bounds = known_bounds(alloc, constants, &variable.dims)?;
+    Ok(!bounds.is_empty())
 }
 
 /// A variable.
 pub fn declared_variable(
     alloc: Global,
-    scope: Scope,
+    constants: Constants,
     variable: &Variable,
 ) -> Result<Declaration, OrMemory<NotYet>>
-    ensures { IfOk result (λ made. declaration_view made ≡ storage.declared_variable (scope_view scope.entry) (variable_view variable.now)) }
+    requires { AreConstants constants }
+    ensures { IfOk result (λ made. declaration_view made ≡ storage.declared_variable (scope_view constants.entry.scope) (variable_view variable.now)) }
 {
-    let of = variable_type(scope, variable)?;
-    Ok(declaration(alloc, scope, &variable.name, of)?)
+    let of = variable_type(alloc, constants, variable)?;
+    let bounds = known_bounds(alloc, constants, &variable.dims)?;
+    Ok(declaration(alloc, constants.scope, &variable.name, of, bounds)?)
+}
+
+/// A field of a Type.
+pub(crate) fn declared_field(
+    alloc: Global,
+    constants: Constants,
+    field: &TypeMember,
+) -> Result<Declaration, OrMemory<NotYet>>
+    requires { AreConstants constants }
+    ensures { IfOk result (λ made. declaration_view made ≡ storage.declared_field (scope_view constants.entry.scope) (field_view field.now)) }
+{
+    let written = written_type(alloc, constants, &field.type_clause.declared_type)?;
+    let of = arrayed(field.dims.is_some(), written)?;
+    let bounds = known_bounds(alloc, constants, &field.dims)?;
+    Ok(declaration(alloc, constants.scope, &field.name, of, bounds)?)
 }
 
 /// A declaration of nothing: the result of what gives no value.
@@ -90,26 +134,41 @@ pub fn declared_result(
         return Ok(no_declaration(alloc)?);
     }
     let of = result_type(scope, written)?;
-    Ok(declaration(alloc, scope, &written.header.name, of)?)
+    Ok(declaration(alloc, scope, &written.header.name, of, Vec::new(alloc))?)
+}
+
+/// The array that a ReDim declares.
+fn declared_array(
+    alloc: Global,
+    constants: Constants,
+    name: &Identifier,
+    clause: &Option<TypeClause>,
+) -> Result<Declaration, OrMemory<NotYet>>
+    requires { AreConstants constants }
+    ensures { IfOk result (λ made. declaration_view made
+        ≡ redimmed_as (scope_view constants.entry.scope) name.now (option_map type_clause_view clause.now)) }
+{
+    let of = arrayed(true, clause_type(alloc, constants, name.suffix, clause)?)?;
+    Ok(declaration(alloc, constants.scope, name, of, Vec::new(alloc))?)
 }
 
 /// The variable that a name of a procedure is, where it is no result, parameter or constant.
 pub fn own_declaration(
     alloc: Global,
-    scope: Scope,
+    constants: Constants,
     local: &Local,
 ) -> Result<Option<Declaration>, OrMemory<NotYet>>
-    ensures { IfOk result (λ made. option_map declaration_view made ≡ storage.own_declaration (scope_view scope.entry) (local_view local.now)) }
+    requires { AreConstants constants }
+    ensures { IfOk result (λ made. option_map declaration_view made ≡ storage.own_declaration (scope_view constants.entry.scope) (local_view local.now)) }
 {
     match local.own {
-        Own::Variable { variable, .. } => Ok(Some(declared_variable(alloc, scope, variable)?)),
+        Own::Variable { variable, .. } => Ok(Some(declared_variable(alloc, constants, variable)?)),
         Own::Array { type_clause, .. } => {
-            let of = clause_type(scope, local.name.suffix, type_clause)?;
-            Ok(Some(declaration(alloc, scope, local.name, arrayed(true, of)?)?))
+            Ok(Some(declared_array(alloc, constants, local.name, type_clause)?))
         }
         Own::Undeclared { .. } => {
             let of = DeclaredType::Plain(ElementType::Variant);
-            Ok(Some(declaration(alloc, scope, local.name, of)?))
+            Ok(Some(declaration(alloc, constants.scope, local.name, of, Vec::new(alloc))?))
         }
         Own::Result(_) | Own::Parameter(_) | Own::Constant(_) => Ok(None),
     }

@@ -12,8 +12,11 @@ mod parameters;
 mod procedures;
 mod storage;
 mod types;
+mod user_types;
 
-pub use declared::{declared_result, declared_variable, own_declaration, variable_type};
+pub use declared::{
+    declared_result, declared_variable, is_bounded, own_declaration, variable_type,
+};
 pub use kept::{Kept, count_before, count_kept, first_locals, is_kept, sum};
 pub use kinds::{gives_value, is_by_val, is_property, kind_of, takes_value};
 pub use lists::{kept_declarations, module_variables};
@@ -22,4 +25,5 @@ pub use numbers::procedure_number;
 pub use parameters::parameters_of;
 pub use procedures::{bound_module, bound_procedure};
 pub use storage::own_storage;
-pub use types::{arrayed, clause_type, new_clause_type, parameter_type, result_type, written_type};
+pub use types::{arrayed, parameter_type, result_type};
+pub use user_types::module_types;

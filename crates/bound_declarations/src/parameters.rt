@@ -7,14 +7,14 @@ ghost use Rattle.binder.specs.Scopes as scopes;
 ghost use Rattle.binder.specs.Storage as storage;
 ghost use Rattle.bound_declarations.specs.Parameters.{next_items};
 ghost use Rattle.bound_project.specs.View as bound;
-ghost use Rattle.bound_project.specs.View.{declared_view};
+ghost use Rattle.bound_project.specs.View.{declared_view, element_view};
 ghost use Rattle.constant_values.specs.Tables.{AreConstants};
 ghost use Rattle.declared_names.specs.View.{scope_view, written_view};
 ghost use Rattle.vba_expression.specs.View as expression;
 ghost use Rattle.vba_module.specs.Headers.{all_of};
 ghost use Rattle.vba_module.specs.Headers as headers;
 ghost use Rattle.vba_tree.specs.View.{listed_view, parameter_view, parameters_view};
-ghost use Rattle.vba_values.specs.Val.{missing};
+ghost use Rattle.vba_values.specs.Val.{array, missing, no_vals};
 ghost use Rattle.vba_values.specs.View.{view};
 
 use crate::kinds::{is_by_val, takes_value};
@@ -27,15 +27,24 @@ use declared_names::{Written, spelled};
 use std::alloc::Global;
 use vba_base::{NoMemory, OrMemory, Units};
 use vba_tree::{DefaultValue, Listed, Next, Parameters};
-use vba_values::{ObjRef, Value, copy_value};
+use vba_values::{ArrayValue, ObjRef, Value, copy_value};
 
-/// What an optional parameter has where no argument is given and no default is written.
-fn not_given_value(alloc: Global, of: DeclaredType) -> Result<Value, OrMemory<NotYet>>
-    ensures { (s : scopes.Scope) → IfOk result (λ value. view value ≡ storage.not_given_value s (declared_view of)) }
+/// An array without storage.
+fn array_alone(alloc: Global, element: ElementType) -> Result<Value, NoMemory>
+    ensures { IfOk result (λ value. view value ≡ array [] (element_view element) no_vals) }
 {
-    let DeclaredType::Plain(element) = of else {
-        return Err(OrMemory::Fault(NotYet));
+    let array = ArrayValue {
+        bounds: Vec::new(alloc),
+        element: element.value_type(),
+        items: Vec::new(alloc),
     };
+    Ok(Value::Array(Box::new(alloc, array)?))
+}
+
+/// What an optional parameter that is no array has where no argument is given and no default is written.
+fn not_given_element(alloc: Global, element: ElementType) -> Result<Value, OrMemory<NotYet>>
+    ensures { (s : scopes.Scope) → IfOk result (λ value. view value ≡ storage.not_given_value s (element_view element)) }
+{
     Ok(match element {
         ElementType::Variant => Value::Missing,
         ElementType::Boolean => Value::Boolean(false),
@@ -54,6 +63,16 @@ fn not_given_value(alloc: Global, of: DeclaredType) -> Result<Value, OrMemory<No
             return Err(OrMemory::Fault(NotYet));
         }
     })
+}
+
+/// What an optional parameter has where no argument is given and no default is written.
+fn not_given_value(alloc: Global, of: DeclaredType) -> Result<Value, OrMemory<NotYet>>
+    ensures { (s : scopes.Scope) → IfOk result (λ value. view value ≡ storage.not_given_value s (declared_view of)) }
+{
+    match of {
+        DeclaredType::Plain(element) => not_given_element(alloc, element),
+        DeclaredType::ArrayOf(element) => Ok(array_alone(alloc, element)?),
+    }
 }
 
 /// The value of a default that is written, as one of the type of its parameter.
@@ -106,9 +125,7 @@ fn bound_parameter(
     ensures { IfOk result (λ made. bound.parameter_view made
         ≡ storage.bound_parameter (scope_view constants.entry.scope) is_value (parameter_view parameter.now)) }
 {
-    if parameter.param_array_word.is_some() {
-        return Err(OrMemory::Fault(NotYet));
-    }
+    let is_param_array = parameter.param_array_word.is_some();
     let scope = constants.scope;
     let here = scope.here;
     let of = parameter_type(scope, parameter)?;
@@ -116,9 +133,9 @@ fn bound_parameter(
     Ok(Parameter {
         name,
         of,
-        is_by_reference: !(is_value || is_by_val(parameter.passing)),
+        is_by_reference: !(is_value || (is_by_val(parameter.passing) || is_param_array)),
         default: default_value(alloc, constants, of, parameter)?,
-        is_param_array: false,
+        is_param_array,
     })
 }
 

@@ -31,12 +31,14 @@ fn module_number(scope: Scope) -> Result<u32, NoMemory>
 }
 
 /// The variables of the frame of a procedure.
-fn framed(alloc: Global, scope: Scope) -> Result<Vec<Declaration>, OrMemory<NotYet>>
+fn framed(alloc: Global, constants: Constants) -> Result<Vec<Declaration>, OrMemory<NotYet>>
+    requires { AreConstants constants }
     ensures { IfOk result (λ framed. map declaration_view framed.items
-        ≡ storage.declarations_if storage.is_framed (scope_view scope.entry) (scope_view scope.entry).locals) }
+        ≡ storage.declarations_if storage.is_framed (scope_view constants.entry.scope) (scope_view constants.entry.scope).locals) }
 {
     let mut framed = Vec::new(alloc);
-    kept_declarations(alloc, Kept::Framed, scope, scope.locals, &mut framed)?;
+    let locals = constants.scope.locals;
+    kept_declarations(alloc, Kept::Framed, constants, locals, &mut framed)?;
     Ok(framed)
 }
 
@@ -54,7 +56,7 @@ pub fn bound_procedure(
     let in_module = module_number(scope)?;
     let name = spelled(alloc, here.source.text, &written.header.name)?;
     let result = declared_result(alloc, scope, written)?;
-    let locals = framed(alloc, scope)?;
+    let locals = framed(alloc, constants)?;
     Ok(Procedure {
         name,
         kind: kind_of(written.header.words),

@@ -1,33 +1,22 @@
 //! The types of declarations ([MS-VBAL] 5.2.3.1).
 
-ghost use Rattle.std.specs.Prelude.{◌≡◌, IfOk, option_map};
+ghost use Rattle.std.specs.Prelude.{◌≡◌, IfOk, is_some, option_map};
 ghost use Rattle.binder.specs.Constants.{known_length};
 ghost use Rattle.binder.specs.Storage as storage;
 ghost use Rattle.binder.specs.Types as types;
 ghost use Rattle.bound_project.specs.View.{declared_view};
+ghost use Rattle.constant_values.specs.Tables.{AreConstants};
 ghost use Rattle.declared_names.specs.View.{scope_view, written_view};
 ghost use Rattle.vba_tree.specs.View.{declared_type_view, new_type_clause_view, parameter_view, type_clause_view};
 
 use crate::not_yet::NotYet;
 use bound_project::DeclaredType;
+use constant_values::{Constants, written_type};
 use declared_names::{Scope, Written, named_type, suffix_type};
+use std::alloc::Global;
 use vba_base::OrMemory;
 use vba_lexer::TypeSuffix;
-use vba_tree::{NewTypeClause, Parameter, ResultType, TypeClause};
-
-/// A type behind As.
-pub fn written_type(
-    scope: Scope,
-    of: &vba_tree::DeclaredType,
-) -> Result<DeclaredType, OrMemory<NotYet>>
-    ensures { IfOk result (λ found. declared_view found
-        ≡ types.written_type (known_length (scope_view scope.entry)) (scope_view scope.entry) (declared_type_view of.now)) }
-{
-    match of {
-        vba_tree::DeclaredType::Named(name) => Ok(named_type(scope, name)?),
-        vba_tree::DeclaredType::FixedText { .. } => Err(OrMemory::Fault(NotYet)),
-    }
-}
+use vba_tree::{NewTypeClause, Parameter, TypeClause};
 
 /// An array of a type, or the type. No type that is written is one of arrays.
 pub fn arrayed(is_array: bool, of: DeclaredType) -> Result<DeclaredType, OrMemory<NotYet>>
@@ -42,24 +31,37 @@ pub fn arrayed(is_array: bool, of: DeclaredType) -> Result<DeclaredType, OrMemor
     }
 }
 
-/// The type of a variable: As decides before a suffix.
-pub fn new_clause_type(
-    scope: Scope,
+/// The type of a variable without its bounds: As decides before a suffix.
+pub(crate) fn new_clause_type(
+    alloc: Global,
+    constants: Constants,
     suffix: Option<TypeSuffix>,
     clause: &Option<NewTypeClause>,
 ) -> Result<DeclaredType, OrMemory<NotYet>>
+    requires { AreConstants constants }
     ensures { IfOk result (λ found. declared_view found
-        ≡ storage.new_clause_type (scope_view scope.entry) suffix (option_map new_type_clause_view clause.now)) }
+        ≡ storage.new_clause_type (scope_view constants.entry.scope) suffix (option_map new_type_clause_view clause.now)) }
 {
     match clause {
         None => Ok(suffix_type(suffix)),
         Some(clause) if clause.new_word.is_some() => Err(OrMemory::Fault(NotYet)),
-        Some(clause) => written_type(scope, &clause.declared_type),
+        Some(clause) => Ok(written_type(alloc, constants, &clause.declared_type)?),
     }
 }
 
-/// The type of a name that has a clause without New: As decides before a suffix.
-pub fn clause_type(
+/// A type behind As that has no length.
+fn named_alone(scope: Scope, of: &vba_tree::DeclaredType) -> Result<DeclaredType, OrMemory<NotYet>>
+    ensures { IfOk result (λ found. declared_view found
+        ≡ types.written_type (known_length (scope_view scope.entry)) (scope_view scope.entry) (declared_type_view of.now)) }
+{
+    match of {
+        vba_tree::DeclaredType::Named(name) => Ok(named_type(scope, name)?),
+        vba_tree::DeclaredType::FixedText { .. } => Err(OrMemory::Fault(NotYet)),
+    }
+}
+
+/// The type of a name by its clause, which has no length: As decides before a suffix.
+fn clause_alone(
     scope: Scope,
     suffix: Option<TypeSuffix>,
     clause: &Option<TypeClause>,
@@ -69,7 +71,7 @@ pub fn clause_type(
 {
     match clause {
         None => Ok(suffix_type(suffix)),
-        Some(clause) => written_type(scope, &clause.declared_type),
+        Some(clause) => named_alone(scope, &clause.declared_type),
     }
 }
 
@@ -79,14 +81,10 @@ pub fn result_type(scope: Scope, written: Written) -> Result<DeclaredType, OrMem
 {
     match &written.header.result_type {
         None => Ok(suffix_type(written.header.name.suffix)),
-        Some(
-            ResultType {
-                declared_type,
-                brackets: None,
-                ..
-            },
-        ) => written_type(scope, declared_type),
-        Some(_) => Err(OrMemory::Fault(NotYet)),
+        Some(result) => {
+            let of = named_alone(scope, &result.declared_type)?;
+            arrayed(result.brackets.is_some(), of)
+        }
     }
 }
 
@@ -94,8 +92,6 @@ pub fn result_type(scope: Scope, written: Written) -> Result<DeclaredType, OrMem
 pub fn parameter_type(scope: Scope, parameter: &Parameter) -> Result<DeclaredType, OrMemory<NotYet>>
     ensures { IfOk result (λ found. declared_view found ≡ storage.parameter_type (scope_view scope.entry) (parameter_view parameter.now)) }
 {
-    match parameter.brackets {
-        None => clause_type(scope, parameter.name.suffix, &parameter.type_clause),
-        Some(_) => Err(OrMemory::Fault(NotYet)),
-    }
+    let of = clause_alone(scope, parameter.name.suffix, &parameter.type_clause)?;
+    arrayed(parameter.brackets.is_some(), of)
 }

@@ -1,5 +1,5 @@
 -- What a project declares, module by module.
-use Rattle.std.proofs.Common.{◌≡◌, ℕ, zero, suc, ◌+◌, ◌<◌, Bool, true, false, List, [], ◌∷◌, ◌++◌, map, refl, sym, ap, ◌∙◌, arith}
+use Rattle.std.proofs.Common.{◌≡◌, ℕ, suc, Bool, List, [], ◌∷◌, ◌++◌, map, refl, sym, ap, ◌∙◌}
 use Rattle.std.specs.Prelude.{flat_map}
 use Rattle.std.proofs.lemmas.List.{map-append}
 use Rattle.vba_words.specs.declared.identifier.Identifier.{Identifier}
@@ -13,8 +13,7 @@ use Rattle.binder.specs.Constants.{home}
 use Rattle.binder.specs.Declarations.{Written, What, a_variable, a_constant, an_enum, a_member, a_type, an_event, a_procedure, Entry}
 use Rattle.binder.specs.Names.{scope_of, scope_in, locals_of}
 use Rattle.binder.specs.Scopes.{Space, Scope}
-use Rattle.binder.specs.Storage.{declarations_if, is_static, module_declarations, static_declarations, shared_of, types_of_space, types_from}
-use Rattle.binder.specs.Types.{counted, is_type_entry}
+use Rattle.binder.specs.Storage.{declarations_if, is_static, module_declarations, static_declarations, shared_of}
 use Rattle.project_tables.specs.declared.rows.ProcedureRow.{ProcedureRow}
 use Rattle.project_tables.specs.Rows.{Row, row_of, row_view, AreRowsOf}
 use Rattle.project_tables.specs.Steps.{IsPlain, ArePlain, own_statics, statics_in, procedure_of}
@@ -55,25 +54,7 @@ all_bound s (p ∷ ps) = ap (λ xs. bound_procedure s p ∷ xs) (all_bound s ps)
 pub module_bound : (s : Scope) (rows : List ProcedureRow) → AreRowsOf s rows → map (procedure_of s) (map row_view rows) ≡ procedures_of s
 module_bound s rows are = ap (map (procedure_of s)) are.rows_are ∙ all_bound s (numbered 0 s.here.entries)
 
--- ---- no Types and no classes
-
-no_type_more : (s : Scope) (x : Identifier) (public : Bool) (what : What) (es : List Entry) → counted is_type_entry (record { name = x; is_public = public; what = what } ∷ es) ≡ 0
-    → types_of_space s es ≡ [] → types_of_space s (record { name = x; is_public = public; what = what } ∷ es) ≡ []
-no_type_more s x public (a_variable v) es none h = h
-no_type_more s x public (a_constant c) es none h = h
-no_type_more s x public an_enum es none h = h
-no_type_more s x public (a_member value steps) es none h = h
-no_type_more s x public (a_type fields) es none h = absurd (omega arith)
-no_type_more s x public (an_event ps) es none h = h
-no_type_more s x public (a_procedure p) es none h = h
-
-no_type_in : (s : Scope) (es : List Entry) → counted is_type_entry es ≡ 0 → types_of_space s es ≡ []
-no_type_in s [] none = refl
-no_type_in s (e ∷ es) none = no_type_more s e.name e.is_public e.what es none (no_type_in s es (omega arith))
-
-pub no_types : (s : Scope) (spaces : List Space) → ArePlain spaces → types_from s spaces ≡ []
-no_types s [] plain = refl
-no_types s (space ∷ spaces) plain = rw (no_type_in (home s space) space.entries plain.0.no_types, no_types s spaces plain.1) refl
+-- ---- no classes
 
 pub no_classes : (s : Scope) (spaces : List Space) → ArePlain spaces → flat_map (λ space. class_of (home s space)) spaces ≡ []
 no_classes s [] plain = refl

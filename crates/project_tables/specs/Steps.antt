@@ -7,7 +7,7 @@ use Rattle.binder.specs.Declarations.{Written, Local}
 use Rattle.binder.specs.Scopes.{Space, Scope}
 use Rattle.binder.specs.Names.{scope_of, locals_of}
 use Rattle.binder.specs.Storage.{declarations_if, is_static, is_variable, parameters_of}
-use Rattle.binder.specs.Types.{counted, is_type_entry}
+use Rattle.binder.specs.Types.{counted}
 use Rattle.declared_names.specs.Outside.{the_outside}
 use Rattle.declared_names.specs.View.{local_view, space_view}
 use Rattle.declared_names.specs.declared.space.Space.{Space as SpaceHere}
@@ -57,10 +57,9 @@ abbrev pub statics_in : Scope → List Row → List bound.Declaration
 statics_in s [] = []
 statics_in s (row ∷ rows) = own_statics s row ++ statics_in s rows
 
--- a module that is no class and declares no Type
+-- a module that is no class
 pub record IsPlain (space : Space) : Type 0 where
   pub no_class : space.source.is_class ≡ false
-  pub no_types : counted is_type_entry space.entries ≡ 0
 
 abbrev pub ArePlain : List Space → Type 0
 ArePlain [] = Unit {0}

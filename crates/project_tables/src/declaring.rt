@@ -10,33 +10,33 @@ ghost use Rattle.constant_values.specs.Rounds.{AreNumbered, IsPlaced};
 ghost use Rattle.constant_values.specs.Tables.{AreProjectValues};
 ghost use Rattle.declared_names.specs.Outside.{the_outside};
 ghost use Rattle.declared_names.specs.View.{scope_view, space_view};
-ghost use Rattle.project_tables.specs.Rows.{AreRows, AreRowsOf, row_view};
+ghost use Rattle.project_tables.specs.Rows.{AreRows, row_view};
 ghost use Rattle.project_tables.specs.Signed.{whole_scope};
 ghost use Rattle.project_tables.specs.Steps.{ArePlain, HasValues, IsModule, IsPlain, module_scope, own_statics, procedure_of, statics_in};
 
+use crate::project_types::user_types;
 use crate::rows::{ProcedureRow, Rows};
 use crate::scopes::constants_of;
 use bound_declarations::{
     Kept, NotYet, bound_module, bound_procedure, kept_declarations, module_variables,
 };
 use bound_project::{Declaration, Declarations, Module, Procedure};
-use constant_values::ProjectValues;
-use declared_names::{Counted, Scope, Space, count_of};
+use constant_values::{ProjectValues, constants_in, own_values};
+use declared_names::{Scope, Space};
 use std::alloc::Global;
 use vba_base::{NoMemory, OrMemory};
 
-/// Goes on where a module is no class and declares no Type.
+/// Goes on where a module is no class.
 fn check_plain(space: &Space) -> Result<(), OrMemory<NotYet>>
     ensures { OnOk result (IsPlain (space_view space.now)) }
 {
-    let types = count_of(Counted::Types, space.entries.as_slice())?;
-    if space.source.is_class || types != 0 {
+    if space.source.is_class {
         return Err(OrMemory::Fault(NotYet));
     }
     Ok(())
 }
 
-/// Goes on where no module is a class or declares a Type.
+/// Goes on where no module is a class.
 #[tactic(auto, using(std::proofs::lemmas::List::drop_more))]
 fn check_all_plain(spaces: &[Space]) -> Result<(), OrMemory<NotYet>>
     ensures { OnOk result (ArePlain (map space_view spaces.now)) }
@@ -71,49 +71,61 @@ fn bound_modules(alloc: Global, spaces: &[Space]) -> Result<Vec<Module>, NoMemor
 fn push_variables<'a>(
     alloc: Global,
     scope: Scope<'a>,
+    project: &ProjectValues,
     shared: &mut Vec<Declaration>,
 ) -> Result<(), OrMemory<NotYet>>
+    requires placed { IsPlaced (scope_view scope) }
+    requires values { AreProjectValues project.now (scope_view scope).spaces }
     ensures { OnOk result (map declaration_view shared.new.items ≡ map declaration_view shared.old.items
         ++ (if (scope_view scope.entry).here.source.is_class then [] else storage.module_declarations (scope_view scope.entry) (scope_view scope.entry).here.entries)) }
 {
     if scope.here.source.is_class {
         return Ok(());
     }
-    module_variables(alloc, scope, scope.here.entries.as_slice(), shared)
+    let own = own_values(alloc, project, scope)?;
+    let constants = constants_in(scope, project, &own);
+    module_variables(alloc, constants, scope.here.entries.as_slice(), shared)
 }
 
 /// Adds the statics of a procedure.
 fn push_own_statics<'a>(
     alloc: Global,
     scope: Scope<'a>,
+    project: &ProjectValues,
     row: &ProcedureRow<'a>,
     shared: &mut Vec<Declaration>,
 ) -> Result<(), OrMemory<NotYet>>
+    requires placed { IsPlaced (scope_view scope) }
+    requires values { AreProjectValues project.now (scope_view scope).spaces }
+    requires own { HasValues (scope_view scope) row.now }
     ensures { OnOk result (map declaration_view shared.new.items
         ≡ map declaration_view shared.old.items ++ own_statics (scope_view scope.entry) (row_view row.now)) }
 {
-    let locals = row.locals.as_slice();
-    let inside = Scope {
-        spaces: scope.spaces,
-        here: scope.here,
-        locals,
-    };
-    kept_declarations(alloc, Kept::Static, inside, locals, shared)
+    let constants = constants_of(scope, &*project, &*row);
+    kept_declarations(
+        alloc,
+        Kept::Static,
+        constants,
+        row.locals.as_slice(),
+        shared,
+    )
 }
 
 /// Adds the statics of procedures.
-#[tactic(auto, using(std::proofs::lemmas::List::drop_more))]
+#[tactic(auto, using(std::proofs::lemmas::List::drop_more, crate::proofs::Steps::own_values_of))]
 fn push_statics<'a>(
     alloc: Global,
     scope: Scope<'a>,
+    project: &ProjectValues,
     rows: &[ProcedureRow<'a>],
     shared: &mut Vec<Declaration>,
 ) -> Result<(), OrMemory<NotYet>>
+    requires { IsModule (scope_view scope) project.now rows.now }
     ensures { OnOk result (map declaration_view shared.new.items
         ≡ map declaration_view shared.old.items ++ statics_in (scope_view scope.entry) (map row_view rows.now)) }
 {
     for row in rows {
-        push_own_statics(alloc, scope, row, shared)?;
+        push_own_statics(alloc, scope, project, row, shared)?;
     }
     Ok(())
 }
@@ -124,10 +136,11 @@ fn push_shared<'a>(
     alloc: Global,
     spaces: &'a [Space<'a>],
     space: &'a Space<'a>,
+    project: &ProjectValues,
     rows: &[ProcedureRow<'a>],
     shared: &mut Vec<Declaration>,
 ) -> Result<(), OrMemory<NotYet>>
-    requires { AreRowsOf (module_scope spaces.now space.now) rows.now }
+    requires { IsModule (module_scope spaces.now space.now) project.now rows.now }
     ensures { OnOk result (map declaration_view shared.new.items
         ≡ map declaration_view shared.old.items ++ storage.shared_of (module_scope spaces.now space.now)) }
 {
@@ -136,8 +149,8 @@ fn push_shared<'a>(
         here: space,
         locals: &[],
     };
-    push_variables(alloc, scope, shared)?;
-    push_statics(alloc, scope, rows, shared)?;
+    push_variables(alloc, scope, project, shared)?;
+    push_statics(alloc, scope, project, rows, shared)?;
     Ok(())
 }
 
@@ -148,13 +161,14 @@ fn shared_variables<'a>(
     spaces: &'a [Space<'a>],
     rows: &Rows<'a>,
 ) -> Result<Vec<Declaration>, OrMemory<NotYet>>
-    requires { AreRows rows.now (map space_view spaces.now) }
+    requires numbered { AreNumbered (map space_view spaces.now) }
+    requires rows { AreRows rows.now (map space_view spaces.now) }
     ensures { IfOk result (λ shared. map declaration_view shared.items ≡ storage.shared_from (whole_scope (map space_view spaces.now)) (map space_view spaces.now)) }
 {
     let mut shared = Vec::new(alloc);
     for (number, space) in spaces.iter().enumerate() {
         let of = rows.of[number].as_slice();
-        push_shared(alloc, spaces, space, of, &mut shared)?;
+        push_shared(alloc, spaces, space, &rows.values, of, &mut shared)?;
     }
     Ok(shared)
 }
@@ -231,8 +245,8 @@ fn bound_procedures<'a>(
     Ok(procedures)
 }
 
-/// All that a project declares. A Type or a class anywhere isn't written yet.
-#[tactic(auto, using(crate::proofs::Shared::no_types, crate::proofs::Shared::no_classes))]
+/// All that a project declares. A class anywhere isn't written yet.
+#[tactic(auto, using(crate::proofs::Shared::no_classes))]
 pub fn declarations<'a>(
     alloc: Global,
     spaces: &'a [Space<'a>],
@@ -245,11 +259,12 @@ pub fn declarations<'a>(
 {
     check_all_plain(spaces)?;
     let modules = bound_modules(alloc, spaces)?;
+    let types = user_types(alloc, spaces, rows)?;
     let shared = shared_variables(alloc, spaces, rows)?;
     let procedures = bound_procedures(alloc, spaces, rows)?;
     Ok(Declarations {
         modules,
-        types: Vec::new(alloc),
+        types,
         classes: Vec::new(alloc),
         shared,
         procedures,

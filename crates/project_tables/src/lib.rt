@@ -3,6 +3,7 @@
 
 mod counting;
 mod declaring;
+mod project_types;
 mod rows;
 mod scopes;
 mod signing;

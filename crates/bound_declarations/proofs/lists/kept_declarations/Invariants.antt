@@ -7,5 +7,5 @@ use Rattle.bound_declarations.proofs.lists.kept_declarations.Given as goal
 
 abbrev pub invariant-loop-local : goal.invariant-loop-local
 invariant-loop-local l =
-    map declaration_view l.declarations.items ++ declarations_if (is_kept l.which) (scope_view l.scope) (map local_view (drop l.local-index l.locals))
-    ≡ map declaration_view l.fn.declarations.items ++ declarations_if (is_kept l.which) (scope_view l.scope) (map local_view l.locals)
+    map declaration_view l.declarations.items ++ declarations_if (is_kept l.which) (scope_view l.constants.scope) (map local_view (drop l.local-index l.locals))
+    ≡ map declaration_view l.fn.declarations.items ++ declarations_if (is_kept l.which) (scope_view l.constants.scope) (map local_view l.locals)

@@ -7,6 +7,12 @@ use Rattle.project_tables.specs.Steps.{module_scope, statics_in}
 use Rattle.project_tables.proofs.Shared.{shared_is}
 use Rattle.project_tables.proofs.declaring.push_shared.Goals as goal
 
+pub push_variables-requires-clause-placed : goal.push_variables-requires-clause-placed
+push_variables-requires-clause-placed c = c.requires.placed
+
+pub push_variables-requires-clause-values : goal.push_variables-requires-clause-values
+push_variables-requires-clause-values c = c.requires.values
+
 pub returns : goal.returns
 returns c =
     let s = module_scope c.args.spaces.now c.args.space.now in
@@ -16,4 +22,4 @@ returns c =
     c.in_ok-push_statics.ensures
     ∙ (ap (λ (xs : List Declaration). xs ++ statics) c.in_ok-push_variables.ensures
     ∙ (append_assoc old own statics
-    ∙ ap (λ (xs : List Declaration). old ++ (own ++ xs)) (shared_is s c.args.rows.now c.requires)))
+    ∙ ap (λ (xs : List Declaration). old ++ (own ++ xs)) (shared_is s c.args.rows.now c.requires.rows_are)))
