@@ -112,6 +112,7 @@ copied_anyway env x d y below n h p place rest = at x.term n h
     at (term.Place kind of bounded false) n h = let A : plain.Term → Type 0 = λ z. by_reference (value_of env) p z place rest ≡ by_copy (value_of env) p z place rest in subst A (sym h.is) refl
     at (term.Value e) n h = let A : plain.Term → Type 0 = λ z. by_reference (value_of env) p z place rest ≡ by_copy (value_of env) p z place rest in subst A (sym h.is) refl
     at (term.Routine r) n h = let A : plain.Term → Type 0 = λ z. by_reference (value_of env) p z place rest ≡ by_copy (value_of env) p z place rest in subst A (sym h.is) refl
+    at (term.Function f) n h = let A : plain.Term → Type 0 = λ z. by_reference (value_of env) p z place rest ≡ by_copy (value_of env) p z place rest in subst A (sym h.0.is) refl
     at term.Err n h = let A : plain.Term → Type 0 = λ z. by_reference (value_of env) p z place rest ≡ by_copy (value_of env) p z place rest in subst A (sym h.0) refl
     at term.ErrRaise n h = let A : plain.Term → Type 0 = λ z. by_reference (value_of env) p z place rest ≡ by_copy (value_of env) p z place rest in subst A (sym h.0) refl
     at term.ErrClear n h = let A : plain.Term → Type 0 = λ z. by_reference (value_of env) p z place rest ≡ by_copy (value_of env) p z place rest in subst A (sym h.0) refl
@@ -171,6 +172,7 @@ nothing_lent (term.Place kind of bounded true) h = none_of (record { kind = kind
 nothing_lent (term.Place kind of bounded false) h = tt
 nothing_lent (term.Value e) h = tt
 nothing_lent (term.Routine r) h = tt
+nothing_lent (term.Function f) h = tt
 nothing_lent term.Err h = tt
 nothing_lent term.ErrRaise h = tt
 nothing_lent term.ErrClear h = tt

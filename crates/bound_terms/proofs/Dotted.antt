@@ -15,9 +15,9 @@ use Rattle.bound_project.specs.Pieces.{Piece}
 use Rattle.bound_project.specs.Drafts.{Drafted}
 use Rattle.binder.specs.Scopes.{Scope, Qualifier, plainly, before_dot, declares, behind, as_qualifier, qualifier_of, enum_behind}
 use Rattle.binder.specs.Constants.{place_of_expression}
-use Rattle.binder.specs.Terms.{Env, err_object, no_term}
+use Rattle.binder.specs.Terms.{Env}
 use Rattle.binder.specs.Terms as plain
-use Rattle.binder.specs.ExpressionsBound.{term_of, meant_term, member_of, behind_term, err_member}
+use Rattle.binder.specs.ExpressionsBound.{term_of, meant_term, member_of, behind_term, from_zero}
 use Rattle.bound_terms.specs.declared.term.Term.{Term}
 use Rattle.bound_terms.specs.declared.term.Term.TheVariants as term
 use Rattle.bound_terms.specs.declared.term.Tree.{Tree}
@@ -26,7 +26,6 @@ use Rattle.bound_terms.specs.declared.term.Item.TheVariants as item
 use Rattle.bound_terms.specs.Standing.{TermStands, TreeStands, QualifierStands, LeafStands, AllNamed}
 use Rattle.bound_terms.specs.Owned.{IsQualifier, MakesMember}
 use Rattle.bound_terms.specs.Steps.{MakesLeaf, Goes}
-use Rattle.bound_terms.proofs.Growing.{grown_same}
 use Rattle.bound_terms.proofs.Steps.{goes_made}
 
 -- an expression that is a name
@@ -44,22 +43,8 @@ named_base (unary o token operand) x h = let e : None ≡ Some x = h in absurd c
 named_base (binary l o token r) x h = let e : None ≡ Some x = h in absurd cc
 
 -- the place of a name behind a dot is that of what stands before that
-member_place : (base : Expr) (dot : Token) (f : Identifier) → place_of_expression (member base dot f) ≡ place_of_expression base
+pub member_place : (base : Expr) (dot : Token) (f : Identifier) → place_of_expression (member base dot f) ≡ place_of_expression base
 member_place base dot f = expression_front base (marked dot mark.Dot ∷ naming f ∷ [])
-
--- behind Err
-err_base : (env : Env) (base : Expr) (dot : Token) (f : Identifier) → term_of env base ≡ err_object → behind_dot base dot f ≡ member base dot f
-err_base env (literal l) dot f h = refl
-err_base env (me token) dot f h = refl
-err_base env (name y) dot f h = refl
-err_base env (with_member first y) dot f h = refl
-err_base env (member base first y) dot f h = refl
-err_base env (index base left args right) dot f h = refl
-err_base env (parenthesised left inner right) dot f h = refl
-err_base env (new word of) dot f h = let e : no_term ≡ err_object = h in absurd cc
-err_base env (type_of word operand is_word of) dot f h = let e : no_term ≡ err_object = h in absurd cc
-err_base env (unary o token operand) dot f h = refl
-err_base env (binary l o token r) dot f h = refl
 
 -- ---- behind a module, an Enum or VBA
 
@@ -70,7 +55,7 @@ leaf_below x n ps below e h = let A : Option Identifier → Type 0 = λ (o : Opt
 leaf_above : (env : Env) (d e : Drafted) (x : Term) (y : plain.Term) (below : List Piece) → d.pieces ≡ below → MakesLeaf env d e x y → TermStands env e.tables x y e.pieces below
 leaf_above env d e x y below eq m = let A : List Piece → Type 0 = λ (ps : List Piece). TermStands env e.tables x y e.pieces ps in subst A (m.pieces ∙ eq) (m.stands e.pieces)
 
-abbrev made_tree : Tree → Bool → Term → Tree
+abbrev pub made_tree : Tree → Bool → Term → Tree
 made_tree x q t = record { place = x.place; name = None; is_qualifier = q; term = t }
 
 behind_name : (env : Env) (x : Tree) (n f : Identifier) (dot : Token) (q : Option Qualifier) (d e : Drafted) (t : Term) (is_q : Bool) (below : List Piece) → q ≡ as_qualifier (declares before_dot env.scope n)
@@ -82,16 +67,16 @@ behind_name env x n f dot q d e t is_q below eq m b place =
     record { term_is = subst A eq m; place_is = place ∙ sym (member_place (name n) dot f); name_is = refl; qualifier_is = subst B eq b; leaf = tt }
 
 behind_stands : (env : Env) (x : Tree) (n f : Identifier) (q : Qualifier) (d e : Drafted) (t : Term) (is_q : Bool) → option_map (λ name. name.now) x.name ≡ Some n → Some q ≡ as_qualifier (declares before_dot env.scope n)
-    → MakesLeaf env d e t (meant_term env f (behind plainly env.scope q f)) → is_q ≡ is_some (enum_behind env.scope (Some q) f) → (base : Expr) (dot : Token) (below : List Piece) → TreeStands env d.tables x base d.pieces below
+    → MakesLeaf env d e t (from_zero (meant_term env f (behind plainly env.scope q f))) → is_q ≡ is_some (enum_behind env.scope (Some q) f) → (base : Expr) (dot : Token) (below : List Piece) → TreeStands env d.tables x base d.pieces below
     → TreeStands env e.tables (made_tree x is_q t) (behind_dot base dot f) e.pieces below
 behind_stands env x n f q d e t is_q known eq m b base dot below h =
     let is : base ≡ name n = named_base base n (sym h.name_is ∙ known) in
     let A : Expr → Type 0 = λ (z : Expr). TreeStands env e.tables (made_tree x is_q t) (behind_dot z dot f) e.pieces below in
     subst A (sym is)
-    (behind_name env x n f dot (Some q) d e t is_q below eq (leaf_above env d e t (meant_term env f (behind plainly env.scope q f)) below (leaf_below (option_map (λ name. name.now) x.name) n d.pieces below known h.leaf) m) b
+    (behind_name env x n f dot (Some q) d e t is_q below eq (leaf_above env d e t (from_zero (meant_term env f (behind plainly env.scope q f))) below (leaf_below (option_map (λ name. name.now) x.name) n d.pieces below known h.leaf) m) b
     (h.place_is ∙ ap (λ (z : Expr). place_of_expression z) is))
 
-pub makes_behind : (env : Env) (x : Tree) (f : Identifier) (q : Qualifier) (d e : Drafted) (t : Term) (is_q : Bool) → MakesLeaf env d e t (meant_term env f (behind plainly env.scope q f))
+pub makes_behind : (env : Env) (x : Tree) (f : Identifier) (q : Qualifier) (d e : Drafted) (t : Term) (is_q : Bool) → MakesLeaf env d e t (from_zero (meant_term env f (behind plainly env.scope q f)))
     → is_q ≡ is_some (enum_behind env.scope (Some q) f) → IsQualifier env.scope (option_map (λ name. name.now) x.name) (Some q) → MakesMember env x f d e (made_tree x is_q t)
 makes_behind env x f q d e t is_q m b k = at (option_map (λ name. name.now) x.name) refl k
   where
@@ -99,37 +84,15 @@ makes_behind env x f q d e t is_q m b k = at (option_map (λ name. name.now) x.n
     at None known k = let e : Some q ≡ None = k in absurd cc
     at (Some n) known k = record { grown = m.grown; named = m.named; stands = behind_stands env x n f q d e t is_q known k m b }
 
--- ---- behind Err
+-- ---- no qualifier
 
-no_qualifier : (env : Env) (x : Tree) (base : Expr) → x.is_qualifier ≡ false → (o : Option Identifier) → o ≡ name_in base → QualifierStands env o x.is_qualifier base → IsQualifier env.scope o None → qualifier_of env.scope base ≡ None
+pub no_qualifier : (env : Env) (x : Tree) (base : Expr) → x.is_qualifier ≡ false → (o : Option Identifier) → o ≡ name_in base → QualifierStands env o x.is_qualifier base → IsQualifier env.scope o None → qualifier_of env.scope base ≡ None
 no_qualifier env x base false_is None known q k = at (qualifier_of env.scope base) (sym q ∙ false_is)
   where
     at : (r : Option Qualifier) → is_some r ≡ false → r ≡ None
     at None h = refl
     at (Some r) h = let e : true ≡ false = h in absurd cc
 no_qualifier env x base false_is (Some n) known q k = ap (λ (z : Expr). qualifier_of env.scope z) (named_base base n (sym known)) ∙ sym k
-
-err_stands : (env : Env) (x : Tree) (f : Identifier) (d : Drafted) (t : Term) → x.is_qualifier ≡ false → x.term ≡ term.Err → IsQualifier env.scope (option_map (λ name. name.now) x.name) None
-    → MakesLeaf env d d t (err_member f.name) → (base : Expr) (dot : Token) (below : List Piece) → TreeStands env d.tables x base d.pieces below → TreeStands env d.tables (made_tree x false t) (behind_dot base dot f) d.pieces below
-err_stands env x f d t false_is err k m base dot below h =
-    let T : Term → Type 0 = λ (z : Term). TermStands env d.tables z (term_of env base) d.pieces below in
-    let is = subst T err h.term_is in
-    let none : qualifier_of env.scope base ≡ None = no_qualifier env x base false_is (option_map (λ name. name.now) x.name) h.name_is h.qualifier_is k in
-    let member_is : term_of env (member base dot f) ≡ err_member f.name =
-    ap (λ (o : Option Qualifier). behind_term env o f (member_of env (place_of_expression base) (term_of env base) f)) none ∙ ap (λ (z : plain.Term). member_of env (place_of_expression base) z f) is.0 in
-    let P : plain.Term → Type 0 = λ (z : plain.Term). TermStands env d.tables t z d.pieces below in
-    let A : Expr → Type 0 = λ (z : Expr). TreeStands env d.tables (made_tree x false t) z d.pieces below in
-    subst A (sym (err_base env base dot f is.0)) (record {
-      term_is = subst P (sym member_is) (leaf_above env d d t (err_member f.name) below is.1 m);
-      place_is = h.place_is ∙ sym (member_place base dot f);
-      name_is = refl;
-      qualifier_is = sym (ap (λ (o : Option Qualifier). is_some (enum_behind env.scope o f)) none);
-      leaf = tt;
-    })
-
-pub makes_err : (env : Env) (x : Tree) (f : Identifier) (d : Drafted) (t : Term) → MakesLeaf env d d t (err_member f.name) → x.term ≡ term.Err → x.is_qualifier ≡ false
-    → IsQualifier env.scope (option_map (λ name. name.now) x.name) None → MakesMember env x f d d (made_tree x false t)
-makes_err env x f d t m err false_is k = record { grown = grown_same d; named = m.named; stands = err_stands env x f d t false_is err k m }
 
 -- ---- on the stack
 

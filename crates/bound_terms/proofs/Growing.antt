@@ -2,18 +2,18 @@
 use Rattle.std.proofs.Common.{◌≡◌, ℕ, ◌<◌, ◌≤◌, List, [], ◌∷◌, length, Option, Some, None, refl, sym, ap, subst, ◌∙◌, arith}
 use Rattle.vba_values.specs.Val.{Val}
 use Rattle.vba_base.specs.declared.place.Place.{Place}
-use Rattle.vba_expression.specs.Tree.{Expr}
+use Rattle.vba_expression.specs.Tree.{Expr, no_args, missing, plain, named}
 use Rattle.vba_expression.specs.Nodes as nodes
 use Rattle.bound_project.specs.declared.node.NodeKind.{NodeKind}
 use Rattle.bound_project.specs.declared.node.NodeKind.TheVariants as node
 use Rattle.bound_project.specs.declared.node.Node.{Node}
-use Rattle.bound_project.specs.Expressions.{constant, call, no_args, in_order}
+use Rattle.bound_project.specs.Expressions.{constant, call, in_order}
 use Rattle.bound_project.specs.Expressions as bound
 use Rattle.bound_project.specs.Pieces.{Piece, an_argument, default_taken, Tables, constant_in, order_in, arguments_off, of_found, expr_of, put_kind}
 use Rattle.bound_project.specs.Drafts.{Drafted, NodeNamed, with_constant}
 use Rattle.bound_project.proofs.Drafts.{Extends, constant_extends}
 use Rattle.binder.specs.Terms.{Env}
-use Rattle.binder.specs.Terms as plain
+use Rattle.binder.specs.Terms as terms
 use Rattle.binder.specs.ExpressionsBound.{term_of}
 use Rattle.bound_terms.specs.declared.term.Ending.{Ending}
 use Rattle.bound_terms.specs.declared.term.Term.{Term}
@@ -61,7 +61,7 @@ grown_constant d v = record { tables = constant_extends d.tables v; statements =
 pub put_same : (t u : Tables) → Extends t u → (n : Node) (k : NodeKind) → NodeNamed t k → (st : List Piece) → put_kind u n k st ≡ put_kind t n k st
 put_same t u e n (node.Constant i) h st = ap (λ v. expr_of n (constant v) ∷ st) (e.constant_is i h)
 put_same t u e n (node.ByDefault i) h st = ap (λ v. an_argument (default_taken v) ∷ st) (e.constant_is i h)
-put_same t u e n (node.CallInOrder p count order) h st = ap (λ o. of_found (λ args. expr_of n (call p (in_order o args))) (arguments_off count st no_args)) (e.order_is order h)
+put_same t u e n (node.CallInOrder p count order) h st = ap (λ o. of_found (λ args. expr_of n (call p (in_order o args))) (arguments_off count st bound.no_args)) (e.order_is order h)
 put_same t u e n k h st = refl
 
 pub node_named : (t u : Tables) → Extends t u → (k : NodeKind) → NodeNamed t k → NodeNamed u k
@@ -83,10 +83,11 @@ pub all_named : (t u : Tables) → Extends t u → (xs : List Item) → AllNamed
 all_named t u e [] h = tt
 all_named t u e (x ∷ xs) h = (item_named t u e x h.0, all_named t u e xs h.1)
 
-pub term_grows : (env : Env) (t u : Tables) → Extends t u → (x : Term) → TermNamed t x → (y : plain.Term) (ps below : List Piece) → TermStands env t x y ps below → TermStands env u x y ps below
+pub term_grows : (env : Env) (t u : Tables) → Extends t u → (x : Term) → TermNamed t x → (y : terms.Term) (ps below : List Piece) → TermStands env t x y ps below → TermStands env u x y ps below
 term_grows env t u e (term.Place kind of bounded lends) k y ps below h = record { at = h.at; is = h.is; ends = λ n. put_same t u e n kind k ps ∙ h.ends n }
 term_grows env t u e (term.Value ending) k y ps below h = record { made = h.made; is = h.is; ends = λ n. put_same t u e n ending.kind k ps ∙ h.ends n }
 term_grows env t u e (term.Routine r) k y ps below h = h
+term_grows env t u e (term.Function f) k y ps below h = h
 term_grows env t u e term.Err k y ps below h = h
 term_grows env t u e term.ErrRaise k y ps below h = h
 term_grows env t u e term.ErrClear k y ps below h = h
@@ -98,8 +99,7 @@ tree_grows env t u e x k tree ps below h =
     record { term_is = term_grows env t u e x.term k (term_of env tree) ps below h.term_is; place_is = h.place_is; name_is = h.name_is; qualifier_is = h.qualifier_is; leaf = h.leaf }
 
 pub stands_grows : (env : Env) (t u : Tables) → Extends t u → (xs : List Item) → AllNamed t xs → (is : List nodes.Item) (ps : List Piece) (base : Base) → Stands env t xs is ps base → Stands env u xs is ps base
-stands_grows env t u e [] k [] ps base h = h
-stands_grows env t u e [] k (i ∷ is) ps base h = absurd h
+stands_grows env t u e [] k is ps base h = h
 stands_grows env t u e (item.Tree x ∷ xs) k [] ps base h = absurd h
 stands_grows env t u e (item.Tree x ∷ xs) k (nodes.arguments args ∷ is) ps base h = absurd h
 stands_grows env t u e (item.Tree x ∷ xs) k (nodes.tree tree ∷ is) ps base h = (
@@ -120,3 +120,20 @@ stands_grows env t u e (item.Call x ∷ xs) k (nodes.arguments args ∷ nodes.tr
 stands_grows env t u e (item.Listed x ∷ xs) k [] ps base h = absurd h
 stands_grows env t u e (item.Listed x ∷ xs) k (nodes.tree tree ∷ is) ps base h = absurd h
 stands_grows env t u e (item.Listed x ∷ xs) k (nodes.arguments args ∷ is) ps base h = (h.0, (h.1.0, stands_grows env t u e xs k.1 is h.0 base h.1.1))
+stands_grows env t u e (item.Indexed x ∷ xs) k [] ps base h = absurd h
+stands_grows env t u e (item.Indexed x ∷ xs) k (nodes.tree tree ∷ is) ps base h = absurd h
+stands_grows env t u e (item.Indexed x ∷ xs) k (nodes.arguments args ∷ []) ps base h = absurd h
+stands_grows env t u e (item.Indexed x ∷ xs) k (nodes.arguments args ∷ nodes.arguments more ∷ is) ps base h = absurd h
+stands_grows env t u e (item.Indexed x ∷ xs) k (nodes.arguments args ∷ nodes.tree tree ∷ is) ps base h = (h.0, (h.1.0, stands_grows env t u e xs k.1 is h.0 base h.1.1))
+stands_grows env t u e (item.Function x ∷ xs) k [] ps base h = absurd h
+stands_grows env t u e (item.Function x ∷ xs) k (nodes.tree tree ∷ is) ps base h = absurd h
+stands_grows env t u e (item.Function x ∷ xs) k (nodes.arguments args ∷ []) ps base h = absurd h
+stands_grows env t u e (item.Function x ∷ xs) k (nodes.arguments args ∷ nodes.arguments more ∷ is) ps base h = absurd h
+stands_grows env t u e (item.Function x ∷ xs) k (nodes.arguments args ∷ nodes.tree tree ∷ is) ps base h = (h.0, (h.1.0, stands_grows env t u e xs k.1 is h.0 base h.1.1))
+stands_grows env t u e (item.Named x ∷ xs) k [] ps base h = absurd h
+stands_grows env t u e (item.Named x ∷ xs) k (nodes.tree tree ∷ is) ps base h = absurd h
+stands_grows env t u e (item.Named x ∷ xs) k (nodes.arguments no_args ∷ is) ps base h = absurd h
+stands_grows env t u e (item.Named x ∷ xs) k (nodes.arguments (missing before comma) ∷ is) ps base h = absurd h
+stands_grows env t u e (item.Named x ∷ xs) k (nodes.arguments (plain before comma tree) ∷ is) ps base h = absurd h
+stands_grows env t u e (item.Named x ∷ xs) k (nodes.arguments (named before comma name mark tree) ∷ is) ps base h =
+    (h.0, (h.1.0, stands_grows env t u e xs k.1 (nodes.arguments before ∷ is) h.0 base h.1.1))

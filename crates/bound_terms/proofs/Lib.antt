@@ -3,7 +3,14 @@ pub mod Taking
 pub mod Steps
 pub mod Passing
 pub mod Arguing
+pub mod Lookups
+pub mod Reading
 pub mod CallSteps
-pub mod Named
+pub mod NamedTerms
 pub mod Dotted
-pub mod Acting
+pub mod Elements
+pub mod Library
+pub mod Sharing
+pub mod Fielding
+pub mod Callees
+pub mod RoutineTerms

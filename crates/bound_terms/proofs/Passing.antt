@@ -81,7 +81,7 @@ built_all value n [] (g ∷ gs) xs left ds t h = absurd t
 built_all value n (p ∷ ps) (g ∷ gs) [] left ds t h = absurd t
 built_all value n (p ∷ ps) (g ∷ gs) (x ∷ xs) left ds t h = rw (built_all value (suc n) ps gs xs left ds t.1 h) (t.0.makes (args_of (xs ++ ds)))
 
-nameless : (value : Term → Place → Option bound.Expr) (ps : List Parameter) (gs : List Given) (xs : List Argument) (left : List Parameter) → AllTaken value ps gs xs left → has_names gs ≡ false
+pub nameless : (value : Term → Place → Option bound.Expr) (ps : List Parameter) (gs : List Given) (xs : List Argument) (left : List Parameter) → AllTaken value ps gs xs left → has_names gs ≡ false
 nameless value ps [] xs left t = refl
 nameless value [] (g ∷ gs) xs left t = absurd t
 nameless value (p ∷ ps) (g ∷ gs) [] left t = absurd t

@@ -281,13 +281,12 @@ leaves_tree env ns x ys xs d e a b g =
     let all : ys ≡ item.Tree x ∷ [] = a ∙ ap (λ l. item.Tree x ∷ l) b in
     let N : List Item → Type 0 = λ l. AllNamed e.tables l in
     let A : List Item → Type 0 = λ l. Stands env e.tables l (items_of ns) e.pieces (on_pieces d.pieces) in
-    record { grown = g.grown; named = (subst N all g.named).0; stands = only_tree env e.tables x (items_of ns) e.pieces (on_pieces d.pieces) (subst A all (g.stands [] (on_pieces d.pieces) refl)) }
+    record { grown = g.grown; named = (subst N all g.named).0; stands = only_tree env e.tables x (items_of ns) e.pieces (on_pieces d.pieces) (subst A all (g.stands [] (on_pieces d.pieces) (refl, refl))) }
   where
     only_tree : (env : Env) (t : Tables) (x : Tree) (is : List nodes.Item) (ps : List Piece) (base : Base) → Stands env t (item.Tree x ∷ []) is ps base → TreeStands env t x (last_tree is) ps base.pieces
     only_tree env t x [] ps base h = absurd h
     only_tree env t x (nodes.arguments args ∷ is) ps base h = absurd h
-    only_tree env t x (nodes.tree tree ∷ []) ps base h = let A : List Piece → Type 0 = λ l. TreeStands env t x tree ps l in subst A h.1.1 h.1.0
-    only_tree env t x (nodes.tree tree ∷ i ∷ is) ps base h = absurd h.1.1
+    only_tree env t x (nodes.tree tree ∷ is) ps base h = let A : List Piece → Type 0 = λ l. TreeStands env t x tree ps l in subst A h.1.1.1 h.1.0
 
 pub pushes_value : (x : Tree) (d d1 e : Drafted) (ending : Option Ending) (of : Option DeclaredType) → TakesValue x.term d d1 ending → Pushes ending x.place d1 e of → PushesValue x d e of
 pushes_value x d d1 e ending of t p = record {

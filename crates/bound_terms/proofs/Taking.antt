@@ -96,6 +96,7 @@ unfolding none_of
 no_value t (term.Place kind of bounded lends) n env y ps below h place = absurd n
 no_value t (term.Value e) n env y ps below h place = absurd n
 no_value t (term.Routine r) n env y ps below h place = absurd n
+no_value t (term.Function f) n env y ps below h place = ap (λ z. value_of env z place) h.0.is
 no_value t term.Err n env y ps below h place = ap (λ z. value_of env z place) h.0
 no_value t term.ErrRaise n env y ps below h place = ap (λ z. value_of env z place) h.0
 no_value t term.ErrClear n env y ps below h place = ap (λ z. value_of env z place) h.0
@@ -118,6 +119,7 @@ operand_is t (term.Place kind of bounded lends) n env y ps below h place =
     let P : plain.Term → Type 0 = λ z. operand_of env z place ≡ value_of env z place in subst P (sym h.is) refl
 operand_is t (term.Value e) n env y ps below h place = let P : plain.Term → Type 0 = λ z. operand_of env z place ≡ value_of env z place in subst P (sym h.is) refl
 operand_is t (term.Routine r) n env y ps below h place = let P : plain.Term → Type 0 = λ z. operand_of env z place ≡ value_of env z place in subst P (sym h.is) refl
+operand_is t (term.Function f) n env y ps below h place = let P : plain.Term → Type 0 = λ z. operand_of env z place ≡ value_of env z place in subst P (sym h.0.is) refl
 operand_is t term.Err n env y ps below h place = absurd n
 operand_is t term.ErrRaise n env y ps below h place = let P : plain.Term → Type 0 = λ z. operand_of env z place ≡ value_of env z place in subst P (sym h.0) refl
 operand_is t term.ErrClear n env y ps below h place = let P : plain.Term → Type 0 = λ z. operand_of env z place ≡ value_of env z place in subst P (sym h.0) refl
@@ -141,6 +143,7 @@ pub takes_operand : (x : Term) → ((x ≡ term.Err) → ⊥) → (d e : Drafted
 takes_operand (term.Place kind of bounded lends) n d e ending h = unfold not_err in as_operand (term.Place kind of bounded lends) tt d e ending h
 takes_operand (term.Value v) n d e ending h = unfold not_err in as_operand (term.Value v) tt d e ending h
 takes_operand (term.Routine r) n d e ending h = unfold not_err in as_operand (term.Routine r) tt d e ending h
+takes_operand (term.Function f) n d e ending h = unfold not_err in as_operand (term.Function f) tt d e ending h
 takes_operand term.Err n d e ending h = absurd (n refl)
 takes_operand term.ErrRaise n d e ending h = unfold not_err in as_operand term.ErrRaise tt d e ending h
 takes_operand term.ErrClear n d e ending h = unfold not_err in as_operand term.ErrClear tt d e ending h

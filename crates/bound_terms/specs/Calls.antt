@@ -14,7 +14,6 @@ use Rattle.bound_project.specs.Expressions.{Lvalue}
 use Rattle.bound_project.specs.Expressions as bound
 use Rattle.bound_project.specs.Lists.{above}
 use Rattle.bound_project.specs.Pieces.{Argument, place_lent, value_copied, Piece, an_argument, an_expr}
-use Rattle.bound_project.specs.Statements.{evaluate}
 use Rattle.bound_project.specs.Project as project
 use Rattle.bound_project.specs.Drafts.{Drafted}
 use Rattle.vba_values.specs.Coerce.{is_same_type}
@@ -22,7 +21,6 @@ use Rattle.binder.specs.Constants.{place_of_expression, is_variant}
 use Rattle.binder.specs.Terms.{Env, Given}
 use Rattle.binder.specs.Terms as plain
 use Rattle.binder.specs.ExpressionsBound.{callee, givens, indexed, term_of, value_of}
-use Rattle.binder.specs.StatementsBound.{called_with}
 use Rattle.bound_terms.specs.declared.term.Ending.{Ending}
 use Rattle.bound_terms.specs.declared.term.Routine.{Routine}
 use Rattle.bound_terms.specs.declared.term.Term.{Term}
@@ -31,9 +29,7 @@ use Rattle.bound_terms.specs.declared.term.Tree.{Tree}
 use Rattle.bound_terms.specs.declared.term.Passed.{Passed}
 use Rattle.bound_terms.specs.declared.term.Item.{Item}
 use Rattle.bound_terms.specs.declared.term.Item.TheVariants as item
-use Rattle.bound_terms.specs.Owned.{IsRoutine}
 use Rattle.bound_terms.specs.Passing.{Taken, NotGiven, AllLeft}
-use Rattle.bound_terms.specs.Steps.{PushesValue}
 use Rattle.bound_terms.specs.Standing.{PlaceEnds, RoutineStands, TreeStands, PassedStands, Grown}
 
 -- ---- one argument
@@ -119,19 +115,7 @@ with_passed (item.Call x) passed = item.Call (record x { passed = passed })
 with_passed (item.Listed x) passed = item.Listed passed
 with_passed x passed = x
 
--- ---- what is called
-
--- a procedure that an expression names, as it is called; nothing is pushed for it
-pub record Calls (env : Env) (x : Tree) (d e : Drafted) (r : Routine) : Type 0 where
-  pub grown : Grown d e
-  pub pieces : e.pieces ≡ d.pieces
-  pub stands : (tree : Expr) (ps below : List Piece) → TreeStands env d.tables x tree ps below → RoutineStands env r (callee env tree (term_of env tree)) ps below
-
--- a name is a procedure
-pub record Names (env : Env) (d e : Drafted) (r : Routine) (y : plain.Term) : Type 0 where
-  pub grown : Grown d e
-  pub pieces : e.pieces ≡ d.pieces
-  pub routine : IsRoutine env r y
+-- ---- the ends of calls
 
 -- all but the node of a call is pushed
 pub record EndsCall (r : Routine) (x : Passed) (d e : Drafted) (ending : Ending) : Type 0 where
@@ -141,12 +125,7 @@ pub record EndsCall (r : Routine) (x : Passed) (d e : Drafted) (ending : Ending)
   pub on_top : e.pieces ≡ above (map an_argument made) d.pieces
   pub ending_is : ending ≡ record { kind = node.Call r.procedure (x.count + length made); of = r.of }
 
--- ---- calls as statements
-
--- the arguments of a statement were pushed for these parameters
-pub record Reads (env : Env) (parameters : List project.Parameter) (args : Args) (d e : Drafted) (x : Passed) : Type 0 where
-  pub grown : Grown d e
-  pub stands : PassedStands env parameters x args e.pieces d.pieces
+-- ---- the value of a call
 
 -- the value of a call, and that it was pushed
 pub record CallPushed (env : Env) (y : plain.Term) (args : Args) (place : Place) (ps below : List Piece) : Type 0 where
@@ -158,26 +137,3 @@ pub record PushesCall (r : Routine) (x : Passed) (place : Place) (d e : Drafted)
   pub grown : Grown d e
   pub stands : (env : Env) (y : plain.Term) (args : Args) (qs below : List Piece) → RoutineStands env r y qs qs → PassedStands env (map parameter_view r.parameters.now) x args d.pieces below
       → CallPushed env y args place e.pieces below
-
--- what a statement calls, and that its value was pushed
-pub record TargetCalled (env : Env) (target : Expr) (args : Args) (ps below : List Piece) : Type 0 where
-  pub made : bound.Expr
-  pub is : called_with env target (givens env args) ≡ Some (evaluate made)
-  pub on_top : ps ≡ an_expr made ∷ below
-
-pub record CallsTarget (env : Env) (x : Tree) (args : Args) (d e : Drafted) : Type 0 where
-  pub grown : Grown d e
-  pub stands : (target : Expr) (below : List Piece) → TreeStands env d.tables x target d.pieces below → TargetCalled env target args e.pieces below
-
--- an expression was pushed as a value
-pub record PushesTree (x : Tree) (d e : Drafted) : Type 0 where
-  pub of : DeclaredType
-  pub pushes : PushesValue x d e (Some of)
-
--- an expression that ends with arguments in brackets
-pub record IsIndexed (e : Expr) : Type 0 where
-  pub base : Expr
-  pub left : Token
-  pub args : Args
-  pub right : Token
-  pub is : e ≡ tree.index base left args right

@@ -1,26 +1,43 @@
 -- Serves the code: what names of procedures and modules are.
-use Rattle.std.specs.Prelude.{◌≡◌, ℕ, false, List, Option, Some, None, option_map}
+use Rattle.std.specs.Prelude.{◌≡◌, ℕ, Bool, List, Option, Some, None, option_map, slice_get}
 use Rattle.vba_values.specs.Types.{Declared}
 use Rattle.vba_words.specs.declared.identifier.Identifier.{Identifier}
 use Rattle.vba_lexer.specs.declared.token.Token.{Token}
 use Rattle.vba_expression.specs.Tree.{Expr}
 use Rattle.vba_expression.specs.Reader.{behind_dot}
-use Rattle.binder.specs.Declarations.{Own}
+use Rattle.binder.specs.Declarations.{Local}
 use Rattle.binder.specs.Scopes.{Scope, Qualifier, before_dot, declares, as_qualifier}
 use Rattle.binder.specs.Storage.{own_storage}
 use Rattle.binder.specs.Terms.{Env}
 use Rattle.binder.specs.Terms as plain
-use Rattle.binder.specs.ExpressionsBound.{own_term, place_term}
+use Rattle.binder.specs.ExpressionsBound.{has_bounds, own_term, place_term}
+use Rattle.bound_project.specs.Expressions.{Storage, shared}
+use Rattle.bound_project.specs.Project.{Declaration}
+use Rattle.bound_project.specs.View.{declared_view}
 use Rattle.bound_project.specs.Pieces.{Piece}
 use Rattle.bound_project.specs.Drafts.{Drafted}
+use Rattle.bound_terms.specs.declared.names.Shape.{Shape}
 use Rattle.bound_terms.specs.declared.term.Routine.{Routine}
 use Rattle.bound_terms.specs.declared.term.Tree.{Tree}
 use Rattle.bound_terms.specs.Standing.{RoutineStands, TermNamed, TreeStands, Grown}
 
--- a name of a procedure is a variable of this type, and no array with declared bounds
-abbrev pub OwnTyped : Scope → Own → Declared → Type 0
-OwnTyped s own of = (env : Env) (x : Identifier) (number : ℕ) (name : Identifier) → env.scope ≡ s
-    → own_term env x number (record { name = name; own = own }) ≡ place_term (own_storage env.scope env.first number own) of false
+-- the type of a variable, and whether it is declared with bounds
+pub record IsShape (of : Declared) (bounded : Bool) (x : Shape) : Type 0 where
+  pub of_is : of ≡ declared_view x.of
+  pub bounded_is : bounded ≡ x.is_bounded
+
+-- a name of a procedure is a variable of this type, with declared bounds or not
+abbrev pub OwnShaped : Scope → Local → Declared → Bool → Type 0
+OwnShaped s l of bounded = (env : Env) (x : Identifier) (number : ℕ) → env.scope ≡ s
+    → own_term env x number l ≡ place_term (own_storage env.scope env.first number l.own) of bounded
+
+-- a variable among those of a project
+pub record SharedShape (ds : List Declaration) (kept : Storage) (x : Shape) : Type 0 where
+  pub number : ℕ
+  pub kept_is : kept ≡ shared number
+  pub declaration : Declaration
+  pub at : slice_get ds number ≡ Some declaration
+  pub shape : IsShape declaration.of (has_bounds declaration) x
 
 -- a procedure for which nothing is pushed
 abbrev pub IsRoutine : Env → Routine → plain.Term → Type 0

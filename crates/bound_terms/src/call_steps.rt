@@ -9,17 +9,17 @@ ghost use Rattle.bound_terms.specs.Standing.{AllNamed};
 ghost use Rattle.bound_terms.specs.Steps.{Goes};
 ghost use Rattle.bound_terms.specs.View.{EnvStands, env_view};
 
-use crate::arguments::{pass_missing, pass_plain};
-use crate::calls::{call_ending, called};
+use crate::arguments::pass_missing;
 use crate::env::Env;
+use crate::indexing::{add_argument, begin_arguments, end_arguments};
 use crate::stack::{put_item, take_item};
-use crate::term::{Call, Item, Passed, Term, Tree};
+use crate::term::{Call, Item, Passed};
 use bound_declarations::NotYet;
 use bound_project::Draft;
 use std::alloc::Global;
 use vba_base::OrMemory;
 
-/// Arguments begin: the expression on top is called.
+/// Arguments begin: the expression on top is called or indexed.
 pub fn step_no_arguments<'a>(
     alloc: Global,
     draft: &mut Draft,
@@ -33,23 +33,13 @@ pub fn step_no_arguments<'a>(
     let Some(Item::Tree(tree)) = take_item(stack) else {
         return Err(OrMemory::NoMemory);
     };
-    let routine = called(alloc, draft, env, tree)?;
-    put_item(
-        stack,
-        Item::Call(Call {
-            place: tree.place,
-            routine,
-            passed: Passed {
-                left: routine.parameters,
-                count: 0,
-            },
-        }),
-    )?;
+    let item = begin_arguments(alloc, draft, env, tree)?;
+    put_item(stack, item)?;
     Ok(())
 }
 
 /// The arguments of an item.
-fn passed_in<'a>(item: Item<'a>) -> Option<Passed<'a>>
+pub fn passed_in<'a>(item: Item<'a>) -> Option<Passed<'a>>
     ensures { result ≡ passed_in item.entry }
 {
     match item {
@@ -60,7 +50,7 @@ fn passed_in<'a>(item: Item<'a>) -> Option<Passed<'a>>
 }
 
 /// An item with other arguments.
-fn with_passed<'a>(item: Item<'a>, passed: Passed<'a>) -> Item<'a>
+pub fn with_passed<'a>(item: Item<'a>, passed: Passed<'a>) -> Item<'a>
     ensures { result ≡ with_passed item.entry passed.entry }
 {
     match item {
@@ -85,11 +75,8 @@ pub fn step_plain_argument<'a>(
     let Some(item) = take_item(stack) else {
         return Err(OrMemory::NoMemory);
     };
-    let Some(passed) = passed_in(item) else {
-        return Err(OrMemory::NoMemory);
-    };
-    let passed = pass_plain(alloc, draft, passed, tree)?;
-    put_item(stack, with_passed(item, passed))?;
+    let item = add_argument(alloc, draft, item, tree)?;
+    put_item(stack, item)?;
     Ok(())
 }
 
@@ -106,14 +93,14 @@ pub fn step_missing_argument<'a>(
         return Err(OrMemory::NoMemory);
     };
     let Some(passed) = passed_in(item) else {
-        return Err(OrMemory::NoMemory);
+        return Err(OrMemory::Fault(NotYet));
     };
     let passed = pass_missing(alloc, draft, passed)?;
     put_item(stack, with_passed(item, passed))?;
     Ok(())
 }
 
-/// Arguments end: a call.
+/// Arguments end: a call, or an element.
 pub fn step_index<'a>(
     alloc: Global,
     draft: &mut Draft,
@@ -122,18 +109,10 @@ pub fn step_index<'a>(
     requires { AllNamed (draft_view draft.old).tables (reverse stack.old.items) }
     ensures { OnOk result ((env : plain.Env) (left right : Token) → Goes env (draft_view draft.old) (reverse stack.old.items) (draft_view draft.new) (reverse stack.new.items) (behind_node (node.Index left right))) }
 {
-    let Some(Item::Call(call)) = take_item(stack) else {
+    let Some(item) = take_item(stack) else {
         return Err(OrMemory::NoMemory);
     };
-    let ending = call_ending(alloc, draft, call.routine, call.passed)?;
-    put_item(
-        stack,
-        Item::Tree(Tree {
-            place: call.place,
-            name: None,
-            is_qualifier: false,
-            term: Term::Value(ending),
-        }),
-    )?;
+    let tree = end_arguments(alloc, draft, item)?;
+    put_item(stack, Item::Tree(tree))?;
     Ok(())
 }

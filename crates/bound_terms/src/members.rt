@@ -1,9 +1,9 @@
-ghost use Rattle.std.specs.Prelude.{◌≡◌, false, OnOk, IfOk, None, Some, is_some, option_map, reverse};
+ghost use Rattle.std.specs.Prelude.{◌≡◌, Bool, false, OnOk, IfOk, None, Some, is_some, option_map, reverse};
 ghost use Rattle.vba_expression.specs.declared.node.ExpressionNode.TheVariants as node;
 ghost use Rattle.vba_expression.specs.Nodes.{behind_node};
 ghost use Rattle.vba_lexer.specs.declared.token.Token.{Token};
 ghost use Rattle.bound_project.specs.DraftView.{draft_view};
-ghost use Rattle.bound_project.specs.Drafts.{Drafted};
+ghost use Rattle.bound_project.specs.Drafts.{Drafted, NodeNamed};
 ghost use Rattle.bound_project.specs.Expressions.{err_value};
 ghost use Rattle.bound_project.specs.View.{element_view, member_view};
 ghost use Rattle.binder.specs.ExpressionsBound as bound;
@@ -11,19 +11,24 @@ ghost use Rattle.binder.specs.Terms as plain;
 ghost use Rattle.constant_values.specs.Rounds.{IsPlace};
 ghost use Rattle.declared_names.specs.View.{qualifier_view, scope_view};
 ghost use Rattle.bound_terms.specs.Owned.{IsQualifier, MakesMember};
-ghost use Rattle.bound_terms.specs.Standing.{AllNamed};
+ghost use Rattle.bound_terms.specs.Fields.{MakesBehind};
+ghost use Rattle.bound_terms.specs.Standing.{AllNamed, TermNamed};
 ghost use Rattle.bound_terms.specs.Steps.{Goes, MakesLeaf};
 ghost use Rattle.bound_terms.specs.View.{EnvStands, env_view};
 
+use crate::calls::bare_call;
 use crate::env::Env;
+use crate::fields::{place_field, value_field};
+use crate::functions::from_zero;
 use crate::names::{is_word, meant_term};
 use crate::stack::{put_item, take_item};
-use crate::term::{Ending, Item, Term, Tree};
+use crate::take::push_node;
+use crate::term::{Ending, Item, Routine, Term, Tree};
 use bound_declarations::NotYet;
 use bound_project::{DeclaredType, Draft, ElementType, ErrMember, NodeKind};
 use declared_names::{Qualifier, Use, as_qualifier, behind, declares, enum_behind};
 use std::alloc::Global;
-use vba_base::OrMemory;
+use vba_base::{OrMemory, Place};
 use vba_words::Identifier;
 
 /// What Err tells, as a value.
@@ -101,7 +106,8 @@ fn behind_qualifier<'a>(
 {
     let scope = env.constants.scope;
     let meant = behind(Use::Plainly, scope, qualifier, member);
-    let term = meant_term(alloc, draft, env, member, meant)?;
+    let found = meant_term(alloc, draft, env, member, meant)?;
+    let term = from_zero(found);
     let is_qualifier = is_there(enum_behind(scope, Some(qualifier), member));
     Ok(Tree {
         place: tree.place,
@@ -111,20 +117,106 @@ fn behind_qualifier<'a>(
     })
 }
 
-/// A name behind Err; members of other terms aren't bound yet.
-fn behind_term<'a>(tree: Tree<'a>, member: &Identifier) -> Result<Tree<'a>, OrMemory<NotYet>>
-    ensures { IfOk result (λ made. (env : plain.Env) (d : Drafted) → tree.entry.is_qualifier ≡ false → IsQualifier env.scope (option_map (λ x. x.now) tree.entry.name) None
-        → MakesMember env tree.entry member.now d d made) }
+/// A name behind a place, by its last node and its type; it is pushed.
+fn behind_place<'a>(
+    draft: &mut Draft,
+    env: Env<'a>,
+    place: Place,
+    at: Ending,
+    lends: bool,
+    member: &Identifier,
+) -> Result<Term<'a>, OrMemory<NotYet>>
+    requires env { EnvStands env }
+    requires named { NodeNamed (draft_view draft.old).tables at.kind }
+    ensures { IfOk result (λ term. (bounded : Bool) → MakesBehind (env_view env.entry) place (Term.Place at.kind at.of bounded lends) member.now (draft_view draft.old) (draft_view draft.new) term) }
 {
-    match tree.term {
-        Term::Err => Ok(Tree {
-            place: tree.place,
-            name: None,
-            is_qualifier: false,
-            term: err_member(member),
-        }),
+    let term = place_field(env, at.of, lends, member)?;
+    push_node(draft, at.kind, at.of, place)?;
+    Ok(term)
+}
+
+/// A name behind a value; it is pushed.
+fn behind_value<'a>(
+    draft: &mut Draft,
+    env: Env<'a>,
+    place: Place,
+    ending: Ending,
+    member: &Identifier,
+) -> Result<Term<'a>, OrMemory<NotYet>>
+    requires env { EnvStands env }
+    requires named { NodeNamed (draft_view draft.old).tables ending.kind }
+    ensures { IfOk result (λ term. MakesBehind (env_view env.entry) place (Term.Value ending) member.now (draft_view draft.old) (draft_view draft.new) term) }
+{
+    let term = value_field(env, ending.of, member)?;
+    push_node(draft, ending.kind, ending.of, place)?;
+    Ok(term)
+}
+
+/// A name behind a procedure, which is called.
+fn behind_routine<'a>(
+    alloc: Global,
+    draft: &mut Draft,
+    env: Env<'a>,
+    place: Place,
+    routine: Routine<'a>,
+    member: &Identifier,
+) -> Result<Term<'a>, OrMemory<NotYet>>
+    requires { EnvStands env }
+    ensures { IfOk result (λ term. MakesBehind (env_view env.entry) place (Term.Routine routine.entry) member.now (draft_view draft.old) (draft_view draft.new) term) }
+{
+    let Some(ending) = bare_call(alloc, draft, routine)? else {
+        return Err(OrMemory::Fault(NotYet));
+    };
+    behind_value(draft, env, place, ending, member)
+}
+
+/// A name behind a term.
+fn behind_term<'a>(
+    alloc: Global,
+    draft: &mut Draft,
+    env: Env<'a>,
+    place: Place,
+    term: Term<'a>,
+    member: &Identifier,
+) -> Result<Term<'a>, OrMemory<NotYet>>
+    requires env { EnvStands env }
+    requires named { TermNamed (draft_view draft.old).tables term }
+    ensures { IfOk result (λ made. MakesBehind (env_view env.entry) place term.entry member.now (draft_view draft.old) (draft_view draft.new) made) }
+{
+    match term {
+        Term::Place {
+            kind,
+            of,
+            lends,
+            ..
+        } => behind_place(draft, env, place, Ending { kind, of }, lends, member),
+        Term::Value(ending) => behind_value(draft, env, place, ending, member),
+        Term::Routine(routine) => behind_routine(alloc, draft, env, place, routine, member),
+        Term::Err => Ok(err_member(member)),
         _ => Err(OrMemory::Fault(NotYet)),
     }
+}
+
+/// A name behind an expression that says nothing of where it is looked up.
+fn behind_tree<'a>(
+    alloc: Global,
+    draft: &mut Draft,
+    env: Env<'a>,
+    tree: Tree<'a>,
+    member: &Identifier,
+) -> Result<Tree<'a>, OrMemory<NotYet>>
+    requires env { EnvStands env }
+    requires named { TermNamed (draft_view draft.old).tables tree.term }
+    ensures { IfOk result (λ made. tree.entry.is_qualifier ≡ false → IsQualifier (scope_view env.entry.constants.scope) (option_map (λ x. x.now) tree.entry.name) None
+        → MakesMember (env_view env.entry) tree.entry member.now (draft_view draft.old) (draft_view draft.new) made) }
+{
+    let term = behind_term(alloc, draft, env, tree.place, tree.term, member)?;
+    Ok(Tree {
+        place: tree.place,
+        name: None,
+        is_qualifier: false,
+        term,
+    })
 }
 
 /// A dot and a name behind an expression.
@@ -135,7 +227,8 @@ fn member_tree<'a>(
     tree: Tree<'a>,
     member: &Identifier,
 ) -> Result<Tree<'a>, OrMemory<NotYet>>
-    requires { EnvStands env }
+    requires env { EnvStands env }
+    requires named { TermNamed (draft_view draft.old).tables tree.term }
     ensures { IfOk result (λ made. MakesMember (env_view env.entry) tree.entry member.now (draft_view draft.old) (draft_view draft.new) made) }
 {
     if has_qualifier(tree) {
@@ -143,7 +236,7 @@ fn member_tree<'a>(
     }
     match qualifier_of(env, tree.name) {
         Some(qualifier) => behind_qualifier(alloc, draft, env, tree, qualifier, member),
-        None => behind_term(tree, member),
+        None => behind_tree(alloc, draft, env, tree, member),
     }
 }
 

@@ -1,32 +1,42 @@
-ghost use Rattle.std.specs.Prelude.{◌≡◌, false, IfOk, Some, bytes_eq, option_map};
+ghost use Rattle.std.specs.Prelude.{◌≡◌, false, IfOk, Some, bytes_eq, map, option_map, slice_get};
+ghost use Rattle.vba_values.specs.Types as type;
 ghost use Rattle.bound_project.specs.DraftView.{draft_view};
 ghost use Rattle.bound_project.specs.Drafts.{Drafted};
-ghost use Rattle.bound_project.specs.View.{declared_view, storage_view};
+ghost use Rattle.bound_project.specs.View.{declaration_view, declared_view, storage_view};
 ghost use Rattle.binder.specs.Constants as constants;
+ghost use Rattle.binder.specs.Declarations.{a_variable};
 ghost use Rattle.binder.specs.ExpressionsBound as bound;
 ghost use Rattle.binder.specs.ExpressionsBound.{declared_place, place_term};
 ghost use Rattle.binder.specs.Scopes.{of_module, of_procedure};
+ghost use Rattle.binder.specs.Storage as storage;
 ghost use Rattle.binder.specs.Storage.{declared_variable, module_storage};
 ghost use Rattle.binder.specs.Terms as plain;
 ghost use Rattle.constant_values.specs.Rounds.{IsThere};
-ghost use Rattle.declared_names.specs.View.{entry_view, local_view, meant_view, own_view, scope_view, space_view};
-ghost use Rattle.vba_tree.specs.View.{variable_view};
+ghost use Rattle.constant_values.specs.Tables.{AreConstants};
+ghost use Rattle.declared_names.specs.View.{entry_view, local_view, meant_view, scope_view, space_view, what_view, written_view};
+ghost use Rattle.vba_tree.specs.View.{parameter_view, type_clause_view, variable_view};
 ghost use Rattle.vba_words.specs.declared.identifier.Identifier as identifier;
-ghost use Rattle.bound_terms.specs.Owned.{OwnTyped};
+ghost use Rattle.bound_terms.specs.Owned.{IsShape, OwnShaped, SharedShape};
 ghost use Rattle.bound_terms.specs.Steps.{MakesLeaf};
 ghost use Rattle.bound_terms.specs.View.{EnvStands, env_view};
 
 use crate::constants::value_term;
 use crate::env::Env;
-use crate::routines::{home, routine_of};
+use crate::functions::function_term;
+use crate::routines::routine_of;
 use crate::term::Term;
-use bound_declarations::{NotYet, own_storage, parameter_type, result_type, variable_type};
-use bound_project::{DeclaredType, Draft, ElementType, NodeKind, Storage, Variable};
-use constant_values::meant_value;
-use declared_names::{Entry, Local, Meant, Own, Scope, Space, What};
+use bound_declarations::{
+    NotYet, arrayed, is_bounded, own_storage, parameter_type, result_type, variable_type,
+};
+use bound_project::{
+    Declaration, Declarations, DeclaredType, Draft, ElementType, NodeKind, Storage, Variable,
+};
+use constant_values::{Constants, clause_type, meant_value};
+use declared_names::{Entry, Local, Meant, Own, Scope, Space, What, Written};
 use std::alloc::Global;
 use vba_base::OrMemory;
-use vba_tree::Variable as WrittenVariable;
+use vba_lib::library_named;
+use vba_tree::{Parameter, TypeClause, Variable as WrittenVariable};
 use vba_values::copy_value;
 use vba_words::Identifier;
 
@@ -75,7 +85,7 @@ fn constant_term<'a>(
     Ok(term)
 }
 
-/// A name of the library: the word Error, or a constant.
+/// A name of the library: the word Error, a function, or a constant.
 fn library_term<'a>(
     alloc: Global,
     draft: &mut Draft,
@@ -86,53 +96,123 @@ fn library_term<'a>(
     ensures { IfOk result (λ term. MakesLeaf (env_view env.entry) (draft_view draft.old) (draft_view draft.new) term (bound.library_term (env_view env.entry) name.now)) }
 {
     if is_word(name.name.units(), b"error") {
-        Ok(Term::ErrorWord)
-    } else {
-        constant_term(alloc, draft, env, name, Meant::OfLibrary)
+        return Ok(Term::ErrorWord);
+    }
+    match library_named(&name.name) {
+        Some(function) => Ok(function_term(env, name, function)),
+        None => constant_term(alloc, draft, env, name, Meant::OfLibrary),
     }
 }
 
-/// A variable that is no array with declared bounds, as a place.
-fn variable_term<'a>(storage: Storage, of: DeclaredType) -> Term<'a>
-    ensures { (env : plain.Env) (d : Drafted) → MakesLeaf env d d result (place_term (storage_view storage) (declared_view of) false) }
+/// The type of a variable, and whether it is an array that is declared with bounds.
+#[derive(Clone, Copy)]
+pub struct Shape {
+    pub of: DeclaredType,
+    pub is_bounded: bool,
+}
+
+/// A variable, as a place.
+fn variable_term<'a>(storage: Storage, shape: Shape) -> Term<'a>
+    ensures { (env : plain.Env) (d : Drafted) → MakesLeaf env d d result (place_term (storage_view storage) (declared_view shape.of) shape.is_bounded) }
 {
+    let Shape { of, is_bounded } = shape;
     Term::Place {
         kind: NodeKind::Variable(Variable {
             storage,
             of,
-            is_bounded: false,
+            is_bounded,
         }),
         of,
-        is_bounded: false,
+        is_bounded,
         lends: true,
     }
 }
 
-/// The type of a name of a procedure that is a variable.
-fn own_type<'a>(scope: Scope<'a>, own: Own<'a>) -> Result<DeclaredType, OrMemory<NotYet>>
-    ensures { IfOk result (λ of. OwnTyped (scope_view scope.entry) (own_view own.entry) (declared_view of)) }
+/// What is no array that is declared with bounds.
+fn unbounded(of: DeclaredType) -> Shape
+    ensures { IsShape (declared_view of) false result }
 {
-    match own {
-        Own::Result(written) => result_type(scope, written),
-        Own::Parameter(parameter) => parameter_type(scope, parameter),
-        Own::Variable { variable, .. } => variable_type(scope, variable),
-        Own::Undeclared { .. } => Ok(DeclaredType::Plain(ElementType::Variant)),
-        _ => Err(OrMemory::Fault(NotYet)),
+    Shape {
+        of,
+        is_bounded: false,
+    }
+}
+
+/// The result of a procedure.
+fn result_shape<'a>(scope: Scope<'a>, written: Written<'a>) -> Result<Shape, OrMemory<NotYet>>
+    ensures { IfOk result (λ shape. IsShape (storage.result_type (scope_view scope.entry) (written_view written.entry)) false shape) }
+{
+    Ok(unbounded(result_type(scope, written)?))
+}
+
+/// A parameter.
+fn parameter_shape<'a>(scope: Scope<'a>, parameter: &Parameter) -> Result<Shape, OrMemory<NotYet>>
+    ensures { IfOk result (λ shape. IsShape (storage.parameter_type (scope_view scope.entry) (parameter_view parameter.now)) false shape) }
+{
+    Ok(unbounded(parameter_type(scope, parameter)?))
+}
+
+/// A variable that is declared in a procedure.
+fn variable_shape<'a>(
+    alloc: Global,
+    constants: Constants<'a>,
+    variable: &'a WrittenVariable,
+) -> Result<Shape, OrMemory<NotYet>>
+    requires { AreConstants constants }
+    ensures { IfOk result (λ shape. IsShape (declared_variable (scope_view constants.entry.scope) (variable_view variable.now)).of
+        (bound.has_bounds (declared_variable (scope_view constants.entry.scope) (variable_view variable.now))) shape) }
+{
+    let is_bounded = is_bounded(alloc, constants, variable)?;
+    let of = variable_type(alloc, constants, variable)?;
+    Ok(Shape { of, is_bounded })
+}
+
+/// An array that a ReDim declares.
+fn array_shape<'a>(
+    alloc: Global,
+    constants: Constants<'a>,
+    name: &Identifier,
+    clause: &Option<TypeClause>,
+) -> Result<Shape, OrMemory<NotYet>>
+    requires { AreConstants constants }
+    ensures { IfOk result (λ shape. IsShape (type.array_of (storage.plain_clause_type (scope_view constants.entry.scope) name.now (option_map type_clause_view clause.now))) false shape) }
+{
+    let of = clause_type(alloc, constants, name.suffix, clause)?;
+    Ok(unbounded(arrayed(true, of)?))
+}
+
+/// A name of a procedure that is a variable.
+fn own_shape<'a>(alloc: Global, env: Env<'a>, local: Local<'a>) -> Result<Shape, OrMemory<NotYet>>
+    requires { EnvStands env }
+    ensures { IfOk result (λ shape. OwnShaped (scope_view env.entry.constants.scope) (local_view local.entry) (declared_view shape.of) shape.is_bounded) }
+{
+    let scope = env.constants.scope;
+    match local.own {
+        Own::Result(written) => result_shape(scope, written),
+        Own::Parameter(parameter) => parameter_shape(scope, parameter),
+        Own::Variable { variable, .. } => variable_shape(alloc, env.constants, variable),
+        Own::Array { type_clause, .. } => {
+            array_shape(alloc, env.constants, local.name, type_clause)
+        }
+        Own::Undeclared { .. } => Ok(unbounded(DeclaredType::Plain(ElementType::Variant))),
+        Own::Constant(_) => Err(OrMemory::Fault(NotYet)),
     }
 }
 
 /// A variable of a procedure.
 fn own_variable<'a>(
+    alloc: Global,
     env: Env<'a>,
     number: usize,
     local: Local<'a>,
 ) -> Result<Term<'a>, OrMemory<NotYet>>
+    requires { EnvStands env }
     ensures { IfOk result (λ term. (d : Drafted) (x : identifier.Identifier) → MakesLeaf (env_view env.entry) d d term (bound.own_term (env_view env.entry) x number (local_view local.entry))) }
 {
     let scope = env.constants.scope;
-    let of = own_type(scope, local.own)?;
+    let shape = own_shape(alloc, env, local)?;
     let storage = own_storage(scope, env.first, number, local.own)?;
-    Ok(variable_term(storage, of))
+    Ok(variable_term(storage, shape))
 }
 
 /// A name of a procedure.
@@ -156,26 +236,61 @@ fn own_term<'a>(
             name,
             Meant::OfProcedure { number, local },
         ),
-        _ => own_variable(env, number, local),
+        _ => own_variable(alloc, env, number, local),
     }
 }
 
-/// A variable of a module.
+/// The declaration with a number.
+fn declaration_at(declared: &Vec<Declaration>, number: usize) -> Option<&Declaration>
+    ensures { option_map (λ found. declaration_view found.now) result ≡ option_map declaration_view (slice_get declared.now.items number) }
+{
+    declared.get(number)
+}
+
+/// What a declaration says of a variable.
+fn known_shape(declaration: &Declaration) -> Shape
+    ensures { IsShape (declaration_view declaration.now).of (bound.has_bounds (declaration_view declaration.now)) result }
+{
+    Shape {
+        of: declaration.of,
+        is_bounded: !declaration.bounds.as_slice().is_empty(),
+    }
+}
+
+/// A variable that is kept among those of the project.
+fn shared_shape(declared: &Declarations, kept: Storage) -> Result<Shape, OrMemory<NotYet>>
+    ensures { IfOk result (λ shape. SharedShape (map declaration_view declared.now.shared.items) (storage_view kept) shape) }
+{
+    let Storage::Shared(number) = kept else {
+        return Err(OrMemory::Fault(NotYet));
+    };
+    let Some(declaration) = declaration_at(&declared.shared, number as usize) else {
+        return Err(OrMemory::Fault(NotYet));
+    };
+    Ok(known_shape(declaration))
+}
+
+/// A variable of a standard module.
 fn module_variable<'a>(
     env: Env<'a>,
     space: &'a Space<'a>,
     number: usize,
+    entry: Entry<'a>,
     variable: &'a WrittenVariable,
 ) -> Result<Term<'a>, OrMemory<NotYet>>
-    requires { EnvStands env }
+    requires env { EnvStands env }
+    requires there { IsThere (scope_view env.constants.scope) (Some (of_module (space_view space.now) number (entry_view entry))) }
+    requires standard { (space_view space.now).source.is_class ≡ false }
+    requires what { what_view entry.what ≡ a_variable (variable_view variable.now) }
     ensures { IfOk result (λ term. (d : Drafted) → MakesLeaf (env_view env.entry) d d term
         (declared_place (module_storage (scope_view env.entry.constants.scope) (space_view space.now) number)
         (Some (declared_variable (constants.home (scope_view env.entry.constants.scope) (space_view space.now)) (variable_view variable.now))))) }
 {
-    let scope = env.constants.scope;
-    let of = variable_type(home(scope, space), variable)?;
-    let storage = env.signatures.module_storage(scope, space, number)?;
-    Ok(variable_term(storage, of))
+    let kept = env
+        .signatures
+        .module_storage(env.constants.scope, space, number)?;
+    let shape = shared_shape(env.declared, kept)?;
+    Ok(variable_term(kept, shape))
 }
 
 /// Is a module a class?
@@ -200,7 +315,7 @@ fn standard_term<'a>(
         return Err(OrMemory::Fault(NotYet));
     }
     match entry.what {
-        What::Variable(variable) => module_variable(env, space, number, variable),
+        What::Variable(variable) => module_variable(env, space, number, entry, variable),
         What::Procedure(written) => {
             let routine = routine_of(env, space, number, entry, written)?;
             Ok(Term::Routine(routine))
@@ -236,13 +351,17 @@ fn entry_term<'a>(
 }
 
 /// What a name is that means a variable or a procedure; nothing is pushed for it.
-pub fn meant_variable<'a>(env: Env<'a>, meant: Meant<'a>) -> Result<Term<'a>, OrMemory<NotYet>>
+pub fn meant_variable<'a>(
+    alloc: Global,
+    env: Env<'a>,
+    meant: Meant<'a>,
+) -> Result<Term<'a>, OrMemory<NotYet>>
     requires env { EnvStands env }
     requires there { IsThere (scope_view env.constants.scope) (Some (meant_view meant)) }
     ensures { IfOk result (λ term. (d : Drafted) (x : identifier.Identifier) → MakesLeaf (env_view env.entry) d d term (bound.meant_term (env_view env.entry) x (Some (meant_view meant.entry)))) }
 {
     match meant {
-        Meant::OfProcedure { number, local } => own_variable(env, number, local),
+        Meant::OfProcedure { number, local } => own_variable(alloc, env, number, local),
         Meant::OfModule {
             space,
             number,

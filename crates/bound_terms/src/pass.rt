@@ -11,6 +11,7 @@ use crate::call_steps::{
     step_index, step_missing_argument, step_no_arguments, step_plain_argument,
 };
 use crate::env::Env;
+use crate::fields::step_with_member;
 use crate::members::step_member;
 use crate::stack::{push_operand, take_item};
 use crate::step::{step_binary, step_literal, step_name, step_parenthesised, step_unary};
@@ -37,6 +38,9 @@ fn step<'a>(
     match node {
         ExpressionNode::Literal(literal) => step_literal(alloc, draft, stack, literal),
         ExpressionNode::Name(name) => step_name(alloc, draft, env, stack, name),
+        ExpressionNode::WithMember { dot, member } => {
+            step_with_member(alloc, draft, env, stack, *dot, member)
+        }
         ExpressionNode::Member { member, .. } => step_member(alloc, draft, env, stack, member),
         ExpressionNode::Parenthesised { left, .. } => step_parenthesised(
             alloc, draft, stack, *left,

@@ -1,4 +1,4 @@
-ghost use Rattle.std.specs.Prelude.{◌≡◌, IfOk, Some};
+ghost use Rattle.std.specs.Prelude.{◌≡◌, IfOk, Some, slice_get};
 ghost use Rattle.bound_project.specs.View.{declared_view};
 ghost use Rattle.binder.specs.Constants as constants;
 ghost use Rattle.binder.specs.Declarations.{a_procedure};
@@ -8,9 +8,12 @@ ghost use Rattle.binder.specs.Terms.{a_routine};
 ghost use Rattle.constant_values.specs.Rounds.{IsThere};
 ghost use Rattle.declared_names.specs.View.{entry_view, scope_view, space_view, what_view, written_view};
 ghost use Rattle.bound_terms.specs.Owned.{IsRoutine};
+ghost use Rattle.bound_terms.specs.Callee.{Reading, ReadingProperty};
+ghost use Rattle.bound_terms.specs.Properties.{IsEntry};
 ghost use Rattle.bound_terms.specs.View.{EnvStands, env_view};
 
 use crate::env::Env;
+use crate::properties::property_with;
 use crate::term::Routine;
 use bound_declarations::{NotYet, gives_value, is_property, procedure_number, result_type};
 use bound_project::{DeclaredType, ElementType};
@@ -43,7 +46,50 @@ fn call_type<'a>(
     }
 }
 
-/// What a call of a procedure needs, by its entry in a module of the project; properties aren't bound yet.
+/// What a call of the procedure with this entry needs, for a name of it, which is another one where a property is read.
+fn routine_at<'a>(
+    env: Env<'a>,
+    space: &'a Space<'a>,
+    number: usize,
+    read: Written<'a>,
+    written: Written<'a>,
+) -> Result<Routine<'a>, OrMemory<NotYet>>
+    requires env { EnvStands env }
+    requires placed { slice_get (scope_view env.constants.scope).spaces (space_view space.now).number ≡ Some (space_view space.now) }
+    requires entry { IsEntry (space_view space.now) number (written_view read) }
+    ensures { IfOk result (λ routine. Reading (env_view env.entry) (space_view space.now) (written_view written.entry) (number, written_view read.entry) routine) }
+{
+    let scope = env.constants.scope;
+    let procedure = procedure_number(scope, space, number)?;
+    let of = call_type(scope, space, read)?;
+    let parameters = env.signatures.parameters(scope, space, number)?;
+    Ok(Routine {
+        space,
+        written,
+        procedure,
+        parameters,
+        of,
+    })
+}
+
+/// What a call of a property needs: its Get.
+fn property_routine<'a>(
+    env: Env<'a>,
+    space: &'a Space<'a>,
+    written: Written<'a>,
+) -> Result<Routine<'a>, OrMemory<NotYet>>
+    requires env { EnvStands env }
+    requires placed { slice_get (scope_view env.constants.scope).spaces (space_view space.now).number ≡ Some (space_view space.now) }
+    ensures { IfOk result (λ routine. ReadingProperty (env_view env.entry) (space_view space.now) (written_view written.entry) routine) }
+{
+    let name = &written.header.name;
+    let Some((number, read)) = property_with(true, env.constants.scope, space, name) else {
+        return Err(OrMemory::Fault(NotYet));
+    };
+    routine_at(env, space, number, read, written)
+}
+
+/// What a call of a procedure needs, by its entry in a module of the project; a property without a Get isn't bound yet.
 pub fn routine_of<'a>(
     env: Env<'a>,
     space: &'a Space<'a>,
@@ -57,15 +103,8 @@ pub fn routine_of<'a>(
     ensures { IfOk result (λ routine. IsRoutine (env_view env.entry) routine (a_routine (space_view space.now) number (written_view written.entry))) }
 {
     if is_property(written.header.words) {
-        return Err(OrMemory::Fault(NotYet));
+        property_routine(env, space, written)
+    } else {
+        routine_at(env, space, number, written, written)
     }
-    let scope = env.constants.scope;
-    let procedure = procedure_number(scope, space, number)?;
-    let of = call_type(scope, space, written)?;
-    let parameters = env.signatures.parameters(scope, space, number)?;
-    Ok(Routine {
-        procedure,
-        parameters,
-        of,
-    })
 }

@@ -1,5 +1,8 @@
-ghost use Rattle.std.specs.Prelude.{◌≡◌, IfOk};
+ghost use Rattle.std.specs.Prelude.{◌≡◌, IfOk, OnOk};
 ghost use Rattle.bound_project.specs.DraftView.{draft_view};
+ghost use Rattle.bound_project.specs.Drafts.{NodeNamed};
+ghost use Rattle.bound_project.specs.Pieces.{put};
+ghost use Rattle.bound_terms.specs.Calls.{node_of};
 ghost use Rattle.bound_terms.specs.Standing.{EndingNamed, TermNamed};
 ghost use Rattle.bound_terms.specs.Taking.{Loads, Pushes, no_object, TakesOperand, TakesValue};
 
@@ -10,6 +13,24 @@ use bound_project::{DeclaredType, Draft, ElementType, ErrMember, Node, NodeKind}
 use declared_names::is_object;
 use std::alloc::Global;
 use vba_base::{NoMemory, OrMemory, Place};
+
+/// One more node, of a type that it has as an operand too.
+pub fn push_node(
+    draft: &mut Draft,
+    kind: NodeKind,
+    of: DeclaredType,
+    place: Place,
+) -> Result<(), NoMemory>
+    requires { NodeNamed (draft_view draft.old).tables kind }
+    ensures { OnOk result (draft_view draft.new ≡ record (draft_view draft.old) { pieces = put (draft_view draft.old).tables (node_of kind place of) (draft_view draft.old).pieces }) }
+{
+    draft.push(Node {
+        kind,
+        place,
+        of,
+        operand: of,
+    })
+}
 
 /// The value at a place.
 fn load(

@@ -1,5 +1,8 @@
-use bound_project::{DeclaredType, NodeKind, Parameter};
+use bound_project::{DeclaredType, NodeKind, Parameter, Variable};
+use declared_names::{Space, Written};
 use vba_base::Place;
+use vba_lib::LibraryFunction;
+use vba_values::Compare;
 use vba_words::Identifier;
 
 /// A value whose last node isn't pushed yet, and its type.
@@ -9,12 +12,25 @@ pub struct Ending {
     pub of: DeclaredType,
 }
 
-/// A procedure that is no property: its number in the project, its parameters, and the type of what it gives.
+/// A procedure or a property, by its module and how that writes it; of what is called where its value is wanted, which
+/// is a property's Get: the number in the project, the parameters, and the type of what it gives.
 #[derive(Clone, Copy)]
 pub struct Routine<'a> {
+    pub space: &'a Space<'a>,
+    pub written: Written<'a>,
     pub procedure: u32,
     pub parameters: &'a [Parameter],
     pub of: DeclaredType,
+}
+
+/// A function of the library: whether `$` stands behind its name, whether the array that Array makes counts from 1, and
+/// how texts compare where it is called.
+#[derive(Clone, Copy)]
+pub struct Function {
+    pub function: LibraryFunction,
+    pub is_text_form: bool,
+    pub is_base_one: bool,
+    pub compare: Compare,
 }
 
 /// What an expression is. The last node of a place and of a value isn't pushed yet, since what takes it says the place
@@ -30,6 +46,7 @@ pub enum Term<'a> {
     },
     Value(Ending),
     Routine(Routine<'a>),
+    Function(Function),
     Err,
     ErrRaise,
     ErrClear,
@@ -63,12 +80,46 @@ pub struct Passed<'a> {
     pub count: u32,
 }
 
+/// An argument that was pushed for a parameter by its name: the number of that parameter. It stands above those before
+/// it, and the call or the arguments of a statement below them.
+#[derive(Clone, Copy)]
+pub struct Named {
+    pub number: u32,
+}
+
 /// A call whose arguments are read: the place of its first token, its procedure, and the arguments that were pushed.
 #[derive(Clone, Copy)]
 pub struct Call<'a> {
     pub place: Place,
     pub routine: Routine<'a>,
     pub passed: Passed<'a>,
+}
+
+/// A function of the library whose arguments are read: the place of its first token, and how many were pushed.
+#[derive(Clone, Copy)]
+pub struct FunctionCall {
+    pub place: Place,
+    pub function: Function,
+    pub count: u32,
+}
+
+/// What is indexed: a plain variable, for which nothing is pushed, or another place or a value, which was pushed.
+#[derive(Clone, Copy)]
+pub enum Target {
+    Variable(Variable),
+    Place,
+    Value,
+}
+
+/// A place or a value whose numbers in brackets are read: the place of its first token, what is indexed, the type of an
+/// element, whether an element is lent to a ByRef parameter, and how many numbers were pushed.
+#[derive(Clone, Copy)]
+pub struct Indexed {
+    pub place: Place,
+    pub target: Target,
+    pub of: DeclaredType,
+    pub lends: bool,
+    pub count: u32,
 }
 
 /// What the nodes of an expression leave on the stack. A call is its procedure and its arguments; the arguments of a
@@ -79,4 +130,7 @@ pub enum Item<'a> {
     Operand(Operand),
     Call(Call<'a>),
     Listed(Passed<'a>),
+    Indexed(Indexed),
+    Function(FunctionCall),
+    Named(Named),
 }

@@ -9,7 +9,7 @@ use vba_base::NoMemory;
 use vba_values::{OpKind, VType, static_type};
 
 /// A type that is no array's, as declarations have it.
-fn element_type(of: VType) -> Result<ElementType, NoMemory>
+pub fn element_type(of: VType) -> Result<ElementType, NoMemory>
     ensures { IfOk result (λ element. element_view element ≡ declared of) }
 {
     Ok(match of {

@@ -1,7 +1,7 @@
 use Rattle.std.proofs.Common.{◌≡◌, Option, Some, sym, ap, subst, ◌∙◌}
 use Rattle.std.specs.Prelude.{is_some, option_map}
 use Rattle.bound_project.specs.DraftView.{draft_view}
-use Rattle.binder.specs.Scopes.{Meant, plainly}
+use Rattle.binder.specs.Scopes.{Meant, behind, plainly}
 use Rattle.binder.specs.ExpressionsBound.{meant_term}
 use Rattle.constant_values.specs.Rounds.{IsThere}
 use Rattle.constant_values.proofs.Looked.{behind_there}
@@ -23,6 +23,8 @@ returns c =
     let f = c.args.member.now in
     let d = draft_view c.args.draft.now in
     let e = draft_view c.meant_term.new.draft in
-    let A : Option Meant → Type 0 = λ (m : Option Meant). MakesLeaf env d e c.in_ok-term.term (meant_term env f m) in
-    λ k. makes_behind env c.args.tree f (qualifier_view c.args.qualifier) d e c.in_ok-term.term c.is_there-is_qualifier.result (subst A c.behind-meant.ensures c.in_ok-term.ensures)
+    let q = qualifier_view c.args.qualifier in
+    let A : Option Meant → Type 0 = λ (m : Option Meant). MakesLeaf env d e c.in_ok-found.found (meant_term env f m) in
+    λ k. makes_behind env c.args.tree f q d e c.from_zero-term.result c.is_there-is_qualifier.result
+    (c.from_zero-term.ensures env d e (meant_term env f (behind plainly env.scope q f)) (subst A c.behind-meant.ensures c.in_ok-found.ensures))
     (c.is_there-is_qualifier.ensures ∙ ap is_some c.enum_behind.ensures) k

@@ -24,4 +24,4 @@ returns-in-None c =
     let A : Option Qualifier → Type 0 = λ (q : Option Qualifier). IsQualifier (scope_view c.args.env.constants.scope) (option_map (λ n. n.now) c.args.tree.name) q in
     let k = subst A (ap (λ o. option_map qualifier_view o) c.in-None.is) c.qualifier_of.ensures.1 in
     let plain : c.args.tree.is_qualifier ≡ false = sym c.has_qualifier.ensures ∙ c.if-has_qualifier.false in
-    IfOk-weaker c.behind_term.result _ _ (λ made m. m (env_view c.args.env) (draft_view c.args.draft.now) plain k) c.behind_term.ensures
+    IfOk-weaker c.behind_tree.result _ _ (λ made m. m plain k) c.behind_tree.ensures

@@ -5,7 +5,7 @@ use Rattle.bound_project.specs.DraftView.{draft_view}
 use Rattle.constant_values.specs.View.{known_view}
 use Rattle.declared_names.specs.View.{meant_view}
 use Rattle.bound_terms.specs.View.{env_view}
-use Rattle.bound_terms.proofs.Named.{constant_leaf}
+use Rattle.bound_terms.proofs.NamedTerms.{constant_leaf}
 use Rattle.bound_terms.proofs.names.constant_term.Goals as goal
 
 pub returns : goal.returns

@@ -9,7 +9,7 @@ use Rattle.binder.specs.ExpressionsBound.{entry_term, constant_term}
 use Rattle.declared_names.specs.declared.entry.What.{What}
 use Rattle.declared_names.specs.View.{entry_view, space_view, what_view}
 use Rattle.bound_terms.specs.View.{env_view}
-use Rattle.bound_terms.proofs.Named.{leaf_as, entry_constant, entry_member}
+use Rattle.bound_terms.proofs.NamedTerms.{leaf_as, entry_constant, entry_member}
 use Rattle.bound_terms.proofs.names.entry_term.Goals as goal
 
 pub returns-in-Constant : goal.returns-in-Constant

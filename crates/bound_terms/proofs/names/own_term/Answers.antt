@@ -7,7 +7,7 @@ use Rattle.declared_names.specs.declared.local.Own.{Own}
 use Rattle.declared_names.specs.View.{local_view, own_view}
 use Rattle.bound_terms.specs.Steps.{MakesLeaf}
 use Rattle.bound_terms.specs.View.{env_view}
-use Rattle.bound_terms.proofs.Named.{leaf_as}
+use Rattle.bound_terms.proofs.NamedTerms.{leaf_as}
 use Rattle.bound_terms.proofs.names.own_term.Goals as goal
 
 pub returns-in-Constant : goal.returns-in-Constant

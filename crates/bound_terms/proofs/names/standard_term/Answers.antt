@@ -11,8 +11,14 @@ use Rattle.declared_names.specs.View.{space_view, what_view, written_view}
 use Rattle.bound_terms.specs.declared.term.Term.TheVariants as term
 use Rattle.bound_terms.specs.Steps.{MakesLeaf}
 use Rattle.bound_terms.specs.View.{env_view}
-use Rattle.bound_terms.proofs.Named.{leaf_as, routine_leaf, entry_variable, entry_procedure}
+use Rattle.bound_terms.proofs.NamedTerms.{leaf_as, routine_leaf, entry_variable, entry_procedure}
 use Rattle.bound_terms.proofs.names.standard_term.Goals as goal
+
+pub module_variable-requires-clause-standard : goal.module_variable-requires-clause-standard
+module_variable-requires-clause-standard c = sym c.is_class.ensures ∙ c.if-is_class.false
+
+pub module_variable-requires-clause-what : goal.module_variable-requires-clause-what
+module_variable-requires-clause-what c = ap what_view c.in-Variable.is
 
 pub returns-in-Variable : goal.returns-in-Variable
 returns-in-Variable c =

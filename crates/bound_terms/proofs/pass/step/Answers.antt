@@ -32,6 +32,14 @@ returns-in-Member c =
     let A : ExpressionNode → Type 0 = λ k. Goes env d xs (draft_view c.step_member.new.draft) (reverse c.step_member.new.stack.items) (behind_node k) in
     on_ok_weaker c.step_member.result (λ g. subst A (sym c.in-Member.is) (g c.in-Member.dot)) c.step_member.ensures
 
+pub returns-in-WithMember : goal.returns-in-WithMember
+returns-in-WithMember c =
+    let env = env_view c.args.env in
+    let d = draft_view c.args.draft.now in
+    let xs = reverse c.args.stack.now.items in
+    let A : ExpressionNode → Type 0 = λ k. Goes env d xs (draft_view c.step_with_member.new.draft) (reverse c.step_with_member.new.stack.items) (behind_node k) in
+    on_ok_weaker c.step_with_member.result (λ g. subst A (sym c.in-WithMember.is) g) c.step_with_member.ensures
+
 pub returns-in-Parenthesised : goal.returns-in-Parenthesised
 returns-in-Parenthesised c =
     let env = env_view c.args.env in

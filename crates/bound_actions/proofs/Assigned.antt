@@ -1,0 +1,183 @@
+-- What the value of an assignment goes to.
+use Rattle.std.proofs.Common.{◌≡◌, ℕ, Bool, true, List, [], ◌∷◌, ◌++◌, map, length, Some, is_some, if◌then◌else◌, refl, sym, ap, subst, ◌∙◌}
+use Rattle.std.specs.Prelude.{option_and_then, slice_get}
+use Rattle.std.proofs.lemmas.List.{map-append}
+use Rattle.vba_base.specs.declared.place.Place.{Place}
+use Rattle.vba_lexer.specs.declared.token.Token.{Token}
+use Rattle.bound_project.specs.Project as project
+use Rattle.vba_expression.specs.Tree.{Expr, index, Args}
+use Rattle.vba_expression.specs.Nodes as nodes
+use Rattle.vba_expression.specs.Nodes.{tree_in}
+use Rattle.vba_expression.specs.declared.node.ExpressionNode.{ExpressionNode}
+use Rattle.bound_project.specs.declared.declared_type.DeclaredType.{DeclaredType}
+use Rattle.bound_project.specs.declared.declarations.Parameter.{Parameter}
+use Rattle.bound_project.specs.declared.statement.ActionKind.{ActionKind}
+use Rattle.bound_project.specs.declared.statement.ActionKind.TheVariants as action
+use Rattle.bound_project.specs.Expressions as bound
+use Rattle.bound_project.specs.Statements as to
+use Rattle.bound_project.specs.Statements.{assign}
+use Rattle.bound_project.specs.Bodies.{action_of, behind_value}
+use Rattle.bound_project.specs.View.{declared_view, parameter_view}
+use Rattle.bound_project.specs.Lists.{above, args_of}
+use Rattle.bound_project.proofs.Lists.{args_are}
+use Rattle.bound_project.specs.Pieces.{Piece, Tables, an_argument, an_expr}
+use Rattle.bound_project.specs.Drafts.{Drafted}
+use Rattle.binder.specs.Constants.{place_of_expression}
+use Rattle.binder.specs.Declarations.{Written}
+use Rattle.binder.specs.Scopes.{Space}
+use Rattle.binder.specs.Storage.{procedure_number}
+use Rattle.binder.specs.Terms.{Env, Given, a_routine}
+use Rattle.binder.specs.Terms as plain
+use Rattle.binder.specs.ExpressionsBound.{bound_operand, callee, givens, indexed, parameters_in, term_of, value_of}
+use Rattle.binder.specs.StatementsBound.{assigned, assigned_to, is_property_term}
+use Rattle.declared_names.specs.View.{space_view, written_view}
+use Rattle.bound_actions.specs.declared.trees.Split.{Split}
+use Rattle.bound_terms.specs.declared.properties.Writer.{Writer}
+use Rattle.bound_terms.specs.declared.term.Term.{Term}
+use Rattle.bound_terms.specs.declared.term.Tree.{Tree}
+use Rattle.bound_terms.specs.Standing.{RoutineStands, TermStands, TreeStands}
+use Rattle.bound_terms.specs.Steps.{Binds, Leaves}
+use Rattle.bound_actions.specs.Actions.{ActionStands, Assigns}
+use Rattle.bound_terms.specs.Calls.{PassesRest}
+use Rattle.bound_actions.specs.Called.{ActionIs, AllPassed, AssignsTo, IsBare, LeavesAlone, Lets, LetsOn, PassesAll, SplitAt, args_on}
+use Rattle.bound_terms.specs.Callee.{CalleeIs, IsWriter, WriterOf}
+use Rattle.bound_terms.proofs.Growing.{grown_twice}
+use Rattle.bound_terms.proofs.Arguing.{left_long}
+use Rattle.bound_terms.proofs.CallSteps.{parameters_long}
+use Rattle.bound_terms.proofs.Passing.{arguments_bound}
+use Rattle.bound_actions.proofs.Called.{index_is}
+use Rattle.bound_terms.proofs.Reading.{let_is}
+
+-- ---- properties that are assigned to
+
+-- no arguments are written
+pub passes_front : (env : Env) (front : List Parameter) (d e : Drafted) (all : ℕ) → PassesRest front d e → all ≡ length front → AllPassed env (map parameter_view front) [] 0 all e.pieces d.pieces
+passes_front env front d e all h a = record {
+  made = h.made;
+  bound = arguments_bound (value_of env) (map parameter_view front) [] [] (map parameter_view front) h.made refl h.left;
+  all_is = a ∙ sym (left_long (map parameter_view front) h.made h.left ∙ parameters_long front);
+  written_is = refl;
+  no_names = refl;
+  on_top = h.on_top;
+}
+
+let_fits : (env : Env) (parameters : List project.Parameter) (gs : List Given) (written all procedure : ℕ) (of : DeclaredType) (t : Tables) (ps below : List Piece) (value : bound.Expr) → below ≡ an_expr value ∷ [] → (h : AllPassed env parameters gs written all ps below)
+    → action_of t (action.LetProperty procedure all of) ps ≡ Some (to.let_property procedure (args_of h.made) value (declared_view of))
+let_fits env parameters gs written all procedure of t ps below value alone h =
+    let top : ps ≡ above (map an_argument h.made) (an_expr value ∷ []) = h.on_top ∙ ap (λ st. above (map an_argument h.made) st) alone in
+    ap (λ st. action_of t (action.LetProperty procedure all of) st) top ∙ ap (λ n. action_of t (action.LetProperty procedure n of) (above (map an_argument h.made) (an_expr value ∷ []))) h.all_is
+    ∙ ap (λ o. behind_value o (λ args e. to.let_property procedure args e (declared_view of))) (args_are h.made (an_expr value ∷ []))
+
+let_stands : (env : Env) (w : Writer) (procedure : ℕ) (parameters front : List Parameter) (last : Parameter) (gs : List Given) (written all : ℕ) (d e : Drafted) → IsWriter env.scope w
+    → procedure ≡ procedure_number env.scope (space_view w.routine.space.now) w.number
+    → (slice_get env.scope.spaces (space_view w.routine.space.now).number ≡ Some (space_view w.routine.space.now) → map parameter_view parameters ≡ parameters_in env.scope (space_view w.routine.space.now) (written_view w.written))
+    → parameters ≡ front ++ last ∷ [] → AllPassed env (map parameter_view front) gs written all e.pieces d.pieces
+    → (y : plain.Term) (place : Place) (value : bound.Expr) (ps below : List Piece) → RoutineStands env w.routine y ps below → d.pieces ≡ an_expr value ∷ []
+    → ActionIs (action.LetProperty procedure all last.of) (assigned env place value gs y) e.tables e.pieces
+let_stands env w procedure parameters front last gs written all d e is number_is found split h y place value ps below s alone =
+    let space = space_view w.routine.space.now in
+    let name = written_view w.routine.written in
+    let f : ℕ × Written = (w.number, written_view w.written) in
+    let P : Space → Type 0 = λ q. slice_get env.scope.spaces q.number ≡ Some q in
+    let all_are : parameters_in env.scope space f.1 ≡ map parameter_view front ++ parameter_view last ∷ [] =
+    sym (found (subst P s.space_is s.placed)) ∙ ap (λ l. map parameter_view l) split ∙ map-append parameter_view front (last ∷ []) in
+    let done = let_is env place value gs space s.number name f (map parameter_view front) (parameter_view last) (args_of h.made) is.found all_are h.bound in
+    let term_is : y ≡ a_routine space s.number name = s.is ∙ ap (λ q. a_routine q s.number s.written) s.space_is ∙ ap (λ q. a_routine space s.number q) s.written_is in
+    record {
+      made = to.let_property procedure (args_of h.made) value (declared_view last.of);
+      is = ap (λ z. assigned env place value gs z) term_is ∙ done ∙ ap (λ n. Some (to.let_property n (args_of h.made) value (declared_view last.of))) (sym number_is);
+      fits = let_fits env (map parameter_view front) gs written all procedure last.of e.tables e.pieces d.pieces value alone h;
+    }
+
+pub lets_bare : (env : Env) (w : Writer) (procedure : ℕ) (parameters front : List Parameter) (last : Parameter) (all : ℕ) (d e : Drafted) → IsWriter env.scope w
+    → procedure ≡ procedure_number env.scope (space_view w.routine.space.now) w.number
+    → (slice_get env.scope.spaces (space_view w.routine.space.now).number ≡ Some (space_view w.routine.space.now) → map parameter_view parameters ≡ parameters_in env.scope (space_view w.routine.space.now) (written_view w.written))
+    → parameters ≡ front ++ last ∷ [] → all ≡ length front → PassesRest front d e → Lets env w.routine [] d e (action.LetProperty procedure all last.of)
+lets_bare env w procedure parameters front last all d e is number_is found split a h = record {
+  grown = h.grown;
+  named = tt;
+  stands = let_stands env w procedure parameters front last [] 0 all d e is number_is found split (passes_front env front d e all h a);
+}
+
+pub lets_given : (env : Env) (w : Writer) (procedure : ℕ) (parameters front : List Parameter) (last : Parameter) (ns : List ExpressionNode) (written all : ℕ) (d e : Drafted) → IsWriter env.scope w
+    → procedure ≡ procedure_number env.scope (space_view w.routine.space.now) w.number
+    → (slice_get env.scope.spaces (space_view w.routine.space.now).number ≡ Some (space_view w.routine.space.now) → map parameter_view parameters ≡ parameters_in env.scope (space_view w.routine.space.now) (written_view w.written))
+    → parameters ≡ front ++ last ∷ [] → PassesAll env (map parameter_view front) ns d e written all → LetsOn env w.routine ns d e (action.LetProperty procedure all last.of)
+lets_given env w procedure parameters front last ns written all d e is number_is found split h = record {
+  framed = h.framed;
+  lets = λ items. record {
+    grown = h.grown;
+    named = tt;
+    stands = let_stands env w procedure parameters front last (givens env (args_on items ns)) written all d e is number_is found split (h.stands items);
+  };
+}
+
+-- ---- assignments
+
+-- to a place
+pub assigns_place : (env : Env) (place : Expr) (x : Tree) (d f e : Drafted) → Leaves env place d f x → Assigns x f e → AssignsTo env place d e action.Assign
+assigns_place env place x d f e l a = record {
+  grown = grown_twice d f e l.grown a.grown;
+  named = tt;
+  stands = λ value alone.
+      let T : List Piece → Type 0 = λ ps. TreeStands env f.tables x place f.pieces ps in
+      let s = a.stands env place value (subst T alone l.stands) in
+      record { made = assign s.0 value; is = s.1; fits = ap (λ ps. action_of e.tables action.Assign ps) s.2 };
+}
+
+bare_assigned : (env : Env) (place : Expr) (value : bound.Expr) → IsBare place → assigned_to env place value ≡ assigned env (place_of_expression place) value [] (term_of env place)
+bare_assigned env (index base left args right) value h = absurd h
+bare_assigned env e value h = refl
+
+-- to a property without arguments
+pub assigns_bare : (env : Env) (place : Expr) (x : Tree) (w : Writer) (d f e : Drafted) (kind : ActionKind) → IsBare place → Leaves env place d f x → WriterOf env.scope x.term w → Lets env w.routine [] f e kind → AssignsTo env place d e kind
+assigns_bare env place x w d f e kind bare l is h = record {
+  grown = grown_twice d f e l.grown h.grown;
+  named = h.named;
+  stands = λ value alone.
+      let T : Term → Type 0 = λ t. TermStands env f.tables t (term_of env place) f.pieces d.pieces in
+      let s = subst T is.is l.stands.term_is in
+      let m = h.stands (term_of env place) (place_of_expression place) value f.pieces d.pieces s (s.none_pushed ∙ alone) in
+      record { made = m.made; is = bare_assigned env place value bare ∙ m.is; fits = m.fits };
+}
+
+-- to a property with arguments
+has_writer : (env : Env) (w : Writer) (y : plain.Term) (ps below : List Piece) → IsWriter env.scope w → RoutineStands env w.routine y ps below → is_property_term env y ≡ true
+has_writer env w y ps below is s =
+    let term_is : y ≡ a_routine (space_view w.routine.space.now) s.number (written_view w.routine.written) =
+    s.is ∙ ap (λ q. a_routine q s.number s.written) s.space_is ∙ ap (λ q. a_routine (space_view w.routine.space.now) s.number q) s.written_is in
+    ap (λ z. is_property_term env z) term_is ∙ ap (λ o. is_some o) is.found
+
+split_assigned : (env : Env) (base : Expr) (left right : Token) (args : Args) (value : bound.Expr) → is_property_term env (callee env base (term_of env base)) ≡ true
+    → assigned_to env (index base left args right) value ≡ assigned env (place_of_expression base) value (givens env args) (callee env base (term_of env base))
+split_assigned env base left right args value h =
+    let t = callee env base (term_of env base) in
+    ap (λ (b : Bool). if b then assigned env (place_of_expression base) value (givens env args) t else assigned env (place_of_expression base) value [] (indexed env (place_of_expression base) t (givens env args))) h
+
+pub assigns_split : (env : Env) (split : Split) (all : List ExpressionNode) (x : Tree) (y : Term) (w : Writer) (d f g e : Drafted) (kind : ActionKind) → SplitAt split all → LeavesAlone env split.target.now d f x → CalleeIs env x f g y
+    → WriterOf env.scope y w → LetsOn env w.routine split.arguments.now g e kind → AssignsTo env (tree_in all) d e kind
+assigns_split env split all x y w d f g e kind at l c is h =
+    let base = tree_in split.target.now in
+    let items = nodes.tree base ∷ [] in
+    let args = args_on items split.arguments.now in
+    let m = h.lets items in
+    let P : Expr → Type 0 = λ t. AssignsTo env t d e kind in
+    let z = callee env base (term_of env base) in
+    let T : Term → Type 0 = λ t. TermStands env g.tables t z f.pieces d.pieces in
+    let s : RoutineStands env w.routine z f.pieces d.pieces = subst T is.is (c.stands base f.pieces d.pieces l.leaves.stands) in
+    subst P (sym (index_is split all at l.alone h.framed)) (record {
+      grown = grown_twice d f e l.leaves.grown (grown_twice f g e c.grown m.grown);
+      named = m.named;
+      stands = λ value alone.
+          let done = m.stands z (place_of_expression base) value f.pieces d.pieces s (c.pieces ∙ s.none_pushed ∙ alone) in
+          record { made = done.made; is = split_assigned env base at.left at.right args value (has_writer env w z f.pieces d.pieces is.writer s) ∙ done.is; fits = done.fits };
+    })
+
+pub action_assigned : (env : Env) (value place : Expr) (of : DeclaredType) (d e g : Drafted) (kind : ActionKind) → d.pieces ≡ [] → Binds (bound_operand env value) d e (Some of) → AssignsTo env place e g kind
+    → ActionStands (Some kind) (option_and_then (assigned_to env place) (bound_operand env value)) d g
+action_assigned env value place of d e g kind none b a =
+    let made = b.pushed.made in
+    let alone : e.pieces ≡ an_expr made ∷ [] = b.pushed.on_top ∙ ap (λ (ps : List Piece). an_expr made ∷ ps) none in
+    let s = a.stands made alone in
+    let all = grown_twice d e g b.grown a.grown in
+    record { statements = all.statements; bodies = all.bodies; named = a.named; made = s.made; is = ap (λ o. option_and_then (assigned_to env place) o) b.pushed.is ∙ s.is; fits = s.fits }

@@ -1,0 +1,294 @@
+-- Calls that stand as statements.
+use Rattle.std.proofs.Common.{◌≡◌, T, ℕ, ◌+◌, ◌==◌, ◌&&◌, not, Bool, true, false, List, [], ◌∷◌, ◌++◌, map, length, Option, Some, None, option_map, is_some, if◌then◌else◌, refl, sym, ap, subst, ◌∙◌, arith, length-append}
+use Rattle.std.proofs.lemmas.List.{map-append}
+use Rattle.vba_base.specs.declared.place.Place.{Place}
+use Rattle.vba_expression.specs.Tree.{Expr, index, no_args}
+use Rattle.vba_expression.specs.Nodes as nodes
+use Rattle.vba_expression.specs.Nodes.{behind_node, behind_nodes, last_arguments, last_tree, tree_in, arguments_in}
+use Rattle.vba_expression.specs.declared.node.ExpressionNode.{ExpressionNode}
+use Rattle.vba_expression.specs.declared.node.ExpressionNode.TheVariants as node
+use Rattle.bound_project.specs.declared.declared_type.DeclaredType.{DeclaredType}
+use Rattle.bound_project.specs.declared.declarations.Parameter.{Parameter}
+use Rattle.bound_project.specs.declared.statement.ActionKind.{ActionKind}
+use Rattle.bound_project.specs.declared.statement.ActionKind.TheVariants as action
+use Rattle.bound_project.specs.Expressions as bound
+use Rattle.bound_project.specs.Statements.{evaluate}
+use Rattle.bound_project.specs.Statements as to
+use Rattle.bound_project.specs.Bodies.{action_of, whole}
+use Rattle.bound_project.specs.View.{parameter_view}
+use Rattle.bound_project.specs.Lists.{above, args_of}
+use Rattle.bound_project.proofs.Lists.{args_are}
+use Rattle.bound_project.specs.Pieces.{Argument, Piece, Tables, an_argument}
+use Rattle.bound_project.specs.Project as project
+use Rattle.bound_project.specs.Drafts.{Drafted}
+use Rattle.binder.specs.Declarations.{Written}
+use Rattle.binder.specs.Scopes.{Space}
+use Rattle.binder.specs.Terms.{Env, Given, a_place, a_value, a_routine, a_function, err_object, err_raise, err_clear, error_word, no_term, value_with, bound_arguments, has_names}
+use Rattle.binder.specs.Terms as plain
+use Rattle.binder.specs.ExpressionsBound.{bare_call, call_with, callee, givens, indexed, term_of, value_of}
+use Rattle.binder.specs.StatementsBound.{called_place, called_term, called_with, is_one, raise_parameters}
+use Rattle.bound_actions.specs.declared.trees.Split.{Split}
+use Rattle.bound_terms.specs.declared.term.Ending.{Ending}
+use Rattle.bound_terms.specs.declared.term.Routine.{Routine}
+use Rattle.bound_terms.specs.declared.term.Term.{Term}
+use Rattle.bound_terms.specs.declared.term.Term.TheVariants as term
+use Rattle.bound_terms.specs.declared.term.Tree.{Tree}
+use Rattle.bound_terms.specs.declared.term.Passed.{Passed}
+use Rattle.bound_terms.specs.declared.term.Item.{Item}
+use Rattle.bound_terms.specs.declared.term.Item.TheVariants as item
+use Rattle.bound_terms.specs.Passing.{AllTaken}
+use Rattle.bound_terms.specs.Standing.{RoutineStands, TermStands, TreeStands, PassedStands, Stands, Base}
+use Rattle.bound_terms.specs.Steps.{Goes, Leaves}
+use Rattle.bound_terms.specs.Taking.{Pushes, TakesValue}
+use Rattle.bound_actions.specs.Actions.{ActionStands}
+use Rattle.bound_terms.specs.Calls.{PassesRest, PushesCall}
+use Rattle.bound_actions.specs.Called.{IsBare, LeavesAlone, SplitAt, args_on, Framed, Reads, AllPassed, PassesAll, ActionIs, Acts, ActsOn, CallsTree, CallsTreeOn}
+use Rattle.bound_terms.specs.Callee.{CalleeIs}
+use Rattle.bound_terms.proofs.Growing.{grown_same, grown_twice}
+use Rattle.bound_terms.proofs.Arguing.{left_long}
+use Rattle.bound_terms.proofs.CallSteps.{above_both, parameters_long}
+use Rattle.bound_actions.proofs.NodeTrees.{behind_both}
+use Rattle.bound_terms.proofs.Passing.{arguments_bound, nameless}
+
+-- ---- arguments
+
+only_framed : (env : Env) (t : Tables) (x : Passed) (is : List nodes.Item) (ps : List Piece) (base : Base) → Stands env t (item.Listed x ∷ []) is ps base → is ≡ nodes.arguments (last_arguments is) ∷ base.items
+only_framed env t x [] ps base h = absurd h
+only_framed env t x (nodes.tree e ∷ is) ps base h = absurd h
+only_framed env t x (nodes.arguments args ∷ is) ps base h = ap (λ l. nodes.arguments args ∷ l) h.1.1.0
+
+only_arguments : (env : Env) (t : Tables) (x : Passed) (is : List nodes.Item) (ps : List Piece) (base : Base) → Stands env t (item.Listed x ∷ []) is ps base → PassedStands env base.parameters x (last_arguments is) ps base.pieces
+only_arguments env t x [] ps base h = absurd h
+only_arguments env t x (nodes.tree e ∷ is) ps base h = absurd h
+only_arguments env t x (nodes.arguments args ∷ is) ps base h = let A : List Piece → Type 0 = λ l. PassedStands env base.parameters x args ps l in subst A h.1.1.1 h.1.0
+
+-- all nodes of arguments behind the first one were read
+pub reads_arguments : (env : Env) (ns : List ExpressionNode) (parameters : List Parameter) (none x : Passed) (ys xs : List Item) (d e : Drafted) → none.left.now ≡ parameters → none.count ≡ 0 → ys ≡ item.Listed x ∷ xs → xs ≡ []
+    → Goes env d (item.Listed none ∷ []) e ys (λ is. behind_nodes is ns) → Reads env (map parameter_view parameters) (node.NoArguments ∷ ns) d e x
+reads_arguments env ns parameters none x ys xs d e left count a b g =
+    let all : ys ≡ item.Listed x ∷ [] = a ∙ ap (λ l. item.Listed x ∷ l) b in
+    let start : PassedStands env (map parameter_view parameters) none no_args d.pieces d.pieces = record { made = []; taken = ap (λ l. map parameter_view l) (sym left); count_is = count; on_top = refl } in
+    let base : List nodes.Item → Base = λ items. record { pieces = d.pieces; parameters = map parameter_view parameters; items = items } in
+    let A : List nodes.Item → List Item → Type 0 = λ items l. Stands env e.tables l (behind_nodes (nodes.arguments no_args ∷ items) ns) e.pieces (base items) in
+    let end : (items : List nodes.Item) → A items (item.Listed x ∷ []) = λ items. subst (A items) all (g.stands (nodes.arguments no_args ∷ items) (base items) (d.pieces, (start, (refl, refl)))) in
+    record {
+      grown = g.grown;
+      framed = λ items. only_framed env e.tables x (behind_nodes (nodes.arguments no_args ∷ items) ns) e.pieces (base items) (end items);
+      stands = λ items. only_arguments env e.tables x (behind_nodes (nodes.arguments no_args ∷ items) ns) e.pieces (base items) (end items);
+    }
+
+taken_long : (value : plain.Term → Place → Option bound.Expr) (ps : List project.Parameter) (gs : List Given) (xs : List Argument) (left : List project.Parameter) → AllTaken value ps gs xs left → length xs ≡ length gs
+taken_long value ps [] [] left t = refl
+taken_long value ps [] (x ∷ xs) left t = absurd t
+taken_long value [] (g ∷ gs) xs left t = absurd t
+taken_long value (p ∷ ps) (g ∷ gs) [] left t = absurd t
+taken_long value (p ∷ ps) (g ∷ gs) (x ∷ xs) left t = omega (arith, taken_long value ps gs xs left t.1)
+
+pub passes_all : (env : Env) (parameters : List Parameter) (x : Passed) (ns : List ExpressionNode) (d d1 e : Drafted) (left all : ℕ) → Reads env (map parameter_view parameters) ns d d1 x → PassesRest x.left.now d1 e → left ≡ length x.left.now
+    → all ≡ x.count + left → PassesAll env (map parameter_view parameters) ns d e x.count all
+passes_all env parameters x ns d d1 e left all r h a b = record {
+  grown = grown_twice d d1 e r.grown h.grown;
+  framed = r.framed;
+  stands = λ items.
+      let s = r.stands items in
+      let gs = givens env (args_on items ns) in
+      let lefts = map parameter_view x.left.now in
+      record {
+        made = s.made ++ h.made;
+        bound = arguments_bound (value_of env) (map parameter_view parameters) gs s.made lefts h.made s.taken h.left;
+        all_is = omega (arith, a, b, s.count_is, left_long lefts h.made h.left, parameters_long x.left.now, length-append s.made h.made);
+        written_is = s.count_is ∙ taken_long (value_of env) (map parameter_view parameters) gs s.made lefts s.taken;
+        no_names = nameless (value_of env) (map parameter_view parameters) gs s.made lefts s.taken;
+        on_top = h.on_top ∙ ap (λ st. above (map an_argument h.made) st) s.on_top ∙ sym (above_both (map an_argument s.made) (map an_argument h.made) d.pieces)
+            ∙ ap (λ l. above l d.pieces) (sym (map-append an_argument s.made h.made));
+      };
+}
+
+-- ---- what is done
+
+-- Err.Raise, where nothing stands below its arguments
+raise_fits : (env : Env) (parameters : List project.Parameter) (gs : List Given) (written all : ℕ) (t : Tables) (ps below : List Piece) → below ≡ [] → (h : AllPassed env parameters gs written all ps below)
+    → action_of t (action.Raise all) ps ≡ Some (to.raise (args_of h.made))
+raise_fits env parameters gs written all t ps below none h =
+    let top : ps ≡ above (map an_argument h.made) [] = h.on_top ∙ ap (λ st. above (map an_argument h.made) st) none in
+    ap (λ st. action_of t (action.Raise all) st) top ∙ ap (λ n. action_of t (action.Raise n) (above (map an_argument h.made) [])) h.all_is
+    ∙ ap (λ o. whole o (λ args. to.raise args)) (args_are h.made [])
+
+pub acts_raise : (env : Env) (place : Place) (ns : List ExpressionNode) (d e : Drafted) (written all : ℕ) → PassesAll env raise_parameters ns d e written all → ActsOn env term.ErrRaise place ns d e (action.Raise all)
+acts_raise env place ns d e written all p = record {
+  framed = p.framed;
+  acts = λ items.
+      let gs = givens env (args_on items ns) in
+      let s = p.stands items in
+      record {
+        grown = p.grown;
+        named = tt;
+        stands = λ y h.
+            let A : plain.Term → Type 0 = λ z. called_term env place z gs ≡ Some (to.raise (args_of s.made)) in
+            record { made = to.raise (args_of s.made); is = subst A (sym h.0) (ap (λ o. option_map to.raise o) s.bound); fits = raise_fits env raise_parameters gs written all e.tables e.pieces d.pieces h.1 s };
+      };
+}
+
+one_given : (gs : List Given) → 1 ≡ length gs → has_names gs ≡ false → is_one gs ≡ true
+one_given gs a b = ap (λ (n : ℕ). n == 1 && not (has_names gs)) (sym a) ∙ ap (λ c. not c) b
+
+pub acts_number : (env : Env) (place : Place) (ns : List ExpressionNode) (d e : Drafted) (written all : ℕ) → written ≡ 1 → PassesAll env raise_parameters ns d e written all → ActsOn env term.ErrorWord place ns d e (action.Raise all)
+acts_number env place ns d e written all one p = record {
+  framed = p.framed;
+  acts = λ items.
+      let gs = givens env (args_on items ns) in
+      let s = p.stands items in
+      record {
+        grown = p.grown;
+        named = tt;
+        stands = λ y h.
+            let A : plain.Term → Type 0 = λ z. called_term env place z gs ≡ Some (to.raise (args_of s.made)) in
+            let B : Bool → Type 0 = λ b. (if b then option_map to.raise (bound_arguments (value_of env) raise_parameters gs) else None) ≡ Some (to.raise (args_of s.made)) in
+            record {
+              made = to.raise (args_of s.made);
+              is = subst A (sym h.0) (subst B (sym (one_given gs (sym one ∙ s.written_is) s.no_names)) (ap (λ o. option_map to.raise o) s.bound));
+              fits = raise_fits env raise_parameters gs written all e.tables e.pieces d.pieces h.1 s;
+            };
+      };
+}
+
+pub acts_clear : (env : Env) (x : Term) (place : Place) (d : Drafted) → x ≡ term.ErrClear → Acts env x place [] d d action.ClearErr
+acts_clear env x place d is =
+    let P : Term → Type 0 = λ z. Acts env z place [] d d action.ClearErr in
+    subst P (sym is) (record {
+      grown = grown_same d;
+      named = tt;
+      stands = λ y h.
+          record { made = to.clear_err; is = ap (λ z. called_term env place z []) h.0; fits = ap (λ ps. action_of d.tables action.ClearErr ps) h.1 };
+    })
+
+-- a procedure is called by a statement
+routine_called : (env : Env) (place : Place) (y : plain.Term) (space : Space) (number : ℕ) (w : Written) (gs : List Given) (made : bound.Expr) → y ≡ a_routine space number w
+    → value_of env (indexed env place y gs) place ≡ Some made → called_term env place y gs ≡ Some (evaluate made)
+routine_called env place y space number w gs made is h =
+    let A : plain.Term → Type 0 = λ z. value_of env (indexed env place z gs) place ≡ Some made in
+    let B : plain.Term → Type 0 = λ z. called_term env place z gs ≡ Some (evaluate made) in
+    subst B (sym is) (ap (λ o. option_map evaluate o) (subst A is h))
+
+pub acts_routine : (env : Env) (r : Routine) (x : Passed) (place : Place) (ns : List ExpressionNode) (d d1 e : Drafted) → Reads env (map parameter_view r.parameters.now) ns d d1 x → PushesCall r x place d1 e
+    → ActsOn env (term.Routine r) place ns d e action.Evaluate
+acts_routine env r x place ns d d1 e a p = record {
+  framed = a.framed;
+  acts = λ items.
+      let args = args_on items ns in
+      record {
+        grown = grown_twice d d1 e a.grown p.grown;
+        named = tt;
+        stands = λ y h.
+            let A : List Piece → Type 0 = λ qs. RoutineStands env r y qs [] in
+            let B : List Piece → Type 0 = λ qs. PassedStands env (map parameter_view r.parameters.now) x args d1.pieces qs in
+            let m = p.stands env y args [] [] (subst A h.none_pushed h) (subst B h.none_pushed (a.stands items)) in
+            record { made = evaluate m.made; is = routine_called env place y h.space h.number h.written (givens env args) m.made h.is m.is; fits = ap (λ ps. action_of e.tables action.Evaluate ps) m.on_top };
+      };
+}
+
+-- ---- values as statements
+
+none_there : (e : bound.Expr) → None ≡ Some e → ⊥
+none_there e h = subst T (ap (λ (o : Option bound.Expr). is_some o) (sym h)) tt
+
+-- what a call gives is a value
+routine_bare : (env : Env) (s : Space) (n : ℕ) (w : Written) (place : Place) (z : plain.Term) (made : bound.Expr) → value_with (λ a b c. z) (a_routine s n w) place ≡ Some made → value_of env z place ≡ Some made
+routine_bare env s n w place (a_value node of) made h = h
+routine_bare env s n w place (a_place x of bounded lends) made h = absurd (none_there made h)
+routine_bare env s n w place (a_routine a b c) made h = absurd (none_there made h)
+routine_bare env s n w place (a_function f text_form base) made h = absurd (none_there made h)
+routine_bare env s n w place err_object made h = absurd (none_there made h)
+routine_bare env s n w place err_raise made h = absurd (none_there made h)
+routine_bare env s n w place err_clear made h = absurd (none_there made h)
+routine_bare env s n w place error_word made h = absurd (none_there made h)
+routine_bare env s n w place no_term made h = absurd (none_there made h)
+
+no_arguments : (env : Env) (place : Place) (s : Space) (n : ℕ) (w : Written) → call_with (value_of env) env place [] s n w ≡ bare_call env s n w
+no_arguments env place s n w = refl
+
+called_bare : (env : Env) (place : Place) (t : plain.Term) (made : bound.Expr) → value_of env t place ≡ Some made → called_term env place t [] ≡ Some (evaluate made)
+called_bare env place (a_place x of bounded lends) made h = ap (λ o. option_map evaluate o) h
+called_bare env place (a_value node of) made h = ap (λ o. option_map evaluate o) h
+called_bare env place (a_routine s n w) made h =
+    let A : plain.Term → Type 0 = λ z. value_of env z place ≡ Some made in
+    ap (λ o. option_map evaluate o) (subst A (sym (no_arguments env place s n w)) (routine_bare env s n w place (bare_call env s n w) made h))
+called_bare env place (a_function f text_form base) made h = absurd (none_there made h)
+called_bare env place err_object made h = absurd (none_there made h)
+called_bare env place err_raise made h = absurd (none_there made h)
+called_bare env place err_clear made h = absurd (none_there made h)
+called_bare env place error_word made h = absurd (none_there made h)
+called_bare env place no_term made h = absurd (none_there made h)
+
+pub acts_value : (env : Env) (x : Term) (place : Place) (d d1 e : Drafted) (ending : Option Ending) (of : DeclaredType) → TakesValue x d d1 ending → Pushes ending place d1 e (Some of) → Acts env x place [] d e action.Evaluate
+acts_value env x place d d1 e ending of t p = record {
+  grown = grown_twice d d1 e t.grown p.grown;
+  named = tt;
+  stands = λ y h.
+      let m = p.stands (λ q. value_of env y q) [] (t.stands env y [] h) in
+      record { made = evaluate m.made; is = called_bare env place y m.made m.is; fits = ap (λ ps. action_of e.tables action.Evaluate ps) m.on_top };
+}
+
+pub acts_none : (env : Env) (x : Term) (place : Place) (ns : List ExpressionNode) (d e : Drafted) (kind : ActionKind) → ns ≡ node.NoArguments ∷ [] → Acts env x place [] d e kind → ActsOn env x place ns d e kind
+acts_none env x place ns d e kind is a =
+    let P : List ExpressionNode → Type 0 = λ l. ActsOn env x place l d e kind in subst P (sym is) (record { framed = λ items. refl; acts = λ items. a })
+
+-- ---- expressions that are called
+
+calls_given : (env : Env) (x : Tree) (gs : List Given) (d f e : Drafted) (y : Term) (kind : ActionKind) → CalleeIs env x d f y → Acts env y x.place gs f e kind → CallsTree env x gs d e kind
+calls_given env x gs d f e y kind c a = record {
+  grown = grown_twice d f e c.grown a.grown;
+  named = a.named;
+  stands = λ tree k.
+      let z = callee env tree (term_of env tree) in
+      let A : List Piece → Type 0 = λ ps. TermStands env f.tables y z ps [] in
+      let B : Place → Type 0 = λ place. ActionIs kind (called_term env place z gs) e.tables e.pieces in
+      subst B k.place_is (a.stands z (subst A (sym c.pieces) (c.stands tree d.pieces [] k)));
+}
+
+pub calls_bare : (env : Env) (x : Tree) (d f e : Drafted) (y : Term) (kind : ActionKind) → CalleeIs env x d f y → Acts env y x.place [] f e kind → CallsTree env x [] d e kind
+calls_bare env x d f e y kind c a = calls_given env x [] d f e y kind c a
+
+pub calls_tree : (env : Env) (x : Tree) (ns : List ExpressionNode) (d f e : Drafted) (y : Term) (kind : ActionKind) → CalleeIs env x d f y → ActsOn env y x.place ns f e kind → CallsTreeOn env x ns d e kind
+calls_tree env x ns d f e y kind c a = record { framed = a.framed; calls = λ items. calls_given env x (givens env (args_on items ns)) d f e y kind c (a.acts items) }
+
+-- ---- statements
+
+action_called : (env : Env) (target : Expr) (x : Tree) (gs : List Given) (d d1 e : Drafted) (kind : ActionKind) → d.pieces ≡ [] → Leaves env target d d1 x → CallsTree env x gs d1 e kind
+    → ActionStands (Some kind) (called_with env target gs) d e
+action_called env target x gs d d1 e kind empty l c =
+    let grown = grown_twice d d1 e l.grown c.grown in
+    let A : List Piece → Type 0 = λ ps. TreeStands env d1.tables x target d1.pieces ps in
+    let m = c.stands target (subst A empty l.stands) in
+    record { statements = grown.statements; bodies = grown.bodies; named = c.named; made = m.made; is = m.is; fits = m.fits }
+
+pub call_bound : (env : Env) (target : Expr) (ns : List ExpressionNode) (x : Tree) (d d1 e : Drafted) (kind : ActionKind) → d.pieces ≡ [] → Leaves env target d d1 x → CallsTreeOn env x ns d1 e kind
+    → ActionStands (Some kind) (called_with env target (givens env (arguments_in ns))) d e
+call_bound env target ns x d d1 e kind empty l c = action_called env target x (givens env (args_on [] ns)) d d1 e kind empty l (c.calls [])
+
+bare_called : (env : Env) (target : Expr) → IsBare target → called_place env target ≡ called_with env target []
+bare_called env (index base left args right) h = absurd h
+bare_called env e h = refl
+
+pub bare_bound : (env : Env) (target : Expr) (x : Tree) (d d1 e : Drafted) (kind : ActionKind) → IsBare target → d.pieces ≡ [] → Leaves env target d d1 x → CallsTree env x [] d1 e kind
+    → ActionStands (Some kind) (called_place env target) d e
+bare_bound env target x d d1 e kind bare empty l c =
+    let h = action_called env target x [] d d1 e kind empty l c in
+    record { statements = h.statements; bodies = h.bodies; named = h.named; made = h.made; is = bare_called env target bare ∙ h.is; fits = h.fits }
+
+-- nodes before arguments, the arguments, and their brackets
+pub index_is : (x : Split) (all : List ExpressionNode) (s : SplitAt x all) → behind_nodes [] x.target.now ≡ nodes.tree (tree_in x.target.now) ∷ [] → Framed x.arguments.now
+    → tree_in all ≡ index (tree_in x.target.now) s.left (args_on (nodes.tree (tree_in x.target.now) ∷ []) x.arguments.now) s.right
+index_is x all s alone framed =
+    let base = nodes.tree (tree_in x.target.now) ∷ [] in
+    let close : List ExpressionNode = node.Index s.left s.right ∷ [] in
+    ap tree_in s.is ∙ ap last_tree (behind_both [] x.target.now x.closed.now) ∙ ap (λ is. last_tree (behind_nodes is x.closed.now)) alone ∙ ap (λ l. last_tree (behind_nodes base l)) s.closed_is
+    ∙ ap last_tree (behind_both base x.arguments.now close) ∙ ap (λ is. last_tree (behind_nodes is close)) (framed base)
+
+pub place_bound : (env : Env) (s : Split) (all : List ExpressionNode) (x : Tree) (d d1 e : Drafted) (kind : ActionKind) → SplitAt s all → d.pieces ≡ [] → LeavesAlone env s.target.now d d1 x
+    → CallsTreeOn env x s.arguments.now d1 e kind → ActionStands (Some kind) (called_place env (tree_in all)) d e
+place_bound env s all x d d1 e kind at empty l c =
+    let base = nodes.tree (tree_in s.target.now) ∷ [] in
+    let h = action_called env (tree_in s.target.now) x (givens env (args_on base s.arguments.now)) d d1 e kind empty l.leaves (c.calls base) in
+    let P : Expr → Type 0 = λ t. ActionStands (Some kind) (called_place env t) d e in
+    subst P (sym (index_is s all at l.alone c.framed)) h

@@ -1,0 +1,6 @@
+pub mod Acting
+pub mod NodeTrees
+pub mod Called
+pub mod Assigned
+pub mod Placing
+pub mod Folding

@@ -1,0 +1,12 @@
+//! What statements do with expressions: assignments, calls, the places that With and For Each keep.
+#![tactic(auto)]
+
+mod actions;
+mod assigning;
+mod places;
+mod raising;
+mod statement_calls;
+mod trees;
+
+pub use actions::{bind_assignment, bind_call, bind_call_place, loop_variable};
+pub use places::{bind_place, bind_with, kept_by};

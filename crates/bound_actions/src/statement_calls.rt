@@ -1,0 +1,221 @@
+//! Calls that stand as statements.
+
+ghost use Rattle.std.specs.Prelude.{◌≡◌, [], ◌∷◌, IfOk, MatchBool, OnOk, map};
+ghost use Rattle.vba_expression.specs.declared.node.ExpressionNode.TheVariants as node;
+ghost use Rattle.bound_project.specs.DraftView.{draft_view};
+ghost use Rattle.bound_project.specs.View.{parameter_view};
+ghost use Rattle.bound_project.specs.declared.statement.ActionKind.TheVariants as action;
+ghost use Rattle.binder.specs.Terms as plain;
+ghost use Rattle.bound_actions.specs.Called.{Acts, ActsOn, CallsTree, CallsTreeOn, PassesAll, Reads};
+ghost use Rattle.bound_terms.specs.Calls.{PushesCall};
+ghost use Rattle.bound_terms.specs.Standing.{TermNamed};
+ghost use Rattle.bound_terms.specs.View.{EnvStands, env_view};
+ghost use Rattle.bound_terms.specs.declared.term.Term.TheVariants as term;
+
+use crate::raising::{raise, raise_number};
+use bound_declarations::NotYet;
+use bound_project::{ActionKind, Draft, Parameter};
+use bound_terms::{
+    Env, Item, Passed, Routine, Term, Tree, call_ending, callee_term, count_of, no_object,
+    pass_rest, push_ending, put_item, run, sum, take_item, value_ending,
+};
+use std::alloc::Global;
+use vba_base::{OrMemory, Place};
+use vba_expression::ExpressionNode;
+
+/// Pushes the arguments that are written, by their nodes, for these parameters.
+pub fn read_arguments<'a>(
+    alloc: Global,
+    draft: &mut Draft,
+    env: Env<'a>,
+    parameters: &'a [Parameter],
+    nodes: &'a [ExpressionNode],
+) -> Result<Passed<'a>, OrMemory<NotYet>>
+    requires { EnvStands env }
+    ensures { IfOk result (λ passed. Reads (env_view env.entry) (map parameter_view parameters.now) nodes.now (draft_view draft.old) (draft_view draft.new) passed) }
+{
+    let Some((ExpressionNode::NoArguments, nodes)) = nodes.split_first() else {
+        return Err(OrMemory::NoMemory);
+    };
+    let mut stack = Vec::new(alloc);
+    let none = Passed {
+        left: parameters,
+        count: 0,
+    };
+    put_item(&mut stack, Item::Listed(none))?;
+    run(alloc, draft, env, &mut stack, nodes)?;
+    let Some(Item::Listed(passed)) = take_item(&mut stack) else {
+        return Err(OrMemory::Fault(NotYet));
+    };
+    if stack.is_empty() {
+        Ok(passed)
+    } else {
+        Err(OrMemory::NoMemory)
+    }
+}
+
+/// Pushes all arguments of these parameters; answers how many are written, and how many there are.
+pub fn push_arguments<'a>(
+    alloc: Global,
+    draft: &mut Draft,
+    env: Env<'a>,
+    parameters: &'a [Parameter],
+    nodes: &'a [ExpressionNode],
+) -> Result<(u32, u32), OrMemory<NotYet>>
+    requires { EnvStands env }
+    ensures { IfOk result (λ counts. PassesAll (env_view env.entry) (map parameter_view parameters.now) nodes.now (draft_view draft.old) (draft_view draft.new) counts.0 counts.1) }
+{
+    let passed = read_arguments(alloc, draft, env, parameters, nodes)?;
+    let left = count_of(passed.left)?;
+    let arguments = sum(passed.count, left)?;
+    pass_rest(alloc, draft, passed.left)?;
+    Ok((passed.count, arguments))
+}
+
+/// Pushes the value of a call whose written arguments were pushed.
+fn push_call<'a>(
+    alloc: Global,
+    draft: &mut Draft,
+    routine: Routine<'a>,
+    passed: Passed<'a>,
+    place: Place,
+) -> Result<(), OrMemory<NotYet>>
+    ensures { OnOk result (PushesCall routine.entry passed.entry place (draft_view draft.old) (draft_view draft.new)) }
+{
+    let ending = call_ending(alloc, draft, routine, passed)?;
+    let Some(_found) = push_ending(draft, no_object(ending), place)? else {
+        return Err(OrMemory::Fault(NotYet));
+    };
+    Ok(())
+}
+
+/// A statement that calls a procedure.
+fn call_routine<'a>(
+    alloc: Global,
+    draft: &mut Draft,
+    env: Env<'a>,
+    routine: Routine<'a>,
+    place: Place,
+    nodes: &'a [ExpressionNode],
+) -> Result<ActionKind, OrMemory<NotYet>>
+    requires { EnvStands env }
+    ensures { IfOk result (λ kind. ActsOn (env_view env.entry) (term.Routine routine.entry) place nodes.now (draft_view draft.old) (draft_view draft.new) kind) }
+{
+    let passed = read_arguments(alloc, draft, env, routine.parameters, nodes)?;
+    push_call(alloc, draft, routine, passed, place)?;
+    Ok(ActionKind::Evaluate)
+}
+
+/// A statement that is a value.
+fn evaluate_term<'a>(
+    alloc: Global,
+    draft: &mut Draft,
+    term: Term<'a>,
+    place: Place,
+) -> Result<ActionKind, OrMemory<NotYet>>
+    requires { TermNamed (draft_view draft.old).tables term }
+    ensures { IfOk result (λ kind. (env : plain.Env) → Acts env term.entry place [] (draft_view draft.old) (draft_view draft.new) kind) }
+{
+    let ending = value_ending(alloc, draft, term, place)?;
+    let Some(_found) = push_ending(draft, ending, place)? else {
+        return Err(OrMemory::Fault(NotYet));
+    };
+    Ok(ActionKind::Evaluate)
+}
+
+/// A statement that calls without arguments.
+fn bare_term<'a>(
+    alloc: Global,
+    draft: &mut Draft,
+    term: Term<'a>,
+    place: Place,
+) -> Result<ActionKind, OrMemory<NotYet>>
+    requires { TermNamed (draft_view draft.old).tables term }
+    ensures { IfOk result (λ kind. (env : plain.Env) → Acts env term.entry place [] (draft_view draft.old) (draft_view draft.new) kind) }
+{
+    match term {
+        Term::ErrClear => Ok(ActionKind::ClearErr),
+        _ => evaluate_term(alloc, draft, term, place),
+    }
+}
+
+/// A statement that calls with arguments. Values that are indexed aren't bound as statements.
+fn given_term<'a>(
+    alloc: Global,
+    draft: &mut Draft,
+    env: Env<'a>,
+    term: Term<'a>,
+    place: Place,
+    nodes: &'a [ExpressionNode],
+) -> Result<ActionKind, OrMemory<NotYet>>
+    requires { EnvStands env }
+    ensures { IfOk result (λ kind. ActsOn (env_view env.entry) term.entry place nodes.now (draft_view draft.old) (draft_view draft.new) kind) }
+{
+    match term {
+        Term::Routine(routine) => call_routine(alloc, draft, env, routine, place, nodes),
+        Term::ErrRaise => raise(alloc, draft, env, nodes),
+        Term::ErrorWord => raise_number(alloc, draft, env, nodes),
+        _ => Err(OrMemory::Fault(NotYet)),
+    }
+}
+
+/// Are these nodes no arguments?
+fn are_none(nodes: &[ExpressionNode]) -> bool
+    ensures { MatchBool result (nodes.now ≡ node.NoArguments ∷ []) (Unit {0}) }
+{
+    match nodes {
+        [ExpressionNode::NoArguments] => true,
+        _ => false,
+    }
+}
+
+/// A statement that calls with arguments, or with none.
+fn call_term<'a>(
+    alloc: Global,
+    draft: &mut Draft,
+    env: Env<'a>,
+    term: Term<'a>,
+    place: Place,
+    nodes: &'a [ExpressionNode],
+) -> Result<ActionKind, OrMemory<NotYet>>
+    requires env { EnvStands env }
+    requires named { TermNamed (draft_view draft.old).tables term }
+    ensures { IfOk result (λ kind. ActsOn (env_view env.entry) term.entry place nodes.now (draft_view draft.old) (draft_view draft.new) kind) }
+{
+    if are_none(nodes) {
+        bare_term(alloc, draft, term, place)
+    } else {
+        given_term(alloc, draft, env, term, place, nodes)
+    }
+}
+
+/// A statement that calls an expression with arguments.
+pub fn call_tree<'a>(
+    alloc: Global,
+    draft: &mut Draft,
+    env: Env<'a>,
+    tree: Tree<'a>,
+    nodes: &'a [ExpressionNode],
+) -> Result<ActionKind, OrMemory<NotYet>>
+    requires env { EnvStands env }
+    requires named { TermNamed (draft_view draft.old).tables tree.term }
+    ensures { IfOk result (λ kind. CallsTreeOn (env_view env.entry) tree.entry nodes.now (draft_view draft.old) (draft_view draft.new) kind) }
+{
+    let term = callee_term(alloc, draft, env, tree)?;
+    call_term(alloc, draft, env, term, tree.place, nodes)
+}
+
+/// A statement that calls an expression without arguments.
+pub fn call_bare<'a>(
+    alloc: Global,
+    draft: &mut Draft,
+    env: Env<'a>,
+    tree: Tree<'a>,
+) -> Result<ActionKind, OrMemory<NotYet>>
+    requires env { EnvStands env }
+    requires named { TermNamed (draft_view draft.old).tables tree.term }
+    ensures { IfOk result (λ kind. CallsTree (env_view env.entry) tree.entry [] (draft_view draft.old) (draft_view draft.new) kind) }
+{
+    let term = callee_term(alloc, draft, env, tree)?;
+    bare_term(alloc, draft, term, tree.place)
+}

@@ -1,0 +1,117 @@
+//! Expressions by a part of their nodes: what stands before the last arguments in brackets.
+
+ghost use Rattle.std.specs.Prelude.{◌≡◌, IfOk, MatchBool, IfSome};
+ghost use Rattle.vba_expression.specs.Nodes.{tree_in};
+ghost use Rattle.bound_project.specs.DraftView.{draft_view};
+ghost use Rattle.bound_actions.specs.Called.{Continues, IsBare, LeavesAlone, SplitAt};
+ghost use Rattle.bound_terms.specs.Standing.{TermNamed};
+ghost use Rattle.bound_terms.specs.View.{EnvStands, env_view};
+
+use bound_declarations::NotYet;
+use bound_project::Draft;
+use bound_terms::{Env, Item, Tree, put_item, run, take_item};
+use std::alloc::Global;
+use vba_base::OrMemory;
+use vba_expression::ExpressionNode;
+
+/// What nodes are that are an expression; all but the last one are pushed.
+pub fn nodes_tree<'a>(
+    alloc: Global,
+    draft: &mut Draft,
+    env: Env<'a>,
+    nodes: &'a [ExpressionNode],
+) -> Result<Tree<'a>, OrMemory<NotYet>>
+    requires { EnvStands env }
+    ensures { IfOk result (λ tree. LeavesAlone (env_view env.entry) nodes.now (draft_view draft.old) (draft_view draft.new) tree) }
+{
+    let mut stack = Vec::new(alloc);
+    run(alloc, draft, env, &mut stack, nodes)?;
+    let Some(Item::Tree(tree)) = take_item(&mut stack) else {
+        return Err(OrMemory::NoMemory);
+    };
+    if stack.is_empty() {
+        Ok(tree)
+    } else {
+        Err(OrMemory::NoMemory)
+    }
+}
+
+/// Where the last arguments begin that stand in no others.
+fn arguments_start(nodes: &[ExpressionNode]) -> usize {
+    let mut start = 0;
+    let mut depth: usize = 0;
+    for (number, node) in nodes.iter().enumerate() {
+        match node {
+            ExpressionNode::NoArguments => {
+                if depth == 0 {
+                    start = number;
+                }
+                depth = depth.saturating_add(1);
+            }
+            ExpressionNode::Index { .. } => depth = depth.saturating_sub(1),
+            _ => {}
+        }
+    }
+    start
+}
+
+/// Nodes before arguments in brackets at the end, the nodes of those, and the same with their brackets.
+#[derive(Clone, Copy)]
+pub struct Split<'a> {
+    pub target: &'a [ExpressionNode],
+    pub arguments: &'a [ExpressionNode],
+    pub closed: &'a [ExpressionNode],
+}
+
+/// Nodes that end with arguments in brackets.
+pub fn split_call<'a>(nodes: &'a [ExpressionNode]) -> Option<Split<'a>>
+    ensures { IfSome result (λ found. SplitAt found nodes.now) }
+{
+    let Some((target, closed)) = nodes.split_at_checked(arguments_start(nodes)) else {
+        return None;
+    };
+    match closed.split_last() {
+        Some((ExpressionNode::Index { .. }, arguments)) => Some(Split {
+            target,
+            arguments,
+            closed,
+        }),
+        _ => None,
+    }
+}
+
+/// An expression of which more nodes are read.
+pub fn continue_tree<'a>(
+    alloc: Global,
+    draft: &mut Draft,
+    env: Env<'a>,
+    tree: Tree<'a>,
+    nodes: &'a [ExpressionNode],
+) -> Result<Tree<'a>, OrMemory<NotYet>>
+    requires env { EnvStands env }
+    requires named { TermNamed (draft_view draft.old).tables tree.term }
+    ensures { IfOk result (λ more. Continues (env_view env.entry) tree.entry nodes.now (draft_view draft.old) (draft_view draft.new) more) }
+{
+    let mut stack = Vec::new(alloc);
+    put_item(&mut stack, Item::Tree(tree))?;
+    run(alloc, draft, env, &mut stack, nodes)?;
+    let Some(Item::Tree(more)) = take_item(&mut stack) else {
+        return Err(OrMemory::NoMemory);
+    };
+    if stack.is_empty() {
+        Ok(more)
+    } else {
+        Err(OrMemory::NoMemory)
+    }
+}
+
+/// Are these the nodes of a name, or of a dot and a name behind something?
+pub fn ends_bare(nodes: &[ExpressionNode]) -> bool
+    ensures { MatchBool result (IsBare (tree_in nodes.now)) (Unit {0}) }
+{
+    match nodes.split_last() {
+        Some((ExpressionNode::Name(_), _)) => true,
+        Some((ExpressionNode::Member { .. }, _)) => true,
+        _ => false,
+    }
+}

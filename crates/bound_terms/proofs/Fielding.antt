@@ -1,0 +1,261 @@
+-- Fields of places and values, and names behind dots that begin an expression.
+use Rattle.std.proofs.Common.{◌≡◌, ℕ, Bool, true, false, List, [], ◌∷◌, ◌++◌, map, Option, Some, None, is_some, option_map, if◌then◌else◌, refl, sym, ap, subst, ◌∙◌}
+use Rattle.vba_base.specs.declared.place.Place.{Place}
+use Rattle.vba_lexer.specs.declared.token.Token.{Token}
+use Rattle.vba_words.specs.declared.identifier.Identifier.{Identifier}
+use Rattle.vba_expression.specs.Tree.{Expr, literal, me, name, with_member, member, index, parenthesised, new, type_of, unary, binary}
+use Rattle.vba_expression.specs.Reader.{behind_dot}
+use Rattle.vba_expression.specs.declared.node.ExpressionNode.TheVariants as node
+use Rattle.vba_expression.specs.Nodes as nodes
+use Rattle.vba_expression.specs.Nodes.{behind_node}
+use Rattle.vba_values.specs.Types.{Declared}
+use Rattle.vba_values.specs.Types as type
+use Rattle.bound_project.specs.declared.declared_type.DeclaredType.{DeclaredType}
+use Rattle.bound_project.specs.declared.declared_type.DeclaredType.TheVariants.{Plain, ArrayOf}
+use Rattle.bound_project.specs.declared.declared_type.ElementType.TheVariants as element
+use Rattle.bound_project.specs.declared.declarations.Declarations.{Declarations}
+use Rattle.bound_project.specs.declared.node.NodeKind.TheVariants as kinds
+use Rattle.bound_project.specs.Project.{Declaration, UserType}
+use Rattle.bound_project.specs.Project as project
+use Rattle.bound_project.specs.View.{declared_view, declarations_view, user_type_view}
+use Rattle.bound_project.specs.Expressions.{expr, Lvalue, field, field_value, kept_place}
+use Rattle.bound_project.specs.Expressions as bound
+use Rattle.bound_project.specs.Pieces.{Piece, Tables, an_expr, a_place, put}
+use Rattle.bound_project.specs.Drafts.{Drafted}
+use Rattle.binder.specs.Bind.{declarations_of}
+use Rattle.binder.specs.Constants.{home, place_of_expression}
+use Rattle.binder.specs.Declarations.{Written}
+use Rattle.binder.specs.Scopes.{Scope, Space, Qualifier, qualifier_of, enum_behind}
+use Rattle.binder.specs.Storage.{types_from, types_of_space, user_types}
+use Rattle.binder.specs.Types.{is_object}
+use Rattle.binder.specs.Terms.{Env, Within, a_place as a_place_term, a_value, a_routine, a_function, err_object, err_raise, err_clear, error_word, no_term, expression_of, value_with}
+use Rattle.binder.specs.Terms as terms
+use Rattle.binder.specs.ExpressionsBound.{bare_call, behind_term, err_member, field_named, field_of_place, field_of_value, has_bounds, kept_member, member_of, no_type, node_or, term_of, value_of, with_field, if_there}
+use Rattle.declared_names.specs.Outside.{the_outside}
+use Rattle.declared_names.specs.View.{scope_view}
+use Rattle.declared_names.specs.declared.scope.Scope.{Scope as ScopeHere}
+use Rattle.project_tables.specs.Signed.{whole_scope}
+use Rattle.bound_terms.specs.declared.fields.Field.{Field}
+use Rattle.bound_terms.specs.declared.term.Ending.{Ending}
+use Rattle.bound_terms.specs.declared.term.Routine.{Routine}
+use Rattle.bound_terms.specs.declared.term.Term.{Term}
+use Rattle.bound_terms.specs.declared.term.Term.TheVariants as term
+use Rattle.bound_terms.specs.declared.term.Tree.{Tree}
+use Rattle.bound_terms.specs.declared.term.Item.{Item}
+use Rattle.bound_terms.specs.declared.term.Item.TheVariants as items
+use Rattle.bound_terms.specs.Calls.{node_of}
+use Rattle.bound_terms.specs.Fields.{FieldFound, KeepsField, MakesBehind, MakesField, MakesFieldValue, user_type_in}
+use Rattle.bound_terms.specs.Owned.{IsQualifier, MakesMember}
+use Rattle.bound_terms.specs.Standing.{TermStands, TreeStands, Stands, AllNamed, Base}
+use Rattle.bound_terms.specs.Steps.{Goes, MakesLeaf}
+use Rattle.bound_terms.specs.Taking.{CallsBare}
+use Rattle.bound_terms.proofs.Growing.{grown_same, grown_twice, grown_pieces, all_named, stands_grows}
+use Rattle.bound_terms.proofs.Dotted.{made_tree, member_place, no_qualifier}
+
+-- ---- the fields of user types
+
+same_types : (scope : ScopeHere) (spaces : List Space) → types_from (whole_scope (scope_view scope).spaces) spaces ≡ types_from (scope_view scope) spaces
+same_types scope [] = refl
+same_types scope (space ∷ spaces) = ap (λ (ts : List UserType). types_of_space (home (scope_view scope) space) space.entries ++ ts) (same_types scope spaces)
+
+-- those that the project declares
+pub types_are : (scope : ScopeHere) (declared : Declarations) → declarations_view declared ≡ declarations_of the_outside (whole_scope (scope_view scope).spaces) (scope_view scope).spaces
+    → map user_type_view declared.types.items ≡ user_types (scope_view scope)
+types_are scope declared is = ap (λ (z : project.Declarations). z.types) is ∙ same_types scope (scope_view scope).spaces
+
+pub user_type_is : (of : DeclaredType) (number : ℕ) → user_type_in of ≡ Some number → declared_view of ≡ type.udt number
+user_type_is (Plain (element.UserType place)) number h = let e : place ≡ number = cc in ap (λ (n : ℕ). type.udt n) e
+user_type_is of number h = let e : None ≡ Some number = h in absurd cc
+
+-- ---- a field that was found
+
+field_term : (env : Env) (at : Lvalue) (number : ℕ) (lends : Bool) (f : Identifier) (x : Field) → FieldFound (field_named env number f) x
+    → field_of_place env at (type.udt number) lends f ≡ a_place_term (field at x.number (declared_view x.of) x.is_bounded) (declared_view x.of) x.is_bounded lends
+field_term env at number lends f x k =
+    let F : ℕ → Declaration → terms.Term = λ (i : ℕ) (d : Declaration). a_place_term (field at i d.of (has_bounds d)) d.of (has_bounds d) lends in
+    ap (λ (o : Option (ℕ × Declaration)). with_field o F) k.is
+    ∙ ap (λ (u : Declared). a_place_term (field at x.number u (has_bounds k.declaration)) u (has_bounds k.declaration) lends) k.of_is
+    ∙ ap (λ (b : Bool). a_place_term (field at x.number (declared_view x.of) b) (declared_view x.of) b lends) k.bounded_is
+
+pub makes_field : (env : Env) (of : DeclaredType) (number : ℕ) (lends : Bool) (f : Identifier) (x : Field) → user_type_in of ≡ Some number → FieldFound (field_named env number f) x
+    → MakesField env of lends f (term.Place (kinds.Field x.number x.of x.is_bounded) x.of x.is_bounded lends)
+makes_field env of number lends f x is k = record {
+  named = λ t. tt;
+  stands = λ t at below. record {
+    at = field at x.number (declared_view x.of) x.is_bounded;
+    is = ap (λ (u : Declared). field_of_place env at u lends f) (user_type_is of number is) ∙ field_term env at number lends f x k;
+    ends = λ n. refl;
+  };
+}
+
+value_term : (env : Env) (place : Place) (made : bound.Node) (number : ℕ) (f : Identifier) (x : Field) → FieldFound (field_named env number f) x
+    → field_of_value env place made (type.udt number) f ≡ a_value (field_value (expression_of made place (type.udt number)) x.number) (declared_view x.of)
+value_term env place made number f x k =
+    let F : ℕ → Declaration → terms.Term = λ (i : ℕ) (d : Declaration). a_value (field_value (expression_of made place (type.udt number)) i) d.of in
+    ap (λ (o : Option (ℕ × Declaration)). with_field o F) k.is ∙ ap (λ (u : Declared). a_value (field_value (expression_of made place (type.udt number)) x.number) u) k.of_is
+
+pub makes_field_value : (env : Env) (of : DeclaredType) (number : ℕ) (f : Identifier) (x : Field) → user_type_in of ≡ Some number → FieldFound (field_named env number f) x
+    → MakesFieldValue env of f (term.Value (record { kind = kinds.FieldValue x.number; of = x.of }))
+makes_field_value env of number f x is k = record {
+  named = λ t. tt;
+  stands = λ t place made below.
+      let A : Declared → Type 0 = λ (u : Declared). field_of_value env place made u f ≡ a_value (field_value (expression_of made place u) x.number) (declared_view x.of) in
+      record {
+        made = field_value (expression_of made place (declared_view of)) x.number;
+        is = subst A (sym (user_type_is of number is)) (value_term env place made number f x k);
+        ends = λ n. refl;
+      };
+}
+
+-- ---- what With keeps
+
+pub keeps_field : (env : Env) (header : ℕ) (of : DeclaredType) (lends : Bool) (f : Identifier) (place : Place) (d e : Drafted) (x : Term) → env.within ≡ Some (record { header = header; of = declared_view of; lends = lends })
+    → MakesField env of lends f x → e ≡ record d { pieces = put d.tables (node_of (kinds.KeptPlace header) place of) d.pieces } → KeepsField env f d e x
+keeps_field env header of lends f place d e x is m eq =
+    let P : Drafted → Type 0 = λ (z : Drafted). KeepsField env f d z x in
+    let A : Option Within → Type 0 = λ (w : Option Within). TermStands env d.tables x (kept_member env w f) (a_place (kept_place header) ∷ d.pieces) d.pieces in
+    subst P (sym eq) (record {
+      grown = grown_pieces d (put d.tables (node_of (kinds.KeptPlace header) place of) d.pieces);
+      named = m.named d.tables;
+      stands = subst A (sym is) (m.stands d.tables (kept_place header) d.pieces);
+    })
+
+abbrev with_tree : Token → Term → Tree
+with_tree dot t = record { place = dot.place; name = None; is_qualifier = false; term = t }
+
+kept_stands : (env : Env) (xs ys : List Item) (d e g : Drafted) (t : Term) (dot : Token) (f : Identifier) → Goes env d xs e ys (λ is. is) → KeepsField env f e g t → (is : List nodes.Item) (base : Base) → Stands env d.tables xs is d.pieces base
+    → Stands env g.tables (items.Tree (with_tree dot t) ∷ ys) (nodes.tree (with_member dot f) ∷ is) g.pieces base
+kept_stands env xs ys d e g t dot f s k is base h = (
+  e.pieces,
+  (
+    record { term_is = k.stands; place_is = refl; name_is = refl; qualifier_is = refl; leaf = tt },
+    stands_grows env e.tables g.tables k.grown.tables ys s.named is e.pieces base (s.stands is base h),
+  ),
+)
+
+pub goes_kept : (env : Env) (xs ys after : List Item) (d e g : Drafted) (t : Term) (dot : Token) (f : Identifier) → Goes env d xs e ys (λ is. is) → KeepsField env f e g t → after ≡ items.Tree (with_tree dot t) ∷ ys
+    → Goes env d xs g after (behind_node (node.WithMember dot f))
+goes_kept env xs ys after d e g t dot f s k eq =
+    let A : List Item → Type 0 = λ (l : List Item). Goes env d xs g l (behind_node (node.WithMember dot f)) in
+    subst A (sym eq) (record {
+      grown = grown_twice d e g s.grown k.grown;
+      named = (k.named, all_named e.tables g.tables k.grown.tables ys s.named);
+      stands = λ is base h. kept_stands env xs ys d e g t dot f s k is base h;
+    })
+
+-- ---- behind a term
+
+pub behind_place : (env : Env) (place : Place) (at : Ending) (bounded lends : Bool) (f : Identifier) (d e : Drafted) (y : Term) → MakesField env at.of lends f y
+    → e ≡ record d { pieces = put d.tables (node_of at.kind place at.of) d.pieces } → MakesBehind env place (term.Place at.kind at.of bounded lends) f d e y
+behind_place env place at bounded lends f d e y m eq =
+    let P : Drafted → Type 0 = λ (z : Drafted). MakesBehind env place (term.Place at.kind at.of bounded lends) f d z y in
+    subst P (sym eq) (record {
+      grown = grown_pieces d (put d.tables (node_of at.kind place at.of) d.pieces);
+      named = m.named d.tables;
+      stands = λ z below k.
+          let A : terms.Term → Type 0 = λ (w : terms.Term). TermStands env d.tables y (member_of env place w f) (put d.tables (node_of at.kind place at.of) d.pieces) below in
+          let B : List Piece → Type 0 = λ (ps : List Piece). TermStands env d.tables y (field_of_place env k.at (declared_view at.of) lends f) ps below in
+          subst A (sym k.is) (subst B (sym (k.ends (node_of at.kind place at.of))) (m.stands d.tables k.at below));
+      there = λ t z ps below k h. (let e : a_place_term k.at (declared_view at.of) bounded lends ≡ no_term = sym k.is ∙ h in absurd cc);
+    })
+
+pub behind_value : (env : Env) (place : Place) (ending : Ending) (f : Identifier) (d e : Drafted) (y : Term) → MakesFieldValue env ending.of f y
+    → e ≡ record d { pieces = put d.tables (node_of ending.kind place ending.of) d.pieces } → MakesBehind env place (term.Value ending) f d e y
+behind_value env place ending f d e y m eq =
+    let P : Drafted → Type 0 = λ (z : Drafted). MakesBehind env place (term.Value ending) f d z y in
+    subst P (sym eq) (record {
+      grown = grown_pieces d (put d.tables (node_of ending.kind place ending.of) d.pieces);
+      named = m.named d.tables;
+      stands = λ z below k.
+          let A : terms.Term → Type 0 = λ (w : terms.Term). TermStands env d.tables y (member_of env place w f) (put d.tables (node_of ending.kind place ending.of) d.pieces) below in
+          let B : List Piece → Type 0 = λ (ps : List Piece). TermStands env d.tables y (field_of_value env place k.made (declared_view ending.of) f) ps below in
+          subst A (sym k.is) (subst B (sym (k.ends (node_of ending.kind place ending.of))) (m.stands d.tables place k.made below));
+      there = λ t z ps below k h. (let e : a_value k.made (declared_view ending.of) ≡ no_term = sym k.is ∙ h in absurd cc);
+    })
+
+-- a procedure whose value is known
+typed_is : (b : Bool) (node made : bound.Node) (place : Place) (u of : Declared) → (if b then None else Some (expression_of node place u)) ≡ Some (expr made place of of) → a_value node u ≡ a_value made of
+typed_is true node made place u of h = let e : None ≡ Some (expr made place of of) = h in absurd cc
+typed_is false node made place u of h =
+    let e : Some (expr node place u u) ≡ Some (expr made place of of) = h in
+    let one : node ≡ made = cc in
+    let other : u ≡ of = cc in ap (λ (n : bound.Node). a_value n u) one ∙ ap (λ (t : Declared). a_value made t) other
+
+value_is : (t : terms.Term) (space : Space) (number : ℕ) (w : Written) (made : bound.Node) (of : Declared) (place : Place) → value_with (λ a b c. t) (a_routine space number w) place ≡ Some (expr made place of of) → t ≡ a_value made of
+value_is (a_value node u) space number w made of place h = typed_is (is_object u) node made place u of h
+value_is (a_place_term x u bounded lends) space number w made of place h = let e : None ≡ Some (expr made place of of) = h in absurd cc
+value_is (a_routine s n p) space number w made of place h = let e : None ≡ Some (expr made place of of) = h in absurd cc
+value_is (a_function f text_form base) space number w made of place h = let e : None ≡ Some (expr made place of of) = h in absurd cc
+value_is err_object space number w made of place h = let e : None ≡ Some (expr made place of of) = h in absurd cc
+value_is err_raise space number w made of place h = let e : None ≡ Some (expr made place of of) = h in absurd cc
+value_is err_clear space number w made of place h = let e : None ≡ Some (expr made place of of) = h in absurd cc
+value_is error_word space number w made of place h = let e : None ≡ Some (expr made place of of) = h in absurd cc
+value_is no_term space number w made of place h = let e : None ≡ Some (expr made place of of) = h in absurd cc
+
+pub bare_is : (env : Env) (space : Space) (number : ℕ) (w : Written) (made : bound.Node) (of : Declared) (place : Place) → value_of env (a_routine space number w) place ≡ Some (expr made place of of)
+    → bare_call env space number w ≡ a_value made of
+bare_is env space number w made of place h = value_is (bare_call env space number w) space number w made of place h
+
+pub behind_routine : (env : Env) (place : Place) (r : Routine) (ending : Ending) (f : Identifier) (d e g : Drafted) (y : Term) → CallsBare r d e (Some ending) → MakesBehind env place (term.Value ending) f e g y
+    → MakesBehind env place (term.Routine r) f d g y
+behind_routine env place r ending f d e g y b m = record {
+  grown = grown_twice d e g b.grown m.grown;
+  named = m.named;
+  stands = λ z below k.
+      let c = b.stands env z below k in
+      let bare : bare_call env k.space k.number k.written ≡ a_value c.made (declared_view ending.of) =
+      bare_is env k.space k.number k.written c.made (declared_view ending.of) place (ap (λ (w : terms.Term). value_of env w place) (sym k.is) ∙ c.is place) in
+      let V : bound.Node → Declared → terms.Term = λ (n : bound.Node) (u : Declared). field_of_value env place n u f in
+      let same : member_of env place (bare_call env k.space k.number k.written) f ≡ member_of env place z f =
+      ap (λ (w : terms.Term). member_of env place w f) bare ∙ sym (ap (λ (w : terms.Term). member_of env place w f) k.is ∙ ap (λ (w : terms.Term). node_or w V) bare) in
+      let A : terms.Term → Type 0 = λ (w : terms.Term). TermStands env g.tables y w g.pieces below in
+      subst A same (m.stands (bare_call env k.space k.number k.written) below (record { made = c.made; is = bare; ends = c.ends }));
+  there = λ t z ps below k h. (let e : a_routine k.space k.number k.written ≡ no_term = sym k.is ∙ h in absurd cc);
+}
+
+pub behind_err : (env : Env) (place : Place) (f : Identifier) (d : Drafted) (y : Term) → MakesLeaf env d d y (err_member f.name) → MakesBehind env place term.Err f d d y
+behind_err env place f d y m = record {
+  grown = grown_same d;
+  named = m.named;
+  stands = λ z below k.
+      let A : terms.Term → Type 0 = λ (w : terms.Term). TermStands env d.tables y (member_of env place w f) d.pieces below in
+      let B : List Piece → Type 0 = λ (ps : List Piece). TermStands env d.tables y (err_member f.name) d.pieces ps in
+      subst A (sym k.0) (subst B k.1 (m.stands d.pieces));
+  there = λ t z ps below k h. (let e : err_object ≡ no_term = sym k.0 ∙ h in absurd cc);
+}
+
+-- ---- behind an expression
+
+dotted_base : (env : Env) (base : Expr) (dot : Token) (f : Identifier) → (term_of env base ≡ no_term → ⊥) → behind_dot base dot f ≡ member base dot f
+dotted_base env (literal l) dot f h = refl
+dotted_base env (me token) dot f h = refl
+dotted_base env (name y) dot f h = refl
+dotted_base env (with_member first y) dot f h = refl
+dotted_base env (member base first y) dot f h = refl
+dotted_base env (index base left args right) dot f h = refl
+dotted_base env (parenthesised left inner right) dot f h = refl
+dotted_base env (new word of) dot f h = absurd (h refl)
+dotted_base env (type_of word operand is_word of) dot f h = absurd (h refl)
+dotted_base env (unary o token operand) dot f h = refl
+dotted_base env (binary l o token r) dot f h = refl
+
+tree_stands : (env : Env) (x : Tree) (f : Identifier) (d e : Drafted) (y : Term) → MakesBehind env x.place x.term f d e y → x.is_qualifier ≡ false → IsQualifier env.scope (option_map (λ z. z.now) x.name) None
+    → (base : Expr) (dot : Token) (below : List Piece) → TreeStands env d.tables x base d.pieces below → TreeStands env e.tables (made_tree x false y) (behind_dot base dot f) e.pieces below
+tree_stands env x f d e y m false_is k base dot below h =
+    let none : qualifier_of env.scope base ≡ None = no_qualifier env x base false_is (option_map (λ z. z.now) x.name) h.name_is h.qualifier_is k in
+    let member_is : term_of env (member base dot f) ≡ member_of env (place_of_expression base) (term_of env base) f =
+    ap (λ (o : Option Qualifier). behind_term env o f (member_of env (place_of_expression base) (term_of env base) f)) none in
+    let P : Place → Type 0 = λ (place : Place). TermStands env e.tables y (member_of env place (term_of env base) f) e.pieces below in
+    let Q : terms.Term → Type 0 = λ (z : terms.Term). TermStands env e.tables y z e.pieces below in
+    let A : Expr → Type 0 = λ (z : Expr). TreeStands env e.tables (made_tree x false y) z e.pieces below in
+    subst A (sym (dotted_base env base dot f (m.there d.tables (term_of env base) d.pieces below h.term_is))) (record {
+      term_is = subst Q (sym member_is) (subst P h.place_is (m.stands (term_of env base) below h.term_is));
+      place_is = h.place_is ∙ sym (member_place base dot f);
+      name_is = refl;
+      qualifier_is = sym (ap (λ (o : Option Qualifier). is_some (enum_behind env.scope o f)) none);
+      leaf = tt;
+    })
+
+pub makes_member : (env : Env) (x : Tree) (f : Identifier) (d e : Drafted) (y : Term) → MakesBehind env x.place x.term f d e y → x.is_qualifier ≡ false → IsQualifier env.scope (option_map (λ z. z.now) x.name) None
+    → MakesMember env x f d e (made_tree x false y)
+makes_member env x f d e y m false_is k = record { grown = m.grown; named = m.named; stands = tree_stands env x f d e y m false_is k }

@@ -1,0 +1,239 @@
+-- Functions of the library: what their names are, and calls of them.
+use Rattle.std.proofs.Common.{◌≡◌, ℕ, ◌+◌, ◌==◌, Bool, true, false, ◌&&◌, ◌||◌, not, List, [], ◌∷◌, ◌++◌, map, length, Option, Some, None, is_some, option_map, if◌then◌else◌, refl, sym, ap, subst, ◌∙◌, arith, length-append}
+use Rattle.std.specs.Prelude.{ℤ, pos, option_and_then, bytes_eq, codes}
+use Rattle.std.proofs.lemmas.List.{map-append}
+use Rattle.vba_base.specs.declared.place.Place.{Place}
+use Rattle.vba_lexer.specs.declared.token.Token.{Token}
+use Rattle.vba_words.specs.declared.identifier.Identifier.{Identifier}
+use Rattle.vba_words.specs.declared.mark.Mark.TheVariants as mark
+use Rattle.vba_words.specs.Spelling.{marked}
+use Rattle.vba_expression.specs.Spelling.{spell_args}
+use Rattle.vba_expression.specs.Tree.{Expr, Args, no_args, plain}
+use Rattle.vba_expression.specs.Nodes as nodes
+use Rattle.vba_expression.specs.Nodes.{behind_node}
+use Rattle.vba_expression.specs.declared.node.ExpressionNode.TheVariants as node
+use Rattle.vba_values.specs.declared.types.Compare.{Compare}
+use Rattle.vba_values.specs.Types.{Declared}
+use Rattle.vba_lib.specs.declared.function.LibraryFunction.{LibraryFunction}
+use Rattle.vba_lib.specs.declared.function.LibraryFunction.TheVariants as function
+use Rattle.vba_lib.specs.Library.{declared_of}
+use Rattle.vba_lib.specs.Names.{function_named}
+use Rattle.bound_project.specs.declared.declared_type.DeclaredType.{DeclaredType}
+use Rattle.bound_project.specs.declared.node.NodeKind.{NodeKind}
+use Rattle.bound_project.specs.declared.node.NodeKind.TheVariants as kinds
+use Rattle.bound_project.specs.declared.node.Node.{Node}
+use Rattle.bound_project.specs.View.{declared_view, base_view}
+use Rattle.bound_project.specs.Expressions.{Exprs, no_exprs, library, operand_type}
+use Rattle.bound_project.specs.Expressions as bound
+use Rattle.bound_project.specs.Lists.{above, exprs_of}
+use Rattle.bound_project.proofs.Lists.{above_push}
+use Rattle.bound_project.specs.Pieces.{Piece, Tables, an_expr, exprs_off, of_found, expr_of}
+use Rattle.bound_project.specs.Drafts.{Drafted}
+use Rattle.binder.specs.Scopes.{has_dollar, of_library}
+use Rattle.binder.specs.Sources.{Source, base_of, has_choice, is_base_one}
+use Rattle.binder.specs.Constants.{compare_in, place_of_expression}
+use Rattle.binder.specs.Terms.{Env, Given, a_function, a_value, error_word, no_term, listed_values}
+use Rattle.binder.specs.Terms as terms
+use Rattle.binder.specs.ExpressionsBound.{all_given, array_base, callee, constant_term, from_zero, function_called, function_value, givens, if_there, indexed, is_user_type, library_term, plain_value, takes_count, term_of, value_of}
+use Rattle.module_parts.proofs.Firsts.{expression_front}
+use Rattle.bound_terms.specs.declared.term.Function.{Function}
+use Rattle.bound_terms.specs.declared.term.FunctionCall.{FunctionCall}
+use Rattle.bound_terms.specs.declared.term.Term.{Term}
+use Rattle.bound_terms.specs.declared.term.Term.TheVariants as term
+use Rattle.bound_terms.specs.declared.term.Tree.{Tree}
+use Rattle.bound_terms.specs.declared.term.Item.{Item}
+use Rattle.bound_terms.specs.declared.term.Item.TheVariants as items
+use Rattle.bound_terms.specs.Functions.{EndsFunction}
+use Rattle.bound_terms.specs.Indexing.{AddsArgument, Closes, OpensTerm}
+use Rattle.bound_terms.specs.Standing.{AllNumbers, FunctionIs, FunctionStands, NumberIs, TermStands, TermNamed, Stands, AllNamed, Base, base_number}
+use Rattle.bound_terms.specs.Steps.{MakesLeaf, PushesValue}
+use Rattle.bound_terms.proofs.Growing.{grown_same, stands_grows}
+use Rattle.bound_terms.proofs.Elements.{all_listed, numbers_more, taken_off}
+
+-- ---- names
+
+pub function_leaf : (env : Env) (d : Drafted) (f : Function) (y : terms.Term) → y ≡ a_function f.function f.is_text_form (base_number f.is_base_one) → f.compare ≡ compare_in env.scope → MakesLeaf env d d (term.Function f) y
+function_leaf env d f y is compare = record { grown = grown_same d; pieces = refl; named = tt; stands = λ ps. (record { is = is; compare_is = compare }, refl) }
+
+pub library_error : (env : Env) (x : Identifier) → bytes_eq x.name (codes "error") ≡ true → library_term env x ≡ error_word
+library_error env x h = rw h refl
+
+pub library_function : (env : Env) (x : Identifier) (f : LibraryFunction) → bytes_eq x.name (codes "error") ≡ false → function_named x.name ≡ Some f → library_term env x ≡ a_function f (has_dollar x) (array_base env f)
+library_function env x f h k = rw (h, k) refl
+
+pub library_constant : (env : Env) (x : Identifier) → bytes_eq x.name (codes "error") ≡ false → function_named x.name ≡ None → library_term env x ≡ constant_term env x (Some of_library)
+library_constant env x h k = rw (h, k) refl
+
+pub word_is : (text : List ℕ) (x : Identifier) (b found : Bool) → text ≡ x.name → found ≡ bytes_eq text (codes "error") → found ≡ b → bytes_eq x.name (codes "error") ≡ b
+word_is text x b found t f is = ap (λ (u : List ℕ). bytes_eq u (codes "error")) (sym t) ∙ sym f ∙ is
+
+pub error_leaf : (env : Env) (d : Drafted) (x : Identifier) → bytes_eq x.name (codes "error") ≡ true → MakesLeaf env d d term.ErrorWord (library_term env x)
+error_leaf env d x h = record { grown = grown_same d; pieces = refl; named = tt; stands = λ ps. (library_error env x h, refl) }
+
+-- behind VBA nothing changes but the base of a function
+zero_same : (env : Env) (t : Tables) (x : Term) → ((f : Function) → (x ≡ term.Function f) → ⊥) → (y : terms.Term) (ps below : List Piece) → TermStands env t x y ps below → from_zero y ≡ y
+zero_same env t (term.Place kind of bounded lends) n y ps below h = let P : terms.Term → Type 0 = λ (z : terms.Term). from_zero z ≡ z in subst P (sym h.is) refl
+zero_same env t (term.Value e) n y ps below h = let P : terms.Term → Type 0 = λ (z : terms.Term). from_zero z ≡ z in subst P (sym h.is) refl
+zero_same env t (term.Routine r) n y ps below h = let P : terms.Term → Type 0 = λ (z : terms.Term). from_zero z ≡ z in subst P (sym h.is) refl
+zero_same env t (term.Function f) n y ps below h = absurd (n f refl)
+zero_same env t term.Err n y ps below h = let P : terms.Term → Type 0 = λ (z : terms.Term). from_zero z ≡ z in subst P (sym h.0) refl
+zero_same env t term.ErrRaise n y ps below h = let P : terms.Term → Type 0 = λ (z : terms.Term). from_zero z ≡ z in subst P (sym h.0) refl
+zero_same env t term.ErrClear n y ps below h = let P : terms.Term → Type 0 = λ (z : terms.Term). from_zero z ≡ z in subst P (sym h.0) refl
+zero_same env t term.ErrorWord n y ps below h = let P : terms.Term → Type 0 = λ (z : terms.Term). from_zero z ≡ z in subst P (sym h.0) refl
+zero_same env t term.Nothing n y ps below h = let P : terms.Term → Type 0 = λ (z : terms.Term). from_zero z ≡ z in subst P (sym h) refl
+
+pub zero_leaf : (env : Env) (d e : Drafted) (x : Term) (y : terms.Term) → ((f : Function) → (x ≡ term.Function f) → ⊥) → MakesLeaf env d e x y → MakesLeaf env d e x (from_zero y)
+zero_leaf env d e x y n m = let P : terms.Term → Type 0 = λ (z : terms.Term). MakesLeaf env d e x z in subst P (sym (zero_same env e.tables x n y [] [] (m.stands []))) m
+
+pub zero_function : (env : Env) (d e : Drafted) (x : Term) (f : Function) (y : terms.Term) → x ≡ term.Function f → MakesLeaf env d e x y → MakesLeaf env d e (term.Function (record f { is_base_one = false })) (from_zero y)
+zero_function env d e x f y is m =
+    let P : Term → Type 0 = λ (z : Term). MakesLeaf env d e z y in
+    let k = subst P is m in record {
+      grown = k.grown;
+      pieces = k.pieces;
+      named = tt;
+      stands = λ ps. (record { is = ap (λ (z : terms.Term). from_zero z) (k.stands ps).0.is; compare_is = (k.stands ps).0.compare_is }, refl);
+    }
+
+-- from where the array counts that Array makes
+pub base_one_is : (source : Source) → base_number (base_of source == 1) ≡ base_of source
+base_one_is source = at (has_choice is_base_one source.parts)
+  where
+    at : (b : Bool) → base_number ((if b then 1 else 0) == 1) ≡ (if b then 1 else 0)
+    at true = refl
+    at false = refl
+
+pub no_array : (env : Env) (f : LibraryFunction) → ((f ≡ function.Array) → ⊥) → array_base env f ≡ 0
+no_array env function.Array n = absurd (n refl)
+no_array env f n = refl
+
+-- ---- arguments begin
+
+abbrev pub opened_function : Tree → Function → FunctionCall
+opened_function x f = record { place = x.place; function = f; count = 0 }
+
+pub opens_function : (env : Env) (x : Tree) (f : Function) (d : Drafted) → OpensTerm env x (term.Function f) d d (items.Function (opened_function x f))
+opens_function env x f d = record {
+  grown = grown_same d;
+  named = tt;
+  stands = λ tree others is below base at h s. (below, (record { function_is = h.0; place_is = at; made = []; values = tt; count_is = refl; on_top = h.1 }, s));
+}
+
+-- ---- one more value
+
+-- a value that is of no Type
+plain_is : (e : bound.Expr) (of : DeclaredType) → operand_type e ≡ declared_view of → is_user_type (declared_view of) ≡ false → plain_value e ≡ Some e
+plain_is e of same other = ap (λ (b : Bool). if b then None else Some e) (ap (λ (u : Declared). is_user_type u) same ∙ other)
+
+valued : (env : Env) (x : FunctionCall) (y : Tree) (of : DeclaredType) (count : ℕ) (comma : Option Token) (xs : List Item) (d e : Drafted) → count ≡ x.count + 1 → is_user_type (declared_view of) ≡ false → PushesValue y d e (Some of)
+    → AllNamed d.tables xs → (is : List nodes.Item) (base : Base) → Stands env d.tables (items.Tree y ∷ items.Function x ∷ xs) is d.pieces base
+    → Stands env e.tables (items.Function (record x { count = count }) ∷ xs) (behind_node (node.PlainArgument comma) is) e.pieces base
+valued env x y of count comma xs d e c u p k [] base h = absurd h
+valued env x y of count comma xs d e c u p k (nodes.arguments args ∷ is) base h = absurd h
+valued env x y of count comma xs d e c u p k (nodes.tree v ∷ []) base h = absurd h.1.1
+valued env x y of count comma xs d e c u p k (nodes.tree v ∷ nodes.tree w ∷ is) base h = absurd h.1.1
+valued env x y of count comma xs d e c u p k (nodes.tree v ∷ nodes.arguments args ∷ []) base h = absurd h.1.1
+valued env x y of count comma xs d e c u p k (nodes.tree v ∷ nodes.arguments args ∷ nodes.arguments more ∷ is) base h = absurd h.1.1
+valued env x y of count comma xs d e c u p k (nodes.tree v ∷ nodes.arguments args ∷ nodes.tree b ∷ is) base h =
+    let low = h.1.1 in
+    let s = low.1.0 in
+    let m = p.stands env v h.0 h.1.0 in (
+      low.0,
+      (
+        record {
+          function_is = s.function_is;
+          place_is = s.place_is;
+          made = s.made ++ m.made ∷ [];
+          values = numbers_more (function_value (value_of env)) (givens env args) s.made (record { name = None; term = Some (term_of env v); place = place_of_expression v }) m.made s.values
+              (record { no_name = refl; term = term_of env v; given = refl; is = ap (λ (o : Option bound.Expr). option_and_then plain_value o) m.is ∙ plain_is m.made of m.operand u });
+          count_is = omega (arith, c, s.count_is, length-append s.made (m.made ∷ []));
+          on_top = m.on_top ∙ ap (λ (ps : List Piece). an_expr m.made ∷ ps) s.on_top ∙ sym (above_push (map an_expr s.made) (an_expr m.made) low.0)
+              ∙ ap (λ (ps : List Piece). above ps low.0) (sym (map-append an_expr s.made (m.made ∷ [])));
+        },
+        stands_grows env d.tables e.tables p.grown.tables xs k is low.0 base low.1.1,
+      ),
+    )
+
+pub adds_value : (x : FunctionCall) (y : Tree) (of : DeclaredType) (count : ℕ) (d e : Drafted) → count ≡ x.count + 1 → is_user_type (declared_view of) ≡ false → PushesValue y d e (Some of)
+    → AddsArgument (items.Function x) y d e (items.Function (record x { count = count }))
+adds_value x y of count d e c u p = record { grown = p.grown; named = tt; stands = λ env comma xs is base k h. valued env x y of count comma xs d e c u p k is base h }
+
+-- ---- what a function makes of its arguments
+
+given_all : (value : terms.Term → Place → Option bound.Expr) (gs : List Given) (es : List bound.Expr) → AllNumbers value gs es → all_given gs ≡ true
+given_all value [] es h = refl
+given_all value (g ∷ gs) [] h = absurd h
+given_all value (g ∷ gs) (e ∷ es) h =
+    ap (λ (o : Option terms.Term). (is_some o && not (is_some g.name)) && all_given gs) h.0.given ∙ ap (λ (o : Option (List ℕ)). not (is_some o) && all_given gs) h.0.no_name ∙ given_all value gs es h.1
+
+given_long : (value : terms.Term → Place → Option bound.Expr) (gs : List Given) (es : List bound.Expr) → AllNumbers value gs es → length gs ≡ length es
+given_long value [] [] h = refl
+given_long value [] (e ∷ es) h = absurd h
+given_long value (g ∷ gs) [] h = absurd h
+given_long value (g ∷ gs) (e ∷ es) h = omega (arith, given_long value gs es h.1)
+
+base_is : (one : Bool) → pos (base_number one) ≡ base_view one
+base_is true = refl
+base_is false = refl
+
+called_is : (env : Env) (f : LibraryFunction) (text_form one : Bool) (compare : Compare) (count : ℕ) (of : DeclaredType) (gs : List Given) (es : List bound.Expr) → compare ≡ compare_in env.scope → count ≡ length es → takes_count f count ≡ true
+    → declared_view of ≡ declared_of f text_form → AllNumbers (function_value (value_of env)) gs es
+    → function_called env f text_form (base_number one) gs ≡ a_value (library f text_form (exprs_of es) compare (base_view one)) (declared_view of)
+called_is env f text_form one compare count of gs es c counted takes typed values =
+    let long : length gs ≡ count = omega (arith, counted, given_long (function_value (value_of env)) gs es values) in
+    let found : Option Exprs → terms.Term = λ (o : Option Exprs).
+    if_there (option_map (λ (xs : Exprs). a_value (library f text_form xs (compare_in env.scope) (pos (base_number one))) (declared_of f text_form)) o) in
+    let listed = listed_values (function_value (value_of env)) gs in
+    ap (λ (b : Bool). if b && takes_count f (length gs) then found listed else no_term) (given_all (function_value (value_of env)) gs es values)
+    ∙ ap (λ (n : ℕ). if takes_count f n then found listed else no_term) long ∙ ap (λ (b : Bool). if b then found listed else no_term) takes
+    ∙ ap found (all_listed (function_value (value_of env)) gs es values)
+    ∙ ap (λ (k : Compare). a_value (library f text_form (exprs_of es) k (pos (base_number one))) (declared_of f text_form)) (sym c)
+    ∙ ap (λ (z : ℤ). a_value (library f text_form (exprs_of es) compare z) (declared_of f text_form)) (base_is one)
+    ∙ ap (λ (u : Declared). a_value (library f text_form (exprs_of es) compare (base_view one)) u) (sym typed)
+
+abbrev pub kind_of : FunctionCall → NodeKind
+kind_of x = kinds.Library x.function.function x.function.is_text_form x.count x.function.compare x.function.is_base_one
+
+pub ends_function : (x : FunctionCall) (of : DeclaredType) → takes_count x.function.function x.count ≡ true → declared_view of ≡ declared_of x.function.function x.function.is_text_form
+    → EndsFunction x (term.Value (record { kind = kind_of x; of = of }))
+ends_function x of takes typed = record {
+  named = λ t. tt;
+  stands = λ env t e args ps below s.
+      let f = x.function in
+      let gs = givens env args in
+      let A : terms.Term → Type 0 = λ (z : terms.Term). indexed env (place_of_expression e) z gs ≡ a_value (library f.function f.is_text_form (exprs_of s.made) f.compare (base_view f.is_base_one)) (declared_view of) in
+      record {
+        made = library f.function f.is_text_form (exprs_of s.made) f.compare (base_view f.is_base_one);
+        is = subst A (sym s.function_is.is) (called_is env f.function f.is_text_form f.is_base_one f.compare x.count of gs s.made s.function_is.compare_is s.count_is takes typed s.values);
+        ends = λ n.
+            ap (λ (o : Option (Exprs × List Piece)). of_found (λ (xs : Exprs). expr_of n (library f.function f.is_text_form xs f.compare (base_view f.is_base_one))) o) (taken_off x.count s.made ps below s.count_is s.on_top);
+      };
+}
+
+-- ---- arguments end
+
+abbrev pub ended_function : FunctionCall → Term → Tree
+ended_function x y = record { place = x.place; name = None; is_qualifier = false; term = y }
+
+ended_stands : (env : Env) (x : FunctionCall) (y : Term) (left right : Token) (xs : List Item) (d : Drafted) → EndsFunction x y → (is : List nodes.Item) (base : Base) → Stands env d.tables (items.Function x ∷ xs) is d.pieces base
+    → Stands env d.tables (items.Tree (ended_function x y) ∷ xs) (behind_node (node.Index left right) is) d.pieces base
+ended_stands env x y left right xs d m [] base h = absurd h
+ended_stands env x y left right xs d m (nodes.tree v ∷ is) base h = absurd h
+ended_stands env x y left right xs d m (nodes.arguments args ∷ []) base h = absurd h
+ended_stands env x y left right xs d m (nodes.arguments args ∷ nodes.arguments more ∷ is) base h = absurd h
+ended_stands env x y left right xs d m (nodes.arguments args ∷ nodes.tree b ∷ is) base h = (
+  h.0,
+  (
+    record {
+      term_is = m.stands env d.tables b args d.pieces h.0 h.1.0;
+      place_is = h.1.0.place_is ∙ sym (expression_front b (marked left mark.LeftParenthesis ∷ (spell_args args ++ marked right mark.RightParenthesis ∷ [])));
+      name_is = refl;
+      qualifier_is = refl;
+      leaf = tt;
+    },
+    h.1.1,
+  ),
+)
+
+pub closes_function : (x : FunctionCall) (y : Term) (d : Drafted) → EndsFunction x y → Closes (items.Function x) d d (ended_function x y)
+closes_function x y d m = record { grown = grown_same d; named = m.named d.tables; stands = λ env left right xs is base k h. ended_stands env x y left right xs d m is base h }

@@ -1,0 +1,29 @@
+use Rattle.std.proofs.Common.{sym, subst}
+use Rattle.bound_project.specs.DraftView.{draft_view}
+use Rattle.binder.specs.Terms.{Env}
+use Rattle.bound_terms.specs.declared.term.Term.{Term}
+use Rattle.bound_terms.specs.declared.term.Item.TheVariants as item
+use Rattle.bound_terms.specs.Indexing.{OpensTerm}
+use Rattle.bound_terms.proofs.indexing.open_term.Goals as goal
+
+pub returns-in-Function : goal.returns-in-Function
+returns-in-Function c =
+    let d = draft_view c.args.draft.now in
+    let P : Term → Type 0 = λ (t : Term). (env : Env) → OpensTerm env c.args.tree t d d (item.Function c.open_function.result) in
+    subst P (sym c.in-Function.is) (λ env. c.open_function.ensures env d)
+
+pub returns-in_ok-indexed-in-Place : goal.returns-in_ok-indexed-in-Place
+returns-in_ok-indexed-in-Place c =
+    let P : Term → Type 0 = λ (t : Term). (env : Env) → OpensTerm env c.args.tree t (draft_view c.args.draft.now) (draft_view c.open_place.new.draft) (item.Indexed c.in_ok-indexed-in-Place.indexed) in
+    subst P (sym c.in-Place.is) (λ env. c.in_ok-indexed-in-Place.ensures env c.in-Place.is_bounded)
+
+pub returns-in_ok-indexed-in-Value : goal.returns-in_ok-indexed-in-Value
+returns-in_ok-indexed-in-Value c =
+    let P : Term → Type 0 = λ (t : Term). (env : Env) → OpensTerm env c.args.tree t (draft_view c.args.draft.now) (draft_view c.open_value.new.draft) (item.Indexed c.in_ok-indexed-in-Value.indexed) in
+    subst P (sym c.in-Value.is) c.in_ok-indexed-in-Value.ensures
+
+pub returns-in-Routine : goal.returns-in-Routine
+returns-in-Routine c =
+    let d = draft_view c.args.draft.now in
+    let P : Term → Type 0 = λ (t : Term). (env : Env) → OpensTerm env c.args.tree t d d (item.Call c.open_call.result) in
+    subst P (sym c.in-Routine.is) (λ env. c.open_call.ensures env d)

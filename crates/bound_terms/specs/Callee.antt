@@ -1,0 +1,53 @@
+-- Serves the code: what is called.
+use Rattle.std.specs.Prelude.{◌≡◌, ℕ, true, false, List, map, Some, slice_get}
+use Rattle.vba_expression.specs.Tree.{Expr}
+use Rattle.bound_project.specs.Drafts.{Drafted}
+use Rattle.bound_project.specs.Pieces.{Piece}
+use Rattle.bound_project.specs.View.{declared_view, parameter_view}
+use Rattle.binder.specs.Terms.{Env}
+use Rattle.binder.specs.ExpressionsBound.{call_type, callee, parameters_in, term_of}
+use Rattle.binder.specs.Declarations.{Written}
+use Rattle.binder.specs.Storage.{procedure_number}
+use Rattle.binder.specs.Scopes.{Scope, Space}
+use Rattle.declared_names.specs.View.{space_view, written_view}
+use Rattle.bound_terms.specs.declared.properties.Writer.{Writer}
+use Rattle.bound_terms.specs.declared.term.Routine.{Routine}
+use Rattle.bound_terms.specs.declared.term.Term.{Term}
+use Rattle.bound_terms.specs.declared.term.Term.TheVariants as term
+use Rattle.bound_terms.specs.declared.term.Tree.{Tree}
+use Rattle.bound_terms.specs.Standing.{TermNamed, TermStands, TreeStands, Grown}
+use Rattle.bound_terms.specs.Properties.{property_with, IsEntry}
+
+-- what an expression is as it is called; nothing is pushed for that
+pub record CalleeIs (env : Env) (x : Tree) (d e : Drafted) (y : Term) : Type 0 where
+  pub grown : Grown d e
+  pub pieces : e.pieces ≡ d.pieces
+  pub named : TermNamed e.tables y
+  pub stands : (tree : Expr) (ps below : List Piece) → TreeStands env d.tables x tree ps below → TermStands env e.tables y (callee env tree (term_of env tree)) ps below
+
+-- ---- procedures that are read
+
+-- a routine has what a call of this entry needs
+pub record Reading (env : Env) (space : Space) (written : Written) (read : ℕ × Written) (r : Routine) : Type 0 where
+  pub procedure_is : r.procedure ≡ procedure_number env.scope space read.0
+  pub parameters_are : map parameter_view r.parameters.now ≡ parameters_in env.scope space read.1
+  pub of_is : declared_view r.of ≡ call_type env.scope space read.1
+  pub space_is : space ≡ space_view r.space.now
+  pub written_is : written ≡ written_view r.written
+  pub placed : slice_get env.scope.spaces space.number ≡ Some space
+
+-- the same of the Get of a property
+pub record ReadingProperty (env : Env) (space : Space) (written : Written) (r : Routine) : Type 0 where
+  pub read : ℕ × Written
+  pub found : property_with true env.scope space written.name ≡ Some read
+  pub reading : Reading env space written read r
+
+-- the Let of a property
+pub record IsWriter (s : Scope) (x : Writer) : Type 0 where
+  pub found : property_with false s (space_view x.routine.space.now) (written_view x.routine.written).name ≡ Some (x.number, written_view x.written)
+  pub entry : IsEntry (space_view x.routine.space.now) x.number (written_view x.written)
+
+-- a term is a property that has a Let
+pub record WriterOf (s : Scope) (x : Term) (w : Writer) : Type 0 where
+  pub is : x ≡ term.Routine w.routine
+  pub writer : IsWriter s w

@@ -1,0 +1,156 @@
+//! Functions of the library: what their names are, and calls of them.
+
+ghost use Rattle.std.specs.Prelude.{◌≡◌, IfOk};
+ghost use Rattle.vba_lib.specs.Library.{declared_of};
+ghost use Rattle.bound_project.specs.DraftView.{draft_view};
+ghost use Rattle.bound_project.specs.Drafts.{Drafted};
+ghost use Rattle.bound_project.specs.View.{declared_view};
+ghost use Rattle.binder.specs.ExpressionsBound as bound;
+ghost use Rattle.binder.specs.Scopes.{has_dollar};
+ghost use Rattle.binder.specs.Terms as plain;
+ghost use Rattle.bound_terms.specs.declared.term.Item.TheVariants as item;
+ghost use Rattle.bound_terms.specs.Functions.{EndsFunction};
+ghost use Rattle.bound_terms.specs.Indexing.{AddsArgument, OpensTerm};
+ghost use Rattle.bound_terms.specs.Standing.{TermNamed, base_number};
+ghost use Rattle.bound_terms.specs.Steps.{MakesLeaf};
+ghost use Rattle.bound_terms.specs.View.{EnvStands, env_view};
+
+use crate::arguments::sum;
+use crate::env::Env;
+use crate::pass::push_value;
+use crate::term::{Ending, Function, FunctionCall, Term, Tree};
+use crate::types::element_type;
+use bound_declarations::NotYet;
+use bound_project::{DeclaredType, Draft, ElementType, NodeKind};
+use declared_names::has_dollar;
+use std::alloc::Global;
+use vba_base::{NoMemory, OrMemory};
+use vba_lib::{LibraryFunction, arity, declared_type};
+use vba_words::Identifier;
+
+/// Does the array that Array makes count from 1? No other function asks it.
+fn is_base_one<'a>(env: Env<'a>, function: LibraryFunction) -> bool
+    ensures { base_number result ≡ bound.array_base (env_view env.entry) function }
+{
+    match function {
+        LibraryFunction::Array => env.constants.scope.here.source.base() == 1,
+        _ => false,
+    }
+}
+
+/// The name of a function of the library.
+pub fn function_term<'a>(env: Env<'a>, name: &Identifier, function: LibraryFunction) -> Term<'a>
+    requires { EnvStands env }
+    ensures { (d : Drafted) → MakesLeaf (env_view env.entry) d d result
+        (plain.a_function function (has_dollar name.now) (bound.array_base (env_view env.entry) function)) }
+{
+    Term::Function(Function {
+        function,
+        is_text_form: has_dollar(name),
+        is_base_one: is_base_one(env, function),
+        compare: env.compare,
+    })
+}
+
+/// What a name is behind VBA: the array that Array makes counts from 0 there.
+pub fn from_zero<'a>(term: Term<'a>) -> Term<'a>
+    ensures { (env : plain.Env) (d e : Drafted) (y : plain.Term) → MakesLeaf env d e term.entry y → MakesLeaf env d e result (bound.from_zero y) }
+{
+    match term {
+        Term::Function(function) => Term::Function(Function {
+            is_base_one: false,
+            ..function
+        }),
+        _ => term,
+    }
+}
+
+/// A function whose arguments are read from now on.
+pub fn open_function<'a>(tree: Tree<'a>, function: Function) -> FunctionCall
+    ensures { (env : plain.Env) (d : Drafted) → OpensTerm env tree.entry (Term.Function function) d d (item.Function result) }
+{
+    FunctionCall {
+        place: tree.place,
+        function,
+        count: 0,
+    }
+}
+
+/// Is a type a Type of the project?
+fn is_user_type(of: DeclaredType) -> bool
+    ensures { result ≡ bound.is_user_type (declared_view of) }
+{
+    match of {
+        DeclaredType::Plain(ElementType::UserType(_)) => true,
+        _ => false,
+    }
+}
+
+/// One more argument: the expression on top. A value of a Type is none.
+pub fn add_value<'a>(
+    alloc: Global,
+    draft: &mut Draft,
+    call: FunctionCall,
+    tree: Tree<'a>,
+) -> Result<FunctionCall, OrMemory<NotYet>>
+    requires { TermNamed (draft_view draft.old).tables tree.term }
+    ensures { IfOk result (λ more. AddsArgument (item.Function call) tree.entry (draft_view draft.old) (draft_view draft.new) (item.Function more)) }
+{
+    let count = sum(call.count, 1)?;
+    let Some(of) = push_value(alloc, draft, tree)? else {
+        return Err(OrMemory::Fault(NotYet));
+    };
+    if is_user_type(of) {
+        return Err(OrMemory::Fault(NotYet));
+    }
+    Ok(FunctionCall { count, ..call })
+}
+
+/// Does a function take so many arguments? 255 is no limit.
+fn takes_count(function: LibraryFunction, count: u32) -> bool
+    ensures { result ≡ bound.takes_count function count }
+{
+    let (least, greatest) = arity(function);
+    u32::from(least) <= count && (greatest == 255 || count <= u32::from(greatest))
+}
+
+/// The declared type of a use.
+fn answer_type(
+    alloc: Global,
+    function: LibraryFunction,
+    is_text_form: bool,
+) -> Result<DeclaredType, NoMemory>
+    ensures { IfOk result (λ of. declared_view of ≡ declared_of function is_text_form) }
+{
+    if is_text_form {
+        return Ok(DeclaredType::Plain(ElementType::Text));
+    }
+    match function {
+        LibraryFunction::Split => Ok(DeclaredType::ArrayOf(ElementType::Text)),
+        _ => {
+            let of = declared_type(alloc, function, false)?;
+            Ok(DeclaredType::Plain(element_type(of)?))
+        }
+    }
+}
+
+/// What a function gives of its arguments; it is bound only where it takes so many.
+pub fn close_function<'a>(alloc: Global, call: FunctionCall) -> Result<Term<'a>, OrMemory<NotYet>>
+    ensures { IfOk result (λ term. EndsFunction call term) }
+{
+    let function = call.function;
+    if !takes_count(function.function, call.count) {
+        return Err(OrMemory::Fault(NotYet));
+    }
+    let of = answer_type(alloc, function.function, function.is_text_form)?;
+    Ok(Term::Value(Ending {
+        kind: NodeKind::Library {
+            function: function.function,
+            is_text_form: function.is_text_form,
+            values: call.count,
+            compare: function.compare,
+            is_base_one: function.is_base_one,
+        },
+        of,
+    }))
+}
