@@ -14,7 +14,7 @@ use Rattle.binder.specs.StatementsBound.{all_statements, blocks_in}
 use Rattle.binder.specs.Names.{scope_of}
 use Rattle.binder.specs.Constants.{home}
 use Rattle.binder.specs.Bind.{around_of, body_with, bound_body, bodies_of, all_bodies, numbered, no_space, is_built_part, place_unless, first_part, left_in_body, left_in_parts, left_in_space, left_in_spaces}
-use Rattle.bind_project.specs.Walks.{BodyAdded}
+use Rattle.bound_statements.specs.Walks.{BodyAdded}
 use Rattle.bind_project.specs.Modules.{is_header, with_bodies, IsFront, ProcedureAdded, PartsWalked, PartsAdded, SpaceAdded, SpacesWalked, SpacesAdded}
 
 joined : (x y z : List Body) → (x ++ y) ++ z ≡ x ++ (y ++ z)

@@ -1,10 +1,3 @@
-pub mod Rounds
-pub mod Walked
-pub mod Lists
 pub mod ByModule
 pub mod Rows
-pub mod Parts
-pub mod Ended
-pub mod Items
-pub mod Ifs
 pub mod WholeProject

@@ -1,8 +1,12 @@
 -- Serves the code: what is known of a project.
+use Rattle.std.specs.Prelude.{◌≡◌}
+use Rattle.binder.specs.Bind.{declarations_of}
+use Rattle.bound_project.specs.View.{declarations_view}
+use Rattle.declared_names.specs.Outside.{the_outside}
 use Rattle.constant_values.specs.Rounds.{IsPlaced}
 use Rattle.constant_values.specs.Tables.{AreProjectValues}
 use Rattle.declared_names.specs.View.{scope_view}
-use Rattle.project_tables.specs.Signed.{AreSignatures}
+use Rattle.project_tables.specs.Signed.{AreSignatures, whole_scope}
 use Rattle.bind_project.specs.declared.home.Home.{Home}
 
 -- it is what the project has
@@ -10,3 +14,4 @@ pub record HomeStands (h : Home) : Type 0 where
   pub placed : IsPlaced (scope_view h.scope)
   pub known : AreProjectValues h.values.now (scope_view h.scope).spaces
   pub signed : AreSignatures h.signatures.now (scope_view h.scope).spaces
+  pub declared : declarations_view h.declared.now ≡ declarations_of the_outside (whole_scope (scope_view h.scope).spaces) (scope_view h.scope).spaces

@@ -1,10 +1,4 @@
 pub mod Bound
-pub mod Plain
-pub mod Walks
-pub mod Nexts
 pub mod Modules
-pub mod Round
-pub mod Actions
-pub mod Reads
 pub mod Procedures
 pub mod Homes

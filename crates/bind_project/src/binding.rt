@@ -65,15 +65,17 @@ fn bind_bodies<'a>(
     alloc: Global,
     spaces: &'a [Space<'a>],
     rows: &'a Rows<'a>,
+    declared: &'a Declarations,
 ) -> Result<Draft, OrMemory<Place>>
     requires numbered { AreNumbered (map space_view spaces.now) }
     requires rows { AreRows rows.now (map space_view spaces.now) }
+    requires declared { declarations_view declared.now ≡ plain.declarations_of the_outside (scope_of the_outside (map space_view spaces.now) plain.no_space) (map space_view spaces.now) }
     ensures { IfOk result (λ draft. (plain.left_in_spaces the_outside (map space_view spaces.now) (map space_view spaces.now) ≡ None)
         × (plain.all_bodies (scope_of the_outside (map space_view spaces.now) plain.no_space) (map space_view spaces.now) ≡ Some (draft_view draft).bodies)) }
 {
     let signatures = signatures_of(alloc, &*spaces, &*rows)?;
     let mut draft = Draft::new(alloc);
-    bind_spaces(alloc, &mut draft, &*spaces, &*rows, &signatures)?;
+    bind_spaces(alloc, &mut draft, &*spaces, &*rows, &signatures, &*declared)?;
     Ok(draft)
 }
 
@@ -100,9 +102,9 @@ fn project_of<'a>(
     ensures runs { IfOk result (λ project. Runs the_outside (map space_view spaces.now) (startup_view startup.entry) (project_view project)) }
 {
     let rows = project_rows(alloc, &*spaces)?;
-    let draft = bind_bodies(alloc, &*spaces, &rows)?;
-    let startup = startup_of(&*spaces, startup)?;
     let declared = declared_in(alloc, &*spaces, &rows)?;
+    let draft = bind_bodies(alloc, &*spaces, &rows, &declared)?;
+    let startup = startup_of(&*spaces, startup)?;
     Ok(draft.finish(declared, startup))
 }
 

@@ -1,3 +1,4 @@
+use bound_project::Declarations;
 use constant_values::ProjectValues;
 use declared_names::Scope;
 use project_tables::Signatures;
@@ -8,4 +9,5 @@ pub(crate) struct Home<'a> {
     pub scope: Scope<'a>,
     pub values: &'a ProjectValues,
     pub signatures: &'a Signatures,
+    pub declared: &'a Declarations,
 }

@@ -4,16 +4,16 @@ ghost use Rattle.std.specs.Prelude.{◌≡◌, IfOk, OnOk};
 ghost use Rattle.bind_project.specs.Homes.{HomeStands};
 ghost use Rattle.bind_project.specs.Modules.{IsFront, ProcedureAdded};
 ghost use Rattle.bind_project.specs.Procedures.{RowFits, numbered_view};
-ghost use Rattle.bind_project.specs.Round.{around_view};
+ghost use Rattle.bound_statements.specs.Round.{around_view};
 ghost use Rattle.binder.specs.Bind as plain;
 ghost use Rattle.bound_project.specs.DraftView.{draft_view};
 ghost use Rattle.bound_terms.specs.View.{EnvStands, env_view};
 ghost use Rattle.declared_names.specs.View.{scope_view};
 
-use crate::around::Around;
 use crate::home::Home;
 use crate::walk::bind_body;
 use bound_project::Draft;
+use bound_statements::Around;
 use bound_terms::Env;
 use constant_values::constants_in;
 use declared_names::Scope;
@@ -37,12 +37,15 @@ fn env_of<'a>(home: Home<'a>, row: &'a ProcedureRow<'a>) -> Env<'a>
     Env {
         constants: constants_in(scope, home.values, &row.values),
         signatures: home.signatures,
+        declared: home.declared,
+        within: None,
         first: row.first,
         compare: scope.here.source.compare(),
     }
 }
 
 /// The procedure round its statements.
+#[tactic(auto, using(bound_statements::proofs::Rounds::around_is))]
 fn around_of<'a>(home: Home<'a>, row: &'a ProcedureRow<'a>) -> Result<Around<'a>, NoMemory>
     requires home { HomeStands home }
     requires fits { RowFits (scope_view home.scope) row.now }

@@ -11,11 +11,12 @@ ghost use Rattle.declared_names.specs.Outside.{the_outside};
 ghost use Rattle.declared_names.specs.View.{scope_view, space_view};
 ghost use Rattle.module_parts.specs.View.{parts_view};
 ghost use Rattle.project_tables.specs.Rows.{AreRows, AreRowsOf};
-ghost use Rattle.project_tables.specs.Signed.{AreSignatures};
+ghost use Rattle.bound_project.specs.View.{declarations_view};
+ghost use Rattle.project_tables.specs.Signed.{AreSignatures, whole_scope};
 
 use crate::home::Home;
 use crate::modules::bind_parts;
-use bound_project::Draft;
+use bound_project::{Declarations, Draft};
 use declared_names::{Scope, Space};
 use module_parts::{Part, place_of};
 use project_tables::{ProcedureRow, Rows, Signatures};
@@ -72,11 +73,13 @@ pub(crate) fn bind_spaces<'a>(
     spaces: &'a [Space<'a>],
     rows: &'a Rows<'a>,
     signatures: &'a Signatures,
+    declared: &'a Declarations,
 ) -> Result<(), OrMemory<Place>>
     requires front { IsFront (draft_view draft.old) }
     requires numbered { AreNumbered (map space_view spaces.now) }
     requires rows { AreRows rows.now (map space_view spaces.now) }
     requires signed { AreSignatures signatures.now (map space_view spaces.now) }
+    requires declared { declarations_view declared.now ≡ plain.declarations_of the_outside (whole_scope (map space_view spaces.now)) (map space_view spaces.now) }
     ensures { OnOk result (SpacesAdded the_outside (map space_view spaces.now) (draft_view draft.old) (draft_view draft.new)) }
 {
     let values = &rows.values;
@@ -95,6 +98,7 @@ pub(crate) fn bind_spaces<'a>(
             scope,
             values,
             signatures: &*signatures,
+            declared: &*declared,
         };
         bind_space(alloc, draft, home, of_here.as_slice())?;
         waiting = others;

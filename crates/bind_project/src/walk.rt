@@ -1,22 +1,18 @@
 //! Bodies, bound part by part.
 
 ghost use Rattle.std.specs.Prelude.{◌≡◌, ℕ, [], OnOk};
-ghost use Rattle.bind_project.specs.Plain.{PlainRound};
-ghost use Rattle.bind_project.specs.Round.{around_view};
-ghost use Rattle.bind_project.specs.Walks.{Added, BodyAdded, PartAdded, statements_of};
+ghost use Rattle.bound_statements.specs.Round.{StandsAt, around_view};
+ghost use Rattle.bound_statements.specs.Walks.{Added, BodyAdded, PartAdded, statements_of};
 ghost use Rattle.binder.specs.StatementsBound.{next_number};
 ghost use Rattle.bound_project.specs.DraftView.{draft_view};
 ghost use Rattle.bound_terms.specs.View.{EnvStands};
 ghost use Rattle.module_parts.specs.View.{part_view};
 ghost use Rattle.statement_numbers.specs.View.{standing_view};
 
-use crate::around::Around;
 use crate::built_parts::is_built_part;
-use crate::plain_parts::is_plain_part;
-use crate::single_line_ifs::bind_statement;
-use crate::statements::bind_simple;
 use bound_declarations::NotYet;
 use bound_project::Draft;
+use bound_statements::{Around, around_at, bind_simple, bind_statement};
 use module_parts::{Part, place_of};
 use statement_numbers::{Standing, Walk};
 use std::alloc::Global;
@@ -24,7 +20,7 @@ use vba_base::{OrMemory, Place};
 use vba_tree::Statement;
 
 /// Adds the statements of a part.
-#[tactic(auto, using(crate::proofs::Walked::none_added, crate::proofs::Ifs::simple_part_added))]
+#[tactic(auto, using(bound_statements::proofs::Walked::none_added, bound_statements::proofs::Ifs::simple_part_added))]
 fn bind_statements<'a>(
     alloc: Global,
     draft: &mut Draft,
@@ -34,7 +30,7 @@ fn bind_statements<'a>(
 ) -> Result<(), OrMemory<NotYet>>
     requires env { EnvStands around.env }
     requires empty { (draft_view draft.old).pieces ≡ [] }
-    requires plain { PlainRound (standing_view standing).around }
+    requires placed { StandsAt around (standing_view standing) }
     ensures { OnOk result ((next : ℕ) → next ≡ next_number (standing_view standing.entry)
         → Added (statements_of (around_view around.entry) (standing_view standing.entry) next (part_view part.now)) (draft_view draft.old) (draft_view draft.new)) }
 {
@@ -58,8 +54,26 @@ fn bind_statements<'a>(
     }
 }
 
+/// Adds the statements of a part, in its scope.
+fn bind_there<'a>(
+    alloc: Global,
+    draft: &mut Draft,
+    around: Around<'a>,
+    standing: Standing<'a>,
+    part: &'a Part,
+) -> Result<(), OrMemory<NotYet>>
+    requires env { EnvStands around.env }
+    requires empty { (draft_view draft.old).pieces ≡ [] }
+    ensures { OnOk result ((next : ℕ) → next ≡ next_number (standing_view standing.entry)
+        → Added (statements_of (around_view around.entry) (standing_view standing.entry) next (part_view part.now)) (draft_view draft.old) (draft_view draft.new)) }
+{
+    let there = around_at(alloc, around, standing)?;
+    bind_statements(alloc, draft, there, standing, part)?;
+    Ok(())
+}
+
 /// Binds a part.
-#[tactic(auto, using(crate::proofs::Ifs::part_added))]
+#[tactic(auto, using(bound_statements::proofs::Ifs::part_added))]
 fn bind_part<'a>(
     alloc: Global,
     draft: &mut Draft,
@@ -68,18 +82,14 @@ fn bind_part<'a>(
 ) -> Result<(), OrMemory<Place>>
     requires env { EnvStands around.env }
     requires empty { (draft_view draft.old).pieces ≡ [] }
-    requires plain { PlainRound (standing_view standing).around }
     ensures { OnOk result (PartAdded (around_view around.entry) (standing_view standing.entry) (draft_view draft.old) (draft_view draft.new)) }
 {
     let part = standing.part();
     let place = place_of(part);
-    if !is_plain_part(part) {
-        return Err(OrMemory::Fault(place));
-    }
     if !is_built_part(around.env.constants.scope, part)? {
         return Err(OrMemory::Fault(place));
     }
-    match bind_statements(alloc, draft, around, standing, part) {
+    match bind_there(alloc, draft, around, standing, part) {
         Ok(()) => Ok(()),
         Err(OrMemory::Fault(_)) => Err(OrMemory::Fault(place)),
         Err(OrMemory::NoMemory) => Err(OrMemory::NoMemory),
@@ -87,7 +97,7 @@ fn bind_part<'a>(
 }
 
 /// Binds the parts of a body.
-#[tactic(auto, using(crate::proofs::Walked::walk_begins, crate::proofs::Walked::walk_goes_on, crate::proofs::Walked::walk_ends, crate::proofs::Walked::round_now))]
+#[tactic(auto, using(bound_statements::proofs::Walked::walk_begins, bound_statements::proofs::Walked::walk_goes_on, bound_statements::proofs::Walked::walk_ends))]
 pub(crate) fn bind_body<'a>(
     alloc: Global,
     draft: &mut Draft,

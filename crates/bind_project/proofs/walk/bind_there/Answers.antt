@@ -1,0 +1,15 @@
+use Rattle.std.proofs.Common.{◌≡◌, ℕ, subst}
+use Rattle.binder.specs.StatementsBound.{Around, next_number}
+use Rattle.bound_project.specs.DraftView.{draft_view}
+use Rattle.module_parts.specs.View.{part_view}
+use Rattle.statement_numbers.specs.View.{standing_view}
+use Rattle.bound_statements.specs.Walks.{Added, statements_of}
+use Rattle.bind_project.proofs.walk.bind_there.Goals as goal
+
+pub returns : goal.returns
+returns c =
+    let standing = standing_view c.args.standing in
+    subst
+    (λ (a : Around). (next : ℕ) → next ≡ next_number standing
+    → Added (statements_of a standing next (part_view c.args.part.now)) (draft_view c.args.draft.now) (draft_view c.bind_statements.new.draft))
+    c.in_ok-there.ensures.view c.in_ok-bind_statements.ensures

@@ -1,0 +1,9 @@
+pub mod Rounds
+pub mod Walked
+pub mod Lists
+pub mod Parts
+pub mod Ended
+pub mod Items
+pub mod Arrays
+pub mod Ifs
+pub mod Blocks

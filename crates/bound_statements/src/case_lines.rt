@@ -1,0 +1,262 @@
+//! Case lines, and the value that they are asked of.
+
+ghost use Rattle.std.specs.Prelude.{◌≡◌, [], ◌∷◌, List, Option, Some, IfOk, IfSome, OnOk, map};
+ghost use Rattle.bound_statements.specs.Actions.{OperandIs, Selects, case_in};
+ghost use Rattle.bound_statements.specs.Reads.{ItemPushed, Read};
+ghost use Rattle.bound_statements.specs.Round.{StandsAt, around_view};
+ghost use Rattle.binder.specs.ExpressionsBound.{bound_operand};
+ghost use Rattle.binder.specs.Options.{from_two, from_three};
+ghost use Rattle.binder.specs.StatementsBound.{case_tests, selected};
+ghost use Rattle.bound_project.specs.DraftView.{draft_view};
+ghost use Rattle.bound_project.specs.Drafts.{Drafted};
+ghost use Rattle.bound_project.specs.Pieces as piece;
+ghost use Rattle.bound_project.specs.Statements.{Tests, no_tests, test_is, test_range};
+ghost use Rattle.bound_actions.specs.Actions.{ActionPushed};
+ghost use Rattle.bound_terms.specs.View.{EnvStands, env_view};
+ghost use Rattle.statement_numbers.specs.View.{standing_view};
+ghost use Rattle.vba_expression.specs.View.{view as expression_view};
+ghost use Rattle.vba_module.specs.Headers.{all_of, items_of};
+ghost use Rattle.vba_tree.specs.Tree as tree;
+ghost use Rattle.vba_tree.specs.View.{listed_view, test_view};
+
+use crate::around::Around;
+use crate::innermost::{header_of, innermost_block, opening_line};
+use crate::values::{blank_node, push_operand};
+use bound_declarations::NotYet;
+use bound_project::{ActionKind, DeclaredType, Draft, Node, NodeKind};
+use bound_terms::Env;
+use constant_values::operator_kind;
+use statement_numbers::{Sought, Standing, plus};
+use std::alloc::Global;
+use vba_base::{NoMemory, OrMemory};
+use vba_expression::Expression;
+use vba_tree::{BlockLine, CaseTest, Listed, Next};
+use vba_values::OpKind;
+
+/// Begins a test.
+fn begin_test(draft: &mut Draft) -> Result<(), NoMemory>
+    ensures { OnOk result (draft_view draft.new ≡ record (draft_view draft.old) { pieces = piece.a_test_begun ∷ (draft_view draft.old).pieces }) }
+{
+    draft.push(Node {
+        kind: NodeKind::TestBegins,
+        ..blank_node()
+    })
+}
+
+/// Ends a test of one value.
+fn end_test(draft: &mut Draft, operator: OpKind, of: DeclaredType) -> Result<(), NoMemory>
+    ensures { OnOk result (draft_view draft.new ≡ record (draft_view draft.old) {
+      pieces = piece.of_test (λ e. piece.a_test_is operator (piece.as_operand of e)) (draft_view draft.old).pieces;
+    }) }
+{
+    draft.push(Node {
+        kind: NodeKind::TestIs { operator, of },
+        ..blank_node()
+    })
+}
+
+/// Ends a test of two values.
+fn end_range(draft: &mut Draft, low: DeclaredType, high: DeclaredType) -> Result<(), NoMemory>
+    ensures { OnOk result (draft_view draft.new ≡ record (draft_view draft.old) {
+      pieces = piece.of_range (λ a b. piece.a_test_range (piece.as_operand low a) (piece.as_operand high b)) (draft_view draft.old).pieces;
+    }) }
+{
+    draft.push(Node {
+        kind: NodeKind::TestRange { low, high },
+        ..blank_node()
+    })
+}
+
+/// Pushes a test of one value.
+fn push_is<'a>(
+    alloc: Global,
+    draft: &mut Draft,
+    env: Env<'a>,
+    operator: OpKind,
+    value: &'a Expression,
+) -> Result<(), OrMemory<NotYet>>
+    requires { EnvStands env }
+    ensures { OnOk result ((rest : Option Tests)
+        → ItemPushed Tests piece.tests_off (from_two (test_is operator) (bound_operand (env_view env.entry) (expression_view value.now)) rest) rest
+        (draft_view draft.old) (draft_view draft.new)) }
+{
+    begin_test(draft)?;
+    let of = push_operand(alloc, draft, env, value)?;
+    end_test(draft, operator, of)?;
+    Ok(())
+}
+
+/// Pushes a test of two values.
+fn push_range<'a>(
+    alloc: Global,
+    draft: &mut Draft,
+    env: Env<'a>,
+    low: &'a Expression,
+    high: &'a Expression,
+) -> Result<(), OrMemory<NotYet>>
+    requires { EnvStands env }
+    ensures { OnOk result ((rest : Option Tests)
+        → ItemPushed Tests piece.tests_off
+        (from_three test_range (bound_operand (env_view env.entry) (expression_view low.now)) (bound_operand (env_view env.entry) (expression_view high.now)) rest) rest
+        (draft_view draft.old) (draft_view draft.new)) }
+{
+    begin_test(draft)?;
+    let low = push_operand(alloc, draft, env, low)?;
+    let high = push_operand(alloc, draft, env, high)?;
+    end_range(draft, low, high)?;
+    Ok(())
+}
+
+/// Pushes a test.
+fn push_test<'a>(
+    alloc: Global,
+    draft: &mut Draft,
+    env: Env<'a>,
+    test: &'a CaseTest,
+) -> Result<(), OrMemory<NotYet>>
+    requires { EnvStands env }
+    ensures { OnOk result ((rest : List tree.CaseTest)
+        → ItemPushed Tests piece.tests_off (case_tests (env_view env.entry) (test_view test.now ∷ rest)) (case_tests (env_view env.entry) rest)
+        (draft_view draft.old) (draft_view draft.new)) }
+{
+    match test {
+        CaseTest::Value(value) => push_is(alloc, draft, env, OpKind::Eq, value),
+        CaseTest::Range { low, high, .. } => push_range(alloc, draft, env, low, high),
+        CaseTest::Comparison {
+            operator,
+            value,
+            ..
+        } => match operator_kind(*operator) {
+            Some(operator) => push_is(alloc, draft, env, operator, value),
+            None => Err(OrMemory::Fault(NotYet)),
+        },
+    }
+}
+
+/// Pushes a test behind so many; answers how many there are then.
+#[tactic(auto, using(crate::proofs::Items::read_more))]
+fn push_next<'a>(
+    alloc: Global,
+    draft: &mut Draft,
+    env: Env<'a>,
+    test: &'a CaseTest,
+    before: u32,
+) -> Result<u32, OrMemory<NotYet>>
+    requires { EnvStands env }
+    ensures { IfOk result (λ count. (all : Option Tests) (rest : List tree.CaseTest) (base : Drafted)
+        → Read Tests piece.tests_off all (case_tests (env_view env.entry) (test_view test.now ∷ rest)) before base (draft_view draft.old)
+        → Read Tests piece.tests_off all (case_tests (env_view env.entry) rest) count base (draft_view draft.new)) }
+{
+    push_test(alloc, draft, env, test)?;
+    Ok(plus(before, 1)?)
+}
+
+/// Pushes the tests behind commas behind so many; answers how many there are then.
+fn push_behind<'a>(
+    alloc: Global,
+    draft: &mut Draft,
+    env: Env<'a>,
+    others: &'a [Next<CaseTest>],
+    before: u32,
+) -> Result<u32, OrMemory<NotYet>>
+    requires { EnvStands env }
+    ensures { IfOk result (λ count. (all : Option Tests) (base : Drafted)
+        → Read Tests piece.tests_off all (case_tests (env_view env.entry) (items_of (map (λ next. (next.mark, test_view next.item)) others.now))) before base (draft_view draft.old)
+        → Read Tests piece.tests_off all (Some no_tests) count base (draft_view draft.new)) }
+{
+    let mut pushed = before;
+    let mut left = others;
+    'tests: while let [next, behind @ ..] = left {
+        pushed = push_next(alloc, draft, env, &next.item, pushed)?;
+        left = behind;
+    }
+    Ok(pushed)
+}
+
+/// Pushes tests; answers how many they are.
+fn push_tests<'a>(
+    alloc: Global,
+    draft: &mut Draft,
+    env: Env<'a>,
+    list: &'a Listed<CaseTest>,
+) -> Result<u32, OrMemory<NotYet>>
+    requires { EnvStands env }
+    ensures { IfOk result (λ count. Read Tests piece.tests_off (case_tests (env_view env.entry) (all_of (listed_view test_view list.now))) (Some no_tests) count
+        (draft_view draft.old) (draft_view draft.new)) }
+{
+    let pushed = push_next(alloc, draft, env, &list.first, 0)?;
+    let count = push_behind(alloc, draft, env, list.others.as_slice(), pushed)?;
+    Ok(count)
+}
+
+/// The value of the Select Case that stands open.
+fn selected_value<'a>(standing: Standing<'a>) -> Option<&'a Expression>
+    ensures { IfSome result (λ value. Selects (standing_view standing.entry).around (expression_view value.now)) }
+{
+    let Some(opened) = innermost_block(standing) else {
+        return None;
+    };
+    match opening_line(standing, opened) {
+        Some(BlockLine::SelectCase { value, .. }) => Some(value),
+        _ => None,
+    }
+}
+
+/// The type that a value has as an operand: it is asked of a draft of its own.
+fn operand_type<'a>(
+    alloc: Global,
+    env: Env<'a>,
+    value: &'a Expression,
+) -> Result<DeclaredType, OrMemory<NotYet>>
+    requires { EnvStands env }
+    ensures { IfOk result (λ of. OperandIs (bound_operand (env_view env.entry) (expression_view value.now)) of) }
+{
+    let mut draft = Draft::new(alloc);
+    push_operand(alloc, &mut draft, env, value)
+}
+
+/// The type that the value of the Select Case that stands open has as an operand.
+fn selected_type<'a>(
+    alloc: Global,
+    around: Around<'a>,
+    standing: Standing<'a>,
+) -> Result<DeclaredType, OrMemory<NotYet>>
+    requires env { EnvStands around.env }
+    requires placed { StandsAt around (standing_view standing) }
+    ensures { IfOk result (λ of. OperandIs (selected (around_view around.entry) (standing_view standing.entry).around) of) }
+{
+    match selected_value(standing) {
+        Some(value) => operand_type(alloc, around.env, value),
+        None => Err(OrMemory::Fault(NotYet)),
+    }
+}
+
+/// `Case tests`
+#[tactic(auto, using(crate::proofs::Ended::case_pushed))]
+pub(crate) fn bind_case<'a>(
+    alloc: Global,
+    draft: &mut Draft,
+    around: Around<'a>,
+    standing: Standing<'a>,
+    tests: &'a Listed<CaseTest>,
+) -> Result<ActionKind, OrMemory<NotYet>>
+    requires env { EnvStands around.env }
+    requires empty { (draft_view draft.old).pieces ≡ [] }
+    requires placed { StandsAt around (standing_view standing) }
+    ensures { IfOk result (λ kind. ActionPushed kind
+        (case_in (env_view around.entry.env) (around_view around.entry) (standing_view standing.entry) (all_of (listed_view test_view tests.now)))
+        (draft_view draft.old) (draft_view draft.new)) }
+{
+    let first = standing.sought_behind(Sought::Here)?;
+    let other = standing.sought_behind(Sought::Arm(0))?;
+    let of = selected_type(alloc, around, standing)?;
+    let tests = push_tests(alloc, draft, around.env, tests)?;
+    Ok(ActionKind::Case {
+        tests,
+        header: header_of(standing),
+        of,
+        compare: around.env.compare,
+        first,
+        other,
+    })
+}

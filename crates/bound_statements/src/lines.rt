@@ -1,0 +1,254 @@
+//! Lines of blocks.
+
+ghost use Rattle.std.specs.Prelude.{◌≡◌, [], None, IfOk, option_map};
+ghost use Rattle.bound_statements.specs.Actions.{block_in, branch_in};
+ghost use Rattle.bound_statements.specs.Round.{StandsAt, around_view};
+ghost use Rattle.binder.specs.ExpressionsBound.{bound_operand};
+ghost use Rattle.binder.specs.Numbering.{an_arm, sought_behind};
+ghost use Rattle.binder.specs.StatementsBound as plain;
+ghost use Rattle.bound_project.specs.DraftView.{draft_view};
+ghost use Rattle.bound_project.specs.Statements as plain_to;
+ghost use Rattle.bound_actions.specs.Actions.{ActionPushed};
+ghost use Rattle.bound_terms.specs.View.{EnvStands, env_view};
+ghost use Rattle.statement_numbers.specs.View.{sought_view, standing_view};
+ghost use Rattle.vba_expression.specs.View.{view as expression_view};
+ghost use Rattle.vba_tree.specs.View.{block_line_view, loop_condition_view};
+
+use crate::around::Around;
+use crate::case_lines::bind_case;
+use crate::for_lines::bind_for_line;
+use crate::innermost::header_of;
+use crate::values::{push_operand, there};
+use bound_actions::bind_with;
+use bound_declarations::NotYet;
+use bound_project::{ActionKind, Draft};
+use bound_terms::Env;
+use statement_numbers::{Sought, Standing};
+use std::alloc::Global;
+use vba_base::OrMemory;
+use vba_expression::Expression;
+use vba_tree::{BlockLine, LoopCondition, LoopWord};
+
+/// A condition: where it is as told, control goes to one statement, and else to the other.
+#[tactic(auto, using(crate::proofs::Ended::test_pushed))]
+pub(crate) fn bind_test<'a>(
+    alloc: Global,
+    draft: &mut Draft,
+    env: Env<'a>,
+    sense: bool,
+    condition: &'a Expression,
+    to: u32,
+    other: u32,
+) -> Result<ActionKind, OrMemory<NotYet>>
+    requires env { EnvStands env }
+    requires empty { (draft_view draft.old).pieces ≡ [] }
+    ensures { IfOk result (λ kind. ActionPushed kind
+        (option_map (λ c. plain_to.test sense c to other) (bound_operand (env_view env.entry) (expression_view condition.now)))
+        (draft_view draft.old) (draft_view draft.new)) }
+{
+    push_operand(alloc, draft, env, condition)?;
+    Ok(ActionKind::Test { sense, to, other })
+}
+
+/// The condition of a line: where it holds, control goes to the first statement of its block, and else elsewhere.
+fn bind_branch<'a>(
+    alloc: Global,
+    draft: &mut Draft,
+    env: Env<'a>,
+    standing: Standing<'a>,
+    condition: &'a Expression,
+    elsewhere: Sought,
+) -> Result<ActionKind, OrMemory<NotYet>>
+    requires env { EnvStands env }
+    requires empty { (draft_view draft.old).pieces ≡ [] }
+    ensures { IfOk result (λ kind. ActionPushed kind
+        (branch_in (env_view env.entry) (standing_view standing.entry) (sought_view elsewhere) (expression_view condition.now))
+        (draft_view draft.old) (draft_view draft.new)) }
+{
+    let first = standing.sought_behind(Sought::Here)?;
+    let other = standing.sought_behind(elsewhere)?;
+    bind_test(alloc, draft, env, true, condition, first, other)
+}
+
+/// `Select Case value`
+#[tactic(auto, using(crate::proofs::Ended::select_pushed))]
+fn bind_select<'a>(
+    alloc: Global,
+    draft: &mut Draft,
+    env: Env<'a>,
+    standing: Standing<'a>,
+    value: &'a Expression,
+) -> Result<ActionKind, OrMemory<NotYet>>
+    requires env { EnvStands env }
+    requires empty { (draft_view draft.old).pieces ≡ [] }
+    ensures { IfOk result (λ kind. ActionPushed kind
+        (option_map (λ v. plain_to.select v (sought_behind (an_arm 0) (standing_view standing.entry))) (bound_operand (env_view env.entry) (expression_view value.now)))
+        (draft_view draft.old) (draft_view draft.new)) }
+{
+    let first = standing.sought_behind(Sought::Arm(0))?;
+    push_operand(alloc, draft, env, value)?;
+    Ok(ActionKind::Select { first })
+}
+
+/// Is it `While`?
+fn is_while(word: LoopWord) -> bool
+    ensures { result ≡ plain.is_while word }
+{
+    match word {
+        LoopWord::While => true,
+        LoopWord::Until => false,
+    }
+}
+
+/// `Do` and `Loop`, with a condition or without.
+#[tactic(auto, using(crate::proofs::Ended::gone_to))]
+fn bind_loop<'a>(
+    alloc: Global,
+    draft: &mut Draft,
+    env: Env<'a>,
+    condition: &'a Option<LoopCondition>,
+    to: u32,
+    behind: u32,
+) -> Result<ActionKind, OrMemory<NotYet>>
+    requires env { EnvStands env }
+    requires empty { (draft_view draft.old).pieces ≡ [] }
+    ensures { IfOk result (λ kind. ActionPushed kind
+        (plain.loop_action (env_view env.entry) (option_map loop_condition_view condition.now) to behind)
+        (draft_view draft.old) (draft_view draft.new)) }
+{
+    match condition {
+        None => Ok(ActionKind::GoTo { to }),
+        Some(condition) => bind_test(
+            alloc,
+            draft,
+            env,
+            is_while(condition.word),
+            &condition.condition,
+            to,
+            behind,
+        ),
+    }
+}
+
+/// A line with a condition or a value, in its scope.
+fn bind_condition<'a>(
+    alloc: Global,
+    draft: &mut Draft,
+    around: Around<'a>,
+    standing: Standing<'a>,
+    line: &'a BlockLine,
+) -> Result<ActionKind, OrMemory<NotYet>>
+    requires env { EnvStands around.env }
+    requires empty { (draft_view draft.old).pieces ≡ [] }
+    ensures { IfOk result (λ kind. ActionPushed kind
+        (block_in (env_view around.entry.env) (around_view around.entry) (standing_view standing.entry) (block_line_view line.now))
+        (draft_view draft.old) (draft_view draft.new)) }
+{
+    let env = around.env;
+    match line {
+        BlockLine::If { condition, .. } | BlockLine::ElseIf { condition, .. } => {
+            bind_branch(alloc, draft, env, standing, condition, Sought::Arm(0))
+        }
+        BlockLine::SelectCase { value, .. } => bind_select(alloc, draft, env, standing, value),
+        BlockLine::While { condition, .. } => bind_branch(
+            alloc,
+            draft,
+            env,
+            standing,
+            condition,
+            Sought::BehindBlock(0),
+        ),
+        _ => Err(OrMemory::Fault(NotYet)),
+    }
+}
+
+/// A line of a loop that has no counter, in its scope.
+#[tactic(auto, using(crate::proofs::Ended::gone_to))]
+fn bind_loop_line<'a>(
+    alloc: Global,
+    draft: &mut Draft,
+    around: Around<'a>,
+    standing: Standing<'a>,
+    line: &'a BlockLine,
+) -> Result<ActionKind, OrMemory<NotYet>>
+    requires env { EnvStands around.env }
+    requires empty { (draft_view draft.old).pieces ≡ [] }
+    ensures { IfOk result (λ kind. ActionPushed kind
+        (block_in (env_view around.entry.env) (around_view around.entry) (standing_view standing.entry) (block_line_view line.now))
+        (draft_view draft.old) (draft_view draft.new)) }
+{
+    let env = around.env;
+    match line {
+        BlockLine::Do { condition, .. } => {
+            let first = standing.sought_behind(Sought::Here)?;
+            let behind = standing.sought_behind(Sought::BehindBlock(0))?;
+            bind_loop(alloc, draft, env, condition, first, behind)
+        }
+        BlockLine::Loop { condition, .. } => {
+            let behind = standing.sought_behind(Sought::Here)?;
+            bind_loop(alloc, draft, env, condition, header_of(standing), behind)
+        }
+        BlockLine::Wend(_) => Ok(ActionKind::GoTo {
+            to: header_of(standing),
+        }),
+        _ => Err(OrMemory::Fault(NotYet)),
+    }
+}
+
+/// A line of a With block, in its scope.
+#[tactic(auto, using(crate::proofs::Ended::plainly))]
+fn bind_with_line<'a>(
+    alloc: Global,
+    draft: &mut Draft,
+    around: Around<'a>,
+    standing: Standing<'a>,
+    line: &'a BlockLine,
+) -> Result<ActionKind, OrMemory<NotYet>>
+    requires env { EnvStands around.env }
+    requires empty { (draft_view draft.old).pieces ≡ [] }
+    ensures { IfOk result (λ kind. ActionPushed kind
+        (block_in (env_view around.entry.env) (around_view around.entry) (standing_view standing.entry) (block_line_view line.now))
+        (draft_view draft.old) (draft_view draft.new)) }
+{
+    match line {
+        BlockLine::With { object, .. } => there(bind_with(alloc, draft, around.env, object)?),
+        BlockLine::EndWith { .. } => Ok(ActionKind::EndWith {
+            header: header_of(standing),
+        }),
+        _ => Err(OrMemory::Fault(NotYet)),
+    }
+}
+
+/// A line of a block, in its scope.
+pub(crate) fn bind_line<'a>(
+    alloc: Global,
+    draft: &mut Draft,
+    around: Around<'a>,
+    standing: Standing<'a>,
+    line: &'a BlockLine,
+) -> Result<ActionKind, OrMemory<NotYet>>
+    requires env { EnvStands around.env }
+    requires empty { (draft_view draft.old).pieces ≡ [] }
+    requires placed { StandsAt around (standing_view standing) }
+    ensures { IfOk result (λ kind. ActionPushed kind
+        (block_in (env_view around.entry.env) (around_view around.entry) (standing_view standing.entry) (block_line_view line.now))
+        (draft_view draft.old) (draft_view draft.new)) }
+{
+    match line {
+        BlockLine::If { .. }
+        | BlockLine::ElseIf { .. }
+        | BlockLine::SelectCase { .. }
+        | BlockLine::While { .. } => bind_condition(alloc, draft, around, standing, line),
+        BlockLine::Do { .. } | BlockLine::Loop { .. } | BlockLine::Wend(_) => {
+            bind_loop_line(alloc, draft, around, standing, line)
+        }
+        BlockLine::Case { tests, .. } => bind_case(alloc, draft, around, standing, tests),
+        BlockLine::For { .. } | BlockLine::ForEach { .. } | BlockLine::Next { .. } => {
+            bind_for_line(alloc, draft, around, standing, line)
+        }
+        BlockLine::With { .. } | BlockLine::EndWith { .. } => {
+            bind_with_line(alloc, draft, around, standing, line)
+        }
+        _ => Err(OrMemory::Fault(NotYet)),
+    }
+}
