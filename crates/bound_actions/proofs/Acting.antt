@@ -13,7 +13,7 @@ use Rattle.bound_project.specs.View.{declared_view, variable_view}
 use Rattle.bound_project.specs.Expressions.{Lvalue, Exprs}
 use Rattle.bound_project.specs.Expressions as bound
 use Rattle.bound_project.specs.Statements.{assign}
-use Rattle.bound_project.specs.Pieces.{Piece, an_expr, put}
+use Rattle.bound_project.specs.Pieces.{an_expr, put}
 use Rattle.bound_project.specs.Pieces as piece
 use Rattle.bound_project.specs.Drafts.{Drafted}
 use Rattle.binder.specs.Types.{is_object}
@@ -25,13 +25,13 @@ use Rattle.binder.specs.Terms as plain
 use Rattle.binder.specs.Storage.{procedure_number}
 use Rattle.binder.specs.ExpressionsBound.{reader, element_type, call_type, indexes_value, node_or, call_value, indexed_value, numbers_of, parameters_in, if_there, with_type, call_with, indexed, value_of, callee, term_of, givens}
 use Rattle.binder.specs.StatementsBound.{assigned, assigned_to, is_property_term, plain_variable}
-use Rattle.bound_terms.specs.declared.term.Tree.{Tree}
-use Rattle.bound_terms.specs.declared.term.Term.{Term}
-use Rattle.bound_terms.specs.declared.term.Term.TheVariants as term
-use Rattle.bound_terms.specs.Standing.{TermStands}
+use Rattle.bound_calls.specs.declared.term.Tree.{Tree}
+use Rattle.bound_calls.specs.declared.term.Term.{Term}
+use Rattle.bound_calls.specs.declared.term.Term.TheVariants as term
+use Rattle.bound_calls.specs.Standing.{TermStands}
 use Rattle.bound_actions.specs.Actions.{Assigns, IsVariable}
-use Rattle.bound_terms.proofs.Growing.{grown_pieces}
-use Rattle.bound_terms.proofs.Taking.{node_of}
+use Rattle.bound_calls.proofs.Growing.{grown_pieces}
+use Rattle.bound_calls.proofs.Taking.{node_of}
 
 -- ---- calls are no places
 

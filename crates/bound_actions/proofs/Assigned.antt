@@ -33,20 +33,20 @@ use Rattle.binder.specs.StatementsBound.{assigned, assigned_to, is_property_term
 use Rattle.declared_names.specs.View.{space_view, written_view}
 use Rattle.bound_actions.specs.declared.trees.Split.{Split}
 use Rattle.bound_terms.specs.declared.properties.Writer.{Writer}
-use Rattle.bound_terms.specs.declared.term.Term.{Term}
-use Rattle.bound_terms.specs.declared.term.Tree.{Tree}
-use Rattle.bound_terms.specs.Standing.{RoutineStands, TermStands, TreeStands}
-use Rattle.bound_terms.specs.Steps.{Binds, Leaves}
+use Rattle.bound_calls.specs.declared.term.Term.{Term}
+use Rattle.bound_calls.specs.declared.term.Tree.{Tree}
+use Rattle.bound_calls.specs.Standing.{RoutineStands, TermStands, TreeStands}
+use Rattle.bound_calls.specs.Steps.{Binds, Leaves}
 use Rattle.bound_actions.specs.Actions.{ActionStands, Assigns}
-use Rattle.bound_terms.specs.Calls.{PassesRest}
+use Rattle.bound_calls.specs.Calls.{PassesRest}
 use Rattle.bound_actions.specs.Called.{ActionIs, AllPassed, AssignsTo, IsBare, LeavesAlone, Lets, LetsOn, PassesAll, SplitAt, args_on}
 use Rattle.bound_terms.specs.Callee.{CalleeIs, IsWriter, WriterOf}
-use Rattle.bound_terms.proofs.Growing.{grown_twice}
-use Rattle.bound_terms.proofs.Arguing.{left_long}
-use Rattle.bound_terms.proofs.CallSteps.{parameters_long}
-use Rattle.bound_terms.proofs.Passing.{arguments_bound}
+use Rattle.bound_calls.proofs.Growing.{grown_twice}
+use Rattle.bound_calls.proofs.Arguing.{left_long}
+use Rattle.bound_calls.proofs.CallSteps.{parameters_long}
+use Rattle.bound_calls.proofs.Passing.{arguments_bound}
 use Rattle.bound_actions.proofs.Called.{index_is}
-use Rattle.bound_terms.proofs.Reading.{let_is}
+use Rattle.bound_calls.proofs.Reading.{let_is}
 
 -- ---- properties that are assigned to
 

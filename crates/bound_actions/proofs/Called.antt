@@ -2,9 +2,9 @@
 use Rattle.std.proofs.Common.{◌≡◌, T, ℕ, ◌+◌, ◌==◌, ◌&&◌, not, Bool, true, false, List, [], ◌∷◌, ◌++◌, map, length, Option, Some, None, option_map, is_some, if◌then◌else◌, refl, sym, ap, subst, ◌∙◌, arith, length-append}
 use Rattle.std.proofs.lemmas.List.{map-append}
 use Rattle.vba_base.specs.declared.place.Place.{Place}
-use Rattle.vba_expression.specs.Tree.{Expr, index, no_args}
+use Rattle.vba_expression.specs.Tree.{Expr, index}
 use Rattle.vba_expression.specs.Nodes as nodes
-use Rattle.vba_expression.specs.Nodes.{behind_node, behind_nodes, last_arguments, last_tree, tree_in, arguments_in}
+use Rattle.vba_expression.specs.Nodes.{behind_nodes, last_tree, tree_in, arguments_in}
 use Rattle.vba_expression.specs.declared.node.ExpressionNode.{ExpressionNode}
 use Rattle.vba_expression.specs.declared.node.ExpressionNode.TheVariants as node
 use Rattle.bound_project.specs.declared.declared_type.DeclaredType.{DeclaredType}
@@ -28,54 +28,26 @@ use Rattle.binder.specs.Terms as plain
 use Rattle.binder.specs.ExpressionsBound.{bare_call, call_with, callee, givens, indexed, term_of, value_of}
 use Rattle.binder.specs.StatementsBound.{called_place, called_term, called_with, is_one, raise_parameters}
 use Rattle.bound_actions.specs.declared.trees.Split.{Split}
-use Rattle.bound_terms.specs.declared.term.Ending.{Ending}
-use Rattle.bound_terms.specs.declared.term.Routine.{Routine}
-use Rattle.bound_terms.specs.declared.term.Term.{Term}
-use Rattle.bound_terms.specs.declared.term.Term.TheVariants as term
-use Rattle.bound_terms.specs.declared.term.Tree.{Tree}
-use Rattle.bound_terms.specs.declared.term.Passed.{Passed}
-use Rattle.bound_terms.specs.declared.term.Item.{Item}
-use Rattle.bound_terms.specs.declared.term.Item.TheVariants as item
-use Rattle.bound_terms.specs.Passing.{AllTaken}
-use Rattle.bound_terms.specs.Standing.{RoutineStands, TermStands, TreeStands, PassedStands, Stands, Base}
-use Rattle.bound_terms.specs.Steps.{Goes, Leaves}
-use Rattle.bound_terms.specs.Taking.{Pushes, TakesValue}
+use Rattle.bound_calls.specs.declared.term.Ending.{Ending}
+use Rattle.bound_calls.specs.declared.term.Term.{Term}
+use Rattle.bound_calls.specs.declared.term.Term.TheVariants as term
+use Rattle.bound_calls.specs.declared.term.Tree.{Tree}
+use Rattle.bound_calls.specs.declared.term.Passed.{Passed}
+use Rattle.bound_calls.specs.Passing.{AllTaken}
+use Rattle.bound_calls.specs.Standing.{TermStands, TreeStands}
+use Rattle.bound_calls.specs.Steps.{Leaves}
+use Rattle.bound_calls.specs.Taking.{Pushes, TakesValue}
 use Rattle.bound_actions.specs.Actions.{ActionStands}
-use Rattle.bound_terms.specs.Calls.{PassesRest, PushesCall}
-use Rattle.bound_actions.specs.Called.{IsBare, LeavesAlone, SplitAt, args_on, Framed, Reads, AllPassed, PassesAll, ActionIs, Acts, ActsOn, CallsTree, CallsTreeOn}
+use Rattle.bound_calls.specs.Calls.{PassesRest}
+use Rattle.bound_actions.specs.Called.{IsBare, LeavesAlone, SplitAt, args_on, Framed, Reads, RestPushed, AllPassed, PassesAll, ActionIs, Acts, ActsOn, CallsTree, CallsTreeOn}
 use Rattle.bound_terms.specs.Callee.{CalleeIs}
-use Rattle.bound_terms.proofs.Growing.{grown_same, grown_twice}
-use Rattle.bound_terms.proofs.Arguing.{left_long}
-use Rattle.bound_terms.proofs.CallSteps.{above_both, parameters_long}
+use Rattle.bound_calls.proofs.Growing.{grown_same, grown_twice}
+use Rattle.bound_calls.proofs.Arguing.{left_long}
+use Rattle.bound_calls.proofs.CallSteps.{above_both, parameters_long}
 use Rattle.bound_actions.proofs.NodeTrees.{behind_both}
-use Rattle.bound_terms.proofs.Passing.{arguments_bound, nameless}
+use Rattle.bound_calls.proofs.Passing.{arguments_bound, nameless}
 
 -- ---- arguments
-
-only_framed : (env : Env) (t : Tables) (x : Passed) (is : List nodes.Item) (ps : List Piece) (base : Base) → Stands env t (item.Listed x ∷ []) is ps base → is ≡ nodes.arguments (last_arguments is) ∷ base.items
-only_framed env t x [] ps base h = absurd h
-only_framed env t x (nodes.tree e ∷ is) ps base h = absurd h
-only_framed env t x (nodes.arguments args ∷ is) ps base h = ap (λ l. nodes.arguments args ∷ l) h.1.1.0
-
-only_arguments : (env : Env) (t : Tables) (x : Passed) (is : List nodes.Item) (ps : List Piece) (base : Base) → Stands env t (item.Listed x ∷ []) is ps base → PassedStands env base.parameters x (last_arguments is) ps base.pieces
-only_arguments env t x [] ps base h = absurd h
-only_arguments env t x (nodes.tree e ∷ is) ps base h = absurd h
-only_arguments env t x (nodes.arguments args ∷ is) ps base h = let A : List Piece → Type 0 = λ l. PassedStands env base.parameters x args ps l in subst A h.1.1.1 h.1.0
-
--- all nodes of arguments behind the first one were read
-pub reads_arguments : (env : Env) (ns : List ExpressionNode) (parameters : List Parameter) (none x : Passed) (ys xs : List Item) (d e : Drafted) → none.left.now ≡ parameters → none.count ≡ 0 → ys ≡ item.Listed x ∷ xs → xs ≡ []
-    → Goes env d (item.Listed none ∷ []) e ys (λ is. behind_nodes is ns) → Reads env (map parameter_view parameters) (node.NoArguments ∷ ns) d e x
-reads_arguments env ns parameters none x ys xs d e left count a b g =
-    let all : ys ≡ item.Listed x ∷ [] = a ∙ ap (λ l. item.Listed x ∷ l) b in
-    let start : PassedStands env (map parameter_view parameters) none no_args d.pieces d.pieces = record { made = []; taken = ap (λ l. map parameter_view l) (sym left); count_is = count; on_top = refl } in
-    let base : List nodes.Item → Base = λ items. record { pieces = d.pieces; parameters = map parameter_view parameters; items = items } in
-    let A : List nodes.Item → List Item → Type 0 = λ items l. Stands env e.tables l (behind_nodes (nodes.arguments no_args ∷ items) ns) e.pieces (base items) in
-    let end : (items : List nodes.Item) → A items (item.Listed x ∷ []) = λ items. subst (A items) all (g.stands (nodes.arguments no_args ∷ items) (base items) (d.pieces, (start, (refl, refl)))) in
-    record {
-      grown = g.grown;
-      framed = λ items. only_framed env e.tables x (behind_nodes (nodes.arguments no_args ∷ items) ns) e.pieces (base items) (end items);
-      stands = λ items. only_arguments env e.tables x (behind_nodes (nodes.arguments no_args ∷ items) ns) e.pieces (base items) (end items);
-    }
 
 taken_long : (value : plain.Term → Place → Option bound.Expr) (ps : List project.Parameter) (gs : List Given) (xs : List Argument) (left : List project.Parameter) → AllTaken value ps gs xs left → length xs ≡ length gs
 taken_long value ps [] [] left t = refl
@@ -103,6 +75,12 @@ passes_all env parameters x ns d d1 e left all r h a b = record {
             ∙ ap (λ l. above l d.pieces) (sym (map-append an_argument s.made h.made));
       };
 }
+
+pub all_passed : (env : Env) (parameters : List Parameter) (x : Passed) (ns : List ExpressionNode) (d d1 e : Drafted) (written all : ℕ) → Reads env (map parameter_view parameters) ns d d1 x → RestPushed x d1 e written all
+    → PassesAll env (map parameter_view parameters) ns d e written all
+all_passed env parameters x ns d d1 e written all r h =
+    let A : ℕ → Type 0 = λ n. PassesAll env (map parameter_view parameters) ns d e n all in
+    subst A (sym h.written_is) (passes_all env parameters x ns d d1 e (length x.left.now) all r h.rest refl h.all_is)
 
 -- ---- what is done
 
@@ -163,29 +141,12 @@ acts_clear env x place d is =
     })
 
 -- a procedure is called by a statement
-routine_called : (env : Env) (place : Place) (y : plain.Term) (space : Space) (number : ℕ) (w : Written) (gs : List Given) (made : bound.Expr) → y ≡ a_routine space number w
+pub routine_called : (env : Env) (place : Place) (y : plain.Term) (space : Space) (number : ℕ) (w : Written) (gs : List Given) (made : bound.Expr) → y ≡ a_routine space number w
     → value_of env (indexed env place y gs) place ≡ Some made → called_term env place y gs ≡ Some (evaluate made)
 routine_called env place y space number w gs made is h =
     let A : plain.Term → Type 0 = λ z. value_of env (indexed env place z gs) place ≡ Some made in
     let B : plain.Term → Type 0 = λ z. called_term env place z gs ≡ Some (evaluate made) in
     subst B (sym is) (ap (λ o. option_map evaluate o) (subst A is h))
-
-pub acts_routine : (env : Env) (r : Routine) (x : Passed) (place : Place) (ns : List ExpressionNode) (d d1 e : Drafted) → Reads env (map parameter_view r.parameters.now) ns d d1 x → PushesCall r x place d1 e
-    → ActsOn env (term.Routine r) place ns d e action.Evaluate
-acts_routine env r x place ns d d1 e a p = record {
-  framed = a.framed;
-  acts = λ items.
-      let args = args_on items ns in
-      record {
-        grown = grown_twice d d1 e a.grown p.grown;
-        named = tt;
-        stands = λ y h.
-            let A : List Piece → Type 0 = λ qs. RoutineStands env r y qs [] in
-            let B : List Piece → Type 0 = λ qs. PassedStands env (map parameter_view r.parameters.now) x args d1.pieces qs in
-            let m = p.stands env y args [] [] (subst A h.none_pushed h) (subst B h.none_pushed (a.stands items)) in
-            record { made = evaluate m.made; is = routine_called env place y h.space h.number h.written (givens env args) m.made h.is m.is; fits = ap (λ ps. action_of e.tables action.Evaluate ps) m.on_top };
-      };
-}
 
 -- ---- values as statements
 

@@ -4,3 +4,4 @@ pub mod Called
 pub mod Assigned
 pub mod Placing
 pub mod Folding
+pub mod NamedCalls

@@ -13,15 +13,15 @@ use Rattle.vba_expression.specs.declared.node.ExpressionNode.TheVariants as node
 use Rattle.bound_project.specs.Pieces.{Piece, Tables}
 use Rattle.bound_project.specs.Drafts.{Drafted}
 use Rattle.binder.specs.Terms.{Env}
-use Rattle.bound_terms.specs.declared.term.Tree.{Tree}
-use Rattle.bound_terms.specs.declared.term.Item.{Item}
-use Rattle.bound_terms.specs.declared.term.Item.TheVariants as item
-use Rattle.bound_terms.specs.Standing.{TermNamed, TreeStands, Stands, Grown, on_pieces}
-use Rattle.bound_terms.specs.Steps.{Goes, Leaves}
+use Rattle.bound_calls.specs.declared.term.Tree.{Tree}
+use Rattle.bound_calls.specs.declared.term.Item.{Item}
+use Rattle.bound_calls.specs.declared.term.Item.TheVariants as item
+use Rattle.bound_calls.specs.Standing.{TermNamed, TreeStands, Stands, Grown, on_pieces}
+use Rattle.bound_calls.specs.Steps.{Goes, Leaves}
 use Rattle.bound_actions.specs.declared.trees.Split.{Split}
 use Rattle.bound_actions.specs.Called.{Continues, IsBare, LeavesAlone, SplitAt}
-use Rattle.bound_terms.proofs.Growing.{grown_twice, term_named, tree_grows}
-use Rattle.bound_terms.proofs.Steps.{leaves_tree}
+use Rattle.bound_calls.proofs.Growing.{grown_twice, term_named, tree_grows}
+use Rattle.bound_calls.proofs.Steps.{leaves_tree}
 
 -- one item is left
 only_one : (env : Env) (t : Tables) (x : Tree) (is : List nodes.Item) (ps below : List Piece) → Stands env t (item.Tree x ∷ []) is ps (on_pieces below) → is ≡ nodes.tree (last_tree is) ∷ []

@@ -13,25 +13,25 @@ use Rattle.bound_project.specs.Drafts.{Drafted}
 use Rattle.bound_project.specs.Statements.{with_place, with_value}
 use Rattle.binder.specs.Constants.{place_of_expression}
 use Rattle.binder.specs.Types.{is_object}
-use Rattle.binder.specs.Terms.{Env, a_routine}
+use Rattle.binder.specs.Terms.{Env}
 use Rattle.binder.specs.Terms as terms
 use Rattle.binder.specs.ExpressionsBound.{bare_call, term_of, value_of}
 use Rattle.binder.specs.StatementsBound.{keeps, place_in, settled, with_action}
 use Rattle.bound_terms.specs.declared.env.Within.{Within}
-use Rattle.bound_terms.specs.declared.term.Ending.{Ending}
-use Rattle.bound_terms.specs.declared.term.Routine.{Routine}
-use Rattle.bound_terms.specs.declared.term.Term.{Term}
-use Rattle.bound_terms.specs.declared.term.Term.TheVariants as term
-use Rattle.bound_terms.specs.declared.term.Tree.{Tree}
+use Rattle.bound_calls.specs.declared.term.Ending.{Ending}
+use Rattle.bound_calls.specs.declared.term.Routine.{Routine}
+use Rattle.bound_calls.specs.declared.term.Term.{Term}
+use Rattle.bound_calls.specs.declared.term.Term.TheVariants as term
+use Rattle.bound_calls.specs.declared.term.Tree.{Tree}
 use Rattle.bound_actions.specs.Actions.{ActionStands, PlacePushed}
-use Rattle.bound_terms.specs.Calls.{node_of}
+use Rattle.bound_calls.specs.Calls.{node_of}
 use Rattle.bound_actions.specs.Kept.{Keeps, PushesTree, WithPlacePushed, place_ending}
-use Rattle.bound_terms.specs.Standing.{TermStands, PlaceStands}
-use Rattle.bound_terms.specs.Steps.{Leaves}
-use Rattle.bound_terms.specs.Taking.{CallsBare}
+use Rattle.bound_calls.specs.Standing.{TermStands, PlaceStands}
+use Rattle.bound_calls.specs.Steps.{Leaves}
+use Rattle.bound_calls.specs.Taking.{CallsBare}
 use Rattle.bound_terms.specs.View.{within_view}
 use Rattle.bound_terms.proofs.Fielding.{bare_is}
-use Rattle.bound_terms.proofs.Growing.{grown_twice, grown_pieces}
+use Rattle.bound_calls.proofs.Growing.{grown_twice, grown_pieces}
 
 -- a place by its last node and its type
 pub record PlaceThere (t : Tables) (e : Ending) (x : terms.Term) (ps below : List Piece) : Type 0 where

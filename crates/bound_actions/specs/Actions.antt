@@ -13,9 +13,9 @@ use Rattle.bound_project.specs.Drafts.{Drafted, ActionNamed}
 use Rattle.binder.specs.Terms.{Env}
 use Rattle.binder.specs.Terms as plain
 use Rattle.binder.specs.StatementsBound.{assigned_to, plain_variable}
-use Rattle.bound_terms.specs.declared.term.Term.{Term}
-use Rattle.bound_terms.specs.declared.term.Tree.{Tree}
-use Rattle.bound_terms.specs.Standing.{TermStands, TreeStands, Grown}
+use Rattle.bound_calls.specs.declared.term.Term.{Term}
+use Rattle.bound_calls.specs.declared.term.Tree.{Tree}
+use Rattle.bound_calls.specs.Standing.{TermStands, TreeStands, Grown}
 
 -- what a statement does, and that it is what its nodes say, which are all that stand there
 pub record ActionPushed (kind : ActionKind) (found : Option Action) (d e : Drafted) : Type 0 where

@@ -1,5 +1,5 @@
 -- Serves the code: calls that stand as statements.
-use Rattle.std.specs.Prelude.{◌≡◌, ℕ, length, false, List, [], ◌∷◌, ◌++◌, map, Option, Some}
+use Rattle.std.specs.Prelude.{◌≡◌, ℕ, ◌+◌, length, false, List, [], ◌∷◌, ◌++◌, map, Option, Some}
 use Rattle.vba_base.specs.declared.place.Place.{Place}
 use Rattle.vba_lexer.specs.declared.token.Token.{Token}
 use Rattle.vba_expression.specs.Tree.{Expr, Args, index}
@@ -20,13 +20,14 @@ use Rattle.binder.specs.Terms as plain
 use Rattle.binder.specs.ExpressionsBound.{givens, value_of}
 use Rattle.binder.specs.StatementsBound.{assigned, assigned_to, called_term, called_with}
 use Rattle.bound_actions.specs.declared.trees.Split.{Split}
-use Rattle.bound_terms.specs.declared.term.Item.TheVariants as item
-use Rattle.bound_terms.specs.declared.term.Passed.{Passed}
-use Rattle.bound_terms.specs.declared.term.Routine.{Routine}
-use Rattle.bound_terms.specs.declared.term.Term.{Term}
-use Rattle.bound_terms.specs.declared.term.Tree.{Tree}
-use Rattle.bound_terms.specs.Standing.{RoutineStands, PassedStands, TermStands, TreeStands, Grown}
-use Rattle.bound_terms.specs.Steps.{Goes, Leaves}
+use Rattle.bound_calls.specs.declared.term.Item.TheVariants as item
+use Rattle.bound_calls.specs.declared.term.Passed.{Passed}
+use Rattle.bound_calls.specs.declared.term.Routine.{Routine}
+use Rattle.bound_calls.specs.declared.term.Term.{Term}
+use Rattle.bound_calls.specs.declared.term.Tree.{Tree}
+use Rattle.bound_calls.specs.Standing.{RoutineStands, PassedStands, TermStands, TreeStands, Grown}
+use Rattle.bound_calls.specs.Steps.{Goes, Leaves}
+use Rattle.bound_calls.specs.Calls.{PassesRest}
 
 -- ---- expressions by a part of their nodes
 
@@ -64,6 +65,12 @@ pub record Reads (env : Env) (parameters : List project.Parameter) (ns : List Ex
   pub grown : Grown d e
   pub framed : Framed ns
   pub stands : (items : List nodes.Item) → PassedStands env parameters x (args_on items ns) e.pieces d.pieces
+
+-- what the other parameters have was pushed behind those that are written: so many of them, and so many in all
+pub record RestPushed (x : Passed) (d e : Drafted) (written all : ℕ) : Type 0 where
+  pub rest : PassesRest x.left.now d e
+  pub written_is : written ≡ x.count
+  pub all_is : all ≡ x.count + length x.left.now
 
 -- all arguments were pushed that parameters have: so many are written, and so many there are
 pub record AllPassed (env : Env) (parameters : List project.Parameter) (gs : List Given) (written all : ℕ) (ps below : List Piece) : Type 0 where

@@ -11,12 +11,12 @@ use Rattle.binder.specs.Terms.{Env}
 use Rattle.binder.specs.Terms as plain
 use Rattle.binder.specs.StatementsBound.{keeps, settled}
 use Rattle.bound_terms.specs.declared.env.Within.{Within}
-use Rattle.bound_terms.specs.declared.term.Ending.{Ending}
-use Rattle.bound_terms.specs.declared.term.Term.{Term}
-use Rattle.bound_terms.specs.declared.term.Term.TheVariants as term
-use Rattle.bound_terms.specs.declared.term.Tree.{Tree}
-use Rattle.bound_terms.specs.Standing.{PlaceEnds, TermStands, Grown}
-use Rattle.bound_terms.specs.Steps.{PushesValue}
+use Rattle.bound_calls.specs.declared.term.Ending.{Ending}
+use Rattle.bound_calls.specs.declared.term.Term.{Term}
+use Rattle.bound_calls.specs.declared.term.Term.TheVariants as term
+use Rattle.bound_calls.specs.declared.term.Tree.{Tree}
+use Rattle.bound_calls.specs.Standing.{PlaceEnds, TermStands, Grown}
+use Rattle.bound_calls.specs.Steps.{PushesValue}
 use Rattle.bound_terms.specs.View.{within_view}
 
 -- the place that a term is, but for its last node

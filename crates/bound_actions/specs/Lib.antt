@@ -1,3 +1,4 @@
 pub mod Called
 pub mod Actions
 pub mod Kept
+pub mod NamedCalls

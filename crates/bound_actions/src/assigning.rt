@@ -7,15 +7,16 @@ ghost use Rattle.bound_project.specs.DraftView.{draft_view};
 ghost use Rattle.bound_actions.specs.Actions.{Assigns};
 ghost use Rattle.bound_actions.specs.Called.{AssignsTo, IsBare, Lets, LetsOn, SplitAt};
 ghost use Rattle.bound_terms.specs.Callee.{IsWriter};
-ghost use Rattle.bound_terms.specs.Standing.{TermNamed};
+ghost use Rattle.bound_calls.specs.Standing.{TermNamed};
 ghost use Rattle.bound_terms.specs.View.{EnvStands, env_view};
 ghost use Rattle.declared_names.specs.View.{scope_view};
 
 use crate::statement_calls::push_arguments;
 use crate::trees::{Split, continue_tree, ends_bare, nodes_tree, split_call};
+use bound_calls::{Term, Tree, count_of, pass_rest};
 use bound_declarations::{NotYet, procedure_number};
 use bound_project::{ActionKind, Draft, Node};
-use bound_terms::{Env, Term, Tree, Writer, callee_term, count_of, pass_rest, tree_of, writer_of};
+use bound_terms::{Env, Writer, callee_term, tree_of, writer_of};
 use declared_names::is_object;
 use std::alloc::Global;
 use vba_base::OrMemory;

@@ -10,14 +10,13 @@ ghost use Rattle.binder.specs.ExpressionsBound.{term_of};
 ghost use Rattle.binder.specs.StatementsBound as plain;
 ghost use Rattle.bound_actions.specs.Actions.{ActionStands, PlacePushed};
 ghost use Rattle.bound_actions.specs.Kept.{Keeps, PushesTree, WithPlacePushed, place_ending};
-ghost use Rattle.bound_terms.specs.Standing.{TermNamed};
+ghost use Rattle.bound_calls.specs.Standing.{TermNamed};
 ghost use Rattle.bound_terms.specs.View.{EnvStands, env_view, within_view};
 
+use bound_calls::{Ending, Routine, Term, Tree, bare_call, push_node};
 use bound_declarations::NotYet;
 use bound_project::{ActionKind, DeclaredType, Draft, NodeKind};
-use bound_terms::{
-    Ending, Env, Routine, Term, Tree, Within, bare_call, push_node, push_value, tree_of,
-};
+use bound_terms::{Env, Within, push_value, tree_of};
 use declared_names::is_object;
 use std::alloc::Global;
 use vba_base::{OrMemory, Place};

@@ -9,9 +9,10 @@ ghost use Rattle.bound_project.specs.View.{declared_view, parameter_view};
 ghost use Rattle.binder.specs.StatementsBound as plain;
 ghost use Rattle.bound_actions.specs.Called.{ActsOn, PassesAll};
 ghost use Rattle.bound_terms.specs.View.{EnvStands, env_view};
-ghost use Rattle.bound_terms.specs.declared.term.Term.TheVariants as term;
+ghost use Rattle.bound_calls.specs.declared.term.Term.TheVariants as term;
 
-use crate::statement_calls::push_arguments;
+use crate::statement_calls::{push_arguments, push_rest, read_named};
+use bound_calls::push_in_order;
 use bound_declarations::NotYet;
 use bound_project::{ActionKind, DeclaredType, Draft, ElementType, Parameter, Spelled};
 use bound_terms::Env;
@@ -66,7 +67,7 @@ fn raise_parameters(alloc: Global) -> Result<Vec<Parameter>, NoMemory>
     Ok(parameters)
 }
 
-/// Pushes the arguments of Err.Raise; answers how many are written, and how many there are.
+/// Pushes the arguments of Error, as those of Err.Raise; answers how many are written, and how many there are.
 fn push_raised<'a>(
     alloc: Global,
     draft: &mut Draft,
@@ -80,6 +81,30 @@ fn push_raised<'a>(
     push_arguments(alloc, draft, env, parameters.as_slice(), nodes)
 }
 
+/// `Err.Raise arguments`, with its parameters at hand.
+fn raise_with<'a>(
+    alloc: Global,
+    draft: &mut Draft,
+    env: Env<'a>,
+    parameters: &'a [Parameter],
+    nodes: &'a [ExpressionNode],
+) -> Result<ActionKind, OrMemory<NotYet>>
+    requires env { EnvStands env }
+    requires raised { map parameter_view parameters.now ≡ plain.raise_parameters }
+    ensures { IfOk result (λ kind. (place : place.Place) → ActsOn (env_view env.entry) term.ErrRaise place nodes.now (draft_view draft.old) (draft_view draft.new) kind) }
+{
+    let (passed, named) = read_named(alloc, draft, env, parameters, nodes)?;
+    if named.is_empty() {
+        let (_written, arguments) = push_rest(alloc, draft, passed)?;
+        return Ok(ActionKind::Raise { arguments });
+    }
+    let ordered = push_in_order(alloc, draft, parameters, passed, named)?;
+    Ok(ActionKind::RaiseInOrder {
+        arguments: ordered.arguments,
+        order: ordered.order,
+    })
+}
+
 /// `Err.Raise arguments`
 pub fn raise<'a>(
     alloc: Global,
@@ -90,8 +115,8 @@ pub fn raise<'a>(
     requires { EnvStands env }
     ensures { IfOk result (λ kind. (place : place.Place) → ActsOn (env_view env.entry) term.ErrRaise place nodes.now (draft_view draft.old) (draft_view draft.new) kind) }
 {
-    let (_written, arguments) = push_raised(alloc, draft, env, nodes)?;
-    Ok(ActionKind::Raise { arguments })
+    let parameters = raise_parameters(alloc)?;
+    raise_with(alloc, draft, env, parameters.as_slice(), nodes)
 }
 
 /// `Error number`

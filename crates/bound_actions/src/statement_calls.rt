@@ -1,38 +1,41 @@
 //! Calls that stand as statements.
 
-ghost use Rattle.std.specs.Prelude.{◌≡◌, [], ◌∷◌, IfOk, MatchBool, OnOk, map};
+ghost use Rattle.std.specs.Prelude.{◌≡◌, ◌≢◌, [], ◌∷◌, IfOk, MatchBool, OnOk, map, reverse};
 ghost use Rattle.vba_expression.specs.declared.node.ExpressionNode.TheVariants as node;
 ghost use Rattle.bound_project.specs.DraftView.{draft_view};
 ghost use Rattle.bound_project.specs.View.{parameter_view};
 ghost use Rattle.bound_project.specs.declared.statement.ActionKind.TheVariants as action;
 ghost use Rattle.binder.specs.Terms as plain;
-ghost use Rattle.bound_actions.specs.Called.{Acts, ActsOn, CallsTree, CallsTreeOn, PassesAll, Reads};
-ghost use Rattle.bound_terms.specs.Calls.{PushesCall};
-ghost use Rattle.bound_terms.specs.Standing.{TermNamed};
+ghost use Rattle.bound_actions.specs.Called.{Acts, ActsOn, CallsTree, CallsTreeOn, PassesAll, Reads, RestPushed};
+ghost use Rattle.bound_actions.specs.NamedCalls.{PushesNamed, PushesValues, ReadsNamed, ReadsWritten};
+ghost use Rattle.bound_calls.specs.Calls.{PushesCall};
+ghost use Rattle.bound_calls.specs.Standing.{TermNamed};
 ghost use Rattle.bound_terms.specs.View.{EnvStands, env_view};
-ghost use Rattle.bound_terms.specs.declared.term.Term.TheVariants as term;
+ghost use Rattle.bound_calls.specs.declared.term.Term.TheVariants as term;
 
 use crate::raising::{raise, raise_number};
+use bound_calls::{
+    Item, Passed, Routine, Term, Tree, call_ending, count_of, named_ending, no_object, pass_rest,
+    push_ending, put_item, sum, take_item, take_numbers, value_ending,
+};
 use bound_declarations::NotYet;
 use bound_project::{ActionKind, Draft, Parameter};
-use bound_terms::{
-    Env, Item, Passed, Routine, Term, Tree, call_ending, callee_term, count_of, no_object,
-    pass_rest, push_ending, put_item, run, sum, take_item, value_ending,
-};
+use bound_terms::{Env, callee_term, gathered_ending, run, take_gathered};
 use std::alloc::Global;
 use vba_base::{OrMemory, Place};
 use vba_expression::ExpressionNode;
 
-/// Pushes the arguments that are written, by their nodes, for these parameters.
-pub fn read_arguments<'a>(
+/// Pushes the arguments that are written, by their nodes, for these parameters; answers those without names, the numbers
+/// of the parameters that the others name, the last one first, and how many values for a ParamArray there are.
+fn read_written<'a>(
     alloc: Global,
     draft: &mut Draft,
     env: Env<'a>,
     parameters: &'a [Parameter],
     nodes: &'a [ExpressionNode],
-) -> Result<Passed<'a>, OrMemory<NotYet>>
+) -> Result<(Passed<'a>, Vec<u32>, u32), OrMemory<NotYet>>
     requires { EnvStands env }
-    ensures { IfOk result (λ passed. Reads (env_view env.entry) (map parameter_view parameters.now) nodes.now (draft_view draft.old) (draft_view draft.new) passed) }
+    ensures { IfOk result (λ read. ReadsWritten (env_view env.entry) (map parameter_view parameters.now) nodes.now (draft_view draft.old) (draft_view draft.new) read.0 read.1.items read.2) }
 {
     let Some((ExpressionNode::NoArguments, nodes)) = nodes.split_first() else {
         return Err(OrMemory::NoMemory);
@@ -44,17 +47,72 @@ pub fn read_arguments<'a>(
     };
     put_item(&mut stack, Item::Listed(none))?;
     run(alloc, draft, env, &mut stack, nodes)?;
+    let named = take_numbers(alloc, &mut stack)?;
+    let values = take_gathered(&mut stack)?;
     let Some(Item::Listed(passed)) = take_item(&mut stack) else {
         return Err(OrMemory::Fault(NotYet));
     };
     if stack.is_empty() {
-        Ok(passed)
+        Ok((passed, named, values))
     } else {
         Err(OrMemory::NoMemory)
     }
 }
 
-/// Pushes all arguments of these parameters; answers how many are written, and how many there are.
+/// The same where none is a value for a ParamArray.
+pub fn read_named<'a>(
+    alloc: Global,
+    draft: &mut Draft,
+    env: Env<'a>,
+    parameters: &'a [Parameter],
+    nodes: &'a [ExpressionNode],
+) -> Result<(Passed<'a>, Vec<u32>), OrMemory<NotYet>>
+    requires { EnvStands env }
+    ensures { IfOk result (λ read. ReadsNamed (env_view env.entry) (map parameter_view parameters.now) nodes.now (draft_view draft.old) (draft_view draft.new) read.0 read.1.items) }
+{
+    let (passed, named, values) = read_written(alloc, draft, env, parameters, nodes)?;
+    if values == 0 {
+        Ok((passed, named))
+    } else {
+        Err(OrMemory::Fault(NotYet))
+    }
+}
+
+/// The same where no argument has a name.
+pub fn read_arguments<'a>(
+    alloc: Global,
+    draft: &mut Draft,
+    env: Env<'a>,
+    parameters: &'a [Parameter],
+    nodes: &'a [ExpressionNode],
+) -> Result<Passed<'a>, OrMemory<NotYet>>
+    requires { EnvStands env }
+    ensures { IfOk result (λ passed. Reads (env_view env.entry) (map parameter_view parameters.now) nodes.now (draft_view draft.old) (draft_view draft.new) passed) }
+{
+    let (passed, named) = read_named(alloc, draft, env, parameters, nodes)?;
+    if named.is_empty() {
+        Ok(passed)
+    } else {
+        Err(OrMemory::Fault(NotYet))
+    }
+}
+
+/// Pushes what the other parameters have behind written arguments without names; answers how many are written, and how
+/// many there are.
+pub fn push_rest<'a>(
+    alloc: Global,
+    draft: &mut Draft,
+    passed: Passed<'a>,
+) -> Result<(u32, u32), OrMemory<NotYet>>
+    ensures { IfOk result (λ counts. RestPushed passed.entry (draft_view draft.old) (draft_view draft.new) counts.0 counts.1) }
+{
+    let left = count_of(passed.left)?;
+    let arguments = sum(passed.count, left)?;
+    pass_rest(alloc, draft, passed.left)?;
+    Ok((passed.count, arguments))
+}
+
+/// Pushes all arguments of these parameters, none with a name; answers how many are written, and how many there are.
 pub fn push_arguments<'a>(
     alloc: Global,
     draft: &mut Draft,
@@ -66,10 +124,7 @@ pub fn push_arguments<'a>(
     ensures { IfOk result (λ counts. PassesAll (env_view env.entry) (map parameter_view parameters.now) nodes.now (draft_view draft.old) (draft_view draft.new) counts.0 counts.1) }
 {
     let passed = read_arguments(alloc, draft, env, parameters, nodes)?;
-    let left = count_of(passed.left)?;
-    let arguments = sum(passed.count, left)?;
-    pass_rest(alloc, draft, passed.left)?;
-    Ok((passed.count, arguments))
+    push_rest(alloc, draft, passed)
 }
 
 /// Pushes the value of a call whose written arguments were pushed.
@@ -89,6 +144,63 @@ fn push_call<'a>(
     Ok(())
 }
 
+/// The same where some of those arguments have names: they were pushed for the parameters with these numbers, the last one
+/// first.
+fn push_named<'a>(
+    alloc: Global,
+    draft: &mut Draft,
+    routine: Routine<'a>,
+    passed: Passed<'a>,
+    named: Vec<u32>,
+    place: Place,
+) -> Result<(), OrMemory<NotYet>>
+    requires { named.items ≢ [] }
+    ensures { OnOk result (PushesNamed routine.entry passed.entry (reverse named.items) place (draft_view draft.old) (draft_view draft.new)) }
+{
+    let ending = named_ending(alloc, draft, routine, passed, named)?;
+    let Some(_found) = push_ending(draft, no_object(ending), place)? else {
+        return Err(OrMemory::Fault(NotYet));
+    };
+    Ok(())
+}
+
+/// The same where the last arguments are so many values for a ParamArray.
+fn push_values<'a>(
+    alloc: Global,
+    draft: &mut Draft,
+    routine: Routine<'a>,
+    passed: Passed<'a>,
+    values: u32,
+    place: Place,
+) -> Result<(), OrMemory<NotYet>>
+    requires { values ≢ 0 }
+    ensures { OnOk result (PushesValues routine.entry passed.entry values place (draft_view draft.old) (draft_view draft.new)) }
+{
+    let ending = gathered_ending(alloc, draft, routine, passed, values)?;
+    let Some(_found) = push_ending(draft, no_object(ending), place)? else {
+        return Err(OrMemory::Fault(NotYet));
+    };
+    Ok(())
+}
+
+/// The same with names or without.
+fn push_given<'a>(
+    alloc: Global,
+    draft: &mut Draft,
+    routine: Routine<'a>,
+    passed: Passed<'a>,
+    named: Vec<u32>,
+    place: Place,
+) -> Result<(), OrMemory<NotYet>>
+    ensures { OnOk result (PushesNamed routine.entry passed.entry (reverse named.items) place (draft_view draft.old) (draft_view draft.new)) }
+{
+    if named.is_empty() {
+        push_call(alloc, draft, routine, passed, place)?;
+        return Ok(());
+    }
+    push_named(alloc, draft, routine, passed, named, place)
+}
+
 /// A statement that calls a procedure.
 fn call_routine<'a>(
     alloc: Global,
@@ -101,8 +213,15 @@ fn call_routine<'a>(
     requires { EnvStands env }
     ensures { IfOk result (λ kind. ActsOn (env_view env.entry) (term.Routine routine.entry) place nodes.now (draft_view draft.old) (draft_view draft.new) kind) }
 {
-    let passed = read_arguments(alloc, draft, env, routine.parameters, nodes)?;
-    push_call(alloc, draft, routine, passed, place)?;
+    let (passed, named, values) = read_written(alloc, draft, env, routine.parameters, nodes)?;
+    if values == 0 {
+        push_given(alloc, draft, routine, passed, named, place)?;
+        return Ok(ActionKind::Evaluate);
+    }
+    if !named.is_empty() {
+        return Err(OrMemory::Fault(NotYet));
+    }
+    push_values(alloc, draft, routine, passed, values, place)?;
     Ok(ActionKind::Evaluate)
 }
 

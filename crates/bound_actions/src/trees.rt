@@ -4,12 +4,13 @@ ghost use Rattle.std.specs.Prelude.{◌≡◌, IfOk, MatchBool, IfSome};
 ghost use Rattle.vba_expression.specs.Nodes.{tree_in};
 ghost use Rattle.bound_project.specs.DraftView.{draft_view};
 ghost use Rattle.bound_actions.specs.Called.{Continues, IsBare, LeavesAlone, SplitAt};
-ghost use Rattle.bound_terms.specs.Standing.{TermNamed};
+ghost use Rattle.bound_calls.specs.Standing.{TermNamed};
 ghost use Rattle.bound_terms.specs.View.{EnvStands, env_view};
 
+use bound_calls::{Item, Tree, put_item, take_item};
 use bound_declarations::NotYet;
 use bound_project::Draft;
-use bound_terms::{Env, Item, Tree, put_item, run, take_item};
+use bound_terms::{Env, run};
 use std::alloc::Global;
 use vba_base::OrMemory;
 use vba_expression::ExpressionNode;

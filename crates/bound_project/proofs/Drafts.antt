@@ -17,9 +17,9 @@ use Rattle.bound_project.specs.declared.project.Body.{Body}
 use Rattle.bound_project.specs.View.{declared_view}
 use Rattle.bound_project.specs.Expressions.{constant, call, no_args, in_order}
 use Rattle.bound_project.specs.Statements as plain
-use Rattle.bound_project.specs.Statements.{Action, let_property, set_property}
+use Rattle.bound_project.specs.Statements.{Action, let_property, raise, set_property}
 use Rattle.bound_project.specs.Pieces.{Piece, an_argument, default_taken, Tables, constant_in, order_in, arguments_off, of_found, expr_of, put_kind, put, read, pieces}
-use Rattle.bound_project.specs.Bodies.{behind_value, action_of, action_or, part, statement_view, StatementFits, AllFit, BodiesFit, body_view}
+use Rattle.bound_project.specs.Bodies.{behind_value, whole, action_of, action_or, part, statement_view, StatementFits, AllFit, BodiesFit, body_view}
 use Rattle.bound_project.specs.Drafts.{Drafted, NodeNamed, ActionNamed, AllNamed, ActionsNamed, BodyKept, BodiesKept, Kept, with_constant, with_order, tables_in, drafted, statement_of}
 
 -- ---- tables that grow
@@ -56,6 +56,7 @@ node_named t u e k h = tt
 action_named : (t u : Tables) → Extends t u → (k : ActionKind) → ActionNamed t k → ActionNamed u k
 action_named t u e (kind.LetPropertyInOrder q count order of) h = omega (arith, e.orders_more)
 action_named t u e (kind.SetPropertyInOrder q count order of) h = omega (arith, e.orders_more)
+action_named t u e (kind.RaiseInOrder count order) h = omega (arith, e.orders_more)
 action_named t u e k h = tt
 
 all_named : (t u : Tables) → Extends t u → (ns : List Node) → AllNamed t ns → AllNamed u ns
@@ -81,6 +82,7 @@ action_same t u e (kind.LetPropertyInOrder q count order of) h st =
     ap (λ o. behind_value (arguments_off count st no_args) (λ args v. let_property q (in_order o args) v (declared_view of))) (e.order_is order h)
 action_same t u e (kind.SetPropertyInOrder q count order of) h st =
     ap (λ o. behind_value (arguments_off count st no_args) (λ args v. set_property q (in_order o args) v (declared_view of))) (e.order_is order h)
+action_same t u e (kind.RaiseInOrder count order) h st = ap (λ o. whole (arguments_off count st no_args) (λ args. raise (in_order o args))) (e.order_is order h)
 action_same t u e k h st = refl
 
 named_drop : (t : Tables) (ns : List Node) (i : ℕ) → AllNamed t ns → AllNamed t (drop i ns)

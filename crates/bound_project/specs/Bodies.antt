@@ -66,6 +66,7 @@ action_of t (kind.SetPropertyInOrder p count order of) st =
     behind_value (arguments_off count st no_args) (λ args e. set_property p (in_order (order_in t order) args) e (declared_view of))
 action_of t (kind.Print count ends) st = whole (prints_off count st no_prints) (λ ps. print ps ends)
 action_of t (kind.Raise count) st = whole (arguments_off count st no_args) (λ args. raise args)
+action_of t (kind.RaiseInOrder count order) st = whole (arguments_off count st no_args) (λ args. raise (in_order (order_in t order) args))
 action_of t (kind.Test sense to other) st = one_value st (λ e. test sense e to other)
 action_of t (kind.GoTo to) st = alone st (go_to to)
 action_of t (kind.For x compare last step first behind) (an_expr c ∷ an_expr b ∷ an_expr a ∷ []) =

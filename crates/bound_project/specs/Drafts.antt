@@ -45,6 +45,7 @@ NodeNamed t k = Unit {0}
 abbrev pub ActionNamed : Tables → ActionKind → Type 0
 ActionNamed t (kind.LetPropertyInOrder q count order of) = order < length t.orders
 ActionNamed t (kind.SetPropertyInOrder q count order of) = order < length t.orders
+ActionNamed t (kind.RaiseInOrder count order) = order < length t.orders
 ActionNamed t k = Unit {0}
 
 abbrev pub AllNamed : Tables → List Node → Type 0
@@ -87,6 +88,7 @@ node_named_prop t k = Unit-prop
 action_named_prop : (t : Tables) (k : ActionKind) → IsProp (ActionNamed t k)
 action_named_prop t (kind.LetPropertyInOrder q count order of) = le_prop
 action_named_prop t (kind.SetPropertyInOrder q count order of) = le_prop
+action_named_prop t (kind.RaiseInOrder count order) = le_prop
 action_named_prop t k = Unit-prop
 
 all_named_prop : (t : Tables) (ns : List Node) → IsProp (AllNamed t ns)

@@ -58,6 +58,11 @@ pub enum ActionKind {
     Raise {
         arguments: u32,
     },
+    /// The same with arguments that are the parameters' by this order.
+    RaiseInOrder {
+        arguments: u32,
+        order: u32,
+    },
     Test {
         sense: bool,
         to: u32,

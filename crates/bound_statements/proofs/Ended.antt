@@ -31,8 +31,8 @@ use Rattle.vba_words.specs.declared.identifier.Identifier.{Identifier}
 use Rattle.vba_expression.specs.Tree.{Expr}
 use Rattle.vba_tree.specs.Tree as tree
 use Rattle.vba_tree.specs.Tree.{Simple, BlockLine}
-use Rattle.bound_terms.specs.Standing.{PushedIs}
-use Rattle.bound_terms.specs.Steps.{Binds}
+use Rattle.bound_calls.specs.Standing.{PushedIs}
+use Rattle.bound_calls.specs.Steps.{Binds}
 use Rattle.bound_actions.specs.Actions.{ActionPushed}
 use Rattle.bound_statements.specs.Actions.{is_alone, done_alone, KindFits, OperandIs, Selects, OnlyPieces, ValuePushed, ForValues, simple_in}
 use Rattle.bound_statements.specs.Reads.{Read}

@@ -23,7 +23,7 @@ use Rattle.binder.specs.Numbering.{Opened, Standing, Sought, here, an_arm, behin
 use Rattle.binder.specs.Terms as terms
 use Rattle.binder.specs.ExpressionsBound.{bound_operand, bound_value, givens, term_of}
 use Rattle.binder.specs.StatementsBound.{Around, assigned_to, called_place, called_with, redim_arrays, erased_arrays, value_shown, items_shown, ends_line, simple_action, block_action, loop_variable, next_action, loop_action, for_action, step_value, case_tests, selected, line_of, header_of, with_action}
-use Rattle.bound_terms.specs.Standing.{PushedIs}
+use Rattle.bound_calls.specs.Standing.{PushedIs}
 
 -- a condition of a line: where it holds, control goes to the first statement of its block
 abbrev pub branch_in : terms.Env → Standing → Sought → Expr → Option Action

@@ -9,13 +9,13 @@ use Rattle.binder.specs.Scopes.{called, declares}
 use Rattle.binder.specs.Terms.{Env}
 use Rattle.binder.specs.Terms as plain
 use Rattle.binder.specs.ExpressionsBound.{callee, meant_term, term_of}
-use Rattle.bound_terms.specs.declared.term.Term.{Term}
-use Rattle.bound_terms.specs.declared.term.Tree.{Tree}
-use Rattle.bound_terms.specs.Standing.{TermStands, TermNamed, LeafStands}
-use Rattle.bound_terms.specs.Steps.{MakesLeaf}
+use Rattle.bound_calls.specs.declared.term.Term.{Term}
+use Rattle.bound_calls.specs.declared.term.Tree.{Tree}
+use Rattle.bound_calls.specs.Standing.{TermStands, TermNamed, LeafStands}
+use Rattle.bound_calls.specs.Steps.{MakesLeaf}
 use Rattle.bound_terms.specs.Callee.{CalleeIs}
-use Rattle.bound_terms.proofs.Growing.{grown_same}
-use Rattle.bound_terms.proofs.CallSteps.{name_found, no_name}
+use Rattle.bound_calls.proofs.Growing.{grown_same}
+use Rattle.bound_calls.proofs.CallSteps.{name_found, no_name}
 
 pub callee_named : (env : Env) (x : Tree) (named : Identifier) (d e : Drafted) (y : Term) → option_map (λ n. n.now) x.name ≡ Some named → MakesLeaf env d e y (meant_term env named (declares called env.scope named))
     → CalleeIs env x d e y

@@ -1,5 +1,5 @@
 -- Names behind dots.
-use Rattle.std.proofs.Common.{◌≡◌, ℕ, Bool, true, false, List, [], ◌∷◌, Option, Some, None, refl, sym, ap, subst, ◌∙◌}
+use Rattle.std.proofs.Common.{◌≡◌, Bool, true, false, List, [], ◌∷◌, Option, Some, None, refl, sym, ap, subst, ◌∙◌}
 use Rattle.std.specs.Prelude.{option_map, is_some}
 use Rattle.vba_words.specs.declared.identifier.Identifier.{Identifier}
 use Rattle.vba_lexer.specs.declared.token.Token.{Token}
@@ -9,24 +9,22 @@ use Rattle.vba_words.specs.declared.mark.Mark.TheVariants as mark
 use Rattle.vba_words.specs.Spelling.{marked, naming}
 use Rattle.module_parts.proofs.Firsts.{expression_front}
 use Rattle.vba_expression.specs.declared.node.ExpressionNode.TheVariants as node
-use Rattle.vba_expression.specs.Nodes as nodes
 use Rattle.vba_expression.specs.Nodes.{behind_node}
 use Rattle.bound_project.specs.Pieces.{Piece}
 use Rattle.bound_project.specs.Drafts.{Drafted}
-use Rattle.binder.specs.Scopes.{Scope, Qualifier, plainly, before_dot, declares, behind, as_qualifier, qualifier_of, enum_behind}
+use Rattle.binder.specs.Scopes.{Qualifier, plainly, before_dot, declares, behind, as_qualifier, qualifier_of, enum_behind}
 use Rattle.binder.specs.Constants.{place_of_expression}
 use Rattle.binder.specs.Terms.{Env}
 use Rattle.binder.specs.Terms as plain
 use Rattle.binder.specs.ExpressionsBound.{term_of, meant_term, member_of, behind_term, from_zero}
-use Rattle.bound_terms.specs.declared.term.Term.{Term}
-use Rattle.bound_terms.specs.declared.term.Term.TheVariants as term
-use Rattle.bound_terms.specs.declared.term.Tree.{Tree}
-use Rattle.bound_terms.specs.declared.term.Item.{Item}
-use Rattle.bound_terms.specs.declared.term.Item.TheVariants as item
-use Rattle.bound_terms.specs.Standing.{TermStands, TreeStands, QualifierStands, LeafStands, AllNamed}
+use Rattle.bound_calls.specs.declared.term.Term.{Term}
+use Rattle.bound_calls.specs.declared.term.Tree.{Tree}
+use Rattle.bound_calls.specs.declared.term.Item.{Item}
+use Rattle.bound_calls.specs.declared.term.Item.TheVariants as item
+use Rattle.bound_calls.specs.Standing.{TermStands, TreeStands, QualifierStands, LeafStands, AllNamed}
 use Rattle.bound_terms.specs.Owned.{IsQualifier, MakesMember}
-use Rattle.bound_terms.specs.Steps.{MakesLeaf, Goes}
-use Rattle.bound_terms.proofs.Steps.{goes_made}
+use Rattle.bound_calls.specs.Steps.{MakesLeaf, Goes}
+use Rattle.bound_calls.proofs.Steps.{goes_made}
 
 -- an expression that is a name
 pub named_base : (base : Expr) (x : Identifier) → name_in base ≡ Some x → base ≡ name x

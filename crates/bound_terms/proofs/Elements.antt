@@ -1,15 +1,12 @@
 -- What numbers in brackets make of places and values.
-use Rattle.std.proofs.Common.{◌≡◌, ℕ, ◌<◌, ◌+◌, Bool, true, false, ◌&&◌, ◌||◌, not, List, [], ◌∷◌, ◌++◌, map, length, Option, Some, None, is_some, option_map, if◌then◌else◌, refl, sym, ap, subst, ◌∙◌, arith, length-append}
+use Rattle.std.proofs.Common.{◌≡◌, ℕ, ◌<◌, ◌+◌, Bool, true, false, ◌&&◌, ◌||◌, not, List, [], ◌∷◌, ◌++◌, map, length, Option, Some, None, is_some, if◌then◌else◌, refl, sym, ap, subst, ◌∙◌, arith, length-append}
 use Rattle.std.proofs.lemmas.List.{map-append}
-use Rattle.std.specs.List.{list_any}
 use Rattle.vba_base.specs.declared.place.Place.{Place}
 use Rattle.vba_lexer.specs.declared.token.Token.{Token}
-use Rattle.vba_words.specs.declared.identifier.Identifier.{Identifier}
 use Rattle.vba_words.specs.declared.mark.Mark.TheVariants as mark
 use Rattle.vba_words.specs.Spelling.{marked}
 use Rattle.vba_expression.specs.Spelling.{spell_args}
-use Rattle.vba_expression.specs.Tree.{Expr, name, index, Args, no_args, plain}
-use Rattle.vba_expression.specs.Reader.{name_in}
+use Rattle.vba_expression.specs.Tree.{Expr, name, no_args, plain}
 use Rattle.vba_expression.specs.Nodes as nodes
 use Rattle.vba_expression.specs.Nodes.{behind_node}
 use Rattle.vba_expression.specs.declared.node.ExpressionNode.TheVariants as node
@@ -28,27 +25,26 @@ use Rattle.bound_project.specs.Pieces.{Piece, Tables, an_expr, a_place, exprs_of
 use Rattle.bound_project.specs.Drafts.{Drafted}
 use Rattle.binder.specs.Constants.{place_of_expression}
 use Rattle.binder.specs.Options.{from_two}
-use Rattle.binder.specs.Scopes.{called, declares}
 use Rattle.binder.specs.Terms.{Env, Given, a_value, expression_of, has_names, listed_values}
 use Rattle.binder.specs.Terms as terms
-use Rattle.binder.specs.ExpressionsBound.{are_numbers, numbers_of, element_place, element_type, with_type, indexed, callee, meant_term, term_of, value_of, givens}
+use Rattle.binder.specs.ExpressionsBound.{are_numbers, numbers_of, element_place, element_type, with_type, indexed, callee, term_of, value_of, givens}
 use Rattle.module_parts.proofs.Firsts.{expression_front}
-use Rattle.bound_terms.specs.declared.term.Ending.{Ending}
-use Rattle.bound_terms.specs.declared.term.Routine.{Routine}
-use Rattle.bound_terms.specs.declared.term.Term.{Term}
-use Rattle.bound_terms.specs.declared.term.Term.TheVariants as term
-use Rattle.bound_terms.specs.declared.term.Tree.{Tree}
-use Rattle.bound_terms.specs.declared.term.Target.{Target}
-use Rattle.bound_terms.specs.declared.term.Target.TheVariants as target
-use Rattle.bound_terms.specs.declared.term.Indexed.{Indexed}
-use Rattle.bound_terms.specs.declared.term.Item.{Item}
-use Rattle.bound_terms.specs.declared.term.Item.TheVariants as items
-use Rattle.bound_terms.specs.Calls.{node_of}
-use Rattle.bound_terms.specs.Standing.{NumberIs, AllNumbers, PlaceStands, ValueStands, RoutineStands, TargetStands, IndexedStands, TermStands, TermNamed, LeafStands, TreeStands, Stands, AllNamed, Base}
-use Rattle.bound_terms.specs.Steps.{Goes, MakesLeaf, PushesValue}
+use Rattle.bound_calls.specs.declared.term.Ending.{Ending}
+use Rattle.bound_calls.specs.declared.term.Routine.{Routine}
+use Rattle.bound_calls.specs.declared.term.Term.{Term}
+use Rattle.bound_calls.specs.declared.term.Term.TheVariants as term
+use Rattle.bound_calls.specs.declared.term.Tree.{Tree}
+use Rattle.bound_calls.specs.declared.term.Target.{Target}
+use Rattle.bound_calls.specs.declared.term.Target.TheVariants as target
+use Rattle.bound_calls.specs.declared.term.Indexed.{Indexed}
+use Rattle.bound_calls.specs.declared.term.Item.{Item}
+use Rattle.bound_calls.specs.declared.term.Item.TheVariants as items
+use Rattle.bound_calls.specs.Calls.{node_of}
+use Rattle.bound_calls.specs.Standing.{NumberIs, AllNumbers, PlaceStands, ValueStands, RoutineStands, TargetStands, TermStands, Stands, AllNamed, Base}
+use Rattle.bound_calls.specs.Steps.{Goes, PushesValue}
 use Rattle.bound_terms.specs.Callee.{CalleeIs}
-use Rattle.bound_terms.specs.Indexing.{TargetAt, PushesTarget, Opens, OpensTerm, AddsArgument, Closes, EndsIndexed, is_part}
-use Rattle.bound_terms.proofs.Growing.{grown_same, grown_twice, grown_pieces, all_named, stands_grows}
+use Rattle.bound_calls.specs.Indexing.{TargetAt, PushesTarget, Opens, OpensTerm, AddsArgument, Closes, EndsIndexed, is_part}
+use Rattle.bound_calls.proofs.Growing.{grown_same, grown_twice, grown_pieces, all_named, stands_grows}
 
 -- ---- numbers
 
@@ -58,7 +54,7 @@ all_numbers value g (other ∷ gs) e [] h = absurd h.1
 all_numbers value g (other ∷ gs) e (f ∷ es) h =
     ap (λ (o : Option terms.Term). is_some o && are_numbers (other ∷ gs)) h.0.given ∙ all_numbers value other gs f es h.1
 
-no_names : (value : terms.Term → Place → Option bound.Expr) (gs : List Given) (es : List bound.Expr) → AllNumbers value gs es → has_names gs ≡ false
+pub no_names : (value : terms.Term → Place → Option bound.Expr) (gs : List Given) (es : List bound.Expr) → AllNumbers value gs es → has_names gs ≡ false
 no_names value [] es h = refl
 no_names value (g ∷ gs) [] h = absurd h
 no_names value (g ∷ gs) (e ∷ es) h = ap (λ (o : Option (List ℕ)). is_some o || has_names gs) h.0.no_name ∙ no_names value gs es h.1

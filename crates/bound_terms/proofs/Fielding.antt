@@ -11,7 +11,7 @@ use Rattle.vba_expression.specs.Nodes.{behind_node}
 use Rattle.vba_values.specs.Types.{Declared}
 use Rattle.vba_values.specs.Types as type
 use Rattle.bound_project.specs.declared.declared_type.DeclaredType.{DeclaredType}
-use Rattle.bound_project.specs.declared.declared_type.DeclaredType.TheVariants.{Plain, ArrayOf}
+use Rattle.bound_project.specs.declared.declared_type.DeclaredType.TheVariants.{Plain}
 use Rattle.bound_project.specs.declared.declared_type.ElementType.TheVariants as element
 use Rattle.bound_project.specs.declared.declarations.Declarations.{Declarations}
 use Rattle.bound_project.specs.declared.node.NodeKind.TheVariants as kinds
@@ -20,36 +20,36 @@ use Rattle.bound_project.specs.Project as project
 use Rattle.bound_project.specs.View.{declared_view, declarations_view, user_type_view}
 use Rattle.bound_project.specs.Expressions.{expr, Lvalue, field, field_value, kept_place}
 use Rattle.bound_project.specs.Expressions as bound
-use Rattle.bound_project.specs.Pieces.{Piece, Tables, an_expr, a_place, put}
+use Rattle.bound_project.specs.Pieces.{Piece, a_place, put}
 use Rattle.bound_project.specs.Drafts.{Drafted}
 use Rattle.binder.specs.Bind.{declarations_of}
 use Rattle.binder.specs.Constants.{home, place_of_expression}
 use Rattle.binder.specs.Declarations.{Written}
-use Rattle.binder.specs.Scopes.{Scope, Space, Qualifier, qualifier_of, enum_behind}
+use Rattle.binder.specs.Scopes.{Space, Qualifier, qualifier_of, enum_behind}
 use Rattle.binder.specs.Storage.{types_from, types_of_space, user_types}
 use Rattle.binder.specs.Types.{is_object}
 use Rattle.binder.specs.Terms.{Env, Within, a_place as a_place_term, a_value, a_routine, a_function, err_object, err_raise, err_clear, error_word, no_term, expression_of, value_with}
 use Rattle.binder.specs.Terms as terms
-use Rattle.binder.specs.ExpressionsBound.{bare_call, behind_term, err_member, field_named, field_of_place, field_of_value, has_bounds, kept_member, member_of, no_type, node_or, term_of, value_of, with_field, if_there}
+use Rattle.binder.specs.ExpressionsBound.{bare_call, behind_term, err_member, field_named, field_of_place, field_of_value, has_bounds, kept_member, member_of, node_or, term_of, value_of, with_field}
 use Rattle.declared_names.specs.Outside.{the_outside}
 use Rattle.declared_names.specs.View.{scope_view}
 use Rattle.declared_names.specs.declared.scope.Scope.{Scope as ScopeHere}
 use Rattle.project_tables.specs.Signed.{whole_scope}
 use Rattle.bound_terms.specs.declared.fields.Field.{Field}
-use Rattle.bound_terms.specs.declared.term.Ending.{Ending}
-use Rattle.bound_terms.specs.declared.term.Routine.{Routine}
-use Rattle.bound_terms.specs.declared.term.Term.{Term}
-use Rattle.bound_terms.specs.declared.term.Term.TheVariants as term
-use Rattle.bound_terms.specs.declared.term.Tree.{Tree}
-use Rattle.bound_terms.specs.declared.term.Item.{Item}
-use Rattle.bound_terms.specs.declared.term.Item.TheVariants as items
-use Rattle.bound_terms.specs.Calls.{node_of}
+use Rattle.bound_calls.specs.declared.term.Ending.{Ending}
+use Rattle.bound_calls.specs.declared.term.Routine.{Routine}
+use Rattle.bound_calls.specs.declared.term.Term.{Term}
+use Rattle.bound_calls.specs.declared.term.Term.TheVariants as term
+use Rattle.bound_calls.specs.declared.term.Tree.{Tree}
+use Rattle.bound_calls.specs.declared.term.Item.{Item}
+use Rattle.bound_calls.specs.declared.term.Item.TheVariants as items
+use Rattle.bound_calls.specs.Calls.{node_of}
 use Rattle.bound_terms.specs.Fields.{FieldFound, KeepsField, MakesBehind, MakesField, MakesFieldValue, user_type_in}
 use Rattle.bound_terms.specs.Owned.{IsQualifier, MakesMember}
-use Rattle.bound_terms.specs.Standing.{TermStands, TreeStands, Stands, AllNamed, Base}
-use Rattle.bound_terms.specs.Steps.{Goes, MakesLeaf}
-use Rattle.bound_terms.specs.Taking.{CallsBare}
-use Rattle.bound_terms.proofs.Growing.{grown_same, grown_twice, grown_pieces, all_named, stands_grows}
+use Rattle.bound_calls.specs.Standing.{TermStands, TreeStands, Stands, Base}
+use Rattle.bound_calls.specs.Steps.{Goes, MakesLeaf}
+use Rattle.bound_calls.specs.Taking.{CallsBare}
+use Rattle.bound_calls.proofs.Growing.{grown_same, grown_twice, grown_pieces, all_named, stands_grows}
 use Rattle.bound_terms.proofs.Dotted.{made_tree, member_place, no_qualifier}
 
 -- ---- the fields of user types

@@ -1,11 +1,4 @@
-pub mod Growing
-pub mod Taking
-pub mod Steps
-pub mod Passing
-pub mod Arguing
 pub mod Lookups
-pub mod Reading
-pub mod CallSteps
 pub mod NamedTerms
 pub mod Dotted
 pub mod Elements
@@ -14,3 +7,4 @@ pub mod Sharing
 pub mod Fielding
 pub mod Callees
 pub mod RoutineTerms
+pub mod ParamArrays

@@ -1,5 +1,5 @@
 -- Functions of the library: what their names are, and calls of them.
-use Rattle.std.proofs.Common.{◌≡◌, ℕ, ◌+◌, ◌==◌, Bool, true, false, ◌&&◌, ◌||◌, not, List, [], ◌∷◌, ◌++◌, map, length, Option, Some, None, is_some, option_map, if◌then◌else◌, refl, sym, ap, subst, ◌∙◌, arith, length-append}
+use Rattle.std.proofs.Common.{◌≡◌, ℕ, ◌+◌, ◌==◌, Bool, true, false, ◌&&◌, not, List, [], ◌∷◌, ◌++◌, map, length, Option, Some, None, is_some, option_map, if◌then◌else◌, refl, sym, ap, subst, ◌∙◌, arith, length-append}
 use Rattle.std.specs.Prelude.{ℤ, pos, option_and_then, bytes_eq, codes}
 use Rattle.std.proofs.lemmas.List.{map-append}
 use Rattle.vba_base.specs.declared.place.Place.{Place}
@@ -8,7 +8,7 @@ use Rattle.vba_words.specs.declared.identifier.Identifier.{Identifier}
 use Rattle.vba_words.specs.declared.mark.Mark.TheVariants as mark
 use Rattle.vba_words.specs.Spelling.{marked}
 use Rattle.vba_expression.specs.Spelling.{spell_args}
-use Rattle.vba_expression.specs.Tree.{Expr, Args, no_args, plain}
+use Rattle.vba_expression.specs.Tree.{Expr}
 use Rattle.vba_expression.specs.Nodes as nodes
 use Rattle.vba_expression.specs.Nodes.{behind_node}
 use Rattle.vba_expression.specs.declared.node.ExpressionNode.TheVariants as node
@@ -21,33 +21,32 @@ use Rattle.vba_lib.specs.Names.{function_named}
 use Rattle.bound_project.specs.declared.declared_type.DeclaredType.{DeclaredType}
 use Rattle.bound_project.specs.declared.node.NodeKind.{NodeKind}
 use Rattle.bound_project.specs.declared.node.NodeKind.TheVariants as kinds
-use Rattle.bound_project.specs.declared.node.Node.{Node}
 use Rattle.bound_project.specs.View.{declared_view, base_view}
-use Rattle.bound_project.specs.Expressions.{Exprs, no_exprs, library, operand_type}
+use Rattle.bound_project.specs.Expressions.{Exprs, library, operand_type}
 use Rattle.bound_project.specs.Expressions as bound
 use Rattle.bound_project.specs.Lists.{above, exprs_of}
 use Rattle.bound_project.proofs.Lists.{above_push}
-use Rattle.bound_project.specs.Pieces.{Piece, Tables, an_expr, exprs_off, of_found, expr_of}
+use Rattle.bound_project.specs.Pieces.{Piece, Tables, an_expr, of_found, expr_of}
 use Rattle.bound_project.specs.Drafts.{Drafted}
 use Rattle.binder.specs.Scopes.{has_dollar, of_library}
 use Rattle.binder.specs.Sources.{Source, base_of, has_choice, is_base_one}
 use Rattle.binder.specs.Constants.{compare_in, place_of_expression}
 use Rattle.binder.specs.Terms.{Env, Given, a_function, a_value, error_word, no_term, listed_values}
 use Rattle.binder.specs.Terms as terms
-use Rattle.binder.specs.ExpressionsBound.{all_given, array_base, callee, constant_term, from_zero, function_called, function_value, givens, if_there, indexed, is_user_type, library_term, plain_value, takes_count, term_of, value_of}
+use Rattle.binder.specs.ExpressionsBound.{all_given, array_base, constant_term, from_zero, function_called, function_value, givens, if_there, indexed, is_user_type, library_term, plain_value, takes_count, term_of, value_of}
 use Rattle.module_parts.proofs.Firsts.{expression_front}
-use Rattle.bound_terms.specs.declared.term.Function.{Function}
-use Rattle.bound_terms.specs.declared.term.FunctionCall.{FunctionCall}
-use Rattle.bound_terms.specs.declared.term.Term.{Term}
-use Rattle.bound_terms.specs.declared.term.Term.TheVariants as term
-use Rattle.bound_terms.specs.declared.term.Tree.{Tree}
-use Rattle.bound_terms.specs.declared.term.Item.{Item}
-use Rattle.bound_terms.specs.declared.term.Item.TheVariants as items
+use Rattle.bound_calls.specs.declared.term.Function.{Function}
+use Rattle.bound_calls.specs.declared.term.FunctionCall.{FunctionCall}
+use Rattle.bound_calls.specs.declared.term.Term.{Term}
+use Rattle.bound_calls.specs.declared.term.Term.TheVariants as term
+use Rattle.bound_calls.specs.declared.term.Tree.{Tree}
+use Rattle.bound_calls.specs.declared.term.Item.{Item}
+use Rattle.bound_calls.specs.declared.term.Item.TheVariants as items
 use Rattle.bound_terms.specs.Functions.{EndsFunction}
-use Rattle.bound_terms.specs.Indexing.{AddsArgument, Closes, OpensTerm}
-use Rattle.bound_terms.specs.Standing.{AllNumbers, FunctionIs, FunctionStands, NumberIs, TermStands, TermNamed, Stands, AllNamed, Base, base_number}
-use Rattle.bound_terms.specs.Steps.{MakesLeaf, PushesValue}
-use Rattle.bound_terms.proofs.Growing.{grown_same, stands_grows}
+use Rattle.bound_calls.specs.Indexing.{AddsArgument, Closes, OpensTerm}
+use Rattle.bound_calls.specs.Standing.{AllNumbers, TermStands, Stands, AllNamed, Base, base_number}
+use Rattle.bound_calls.specs.Steps.{MakesLeaf, PushesValue}
+use Rattle.bound_calls.proofs.Growing.{grown_same, stands_grows}
 use Rattle.bound_terms.proofs.Elements.{all_listed, numbers_more, taken_off}
 
 -- ---- names

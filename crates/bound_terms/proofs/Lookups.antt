@@ -1,6 +1,6 @@
 -- Properties of a module, by their names.
-use Rattle.std.proofs.Common.{◌≡◌, T, ℕ, zero, suc, ◌+◌, ◌==◌, ◌<◌, Bool, true, false, ◌&&◌, List, [], ◌∷◌, length, Option, Some, None, option_map, is_some, refl, sym, ap, subst, ◌∙◌, arith, ne_eqb, if◌then◌else◌}
-use Rattle.std.specs.Prelude.{option_and_then, slice_get, unwrap_or}
+use Rattle.std.proofs.Common.{◌≡◌, ℕ, suc, ◌+◌, Bool, true, false, ◌&&◌, List, [], ◌∷◌, Option, Some, None, option_map, refl, sym, ap, subst, ◌∙◌, arith, if◌then◌else◌}
+use Rattle.std.specs.Prelude.{option_and_then, slice_get}
 use Rattle.vba_words.specs.declared.identifier.Identifier.{Identifier}
 use Rattle.vba_tree.specs.declared.procedure.ProcedureWords.{ProcedureWords}
 use Rattle.vba_tree.specs.declared.procedure.ProcedureWords.TheVariants as words
@@ -8,8 +8,7 @@ use Rattle.vba_tree.specs.Tree.{Parameter, Variable, Constant}
 use Rattle.vba_expression.specs.Tree.{Expr}
 use Rattle.binder.specs.Declarations.{Written, What, a_variable, a_constant, an_enum, a_member, a_type, an_event, a_procedure, Entry, FieldWritten}
 use Rattle.binder.specs.Scopes.{Space, Scope, is_named, first_at, seen_from}
-use Rattle.binder.specs.Storage.{bound_parameters, parameters_of}
-use Rattle.binder.specs.ExpressionsBound.{is_get, is_let, procedure_of, procedure_with}
+use Rattle.binder.specs.ExpressionsBound.{is_get, is_let, procedure_of}
 use Rattle.declared_names.specs.declared.entry.What.{What as EntryWhat}
 use Rattle.declared_names.specs.declared.entry.What.TheVariants as what
 use Rattle.declared_names.specs.declared.entry.Written.{Written as EntryWritten}

@@ -1,6 +1,6 @@
 -- What names of procedures and modules are.
-use Rattle.std.proofs.Common.{◌≡◌, ℕ, Bool, true, false, List, [], Option, Some, None, refl, sym, ap, subst, ◌∙◌, length}
-use Rattle.std.specs.Prelude.{not, ◌==◌, if◌then◌else◌, option_map}
+use Rattle.std.proofs.Common.{◌≡◌, ℕ, Bool, true, false, Option, Some, refl, ap, subst, ◌∙◌}
+use Rattle.std.specs.Prelude.{if◌then◌else◌, option_map}
 use Rattle.vba_values.specs.Val.{Val}
 use Rattle.vba_values.specs.Types.{Declared}
 use Rattle.vba_values.specs.Types as type
@@ -9,22 +9,21 @@ use Rattle.vba_tree.specs.Tree.{Variable, Constant, Parameter, TypeClause}
 use Rattle.vba_expression.specs.Tree.{Expr}
 use Rattle.bound_project.specs.Expressions.{Storage, constant}
 use Rattle.bound_project.specs.Drafts.{Drafted}
-use Rattle.bound_project.specs.Pieces.{Piece}
-use Rattle.binder.specs.Declarations.{Written, Own, the_result, a_parameter, a_local, a_local_constant, an_array, undeclared, What, a_variable, a_constant, a_member, a_procedure, Entry, Local}
-use Rattle.binder.specs.Scopes.{Space, Scope, Meant, of_procedure, of_module}
+use Rattle.binder.specs.Declarations.{Written, the_result, a_parameter, a_local, an_array, undeclared, What, a_variable, a_constant, a_member, a_procedure}
+use Rattle.binder.specs.Scopes.{Space, Scope, Meant, of_module}
 use Rattle.binder.specs.Constants.{Known, home, meant_by, names_in}
 use Rattle.bound_project.specs.View.{declared_view}
 use Rattle.binder.specs.Storage.{result_type, parameter_type, plain_clause_type, declared_variable, own_storage, module_storage}
 use Rattle.binder.specs.Terms.{Env, a_routine, a_value}
 use Rattle.binder.specs.Terms as plain
-use Rattle.binder.specs.ExpressionsBound.{own_term, entry_term, constant_term, place_term, declared_place, has_bounds, if_there}
-use Rattle.bound_terms.specs.declared.term.Routine.{Routine}
-use Rattle.bound_terms.specs.declared.term.Term.{Term}
-use Rattle.bound_terms.specs.declared.term.Term.TheVariants as term
+use Rattle.binder.specs.ExpressionsBound.{entry_term, constant_term, place_term, declared_place, has_bounds, if_there}
+use Rattle.bound_calls.specs.declared.term.Routine.{Routine}
+use Rattle.bound_calls.specs.declared.term.Term.{Term}
+use Rattle.bound_calls.specs.declared.term.Term.TheVariants as term
 use Rattle.bound_terms.specs.declared.names.Shape.{Shape}
 use Rattle.bound_terms.specs.Owned.{IsShape, OwnShaped, IsRoutine}
-use Rattle.bound_terms.specs.Steps.{MakesLeaf}
-use Rattle.bound_terms.proofs.Growing.{grown_same}
+use Rattle.bound_calls.specs.Steps.{MakesLeaf}
+use Rattle.bound_calls.proofs.Growing.{grown_same}
 
 -- a variable by its type
 pub shaped : (kept : Storage) (of : Declared) (bounded : Bool) (x : Shape) → IsShape of bounded x → place_term kept of bounded ≡ place_term kept (declared_view x.of) x.is_bounded

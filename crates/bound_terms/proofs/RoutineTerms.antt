@@ -4,7 +4,7 @@ use Rattle.binder.specs.Declarations.{Written}
 use Rattle.binder.specs.Scopes.{Space}
 use Rattle.binder.specs.Terms.{Env, a_routine}
 use Rattle.binder.specs.ExpressionsBound.{reader, is_property, procedure_with, is_get}
-use Rattle.bound_terms.specs.declared.term.Routine.{Routine}
+use Rattle.bound_calls.specs.declared.term.Routine.{Routine}
 use Rattle.bound_terms.specs.Owned.{IsRoutine}
 use Rattle.bound_terms.specs.Callee.{Reading, ReadingProperty}
 

@@ -11,11 +11,11 @@ use Rattle.binder.specs.Storage.{procedure_number}
 use Rattle.binder.specs.Scopes.{Scope, Space}
 use Rattle.declared_names.specs.View.{space_view, written_view}
 use Rattle.bound_terms.specs.declared.properties.Writer.{Writer}
-use Rattle.bound_terms.specs.declared.term.Routine.{Routine}
-use Rattle.bound_terms.specs.declared.term.Term.{Term}
-use Rattle.bound_terms.specs.declared.term.Term.TheVariants as term
-use Rattle.bound_terms.specs.declared.term.Tree.{Tree}
-use Rattle.bound_terms.specs.Standing.{TermNamed, TermStands, TreeStands, Grown}
+use Rattle.bound_calls.specs.declared.term.Routine.{Routine}
+use Rattle.bound_calls.specs.declared.term.Term.{Term}
+use Rattle.bound_calls.specs.declared.term.Term.TheVariants as term
+use Rattle.bound_calls.specs.declared.term.Tree.{Tree}
+use Rattle.bound_calls.specs.Standing.{TermNamed, TermStands, TreeStands, Grown}
 use Rattle.bound_terms.specs.Properties.{property_with, IsEntry}
 
 -- what an expression is as it is called; nothing is pushed for that

@@ -15,8 +15,8 @@ use Rattle.binder.specs.Terms.{Env, expression_of, no_term}
 use Rattle.binder.specs.Terms as plain
 use Rattle.binder.specs.ExpressionsBound.{field_of_place, field_of_value, has_bounds, kept_member, member_of}
 use Rattle.bound_terms.specs.declared.fields.Field.{Field}
-use Rattle.bound_terms.specs.declared.term.Term.{Term}
-use Rattle.bound_terms.specs.Standing.{TermStands, TermNamed, Grown}
+use Rattle.bound_calls.specs.declared.term.Term.{Term}
+use Rattle.bound_calls.specs.Standing.{TermStands, TermNamed, Grown}
 
 -- the number of the user type that a type is
 abbrev pub user_type_in : DeclaredType → Option ℕ

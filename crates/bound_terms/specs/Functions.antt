@@ -5,9 +5,9 @@ use Rattle.bound_project.specs.Pieces.{Piece, Tables}
 use Rattle.binder.specs.Constants.{place_of_expression}
 use Rattle.binder.specs.Terms.{Env}
 use Rattle.binder.specs.ExpressionsBound.{callee, givens, indexed, term_of}
-use Rattle.bound_terms.specs.declared.term.FunctionCall.{FunctionCall}
-use Rattle.bound_terms.specs.declared.term.Term.{Term}
-use Rattle.bound_terms.specs.Standing.{FunctionStands, TermNamed, TermStands}
+use Rattle.bound_calls.specs.declared.term.FunctionCall.{FunctionCall}
+use Rattle.bound_calls.specs.declared.term.Term.{Term}
+use Rattle.bound_calls.specs.Standing.{FunctionStands, TermNamed, TermStands}
 
 -- what a function makes of the arguments that were pushed
 pub record EndsFunction (x : FunctionCall) (y : Term) : Type 0 where

@@ -1,13 +1,8 @@
-pub mod Standing
-pub mod Taking
-pub mod Steps
 pub mod View
 pub mod Owned
-pub mod Passing
-pub mod Calls
-pub mod Indexing
 pub mod Fields
 pub mod Properties
 pub mod PropertyView
 pub mod Callee
 pub mod Functions
+pub mod Gathering

@@ -1,5 +1,5 @@
 -- Serves the code: what names of procedures and modules are.
-use Rattle.std.specs.Prelude.{◌≡◌, ℕ, Bool, List, Option, Some, None, option_map, slice_get}
+use Rattle.std.specs.Prelude.{◌≡◌, ℕ, Bool, List, Option, Some, None, slice_get}
 use Rattle.vba_values.specs.Types.{Declared}
 use Rattle.vba_words.specs.declared.identifier.Identifier.{Identifier}
 use Rattle.vba_lexer.specs.declared.token.Token.{Token}
@@ -17,9 +17,9 @@ use Rattle.bound_project.specs.View.{declared_view}
 use Rattle.bound_project.specs.Pieces.{Piece}
 use Rattle.bound_project.specs.Drafts.{Drafted}
 use Rattle.bound_terms.specs.declared.names.Shape.{Shape}
-use Rattle.bound_terms.specs.declared.term.Routine.{Routine}
-use Rattle.bound_terms.specs.declared.term.Tree.{Tree}
-use Rattle.bound_terms.specs.Standing.{RoutineStands, TermNamed, TreeStands, Grown}
+use Rattle.bound_calls.specs.declared.term.Routine.{Routine}
+use Rattle.bound_calls.specs.declared.term.Tree.{Tree}
+use Rattle.bound_calls.specs.Standing.{RoutineStands, TermNamed, TreeStands, Grown}
 
 -- the type of a variable, and whether it is declared with bounds
 pub record IsShape (of : Declared) (bounded : Bool) (x : Shape) : Type 0 where

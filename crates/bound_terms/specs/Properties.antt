@@ -1,11 +1,11 @@
 -- Serves the code: properties of a module, by their names.
-use Rattle.std.specs.Prelude.{◌≡◌, ℕ, Bool, true, false, ◌&&◌, not, Option, Some, None, option_map, option_and_then, slice_get}
+use Rattle.std.specs.Prelude.{◌≡◌, ℕ, Bool, true, false, ◌&&◌, not, Option, Some, slice_get}
 use Rattle.vba_words.specs.declared.identifier.Identifier.{Identifier}
 use Rattle.vba_tree.specs.declared.procedure.ProcedureWords.{ProcedureWords}
 use Rattle.vba_tree.specs.declared.procedure.ProcedureWords.TheVariants as words
 use Rattle.binder.specs.Declarations.{Written, What, a_procedure, Entry}
 use Rattle.binder.specs.Scopes.{Space, Scope, is_named, first_at, seen_from}
-use Rattle.binder.specs.ExpressionsBound.{is_get, is_let, procedure_of, procedure_with}
+use Rattle.binder.specs.ExpressionsBound.{is_get, is_let, procedure_with}
 
 -- a Get, or else a Let
 abbrev pub is_wanted : Bool → ProcedureWords → Bool

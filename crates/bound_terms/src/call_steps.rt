@@ -4,16 +4,15 @@ ghost use Rattle.vba_expression.specs.declared.node.ExpressionNode.TheVariants a
 ghost use Rattle.vba_expression.specs.Nodes.{behind_node};
 ghost use Rattle.bound_project.specs.DraftView.{draft_view};
 ghost use Rattle.binder.specs.Terms as plain;
-ghost use Rattle.bound_terms.specs.Calls.{passed_in, with_passed};
-ghost use Rattle.bound_terms.specs.Standing.{AllNamed};
-ghost use Rattle.bound_terms.specs.Steps.{Goes};
+ghost use Rattle.bound_calls.specs.Calls.{passed_in, with_passed};
+ghost use Rattle.bound_calls.specs.Standing.{AllNamed};
+ghost use Rattle.bound_calls.specs.Steps.{Goes};
 ghost use Rattle.bound_terms.specs.View.{EnvStands, env_view};
 
-use crate::arguments::pass_missing;
 use crate::env::Env;
+use crate::gathering::{gather, gathers};
 use crate::indexing::{add_argument, begin_arguments, end_arguments};
-use crate::stack::{put_item, take_item};
-use crate::term::{Call, Item, Passed};
+use bound_calls::{Call, Item, Passed, pass_missing, put_item, take_item};
 use bound_declarations::NotYet;
 use bound_project::Draft;
 use std::alloc::Global;
@@ -75,6 +74,10 @@ pub fn step_plain_argument<'a>(
     let Some(item) = take_item(stack) else {
         return Err(OrMemory::NoMemory);
     };
+    if gathers(item) {
+        gather(alloc, draft, stack, item, tree)?;
+        return Ok(());
+    }
     let item = add_argument(alloc, draft, item, tree)?;
     put_item(stack, item)?;
     Ok(())

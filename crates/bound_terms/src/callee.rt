@@ -5,13 +5,13 @@ ghost use Rattle.bound_project.specs.DraftView.{draft_view};
 ghost use Rattle.binder.specs.ExpressionsBound as bound;
 ghost use Rattle.binder.specs.Scopes as scopes;
 ghost use Rattle.bound_terms.specs.Callee.{CalleeIs};
-ghost use Rattle.bound_terms.specs.Standing.{TermNamed};
-ghost use Rattle.bound_terms.specs.Steps.{MakesLeaf};
+ghost use Rattle.bound_calls.specs.Standing.{TermNamed};
+ghost use Rattle.bound_calls.specs.Steps.{MakesLeaf};
 ghost use Rattle.bound_terms.specs.View.{EnvStands, env_view};
 
 use crate::env::Env;
 use crate::names::meant_term;
-use crate::term::{Term, Tree};
+use bound_calls::{Term, Tree};
 use bound_declarations::NotYet;
 use bound_project::Draft;
 use declared_names::{Use, declares};

@@ -9,14 +9,12 @@ ghost use Rattle.binder.specs.ExpressionsBound as bound;
 ghost use Rattle.binder.specs.Scopes.{first_at};
 ghost use Rattle.binder.specs.Terms as plain;
 ghost use Rattle.bound_terms.specs.Fields.{FieldFound, KeepsField, MakesField, MakesFieldValue, is_field_named, user_type_in};
-ghost use Rattle.bound_terms.specs.Standing.{AllNamed};
-ghost use Rattle.bound_terms.specs.Steps.{Goes};
+ghost use Rattle.bound_calls.specs.Standing.{AllNamed};
+ghost use Rattle.bound_calls.specs.Steps.{Goes};
 ghost use Rattle.bound_terms.specs.View.{EnvStands, env_view};
 
 use crate::env::Env;
-use crate::stack::{put_item, settle};
-use crate::take::push_node;
-use crate::term::{Ending, Item, Term, Tree};
+use bound_calls::{Ending, Item, Term, Tree, push_node, put_item, settle};
 use bound_declarations::NotYet;
 use bound_project::{Declaration, DeclaredType, Draft, ElementType, NodeKind, UserType};
 use std::alloc::Global;

@@ -6,19 +6,19 @@ ghost use Rattle.bound_project.specs.Drafts.{Drafted, NodeNamed};
 ghost use Rattle.bound_project.specs.View.{declared_view};
 ghost use Rattle.binder.specs.ExpressionsBound.{element_type};
 ghost use Rattle.binder.specs.Terms as plain;
-ghost use Rattle.bound_terms.specs.Indexing.{AddsArgument, Closes, EndsIndexed, Opens, OpensTerm, PushesTarget, is_part};
-ghost use Rattle.bound_terms.specs.Standing.{TermNamed};
+ghost use Rattle.bound_calls.specs.Indexing.{AddsArgument, Closes, EndsIndexed, Opens, OpensTerm, PushesTarget, is_part};
+ghost use Rattle.bound_calls.specs.Standing.{TermNamed};
 ghost use Rattle.bound_terms.specs.View.{EnvStands, env_view};
 
-use crate::arguments::{pass_plain, sum};
 use crate::call_steps::{passed_in, with_passed};
 use crate::callee::callee_term;
-use crate::calls::call_ending;
 use crate::env::Env;
 use crate::functions::{add_value, close_function, open_function};
 use crate::pass::push_value;
-use crate::take::push_node;
-use crate::term::{Call, Ending, Indexed, Item, Passed, Routine, Target, Term, Tree};
+use bound_calls::{
+    Call, Ending, Indexed, Item, Passed, Routine, Target, Term, Tree, call_ending, pass_plain,
+    push_node, sum,
+};
 use bound_declarations::NotYet;
 use bound_project::{DeclaredType, Draft, ElementType, NodeKind};
 use std::alloc::Global;

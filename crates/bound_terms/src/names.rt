@@ -17,14 +17,13 @@ ghost use Rattle.declared_names.specs.View.{entry_view, local_view, meant_view, 
 ghost use Rattle.vba_tree.specs.View.{parameter_view, type_clause_view, variable_view};
 ghost use Rattle.vba_words.specs.declared.identifier.Identifier as identifier;
 ghost use Rattle.bound_terms.specs.Owned.{IsShape, OwnShaped, SharedShape};
-ghost use Rattle.bound_terms.specs.Steps.{MakesLeaf};
+ghost use Rattle.bound_calls.specs.Steps.{MakesLeaf};
 ghost use Rattle.bound_terms.specs.View.{EnvStands, env_view};
 
-use crate::constants::value_term;
 use crate::env::Env;
 use crate::functions::function_term;
 use crate::routines::routine_of;
-use crate::term::Term;
+use bound_calls::{Term, value_term};
 use bound_declarations::{
     NotYet, arrayed, is_bounded, own_storage, parameter_type, result_type, variable_type,
 };

@@ -1,8 +1,8 @@
 ghost use Rattle.std.specs.Prelude.{IfOk};
-ghost use Rattle.bound_terms.specs.Steps.{MakesBinary, MakesUnary};
+ghost use Rattle.bound_calls.specs.Steps.{MakesBinary, MakesUnary};
 
-use crate::term::{Ending, Term};
 use crate::types::result_of;
+use bound_calls::{Ending, Term};
 use bound_project::{DeclaredType, NodeKind};
 use constant_values::{operator_kind, unary_kind};
 use std::alloc::Global;

@@ -3,20 +3,17 @@ ghost use Rattle.vba_expression.specs.Nodes.{behind_node, behind_nodes, tree_in}
 ghost use Rattle.vba_expression.specs.View.{view as expression_view};
 ghost use Rattle.bound_project.specs.DraftView.{draft_view};
 ghost use Rattle.binder.specs.ExpressionsBound.{bound_operand, bound_value};
-ghost use Rattle.bound_terms.specs.Standing.{AllNamed, TermNamed};
-ghost use Rattle.bound_terms.specs.Steps.{Binds, Goes, Leaves, PushesValue};
+ghost use Rattle.bound_calls.specs.Standing.{AllNamed, TermNamed};
+ghost use Rattle.bound_calls.specs.Steps.{Binds, Goes, Leaves, PushesValue};
 ghost use Rattle.bound_terms.specs.View.{EnvStands, env_view};
 
-use crate::call_steps::{
-    step_index, step_missing_argument, step_no_arguments, step_plain_argument,
-};
+use crate::call_steps::{step_missing_argument, step_no_arguments, step_plain_argument};
 use crate::env::Env;
 use crate::fields::step_with_member;
 use crate::members::step_member;
-use crate::stack::{push_operand, take_item};
+use crate::named::{step_index, step_named_argument};
 use crate::step::{step_binary, step_literal, step_name, step_parenthesised, step_unary};
-use crate::take::{push_ending, value_ending};
-use crate::term::{Item, Tree};
+use bound_calls::{Item, Tree, push_ending, push_operand, take_item, value_ending};
 use bound_declarations::NotYet;
 use bound_project::{DeclaredType, Draft};
 use std::alloc::Global;
@@ -54,6 +51,9 @@ fn step<'a>(
         ExpressionNode::NoArguments => step_no_arguments(alloc, draft, env, stack),
         ExpressionNode::MissingArgument { .. } => step_missing_argument(alloc, draft, stack),
         ExpressionNode::PlainArgument { .. } => step_plain_argument(alloc, draft, stack),
+        ExpressionNode::NamedArgument { name, .. } => {
+            step_named_argument(alloc, draft, stack, name)
+        }
         ExpressionNode::Index { .. } => step_index(alloc, draft, stack),
         _ => Err(OrMemory::Fault(NotYet)),
     }

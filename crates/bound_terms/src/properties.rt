@@ -9,7 +9,7 @@ ghost use Rattle.bound_terms.specs.Callee.{WriterOf};
 ghost use Rattle.bound_terms.specs.Properties.{IsEntry, first_wanted, is_wanted, property_with, wants};
 ghost use Rattle.bound_terms.specs.PropertyView.{row_view};
 
-use crate::term::{Routine, Term};
+use bound_calls::{Routine, Term};
 use declared_names::{Entry, Scope, Space, What, Written, is_same_space, is_seen};
 use vba_tree::ProcedureWords;
 use vba_words::Identifier;

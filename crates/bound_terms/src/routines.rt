@@ -14,7 +14,7 @@ ghost use Rattle.bound_terms.specs.View.{EnvStands, env_view};
 
 use crate::env::Env;
 use crate::properties::property_with;
-use crate::term::Routine;
+use bound_calls::Routine;
 use bound_declarations::{NotYet, gives_value, is_property, procedure_number, result_type};
 use bound_project::{DeclaredType, ElementType};
 use declared_names::{Entry, Scope, Space, Written};

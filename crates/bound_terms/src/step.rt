@@ -5,17 +5,16 @@ ghost use Rattle.vba_expression.specs.Nodes.{behind_node};
 ghost use Rattle.bound_project.specs.DraftView.{draft_view};
 ghost use Rattle.binder.specs.Constants.{compare_in};
 ghost use Rattle.binder.specs.Terms as plain;
-ghost use Rattle.bound_terms.specs.Standing.{AllNamed};
-ghost use Rattle.bound_terms.specs.Steps.{Goes, as_term};
+ghost use Rattle.bound_calls.specs.Standing.{AllNamed};
+ghost use Rattle.bound_calls.specs.Steps.{Goes, as_term};
 ghost use Rattle.bound_terms.specs.View.{EnvStands, env_view};
 
-use crate::constants::value_term;
 use crate::env::Env;
 use crate::names::meant_term;
 use crate::operators::{binary_term, unary_term};
-use crate::stack::{push_operand, put_item, settle, take_item};
-use crate::take::value_ending;
-use crate::term::{Ending, Item, Term, Tree};
+use bound_calls::{
+    Ending, Item, Term, Tree, push_operand, put_item, settle, take_item, value_ending, value_term,
+};
 use bound_declarations::NotYet;
 use bound_project::Draft;
 use constant_values::{literal_meant, value_type};

@@ -208,7 +208,7 @@ abbrev front : Tables → ℕ → ActionKind → List plain.Instr
 front u i k = map (instr_view u) (before_instrs i k)
 
 abbrev back : Tables → Tables → Row → (p i next : ℕ) → ActionKind → List plain.Instr
-back t u row p i next k = map (instr_view u) (work_instrs t.orders i next k ++ end_instr row p next k ∷ [])
+back t u row p i next k = map (instr_view u) (work_instrs t.orders i next k ++ end_instr t.orders row p next k ∷ [])
 
 abbrev ActionMade : Tables → Tables → Row → (p i next : ℕ) → ActionKind → List Piece → Option Action → Type 0
 ActionMade t u row p i next k st o = Made (around_of row k) (action_code (entry row) p i next) (front u i k) (back t u row p i next k) st o
@@ -247,6 +247,12 @@ action_made t u added g row p i next (kind.Print count ends) st =
     prints_made (around_of row (kind.Print count ends)) (action_code (entry row) p i next) (λ n. back t u row p i next (kind.Print n ends)) _ (λ ps. refl) count st (prints_off count st no_prints) (prints_are (around_of row (kind.Print count ends)) count st no_prints)
 action_made t u added g row p i next (kind.Raise count) st =
     args_made (around_of row (kind.Raise count)) (action_code (entry row) p i next) (λ n. back t u row p i next (kind.Raise n)) _ (λ args. refl) count st (arguments_off count st no_args) (args_are (around_of row (kind.Raise count)) count st no_args)
+action_made t u added g row p i next (kind.RaiseInOrder n order) st =
+    let k = kind.RaiseInOrder n order in
+    let o = order_in t order in
+    let after = plain.Throw (length o) ∷ [] in
+    subst (λ (l : List ℕ). Made (around_of row k) (action_code (entry row) p i next) [] (plain.Reorder l n ∷ after) st (action_of t k st)) (sym (g.order order))
+    (args_made (around_of row k) (action_code (entry row) p i next) (λ m. plain.Reorder o m ∷ after) _ (λ args. append_assoc (args_code args) (plain.Reorder o (count args) ∷ []) after) n st (arguments_off n st no_args) (args_are (around_of row k) n st no_args))
 action_made t u added g row p i next (kind.Test sense to other) st = value_made (around_of row (kind.Test sense to other)) (action_code (entry row) p i next) [] _ _ (λ e. refl) st
 action_made t u added g row p i next (kind.GoTo to) st = alone_made (around_of row (kind.GoTo to)) (action_code (entry row) p i next) _ _ refl st
 action_made t u added g row p i next (kind.For x compare last step first behind) (an_expr c ∷ an_expr b ∷ an_expr a ∷ []) =
@@ -288,7 +294,7 @@ action_seen t u added g row p i next k ns (Some a) e h =
     let m : ActionMade t u row p i next k (pieces t ns) (Some a) = subst (λ o. ActionMade t u row p i next k (pieces t ns) o) e (action_made t u added g row p i next k (pieces t ns)) in
     let n = nodes_emit t u added g (around_of row k) ns [] m.1 in
     let mid = nodes_instrs added t.orders (around_of row k) ns in
-    let last = work_instrs t.orders i next k ++ end_instr row p next k ∷ [] in
+    let last = work_instrs t.orders i next k ++ end_instr t.orders row p next k ∷ [] in
     map_append (instr_view u) (before_instrs i k) (mid ++ last) ∙ ap (λ c. front u i k ++ c) (map_append (instr_view u) mid last ∙ ap (λ c. c ++ back t u row p i next k) (sym n.0)) ∙ sym m.0
 
 pub statement_seen : (t u : Tables) (added : Added) → Grown t u added → (row : Row) (p : ℕ) (ns : List Node) (i : ℕ) (s : StatementNode) → StatementFits t ns s

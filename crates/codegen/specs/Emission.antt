@@ -128,6 +128,7 @@ work_instrs orders i next (kind.LetProperty q count of) = property_instrs q coun
 work_instrs orders i next (kind.LetPropertyInOrder q count order of) = instr.Reorder order count ∷ property_instrs q (order_length orders order) of
 work_instrs orders i next (kind.SetProperty q count of) = object_property_instrs q count of
 work_instrs orders i next (kind.SetPropertyInOrder q count order of) = instr.Reorder order count ∷ object_property_instrs q (order_length orders order) of
+work_instrs orders i next (kind.RaiseInOrder count order) = instr.Reorder order count ∷ []
 work_instrs orders i next (kind.Print count ends) = instr.Show ends count ∷ []
 work_instrs orders i next (kind.For x compare last step first behind) = instr.LoopOn x i compare last step ∷ []
 work_instrs orders i next (kind.Next x header first) = instr.NextRound x header ∷ []
@@ -147,30 +148,31 @@ work_instrs orders i next kind.Stop = instr.StopHere ∷ []
 work_instrs orders i next k = []
 
 -- where it goes on
-abbrev pub end_instr : Row → (procedure next : ℕ) → ActionKind → Instr
-end_instr row p next (kind.Raise count) = instr.Throw count
-end_instr row p next (kind.Test sense to other) = instr.Branch sense (slice_index row to) (slice_index row other)
-end_instr row p next (kind.GoTo to) = instr.Finish (slice_index row to)
-end_instr row p next (kind.For x compare last step first behind) = instr.Branch true (slice_index row first) (slice_index row behind)
-end_instr row p next (kind.Next x header first) = instr.Branch true (slice_index row first) (slice_index row next)
-end_instr row p next (kind.ForEach x first behind) = instr.Branch true (slice_index row first) (slice_index row behind)
-end_instr row p next (kind.NextEach x header first) = instr.Branch true (slice_index row first) (slice_index row next)
-end_instr row p next (kind.ExitEach header to) = instr.Finish (slice_index row to)
-end_instr row p next (kind.Select first) = instr.Finish (slice_index row first)
-end_instr row p next (kind.Case tests header of compare first other) = instr.Finish (slice_index row other)
-end_instr row p next (kind.GoSub to) = instr.Finish (slice_index row to)
-end_instr row p next kind.Return = instr.TakeReturn p
-end_instr row p next (kind.ExitTo end) = instr.Finish (slice_index row end)
-end_instr row p next kind.ResumeAgain = instr.Again p
-end_instr row p next kind.ResumeNext = instr.Behind p
-end_instr row p next (kind.ResumeAt to) = instr.Resumes p to
-end_instr row p next kind.End = instr.Halt
-end_instr row p next k = instr.Finish (slice_index row next)
+abbrev pub end_instr : List (List ℕ) → Row → (procedure next : ℕ) → ActionKind → Instr
+end_instr orders row p next (kind.Raise count) = instr.Throw count
+end_instr orders row p next (kind.RaiseInOrder count order) = instr.Throw (order_length orders order)
+end_instr orders row p next (kind.Test sense to other) = instr.Branch sense (slice_index row to) (slice_index row other)
+end_instr orders row p next (kind.GoTo to) = instr.Finish (slice_index row to)
+end_instr orders row p next (kind.For x compare last step first behind) = instr.Branch true (slice_index row first) (slice_index row behind)
+end_instr orders row p next (kind.Next x header first) = instr.Branch true (slice_index row first) (slice_index row next)
+end_instr orders row p next (kind.ForEach x first behind) = instr.Branch true (slice_index row first) (slice_index row behind)
+end_instr orders row p next (kind.NextEach x header first) = instr.Branch true (slice_index row first) (slice_index row next)
+end_instr orders row p next (kind.ExitEach header to) = instr.Finish (slice_index row to)
+end_instr orders row p next (kind.Select first) = instr.Finish (slice_index row first)
+end_instr orders row p next (kind.Case tests header of compare first other) = instr.Finish (slice_index row other)
+end_instr orders row p next (kind.GoSub to) = instr.Finish (slice_index row to)
+end_instr orders row p next kind.Return = instr.TakeReturn p
+end_instr orders row p next (kind.ExitTo end) = instr.Finish (slice_index row end)
+end_instr orders row p next kind.ResumeAgain = instr.Again p
+end_instr orders row p next kind.ResumeNext = instr.Behind p
+end_instr orders row p next (kind.ResumeAt to) = instr.Resumes p to
+end_instr orders row p next kind.End = instr.Halt
+end_instr orders row p next k = instr.Finish (slice_index row next)
 
 -- what stays the same for all statements of a project, and of a procedure
 abbrev pub action_instrs : Added → List (List ℕ) → Row → (procedure statement next : ℕ) → ActionKind → List Node → List Instr
 action_instrs added orders row p i next k ns =
-    before_instrs i k ++ (nodes_instrs added orders (around_of row k) ns ++ (work_instrs orders i next k ++ end_instr row p next k ∷ []))
+    before_instrs i k ++ (nodes_instrs added orders (around_of row k) ns ++ (work_instrs orders i next k ++ end_instr orders row p next k ∷ []))
 
 abbrev pub statement_instrs : Added → List (List ℕ) → Row → (procedure : ℕ) → List Node → (statement : ℕ) → StatementNode → List Instr
 statement_instrs added orders row p ns i s = instr.Begin i ∷ action_instrs added orders row p i s.next s.action (part ns s.first_node s.nodes)

@@ -213,6 +213,9 @@ fn put_work(
             order,
             of,
         } => put_object_property_in_order(code, orders, procedure, arguments, order, of),
+        ActionKind::RaiseInOrder { arguments, order } => {
+            put(code, Instr::Reorder { order, arguments })
+        }
         ActionKind::Print { items, ends } => put(code, Instr::Show { ends, items }),
         ActionKind::For {
             counter,
@@ -290,32 +293,45 @@ fn finish_at(row: &[u32], to: u32) -> Instr
     }
 }
 
-fn end_of(row: &[u32], numbers: Numbers, action: ActionKind) -> Instr
-    ensures { result ≡ end_instr row.now numbers.procedure numbers.next action }
+fn throw_in_order(orders: &[Vec<u32>], order: u32) -> Result<Instr, OrMemory<TooLong>>
+    ensures { IfOk result (λ end. end ≡ Instr.Throw (order_length (lists_of orders.now) order)) }
+{
+    let arguments = order_length(orders, order)?;
+    Ok(Instr::Throw { arguments })
+}
+
+fn end_of(
+    orders: &[Vec<u32>],
+    row: &[u32],
+    numbers: Numbers,
+    action: ActionKind,
+) -> Result<Instr, OrMemory<TooLong>>
+    ensures { IfOk result (λ end. end ≡ end_instr (lists_of orders.now) row.now numbers.procedure numbers.next action) }
 {
     let procedure = numbers.procedure;
     match action {
-        ActionKind::Raise { arguments } => Instr::Throw { arguments },
-        ActionKind::Test { sense, to, other } => branch_to(row, sense, to, other),
-        ActionKind::GoTo { to } => finish_at(row, to),
-        ActionKind::For { first, behind, .. } => branch_to(row, true, first, behind),
-        ActionKind::Next { first, .. } => branch_to(row, true, first, numbers.next),
-        ActionKind::ForEach { first, behind, .. } => branch_to(row, true, first, behind),
-        ActionKind::NextEach { first, .. } => branch_to(row, true, first, numbers.next),
-        ActionKind::ExitEach { to, .. } => finish_at(row, to),
-        ActionKind::Select { first } => finish_at(row, first),
-        ActionKind::Case { other, .. } => finish_at(row, other),
-        ActionKind::GoSub { to } => finish_at(row, to),
-        ActionKind::Return => Instr::TakeReturn { procedure },
-        ActionKind::ExitTo { end } => finish_at(row, end),
-        ActionKind::ResumeAgain => Instr::Again { procedure },
-        ActionKind::ResumeNext => Instr::Behind { procedure },
-        ActionKind::ResumeAt { to } => Instr::Resumes {
+        ActionKind::Raise { arguments } => Ok(Instr::Throw { arguments }),
+        ActionKind::RaiseInOrder { order, .. } => throw_in_order(orders, order),
+        ActionKind::Test { sense, to, other } => Ok(branch_to(row, sense, to, other)),
+        ActionKind::GoTo { to } => Ok(finish_at(row, to)),
+        ActionKind::For { first, behind, .. } => Ok(branch_to(row, true, first, behind)),
+        ActionKind::Next { first, .. } => Ok(branch_to(row, true, first, numbers.next)),
+        ActionKind::ForEach { first, behind, .. } => Ok(branch_to(row, true, first, behind)),
+        ActionKind::NextEach { first, .. } => Ok(branch_to(row, true, first, numbers.next)),
+        ActionKind::ExitEach { to, .. } => Ok(finish_at(row, to)),
+        ActionKind::Select { first } => Ok(finish_at(row, first)),
+        ActionKind::Case { other, .. } => Ok(finish_at(row, other)),
+        ActionKind::GoSub { to } => Ok(finish_at(row, to)),
+        ActionKind::Return => Ok(Instr::TakeReturn { procedure }),
+        ActionKind::ExitTo { end } => Ok(finish_at(row, end)),
+        ActionKind::ResumeAgain => Ok(Instr::Again { procedure }),
+        ActionKind::ResumeNext => Ok(Instr::Behind { procedure }),
+        ActionKind::ResumeAt { to } => Ok(Instr::Resumes {
             procedure,
             statement: to,
-        },
-        ActionKind::End => Instr::Halt,
-        _ => finish_at(row, numbers.next),
+        }),
+        ActionKind::End => Ok(Instr::Halt),
+        _ => Ok(finish_at(row, numbers.next)),
     }
 }
 
@@ -335,5 +351,6 @@ pub fn emit_action(
     put_before(code, numbers.statement, action)?;
     emit_nodes(code, added, orders, around_of(row, action), nodes)?;
     put_work(code, orders, numbers.statement, numbers.next, action)?;
-    put(code, end_of(row, numbers, action))
+    let end = end_of(orders, row, numbers, action)?;
+    put(code, end)
 }

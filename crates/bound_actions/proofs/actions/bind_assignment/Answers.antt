@@ -3,7 +3,7 @@ use Rattle.vba_expression.specs.View.{view as expression_view}
 use Rattle.bound_project.specs.declared.declared_type.DeclaredType.{DeclaredType}
 use Rattle.bound_project.specs.DraftView.{draft_view}
 use Rattle.binder.specs.ExpressionsBound.{bound_operand}
-use Rattle.bound_terms.specs.Steps.{Binds}
+use Rattle.bound_calls.specs.Steps.{Binds}
 use Rattle.bound_terms.specs.View.{env_view}
 use Rattle.bound_actions.proofs.Assigned.{action_assigned}
 use Rattle.bound_actions.proofs.actions.bind_assignment.Goals as goal

@@ -1,6 +1,6 @@
 use Rattle.std.proofs.Common.{ap, ◌∙◌}
 use Rattle.bound_project.specs.declared.node.NodeKind.{NodeKind}
-use Rattle.bound_terms.specs.declared.term.Term.TheVariants as term
+use Rattle.bound_calls.specs.declared.term.Term.TheVariants as term
 use Rattle.bound_actions.proofs.Acting.{variable_is}
 use Rattle.bound_actions.proofs.actions.variable_in.Goals as goal
 

@@ -1,7 +1,7 @@
 use Rattle.std.proofs.Common.{Option, subst}
 use Rattle.bound_project.specs.DraftView.{draft_view}
-use Rattle.bound_terms.specs.declared.term.Ending.{Ending}
-use Rattle.bound_terms.specs.Taking.{CallsBare}
+use Rattle.bound_calls.specs.declared.term.Ending.{Ending}
+use Rattle.bound_calls.specs.Taking.{CallsBare}
 use Rattle.bound_actions.proofs.Placing.{keeps_call}
 use Rattle.bound_actions.proofs.places.kept_call.Goals as goal
 

@@ -1,7 +1,7 @@
 use Rattle.std.proofs.Common.{sym, subst}
 use Rattle.std.specs.Prelude.{IfOk}
 use Rattle.bound_project.specs.DraftView.{draft_view}
-use Rattle.bound_terms.specs.declared.term.Term.{Term}
+use Rattle.bound_calls.specs.declared.term.Term.{Term}
 use Rattle.bound_actions.specs.Kept.{Keeps}
 use Rattle.bound_actions.proofs.Placing.{keeps_place, keeps_value}
 use Rattle.bound_actions.proofs.places.kept_term.Goals as goal

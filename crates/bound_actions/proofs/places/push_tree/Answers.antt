@@ -1,7 +1,7 @@
 use Rattle.std.proofs.Common.{subst, Option}
 use Rattle.bound_project.specs.DraftView.{draft_view}
 use Rattle.bound_project.specs.declared.declared_type.DeclaredType.{DeclaredType}
-use Rattle.bound_terms.specs.Steps.{PushesValue}
+use Rattle.bound_calls.specs.Steps.{PushesValue}
 use Rattle.bound_actions.proofs.places.push_tree.Goals as goal
 
 pub returns : goal.returns

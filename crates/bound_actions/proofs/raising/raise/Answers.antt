@@ -1,8 +1,7 @@
-use Rattle.bound_project.specs.DraftView.{draft_view}
-use Rattle.bound_terms.specs.View.{env_view}
-use Rattle.bound_actions.proofs.Called.{acts_raise}
+use Rattle.std.proofs.Common.{List, map, ap, ◌∙◌}
+use Rattle.bound_project.specs.View.{parameter_view}
+use Rattle.bound_project.specs.declared.declarations.Parameter.{Parameter as Held}
 use Rattle.bound_actions.proofs.raising.raise.Goals as goal
 
-pub returns : goal.returns
-returns c =
-    λ place. acts_raise (env_view c.args.env) place c.args.nodes.now (draft_view c.args.draft.now) (draft_view c.push_raised.new.draft) c.in_ok-_written._written c.in_ok-_written.arguments c.in_ok-_written.ensures
+pub raise_with-requires-clause-raised : goal.raise_with-requires-clause-raised
+raise_with-requires-clause-raised c = ap (λ (l : List Held). map parameter_view l) c.as_slice.ensures.value ∙ c.in_ok-parameters.ensures

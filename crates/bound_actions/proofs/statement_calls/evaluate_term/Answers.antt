@@ -1,7 +1,7 @@
 use Rattle.std.proofs.Common.{subst, Option}
 use Rattle.bound_project.specs.DraftView.{draft_view}
 use Rattle.bound_project.specs.declared.declared_type.DeclaredType.{DeclaredType}
-use Rattle.bound_terms.specs.Taking.{Pushes}
+use Rattle.bound_calls.specs.Taking.{Pushes}
 use Rattle.bound_actions.proofs.Called.{acts_value}
 use Rattle.bound_actions.proofs.statement_calls.evaluate_term.Goals as goal
 

@@ -1,9 +1,18 @@
 use Rattle.bound_project.specs.DraftView.{draft_view}
 use Rattle.bound_terms.specs.View.{env_view}
-use Rattle.bound_actions.proofs.Called.{passes_all}
+use Rattle.std.specs.Prelude.{map}
+use Rattle.std.proofs.lemmas.Result.{IfOk-weaker}
+use Rattle.bound_project.specs.View.{parameter_view}
+use Rattle.bound_actions.specs.Called.{PassesAll, RestPushed}
+use Rattle.bound_actions.proofs.Called.{all_passed}
 use Rattle.bound_actions.proofs.statement_calls.push_arguments.Goals as goal
 
 pub returns : goal.returns
 returns c =
-    passes_all (env_view c.args.env) c.args.parameters.now c.in_ok-passed.passed c.args.nodes.now (draft_view c.args.draft.now) (draft_view c.read_arguments.new.draft) (draft_view c.pass_rest.new.draft) c.in_ok-left.left
-    c.in_ok-arguments.arguments c.in_ok-passed.ensures c.in_ok-pass_rest.ensures c.in_ok-left.ensures c.in_ok-arguments.ensures
+    let env = env_view c.args.env in
+    let d = draft_view c.args.draft.now in
+    let m = draft_view c.read_arguments.new.draft in
+    let e = draft_view c.push_rest.new.draft in
+    let x = c.in_ok-passed.passed in
+    IfOk-weaker c.push_rest.result (λ n. RestPushed x m e n.0 n.1) (λ n. PassesAll env (map parameter_view c.args.parameters.now) c.args.nodes.now d e n.0 n.1)
+    (λ n h. all_passed env c.args.parameters.now x c.args.nodes.now d m e n.0 n.1 c.in_ok-passed.ensures h) c.push_rest.ensures

@@ -1,9 +1,9 @@
 use Rattle.std.proofs.Common.{subst, Option}
 use Rattle.bound_project.specs.DraftView.{draft_view}
 use Rattle.bound_project.specs.declared.declared_type.DeclaredType.{DeclaredType}
-use Rattle.bound_terms.specs.declared.term.Ending.{Ending}
-use Rattle.bound_terms.specs.Taking.{Pushes, no_object}
-use Rattle.bound_terms.proofs.CallSteps.{pushes_call}
+use Rattle.bound_calls.specs.declared.term.Ending.{Ending}
+use Rattle.bound_calls.specs.Taking.{Pushes, no_object}
+use Rattle.bound_calls.proofs.CallSteps.{pushes_call}
 use Rattle.bound_actions.proofs.statement_calls.push_call.Goals as goal
 
 pub returns : goal.returns

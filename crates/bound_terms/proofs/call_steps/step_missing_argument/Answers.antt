@@ -1,7 +1,7 @@
 use Rattle.std.proofs.Common.{◌∷◌, sym, ap, ◌∙◌}
 use Rattle.std.specs.Prelude.{reverse}
 use Rattle.bound_project.specs.DraftView.{draft_view}
-use Rattle.bound_terms.proofs.CallSteps.{goes_missing}
+use Rattle.bound_calls.proofs.CallSteps.{goes_missing}
 use Rattle.bound_terms.proofs.call_steps.step_missing_argument.Goals as goal
 
 pub returns : goal.returns

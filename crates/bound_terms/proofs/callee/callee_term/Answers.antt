@@ -1,11 +1,11 @@
-use Rattle.std.proofs.Common.{Some, ap}
+use Rattle.std.proofs.Common.{ap}
 use Rattle.std.specs.Prelude.{option_map}
 use Rattle.std.proofs.lemmas.Result.{IfOk-weaker}
 use Rattle.bound_project.specs.DraftView.{draft_view}
 use Rattle.binder.specs.ExpressionsBound.{meant_term}
 use Rattle.binder.specs.Scopes.{called, declares}
 use Rattle.bound_terms.specs.Callee.{CalleeIs}
-use Rattle.bound_terms.specs.Steps.{MakesLeaf}
+use Rattle.bound_calls.specs.Steps.{MakesLeaf}
 use Rattle.bound_terms.specs.View.{env_view}
 use Rattle.bound_terms.proofs.Callees.{callee_named, callee_same}
 use Rattle.bound_terms.proofs.callee.callee_term.Goals as goal

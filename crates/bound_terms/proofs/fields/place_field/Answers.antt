@@ -1,4 +1,4 @@
-use Rattle.std.proofs.Common.{sym, ◌∙◌}
+use Rattle.std.proofs.Common.{sym}
 use Rattle.bound_terms.specs.View.{env_view}
 use Rattle.bound_terms.proofs.Fielding.{makes_field}
 use Rattle.bound_terms.proofs.fields.place_field.Goals as goal

@@ -1,7 +1,5 @@
 use Rattle.std.proofs.Common.{ℕ, Bool, sym, ap, ◌∙◌}
-use Rattle.vba_words.specs.declared.identifier.Identifier.{Identifier}
 use Rattle.binder.specs.Terms.{a_function}
-use Rattle.binder.specs.Terms as terms
 use Rattle.binder.specs.Scopes.{has_dollar}
 use Rattle.binder.specs.ExpressionsBound.{array_base}
 use Rattle.bound_terms.specs.View.{env_view}

@@ -1,7 +1,7 @@
 use Rattle.std.proofs.Common.{◌≡◌, ℕ, ◌==◌, sym, ap, subst, ◌∙◌}
 use Rattle.vba_lib.specs.declared.function.LibraryFunction.{LibraryFunction}
 use Rattle.binder.specs.ExpressionsBound.{array_base}
-use Rattle.bound_terms.specs.Standing.{base_number}
+use Rattle.bound_calls.specs.Standing.{base_number}
 use Rattle.bound_terms.specs.View.{env_view}
 use Rattle.bound_terms.proofs.Library.{base_one_is, no_array}
 use Rattle.bound_terms.proofs.functions.is_base_one.Goals as goal

@@ -1,8 +1,8 @@
 use Rattle.std.proofs.Common.{sym, subst}
 use Rattle.bound_project.specs.DraftView.{draft_view}
-use Rattle.bound_terms.specs.declared.term.Item.{Item}
-use Rattle.bound_terms.specs.declared.term.Item.TheVariants as item
-use Rattle.bound_terms.specs.Indexing.{AddsArgument}
+use Rattle.bound_calls.specs.declared.term.Item.{Item}
+use Rattle.bound_calls.specs.declared.term.Item.TheVariants as item
+use Rattle.bound_calls.specs.Indexing.{AddsArgument}
 use Rattle.bound_terms.proofs.indexing.add_argument.Goals as goal
 
 pub returns-in_ok-more-in-Function : goal.returns-in_ok-more-in-Function

@@ -1,7 +1,7 @@
 use Rattle.std.proofs.Common.{Option, subst}
 use Rattle.bound_project.specs.DraftView.{draft_view}
 use Rattle.bound_project.specs.declared.declared_type.DeclaredType.{DeclaredType}
-use Rattle.bound_terms.specs.Steps.{PushesValue}
+use Rattle.bound_calls.specs.Steps.{PushesValue}
 use Rattle.bound_terms.proofs.Elements.{adds_number}
 use Rattle.bound_terms.proofs.indexing.add_number.Goals as goal
 

@@ -1,5 +1,5 @@
 use Rattle.bound_project.specs.DraftView.{draft_view}
-use Rattle.bound_terms.proofs.CallSteps.{closes_call}
+use Rattle.bound_calls.proofs.CallSteps.{closes_call}
 use Rattle.bound_terms.proofs.indexing.close_call.Goals as goal
 
 pub returns : goal.returns

@@ -1,8 +1,8 @@
 use Rattle.std.proofs.Common.{sym, subst}
 use Rattle.std.specs.Prelude.{IfOk}
 use Rattle.bound_project.specs.DraftView.{draft_view}
-use Rattle.bound_terms.specs.declared.term.Item.{Item}
-use Rattle.bound_terms.specs.Indexing.{Closes}
+use Rattle.bound_calls.specs.declared.term.Item.{Item}
+use Rattle.bound_calls.specs.Indexing.{Closes}
 use Rattle.bound_terms.proofs.Elements.{ended, closes_indexed}
 use Rattle.bound_terms.proofs.Library.{ended_function, closes_function}
 use Rattle.bound_terms.proofs.indexing.end_arguments.Goals as goal

@@ -1,12 +1,12 @@
-use Rattle.std.proofs.Common.{◌≡◌, Option, Some, sym, ap, subst, ◌∙◌}
-use Rattle.std.specs.Prelude.{is_some, option_map}
+use Rattle.std.proofs.Common.{Option, sym, ap, subst, ◌∙◌}
+use Rattle.std.specs.Prelude.{is_some}
 use Rattle.bound_project.specs.DraftView.{draft_view}
 use Rattle.binder.specs.Scopes.{Meant, behind, plainly}
 use Rattle.binder.specs.ExpressionsBound.{meant_term}
 use Rattle.constant_values.specs.Rounds.{IsThere}
 use Rattle.constant_values.proofs.Looked.{behind_there}
 use Rattle.declared_names.specs.View.{qualifier_view, scope_view}
-use Rattle.bound_terms.specs.Steps.{MakesLeaf}
+use Rattle.bound_calls.specs.Steps.{MakesLeaf}
 use Rattle.bound_terms.specs.View.{env_view}
 use Rattle.bound_terms.proofs.Dotted.{makes_behind}
 use Rattle.bound_terms.proofs.members.behind_qualifier.Goals as goal

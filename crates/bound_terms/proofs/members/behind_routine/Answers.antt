@@ -1,8 +1,8 @@
 use Rattle.std.proofs.Common.{Option, subst}
 use Rattle.std.proofs.lemmas.Result.{IfOk-weaker}
 use Rattle.bound_project.specs.DraftView.{draft_view}
-use Rattle.bound_terms.specs.declared.term.Ending.{Ending}
-use Rattle.bound_terms.specs.Taking.{CallsBare}
+use Rattle.bound_calls.specs.declared.term.Ending.{Ending}
+use Rattle.bound_calls.specs.Taking.{CallsBare}
 use Rattle.bound_terms.specs.View.{env_view}
 use Rattle.bound_terms.proofs.Fielding.{behind_routine}
 use Rattle.bound_terms.proofs.members.behind_routine.Goals as goal

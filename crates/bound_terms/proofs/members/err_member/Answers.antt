@@ -4,7 +4,7 @@ use Rattle.vba_values.specs.Types as type
 use Rattle.bound_project.specs.Expressions.{err_value, err_number, err_source, err_description}
 use Rattle.binder.specs.Terms.{Term, a_value, err_raise, err_clear, no_term}
 use Rattle.binder.specs.ExpressionsBound.{err_member}
-use Rattle.bound_terms.specs.Steps.{MakesLeaf}
+use Rattle.bound_calls.specs.Steps.{MakesLeaf}
 use Rattle.bound_terms.proofs.NamedTerms.{leaf_as}
 use Rattle.bound_terms.proofs.members.err_member.Goals as goal
 

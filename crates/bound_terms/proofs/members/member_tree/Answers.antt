@@ -1,12 +1,10 @@
-use Rattle.std.proofs.Common.{◌≡◌, Option, Some, None, false, sym, subst, ap, ◌∙◌}
+use Rattle.std.proofs.Common.{◌≡◌, Option, false, sym, subst, ap, ◌∙◌}
 use Rattle.std.specs.Prelude.{option_map}
 use Rattle.std.proofs.lemmas.Result.{IfOk-weaker}
-use Rattle.bound_project.specs.DraftView.{draft_view}
 use Rattle.binder.specs.Scopes.{Qualifier}
 use Rattle.constant_values.specs.Rounds.{IsPlace}
 use Rattle.declared_names.specs.View.{qualifier_view, scope_view}
 use Rattle.bound_terms.specs.Owned.{IsQualifier}
-use Rattle.bound_terms.specs.View.{env_view}
 use Rattle.bound_terms.proofs.members.member_tree.Goals as goal
 
 pub behind_qualifier-requires-clause-there : goal.behind_qualifier-requires-clause-there

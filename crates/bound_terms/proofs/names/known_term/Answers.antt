@@ -5,7 +5,7 @@ use Rattle.binder.specs.ExpressionsBound.{meant_term}
 use Rattle.constant_values.specs.Rounds.{IsThere}
 use Rattle.declared_names.specs.declared.scope.Meant.{Meant}
 use Rattle.declared_names.specs.View.{meant_view, scope_view}
-use Rattle.bound_terms.specs.Steps.{MakesLeaf}
+use Rattle.bound_calls.specs.Steps.{MakesLeaf}
 use Rattle.bound_terms.specs.View.{env_view}
 use Rattle.bound_terms.proofs.names.known_term.Goals as goal
 

@@ -1,11 +1,10 @@
-use Rattle.std.proofs.Common.{◌≡◌, false, option_map, sym, subst}
+use Rattle.std.proofs.Common.{option_map, sym, subst}
 use Rattle.std.specs.Prelude.{IfOk}
 use Rattle.std.proofs.lemmas.Result.{IfOk-weaker}
 use Rattle.vba_tree.specs.View.{parameter_view, type_clause_view, variable_view}
 use Rattle.bound_project.specs.View.{declared_view}
 use Rattle.declared_names.specs.declared.local.Own.{Own}
 use Rattle.declared_names.specs.View.{scope_view, own_view, written_view}
-use Rattle.bound_terms.specs.declared.names.Shape.{Shape}
 use Rattle.bound_terms.specs.Owned.{OwnShaped}
 use Rattle.bound_terms.proofs.NamedTerms.{own_result, own_parameter, own_variable, own_array, own_undeclared}
 use Rattle.bound_terms.proofs.names.own_shape.Goals as goal

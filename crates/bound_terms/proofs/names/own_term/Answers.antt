@@ -5,7 +5,7 @@ use Rattle.binder.specs.Scopes.{of_procedure}
 use Rattle.binder.specs.ExpressionsBound.{own_term, constant_term}
 use Rattle.declared_names.specs.declared.local.Own.{Own}
 use Rattle.declared_names.specs.View.{local_view, own_view}
-use Rattle.bound_terms.specs.Steps.{MakesLeaf}
+use Rattle.bound_calls.specs.Steps.{MakesLeaf}
 use Rattle.bound_terms.specs.View.{env_view}
 use Rattle.bound_terms.proofs.NamedTerms.{leaf_as}
 use Rattle.bound_terms.proofs.names.own_term.Goals as goal

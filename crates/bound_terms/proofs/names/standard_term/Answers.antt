@@ -8,8 +8,8 @@ use Rattle.binder.specs.Terms.{a_routine}
 use Rattle.binder.specs.ExpressionsBound.{entry_term}
 use Rattle.declared_names.specs.declared.entry.What.{What}
 use Rattle.declared_names.specs.View.{space_view, what_view, written_view}
-use Rattle.bound_terms.specs.declared.term.Term.TheVariants as term
-use Rattle.bound_terms.specs.Steps.{MakesLeaf}
+use Rattle.bound_calls.specs.declared.term.Term.TheVariants as term
+use Rattle.bound_calls.specs.Steps.{MakesLeaf}
 use Rattle.bound_terms.specs.View.{env_view}
 use Rattle.bound_terms.proofs.NamedTerms.{leaf_as, routine_leaf, entry_variable, entry_procedure}
 use Rattle.bound_terms.proofs.names.standard_term.Goals as goal

@@ -4,7 +4,7 @@ use Rattle.std.proofs.lemmas.Result.{on_ok_weaker}
 use Rattle.vba_expression.specs.declared.node.ExpressionNode.{ExpressionNode}
 use Rattle.vba_expression.specs.Nodes.{behind_node}
 use Rattle.bound_project.specs.DraftView.{draft_view}
-use Rattle.bound_terms.specs.Steps.{Goes}
+use Rattle.bound_calls.specs.Steps.{Goes}
 use Rattle.bound_terms.specs.View.{env_view}
 use Rattle.bound_terms.proofs.pass.step.Goals as goal
 
@@ -87,6 +87,14 @@ returns-in-PlainArgument c =
     let xs = reverse c.args.stack.now.items in
     let A : ExpressionNode → Type 0 = λ k. Goes env d xs (draft_view c.step_plain_argument.new.draft) (reverse c.step_plain_argument.new.stack.items) (behind_node k) in
     on_ok_weaker c.step_plain_argument.result (λ g. subst A (sym c.in-PlainArgument.is) (g env c.in-PlainArgument.comma)) c.step_plain_argument.ensures
+
+pub returns-in-NamedArgument : goal.returns-in-NamedArgument
+returns-in-NamedArgument c =
+    let env = env_view c.args.env in
+    let d = draft_view c.args.draft.now in
+    let xs = reverse c.args.stack.now.items in
+    let A : ExpressionNode → Type 0 = λ k. Goes env d xs (draft_view c.step_named_argument.new.draft) (reverse c.step_named_argument.new.stack.items) (behind_node k) in
+    on_ok_weaker c.step_named_argument.result (λ g. subst A (sym c.in-NamedArgument.is) (g env c.in-NamedArgument.comma c.in-NamedArgument.colon_equal)) c.step_named_argument.ensures
 
 pub returns-in-Index : goal.returns-in-Index
 returns-in-Index c =

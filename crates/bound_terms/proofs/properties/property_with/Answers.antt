@@ -1,4 +1,4 @@
-use Rattle.std.proofs.Common.{◌≡◌, Some, None, sym, ap, ◌∙◌}
+use Rattle.std.proofs.Common.{sym, ap, ◌∙◌}
 use Rattle.std.specs.Prelude.{option_map}
 use Rattle.declared_names.specs.Lookup.{found_view}
 use Rattle.declared_names.specs.View.{entry_view, scope_view, space_view, what_view, written_view}

@@ -4,7 +4,7 @@ use Rattle.vba_values.specs.View.{view as value_view}
 use Rattle.vba_expression.specs.Tree.{literal}
 use Rattle.bound_project.specs.DraftView.{draft_view}
 use Rattle.binder.specs.Constants.{literal_meant}
-use Rattle.bound_terms.proofs.Steps.{goes_leaf, literal_leaf}
+use Rattle.bound_calls.proofs.Steps.{goes_leaf, literal_leaf}
 use Rattle.bound_terms.proofs.step.step_literal.Goals as goal
 
 pub returns : goal.returns

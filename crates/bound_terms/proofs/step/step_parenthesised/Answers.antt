@@ -1,8 +1,8 @@
 use Rattle.std.proofs.Common.{◌∷◌, None, false, ap, ◌∙◌}
 use Rattle.std.specs.Prelude.{reverse}
 use Rattle.bound_project.specs.DraftView.{draft_view}
-use Rattle.bound_terms.specs.declared.term.Item.TheVariants as item
-use Rattle.bound_terms.proofs.Steps.{goes_parenthesised}
+use Rattle.bound_calls.specs.declared.term.Item.TheVariants as item
+use Rattle.bound_calls.proofs.Steps.{goes_parenthesised}
 use Rattle.bound_terms.proofs.step.step_parenthesised.Goals as goal
 
 pub returns : goal.returns

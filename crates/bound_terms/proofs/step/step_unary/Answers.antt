@@ -1,7 +1,7 @@
 use Rattle.std.proofs.Common.{◌∷◌, ap, ◌∙◌}
 use Rattle.std.specs.Prelude.{reverse}
 use Rattle.bound_project.specs.DraftView.{draft_view}
-use Rattle.bound_terms.proofs.Steps.{goes_unary}
+use Rattle.bound_calls.proofs.Steps.{goes_unary}
 use Rattle.bound_terms.proofs.step.step_unary.Goals as goal
 
 pub returns : goal.returns

@@ -1,0 +1,294 @@
+-- How arguments and calls are pushed.
+use Rattle.std.proofs.Common.{◌≡◌, T, ℕ, ◌<◌, ◌≤◌, ◌+◌, Bool, true, false, ◌||◌, List, [], ◌∷◌, ◌++◌, map, length, get_or, drop, Option, Some, None, option_map, is_some, if◌then◌else◌, refl, sym, ap, subst, ◌∙◌, arith, length-append, append-nil, append_assoc}
+use Rattle.std.proofs.lemmas.List.{map_push, drop_more, drop_all}
+use Rattle.std.specs.Prelude.{unwrap_or}
+use Rattle.vba_base.specs.declared.place.Place.{Place}
+use Rattle.vba_values.specs.Coerce.{is_same_type}
+use Rattle.vba_values.specs.Val.{Val}
+use Rattle.vba_values.specs.declared.value.Value.{Value}
+use Rattle.vba_values.specs.View.{view as value_view}
+use Rattle.vba_expression.specs.Tree.{Expr, Args, missing}
+use Rattle.vba_expression.specs.Tree as tree
+use Rattle.bound_project.specs.declared.declarations.Parameter.{Parameter}
+use Rattle.bound_project.specs.declared.declared_type.DeclaredType.{DeclaredType}
+use Rattle.bound_project.specs.declared.node.NodeKind.{NodeKind}
+use Rattle.bound_project.specs.declared.node.NodeKind.TheVariants as node
+use Rattle.bound_project.specs.View.{declared_view, parameter_view}
+use Rattle.bound_project.specs.Expressions.{no_exprs}
+use Rattle.bound_project.specs.Expressions as bound
+use Rattle.bound_project.specs.Lists.{above}
+use Rattle.bound_project.proofs.Lists.{above_push}
+use Rattle.bound_project.specs.Pieces.{Argument, place_lent, value_copied, default_taken, values_listed, Piece, Tables, an_argument, of_place, of_value, put}
+use Rattle.bound_project.specs.Project as project
+use Rattle.bound_project.specs.Drafts.{Drafted, NodeNamed, with_constant}
+use Rattle.bound_project.proofs.Drafts.{constant_last}
+use Rattle.binder.specs.Constants.{place_of_expression, is_variant}
+use Rattle.binder.specs.Terms.{Env, Given, a_place, taken_by, not_given_to, by_reference, by_copy, lent_to}
+use Rattle.binder.specs.Terms as plain
+use Rattle.binder.specs.ExpressionsBound.{term_of, value_of, givens}
+use Rattle.bound_calls.specs.declared.term.Ending.{Ending}
+use Rattle.bound_calls.specs.declared.term.Term.{Term}
+use Rattle.bound_calls.specs.declared.term.Term.TheVariants as term
+use Rattle.bound_calls.specs.declared.term.Tree.{Tree}
+use Rattle.bound_calls.specs.declared.term.Passed.{Passed}
+use Rattle.bound_calls.specs.Passing.{Taken, AllTaken, NotGiven, AllLeft}
+use Rattle.bound_calls.specs.Standing.{TermStands, TermNamed, TreeStands, PassedStands, Grown}
+use Rattle.bound_calls.specs.Steps.{AddsConstant, PushesValue}
+use Rattle.bound_calls.specs.Calls.{node_of, plain_given, lent_in, LendsTo, Lends, Copies, TakenIs, PassesTree, PassesNone, PassesRest, PassesPlain, PassesMissing}
+use Rattle.bound_calls.proofs.Growing.{grown_same, grown_twice, grown_pieces, grown_constant}
+use Rattle.bound_calls.proofs.Passing.{taken_push}
+
+-- a draft with one more node
+abbrev pub behind : NodeKind → Place → DeclaredType → Drafted → Drafted
+behind kind place of d = record d { pieces = put d.tables (node_of kind place of) d.pieces }
+
+grown_behind : (kind : NodeKind) (place : Place) (of : DeclaredType) (d : Drafted) → Grown d (behind kind place of d)
+grown_behind kind place of d = grown_pieces d (put d.tables (node_of kind place of) d.pieces)
+
+-- ---- one argument
+
+pub lent : (kind : NodeKind) (place : Place) (of : DeclaredType) (d d1 e : Drafted) → d1 ≡ behind kind place of d → e ≡ behind node.ByPlace place of d1 → Lends kind d e
+lent kind place of d d1 e a b =
+    let m = behind kind place of d in
+    let all : e ≡ behind node.ByPlace place of m = b ∙ ap (λ x. behind node.ByPlace place of x) a in
+    let P : Drafted → Type 0 = λ x. Lends kind d x in
+    subst P (sym all) (record {
+      grown = grown_twice d m (behind node.ByPlace place of m) (grown_behind kind place of d) (grown_behind node.ByPlace place of m);
+      stands = λ x below h. ap (λ st. of_place (λ y. an_argument (place_lent y)) st) (h (node_of kind place of));
+    })
+
+pub copied : (of found : DeclaredType) (x : Tree) (place : Place) (d d1 e : Drafted) → PushesValue x d d1 (Some found) → e ≡ behind (node.ByCopy of) place of d1 → Copies of x d e
+copied of found x place d d1 e h b =
+    let P : Drafted → Type 0 = λ y. Copies of x d y in
+    subst P (sym b) (record {
+      grown = grown_twice d d1 (behind (node.ByCopy of) place of d1) h.grown (grown_behind (node.ByCopy of) place of d1);
+      stands = λ env tree below k.
+          let p = h.stands env tree below k in
+          record { made = p.made; is = p.is; on_top = ap (λ st. of_value (λ y. an_argument (value_copied y (declared_view of))) st) p.on_top };
+    })
+
+-- a parameter takes a copy
+taken_copy : (value : plain.Term → Place → Option bound.Expr) (p : project.Parameter) (t : plain.Term) (place : Place) (made : bound.Expr) → p.many ≡ false
+    → ((rest : bound.Args) → taken_by value p (record { name = None; term = Some t; place = place }) rest ≡ by_copy value p t place rest) → value t place ≡ Some made
+    → Taken value p (record { name = None; term = Some t; place = place }) (value_copied made p.of)
+taken_copy value p t place made many how found = record {
+  no_name = refl;
+  no_list = many;
+  makes = λ rest. how rest ∙ ap (λ o. option_map (λ e. bound.by_copy e p.of rest) o) found;
+}
+
+copy_taken : (p : Parameter) (x : Tree) (d e : Drafted) → p.is_param_array ≡ false → Copies p.of x d e
+    → ((env : Env) (tree : Expr) (below : List Piece) → TreeStands env d.tables x tree d.pieces below → (rest : bound.Args)
+    → taken_by (value_of env) (parameter_view p) (plain_given env tree) rest ≡ by_copy (value_of env) (parameter_view p) (term_of env tree) (place_of_expression tree) rest)
+    → PassesTree p x d e
+copy_taken p x d e many h how = record {
+  grown = h.grown;
+  stands = λ env tree below k.
+      let c = h.stands env tree below k in
+      record { made = value_copied c.made (declared_view p.of); taken = taken_copy (value_of env) (parameter_view p) (term_of env tree) (place_of_expression tree) c.made many (how env tree below k) c.is; on_top = c.on_top };
+}
+
+pub passed_copy : (p : Parameter) (x : Tree) (d e : Drafted) → p.is_param_array ≡ false → p.is_by_reference ≡ false → Copies p.of x d e → PassesTree p x d e
+passed_copy p x d e many reference h =
+    copy_taken p x d e many h (λ env tree below k rest.
+    ap (λ b. if b then by_reference (value_of env) (parameter_view p) (term_of env tree) (place_of_expression tree) rest
+    else by_copy (value_of env) (parameter_view p) (term_of env tree) (place_of_expression tree) rest) reference)
+
+-- what isn't lent
+abbrev pub no_lent : Term → Type 0
+no_lent (term.Place kind of bounded true) = ⊥
+no_lent x = Unit {0}
+
+copied_anyway : (env : Env) (x : Tree) (d : Drafted) (y : plain.Term) (below : List Piece) → no_lent x.term → TermStands env d.tables x.term y d.pieces below
+    → (p : project.Parameter) (place : Place) (rest : bound.Args) → by_reference (value_of env) p y place rest ≡ by_copy (value_of env) p y place rest
+copied_anyway env x d y below n h p place rest = at x.term n h
+  where
+    at : (x : Term) → no_lent x → TermStands env d.tables x y d.pieces below → by_reference (value_of env) p y place rest ≡ by_copy (value_of env) p y place rest
+    at (term.Place kind of bounded true) n h = absurd n
+    at (term.Place kind of bounded false) n h = let A : plain.Term → Type 0 = λ z. by_reference (value_of env) p z place rest ≡ by_copy (value_of env) p z place rest in subst A (sym h.is) refl
+    at (term.Value e) n h = let A : plain.Term → Type 0 = λ z. by_reference (value_of env) p z place rest ≡ by_copy (value_of env) p z place rest in subst A (sym h.is) refl
+    at (term.Routine r) n h = let A : plain.Term → Type 0 = λ z. by_reference (value_of env) p z place rest ≡ by_copy (value_of env) p z place rest in subst A (sym h.is) refl
+    at (term.Function f) n h = let A : plain.Term → Type 0 = λ z. by_reference (value_of env) p z place rest ≡ by_copy (value_of env) p z place rest in subst A (sym h.0.is) refl
+    at term.Err n h = let A : plain.Term → Type 0 = λ z. by_reference (value_of env) p z place rest ≡ by_copy (value_of env) p z place rest in subst A (sym h.0) refl
+    at term.ErrRaise n h = let A : plain.Term → Type 0 = λ z. by_reference (value_of env) p z place rest ≡ by_copy (value_of env) p z place rest in subst A (sym h.0) refl
+    at term.ErrClear n h = let A : plain.Term → Type 0 = λ z. by_reference (value_of env) p z place rest ≡ by_copy (value_of env) p z place rest in subst A (sym h.0) refl
+    at term.ErrorWord n h = let A : plain.Term → Type 0 = λ z. by_reference (value_of env) p z place rest ≡ by_copy (value_of env) p z place rest in subst A (sym h.0) refl
+    at term.Nothing n h = let A : plain.Term → Type 0 = λ z. by_reference (value_of env) p z place rest ≡ by_copy (value_of env) p z place rest in subst A (sym h) refl
+
+-- where a parameter takes a place, and none is lent
+pub passed_anyway : (p : Parameter) (x : Tree) (d e : Drafted) → p.is_param_array ≡ false → p.is_by_reference ≡ true → no_lent x.term → Copies p.of x d e → PassesTree p x d e
+passed_anyway p x d e many reference n h =
+    copy_taken p x d e many h (λ env tree below k rest.
+    ap (λ b. if b then by_reference (value_of env) (parameter_view p) (term_of env tree) (place_of_expression tree) rest
+    else by_copy (value_of env) (parameter_view p) (term_of env tree) (place_of_expression tree) rest) reference
+    ∙ copied_anyway env x d (term_of env tree) below n k.term_is (parameter_view p) (place_of_expression tree) rest)
+
+-- a place is lent
+pub passed_place : (p : Parameter) (x : Tree) (kind : NodeKind) (of : DeclaredType) (bounded : Bool) (d e : Drafted) → p.is_param_array ≡ false → p.is_by_reference ≡ true → x.term ≡ term.Place kind of bounded true
+    → (is_variant (declared_view p.of) || is_same_type (declared_view of) (declared_view p.of)) ≡ true → Lends kind d e → PassesTree p x d e
+passed_place p x kind of bounded d e many reference is fits h = record {
+  grown = h.grown;
+  stands = λ env tree below k.
+      let A : Term → Type 0 = λ y. TermStands env d.tables y (term_of env tree) d.pieces below in
+      let s = subst A is k.term_is in
+      record {
+        made = place_lent s.at;
+        taken = record {
+          no_name = refl;
+          no_list = many;
+          makes = λ rest.
+              ap (λ b. if b then by_reference (value_of env) (parameter_view p) (term_of env tree) (place_of_expression tree) rest
+              else by_copy (value_of env) (parameter_view p) (term_of env tree) (place_of_expression tree) rest) reference
+              ∙ ap (λ y. by_reference (value_of env) (parameter_view p) y (place_of_expression tree) rest) s.is
+              ∙ ap (λ b. if b then Some (bound.by_place s.at rest) else None) fits;
+        };
+        on_top = h.stands s.at below s.ends;
+      };
+}
+
+some_of : (x y : Ending) → Some x ≡ Some y → x ≡ y
+some_of x y h = ap (λ o. unwrap_or o x) h
+
+none_of : (x : Ending) → None ≡ Some x → ⊥
+none_of x h = subst T (ap (λ (o : Option Ending). is_some o) (sym h)) tt
+
+lent_is : (x : Term) (lent : Ending) → lent_in x ≡ Some lent → (bounded : Bool) × (x ≡ term.Place lent.kind lent.of bounded true)
+lent_is (term.Place kind of bounded true) lent h = (bounded, ap (λ (o : Ending). term.Place o.kind o.of bounded true) (some_of (record { kind = kind; of = of }) lent h))
+lent_is x lent h = absurd (none_of lent h)
+
+pub lent_named : (t : Tables) (x : Term) (lent : Ending) → lent_in x ≡ Some lent → TermNamed t x → NodeNamed t lent.kind
+lent_named t x lent h k = let A : Term → Type 0 = λ y. TermNamed t y in subst A (lent_is x lent h).1 k
+
+pub passed_lent : (p : Parameter) (x : Tree) (lent : Ending) (d e : Drafted) → p.is_param_array ≡ false → p.is_by_reference ≡ true → lent_in x.term ≡ Some lent → LendsTo p lent d e → PassesTree p x d e
+passed_lent p x lent d e many reference is h =
+    let at = lent_is x.term lent is in passed_place p x lent.kind lent.of at.0 d e many reference at.1 h.fits h.lends
+
+pub nothing_lent : (x : Term) → lent_in x ≡ None → no_lent x
+nothing_lent (term.Place kind of bounded true) h = none_of (record { kind = kind; of = of }) (sym h)
+nothing_lent (term.Place kind of bounded false) h = tt
+nothing_lent (term.Value e) h = tt
+nothing_lent (term.Routine r) h = tt
+nothing_lent (term.Function f) h = tt
+nothing_lent term.Err h = tt
+nothing_lent term.ErrRaise h = tt
+nothing_lent term.ErrClear h = tt
+nothing_lent term.ErrorWord h = tt
+nothing_lent term.Nothing h = tt
+
+-- ---- parameters to which nothing is given
+
+pub passes_list : (p : Parameter) (place : Place) (d e : Drafted) → p.is_param_array ≡ true → e ≡ behind (node.ByList 0) place p.of d → PassesNone p d e
+passes_list p place d e many b =
+    let P : Drafted → Type 0 = λ x. PassesNone p d x in
+    subst P (sym b) (record {
+      grown = grown_behind (node.ByList 0) place p.of d;
+      made = values_listed no_exprs;
+      left = λ rest. ap (λ b. if b then Some (bound.by_list no_exprs rest) else option_map (λ v. bound.by_default v rest) (parameter_view p).default) many;
+      on_top = refl;
+    })
+
+pub passes_default : (p : Parameter) (value : Value) (v : Val) (number : ℕ) (place : Place) (d d1 e : Drafted) → p.is_param_array ≡ false → p.default ≡ Some value → v ≡ value_view value → AddsConstant v d d1 number
+    → e ≡ behind (node.ByDefault number) place p.of d1 → PassesNone p d e
+passes_default p value v number place d d1 e many given same h b =
+    let m : Drafted = record d { tables = with_constant d.tables v } in
+    let all : e ≡ behind (node.ByDefault number) place p.of m = b ∙ ap (λ x. behind (node.ByDefault number) place p.of x) h.draft_is in
+    let P : Drafted → Type 0 = λ x. PassesNone p d x in
+    let default : (parameter_view p).default ≡ Some v = ap (λ o. option_map value_view o) given ∙ ap (λ w. Some w) (sym same) in
+    subst P (sym all) (record {
+      grown = grown_twice d m (behind (node.ByDefault number) place p.of m) (grown_constant d v) (grown_behind (node.ByDefault number) place p.of m);
+      made = default_taken v;
+      left = λ rest.
+          ap (λ b. if b then Some (bound.by_list no_exprs rest) else option_map (λ w. bound.by_default w rest) (parameter_view p).default) many
+          ∙ ap (λ o. option_map (λ w. bound.by_default w rest) o) default;
+      on_top = ap (λ w. an_argument (default_taken w) ∷ d.pieces) (constant_last d.tables v number h.number_is);
+    })
+
+left_push : (ps : List project.Parameter) (xs : List Argument) (p : project.Parameter) (x : Argument) → AllLeft ps xs → NotGiven p x → AllLeft (ps ++ p ∷ []) (xs ++ x ∷ [])
+left_push [] [] p x h k = (k, tt)
+left_push [] (y ∷ xs) p x h k = absurd h
+left_push (q ∷ ps) [] p x h k = absurd h
+left_push (q ∷ ps) (y ∷ xs) p x h k = (h.0, left_push ps xs p x h.1 k)
+
+above_more : (xs : List Argument) (x : Argument) (st : List Piece) → above (map an_argument (xs ++ x ∷ [])) st ≡ an_argument x ∷ above (map an_argument xs) st
+above_more xs x st = ap (λ l. above l st) (map_push an_argument xs x) ∙ above_push (map an_argument xs) (an_argument x) st
+
+-- some parameters have what they have, and others are left
+pub record Resting (all : List Parameter) (d e : Drafted) (left : List Parameter) : Type 0 where
+  pub done : List Parameter
+  pub rest_is : done ++ left ≡ all
+  pub passes : PassesRest done d e
+
+pub resting_starts : (all : List Parameter) (d : Drafted) → Resting all d d all
+resting_starts all d = record { done = []; rest_is = refl; passes = record { grown = grown_same d; made = []; left = tt; on_top = refl } }
+
+resting_on : (all : List Parameter) (d e f : Drafted) (p : Parameter) (left : List Parameter) → Resting all d e (p ∷ left) → PassesNone p e f → Resting all d f left
+resting_on all d e f p left r h =
+    let q = r.passes in
+    let A : List project.Parameter → Type 0 = λ l. AllLeft l (q.made ++ h.made ∷ []) in
+    record {
+      done = r.done ++ p ∷ [];
+      rest_is = append_assoc r.done (p ∷ []) left ∙ r.rest_is;
+      passes = record {
+        grown = grown_twice d e f q.grown h.grown;
+        made = q.made ++ h.made ∷ [];
+        left = subst A (sym (map_push parameter_view r.done p)) (left_push (map parameter_view r.done) q.made (parameter_view p) h.made q.left h.left);
+        on_top = h.on_top ∙ ap (λ st. an_argument h.made ∷ st) q.on_top ∙ sym (above_more q.made h.made d.pieces);
+      };
+    }
+
+pub resting_next : (all : List Parameter) (d e f : Drafted) (i : ℕ) (p : Parameter) → i < length all → p ≡ get_or all i p → Resting all d e (drop i all) → PassesNone p e f → Resting all d f (drop (i + 1) all)
+resting_next all d e f i p lt is r h =
+    let left : drop i all ≡ p ∷ drop (i + 1) all = drop_more all i p lt ∙ ap (λ m. m ∷ drop (i + 1) all) (sym is) in
+    let A : List Parameter → Type 0 = λ l. Resting all d e l in
+    resting_on all d e f p (drop (i + 1) all) (subst A left r) h
+
+pub resting_done : (all : List Parameter) (d e : Drafted) (i : ℕ) → length all ≤ i → Resting all d e (drop i all) → PassesRest all d e
+resting_done all d e i le r =
+    let A : List Parameter → Type 0 = λ l. r.done ++ l ≡ all in
+    let is : r.done ≡ all = sym (append-nil r.done) ∙ subst A (drop_all i all le) r.rest_is in
+    let B : List Parameter → Type 0 = λ l. PassesRest l d e in
+    subst B is r.passes
+
+-- ---- one more argument
+
+passed_more : (env : Env) (parameters : List project.Parameter) (x z : Passed) (args more : Args) (p : Parameter) (left : List Parameter) (g : Given) (ps between below : List Piece) → x.left.now ≡ p ∷ left → z.left.now ≡ left
+    → z.count ≡ x.count + 1 → givens env more ≡ givens env args ++ g ∷ [] → PassedStands env parameters x args between below → TakenIs env (parameter_view p) g ps between → PassedStands env parameters z more ps below
+passed_more env parameters x z args more p left g ps between below a b c given h t =
+    let A : List Parameter → Type 0 = λ l. AllTaken (value_of env) parameters (givens env args) h.made (map parameter_view l) in
+    let taken = taken_push (value_of env) parameters (givens env args) h.made (parameter_view p) (map parameter_view left) g t.made (subst A a h.taken) t.taken in
+    let B : List Given → Type 0 = λ l. AllTaken (value_of env) parameters l (h.made ++ t.made ∷ []) (map parameter_view left) in
+    let C : List Parameter → Type 0 = λ l. AllTaken (value_of env) parameters (givens env more) (h.made ++ t.made ∷ []) (map parameter_view l) in
+    record {
+      made = h.made ++ t.made ∷ [];
+      taken = subst C (sym b) (subst B (sym given) taken);
+      count_is = omega (arith, c, h.count_is, length-append h.made (t.made ∷ []));
+      on_top = t.on_top ∙ ap (λ st. an_argument t.made ∷ st) h.on_top ∙ sym (above_more h.made t.made below);
+    }
+
+pub passes_plain : (x z : Passed) (y : Tree) (p : Parameter) (left : List Parameter) (d e : Drafted) → x.left.now ≡ p ∷ left → z.left.now ≡ left → z.count ≡ x.count + 1 → PassesTree p y d e → PassesPlain x y d e z
+passes_plain x z y p left d e a b c h = record {
+  grown = h.grown;
+  stands = λ env parameters args comma e' between below k s.
+      passed_more env parameters x z args (tree.plain args comma e') p left (plain_given env e') e.pieces between below a b c refl s (h.stands env e' between k);
+}
+
+pub passes_missing : (x z : Passed) (p : Parameter) (left : List Parameter) (d e : Drafted) → x.left.now ≡ p ∷ left → z.left.now ≡ left → z.count ≡ x.count + 1 → p.is_param_array ≡ false → PassesNone p d e
+    → PassesMissing x d e z
+passes_missing x z p left d e a b c many h = record {
+  grown = h.grown;
+  stands = λ env parameters args comma below s.
+      passed_more env parameters x z args (missing args comma) p left (record { name = None; term = None; place = project.nowhere }) e.pieces d.pieces below a b c refl s
+      (record { made = h.made; taken = record { no_name = refl; no_list = many; makes = h.left }; on_top = h.on_top });
+}
+
+-- ---- numbers
+
+pub default_named : (v : Val) (number : ℕ) (d e : Drafted) → AddsConstant v d e number → number < length e.tables.constants
+default_named v number d e h =
+    let A : Drafted → Type 0 = λ x. number < length x.tables.constants in subst A (sym h.draft_is) (omega (arith, h.number_is, length-append d.tables.constants (v ∷ [])))
+
+pub left_long : (ps : List project.Parameter) (xs : List Argument) → AllLeft ps xs → length xs ≡ length ps
+left_long [] [] h = refl
+left_long [] (x ∷ xs) h = absurd h
+left_long (p ∷ ps) [] h = absurd h
+left_long (p ∷ ps) (x ∷ xs) h = omega (arith, left_long ps xs h.1)

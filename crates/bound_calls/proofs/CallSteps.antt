@@ -1,0 +1,293 @@
+-- What the nodes of a call do to the stack.
+use Rattle.std.proofs.Common.{◌≡◌, T, ℕ, ◌+◌, false, List, [], ◌∷◌, ◌++◌, map, length, Option, Some, None, is_some, refl, sym, ap, subst, ◌∙◌, arith, length-append}
+use Rattle.std.proofs.lemmas.List.{map-append}
+use Rattle.std.specs.Prelude.{unwrap_or}
+use Rattle.vba_base.specs.declared.place.Place.{Place}
+use Rattle.vba_lexer.specs.declared.token.Token.{Token}
+use Rattle.vba_words.specs.declared.identifier.Identifier.{Identifier}
+use Rattle.vba_words.specs.declared.mark.Mark.TheVariants as mark
+use Rattle.vba_words.specs.Spelling.{marked}
+use Rattle.vba_expression.specs.Spelling.{spell_args}
+use Rattle.vba_expression.specs.declared.node.ExpressionNode.TheVariants as node
+use Rattle.vba_expression.specs.Tree.{Expr, name, Args, missing, plain}
+use Rattle.vba_expression.specs.Reader.{name_in}
+use Rattle.vba_expression.specs.Nodes as nodes
+use Rattle.vba_expression.specs.Nodes.{behind_node, behind_nodes, last_tree, last_arguments, rest, tree_in, arguments_in}
+use Rattle.bound_project.specs.declared.declared_type.DeclaredType.{DeclaredType}
+use Rattle.bound_project.specs.declared.node.NodeKind.TheVariants as kind
+use Rattle.bound_project.specs.declared.node.Node.{Node}
+use Rattle.bound_project.specs.declared.declarations.Parameter.{Parameter}
+use Rattle.bound_project.specs.View.{declared_view, parameter_view}
+use Rattle.bound_project.specs.Expressions as bound
+use Rattle.bound_project.specs.Lists.{above, args_of}
+use Rattle.bound_project.proofs.Lists.{args_are}
+use Rattle.bound_project.specs.Pieces.{Argument, Piece, Tables, an_argument, arguments_off, expr_of, of_found, put_kind}
+use Rattle.bound_project.specs.Project as project
+use Rattle.bound_project.specs.Drafts.{Drafted, NodeNamed}
+use Rattle.bound_project.proofs.Drafts.{Extends}
+use Rattle.vba_values.specs.Types.{Declared}
+use Rattle.binder.specs.Constants.{place_of_expression}
+use Rattle.binder.specs.Declarations.{Written}
+use Rattle.binder.specs.Scopes.{Space}
+use Rattle.binder.specs.Terms.{Env, Given, a_place, a_value, a_routine, err_object, err_raise, err_clear, error_word, no_term, expression_of, bound_arguments, value_with}
+use Rattle.binder.specs.Terms as plain_terms
+use Rattle.binder.specs.ExpressionsBound.{call_with, bare_call, callee, indexed, term_of, value_of, givens}
+use Rattle.module_parts.proofs.Firsts.{expression_front}
+use Rattle.bound_calls.specs.declared.term.Ending.{Ending}
+use Rattle.bound_calls.specs.declared.term.Routine.{Routine}
+use Rattle.bound_calls.specs.declared.term.Term.TheVariants as term
+use Rattle.bound_calls.specs.declared.term.Tree.{Tree}
+use Rattle.bound_calls.specs.declared.term.Passed.{Passed}
+use Rattle.bound_calls.specs.declared.term.Call.{Call}
+use Rattle.bound_calls.specs.declared.term.Item.{Item}
+use Rattle.bound_calls.specs.declared.term.Item.TheVariants as item
+use Rattle.bound_calls.specs.Passing.{AllTaken}
+use Rattle.bound_calls.specs.Standing.{RoutineStands, ValueStands, EndingStands, PassedStands, Stands, ItemNamed, AllNamed, Base}
+use Rattle.bound_calls.specs.Taking.{CallsBare, Pushes, TakesValue, no_object}
+use Rattle.bound_calls.specs.Steps.{Goes}
+use Rattle.bound_calls.specs.Calls.{PassesPlain, PassesMissing, PassesRest, passed_in, with_passed, EndsCall, PushesCall}
+use Rattle.bound_calls.specs.Indexing.{AddsArgument, Closes}
+use Rattle.bound_calls.proofs.Growing.{grown_twice, all_named, stands_grows}
+use Rattle.bound_calls.proofs.Arguing.{left_long}
+use Rattle.bound_calls.proofs.Taking.{same_ending, takes_value}
+use Rattle.bound_calls.proofs.Passing.{arguments_bound}
+use Rattle.bound_calls.proofs.Reading.{call_is}
+
+-- ---- what is called
+
+pub name_found : (e : Expr) (x : Identifier) → Some x ≡ name_in e → e ≡ name x
+name_found (name y) x h = ap (λ o. name (unwrap_or o x)) (sym h)
+name_found e x h = absurd (subst T (ap (λ (o : Option Identifier). is_some o) h) tt)
+
+pub no_name : (env : Env) (e : Expr) (t : plain_terms.Term) → None ≡ name_in e → callee env e t ≡ t
+no_name env (name y) t h = absurd (subst T (ap (λ (o : Option Identifier). is_some o) (sym h)) tt)
+no_name env e t h = refl
+
+-- ---- a call
+
+pub above_both : (xs ys : List Piece) (st : List Piece) → above (xs ++ ys) st ≡ above ys (above xs st)
+above_both [] ys st = refl
+above_both (x ∷ xs) ys st = above_both xs ys (x ∷ st)
+
+-- the node of a call takes all arguments
+call_ends : (t : Tables) (procedure count : ℕ) (xs ds : List Argument) (ps between below : List Piece) → count ≡ length xs + length ds → between ≡ above (map an_argument xs) below → ps ≡ above (map an_argument ds) between
+    → (n : Node) → put_kind t n (kind.Call procedure count) ps ≡ expr_of n (bound.call procedure (args_of (xs ++ ds))) ∷ below
+call_ends t procedure count xs ds ps between below counted a b n =
+    let all : ps ≡ above (map an_argument (xs ++ ds)) below =
+    b ∙ ap (λ st. above (map an_argument ds) st) a ∙ sym (above_both (map an_argument xs) (map an_argument ds) below) ∙ ap (λ l. above l below) (sym (map-append an_argument xs ds)) in
+    let number : count ≡ length (xs ++ ds) = omega (arith, counted, length-append xs ds) in
+    let A : Option (bound.Args × List Piece) → List Piece = λ o. of_found (λ args. expr_of n (bound.call procedure args)) o in
+    ap (λ st. A (arguments_off count st bound.no_args)) all ∙ ap (λ m. A (arguments_off m (above (map an_argument (xs ++ ds)) below) bound.no_args)) number ∙ ap A (args_are (xs ++ ds) below)
+
+-- arguments that were pushed, and the others
+call_made : (value : plain_terms.Term → Place → Option bound.Expr) (env : Env) (t : Tables) (r : Routine) (x : Passed) (d e : Drafted) (ending : Ending) (y : plain_terms.Term) (place : Place) (gs : List Given) (xs : List Argument)
+    (qs : List Piece) (below : List Piece) → EndsCall r x d e ending → (s : RoutineStands env r y qs qs) → AllTaken value (map parameter_view r.parameters.now) gs xs (map parameter_view x.left.now) → x.count ≡ length xs
+    → d.pieces ≡ above (map an_argument xs) below → ValueStands t ending (call_with value env place gs s.space s.number s.written) e.pieces below
+call_made value env t r x d e ending y place gs xs qs below h s taken counted on_top =
+    let args = args_of (xs ++ h.made) in
+    let P : Ending → Type 0 = λ z. ValueStands t z (call_with value env place gs s.space s.number s.written) e.pieces below in
+    subst P (sym h.ending_is) (record {
+      made = bound.call r.procedure args;
+      is = call_is value env place gs s.space s.number s.written s.read r.procedure (declared_view r.of) (map parameter_view r.parameters.now) args xs (map parameter_view x.left.now) s.reads s.procedure_is s.parameters_are s.of_is taken
+          (arguments_bound value (map parameter_view r.parameters.now) gs xs (map parameter_view x.left.now) h.made taken h.left);
+      ends = call_ends t r.procedure (x.count + length h.made) xs h.made e.pieces d.pieces below (omega (arith, counted)) on_top h.on_top;
+    })
+
+-- the value that a call with arguments in brackets gives
+pub call_stands : (env : Env) (t : Tables) (r : Routine) (x : Passed) (d e : Drafted) (ending : Ending) (y : plain_terms.Term) (place : Place) (args : Args) (qs below : List Piece) → EndsCall r x d e ending
+    → RoutineStands env r y qs qs → PassedStands env (map parameter_view r.parameters.now) x args d.pieces below → ValueStands t ending (indexed env place y (givens env args)) e.pieces below
+call_stands env t r x d e ending y place args qs below h s p =
+    let A : plain_terms.Term → Type 0 = λ z. ValueStands t ending (indexed env place z (givens env args)) e.pieces below in
+    subst A (sym s.is) (call_made (value_of env) env t r x d e ending y place (givens env args) p.made qs below h s p.taken p.count_is p.on_top)
+
+ending_call : (r : Routine) (x : Passed) (d e : Drafted) (ending : Ending) → EndsCall r x d e ending → NodeNamed e.tables ending.kind
+ending_call r x d e ending h = let P : Ending → Type 0 = λ z. NodeNamed e.tables z.kind in subst P (sym h.ending_is) tt
+
+-- a call without arguments gives a value
+bare_value : (env : Env) (space : Space) (number : ℕ) (w : Written) (made : bound.Node) (of : Declared) (place : Place) → bare_call env space number w ≡ a_value made of
+    → value_of env (a_routine space number w) place ≡ value_of env (bare_call env space number w) place
+bare_value env space number w made of place h =
+    let A : plain_terms.Term → Type 0 = λ z. value_with (λ a b c. z) (a_routine space number w) place ≡ value_of env z place in subst A (sym h) refl
+
+bare_stands : (r : Routine) (x : Passed) (d e : Drafted) (ending : Ending) → x.left.now ≡ r.parameters.now → x.count ≡ 0 → EndsCall r x d e ending → (v : TakesValue (term.Value ending) e e (no_object ending))
+    → (env : Env) (y : plain_terms.Term) (below : List Piece) → RoutineStands env r y d.pieces below → EndingStands e.tables (no_object ending) (λ place. value_of env y place) e.pieces below
+bare_stands r x d e ending left count h v env y below s =
+    let t : RoutineStands env r y below below = record {
+      space = s.space;
+      number = s.number;
+      written = s.written;
+      read = s.read;
+      is = s.is;
+      reads = s.reads;
+      procedure_is = s.procedure_is;
+      parameters_are = s.parameters_are;
+      of_is = s.of_is;
+      space_is = s.space_is;
+      written_is = s.written_is;
+      placed = s.placed;
+      none_pushed = refl;
+    } in
+    let z = bare_call env s.space s.number s.written in
+    let made : ValueStands e.tables ending z e.pieces below =
+    call_made (λ t place. None) env e.tables r x d e ending y s.written.place [] [] below below h t (ap (λ l. map parameter_view l) (sym left)) count s.none_pushed in
+    same_ending e.tables (no_object ending) (λ place. value_of env z place) (λ place. value_of env y place) e.pieces below
+    (λ place. ap (λ w. value_of env w place) s.is ∙ bare_value env s.space s.number s.written made.made (declared_view ending.of) place made.is) (v.stands env z below made)
+
+pub calls_bare : (r : Routine) (x : Passed) (d e : Drafted) (ending : Ending) → x.left.now ≡ r.parameters.now → x.count ≡ 0 → EndsCall r x d e ending → CallsBare r d e (no_object ending)
+calls_bare r x d e ending left count h =
+    let v = takes_value ending e (ending_call r x d e ending h) in
+    record { grown = h.grown; named = v.named; stands = bare_stands r x d e ending left count h v }
+
+-- ---- the steps
+
+-- an item whose arguments are read, and the same item with others
+record Opened (env : Env) (t : Tables) (i : Item) (xs : List Item) (p : Passed) (args : Args) (is : List nodes.Item) (ps : List Piece) (base : Base) : Type 0 where
+  pub below : List Piece
+  pub parameters : List project.Parameter
+  pub passed : PassedStands env parameters p args ps below
+  pub close : (u : Tables) (q : Passed) (more : Args) (qs : List Piece) → Extends t u → PassedStands env parameters q more qs below → Stands env u (with_passed i q ∷ xs) (nodes.arguments more ∷ is) qs base
+
+none_there : (p : Passed) → None ≡ Some p → ⊥
+none_there p h = subst T (ap (λ (o : Option Passed). is_some o) (sym h)) tt
+
+opened : (env : Env) (t : Tables) (i : Item) (xs : List Item) (p : Passed) (args : Args) (is : List nodes.Item) (ps : List Piece) (base : Base) → passed_in i ≡ Some p → AllNamed t xs → Stands env t (i ∷ xs) (nodes.arguments args ∷ is) ps base
+    → Opened env t i xs p args is ps base
+opened env t (item.Tree x) xs p args is ps base f k h = absurd (none_there p f)
+opened env t (item.Operand x) xs p args is ps base f k h = absurd (none_there p f)
+opened env t (item.Indexed x) xs p args is ps base f k h = absurd (none_there p f)
+opened env t (item.Function x) xs p args is ps base f k h = absurd (none_there p f)
+opened env t (item.Named x) xs p args is ps base f k h = absurd (none_there p f)
+opened env t item.Gathered xs p args is ps base f k h = absurd (none_there p f)
+opened env t (item.Call x) xs p args [] ps base f k h = absurd h
+opened env t (item.Call x) xs p args (nodes.arguments more ∷ is) ps base f k h = absurd h
+opened env t (item.Call x) xs p args (nodes.tree e ∷ is) ps base f k h = record {
+  below = h.0;
+  parameters = map parameter_view x.routine.parameters.now;
+  passed = (let A : Passed → Type 0 = λ q. PassedStands env (map parameter_view x.routine.parameters.now) q args ps h.0 in subst A (ap (λ o. unwrap_or o x.passed) f) h.1.0.passed);
+  close = λ u q more qs grown s. (h.0, (record { routine = h.1.0.routine; place_is = h.1.0.place_is; passed = s }, stands_grows env t u grown xs k is h.0 base h.1.1));
+}
+opened env t (item.Listed x) xs p args is ps base f k h = record {
+  below = h.0;
+  parameters = base.parameters;
+  passed = (let A : Passed → Type 0 = λ q. PassedStands env base.parameters q args ps h.0 in subst A (ap (λ o. unwrap_or o x) f) h.1.0);
+  close = λ u q more qs grown s. (h.0, (s, stands_grows env t u grown xs k is h.0 base h.1.1));
+}
+
+none_open : (env : Env) (t : Tables) (i : Item) (xs : List Item) (p : Passed) (ps : List Piece) (base : Base) → passed_in i ≡ Some p → Stands env t (i ∷ xs) [] ps base → ⊥
+none_open env t (item.Tree x) xs p ps base f h = absurd h
+none_open env t (item.Operand x) xs p ps base f h = absurd h
+none_open env t (item.Call x) xs p ps base f h = absurd h
+none_open env t (item.Listed x) xs p ps base f h = absurd h
+none_open env t (item.Indexed x) xs p ps base f h = absurd h
+none_open env t (item.Function x) xs p ps base f h = absurd h
+none_open env t (item.Named x) xs p ps base f h = absurd h
+none_open env t item.Gathered xs p ps base f h = absurd h
+
+tree_open : (env : Env) (t : Tables) (i : Item) (xs : List Item) (p : Passed) (e : Expr) (is : List nodes.Item) (ps : List Piece) (base : Base) → passed_in i ≡ Some p → Stands env t (i ∷ xs) (nodes.tree e ∷ is) ps base → ⊥
+tree_open env t (item.Tree x) xs p e is ps base f h = none_there p f
+tree_open env t (item.Operand x) xs p e is ps base f h = none_there p f
+tree_open env t (item.Call x) xs p e is ps base f h = absurd h
+tree_open env t (item.Listed x) xs p e is ps base f h = absurd h
+tree_open env t (item.Indexed x) xs p e is ps base f h = absurd h
+tree_open env t (item.Function x) xs p e is ps base f h = absurd h
+tree_open env t (item.Named x) xs p e is ps base f h = absurd h
+tree_open env t item.Gathered xs p e is ps base f h = absurd h
+
+passed_named : (t : Tables) (i : Item) (q p : Passed) → passed_in i ≡ Some p → ItemNamed t (with_passed i q)
+passed_named t (item.Tree x) q p f = absurd (none_there p f)
+passed_named t (item.Operand x) q p f = absurd (none_there p f)
+passed_named t (item.Call x) q p f = tt
+passed_named t (item.Listed x) q p f = tt
+passed_named t (item.Indexed x) q p f = absurd (none_there p f)
+passed_named t (item.Function x) q p f = absurd (none_there p f)
+passed_named t (item.Named x) q p f = absurd (none_there p f)
+passed_named t item.Gathered q p f = absurd (none_there p f)
+
+-- an argument that isn't written
+missing_stands : (env : Env) (i : Item) (xs : List Item) (p q : Passed) (comma : Option Token) (d e : Drafted) → passed_in i ≡ Some p → AllNamed d.tables xs → PassesMissing p d e q → (is : List nodes.Item) (base : Base)
+    → Stands env d.tables (i ∷ xs) is d.pieces base → Stands env e.tables (with_passed i q ∷ xs) (behind_node (node.MissingArgument comma) is) e.pieces base
+missing_stands env i xs p q comma d e f k m [] base h = absurd (none_open env d.tables i xs p d.pieces base f h)
+missing_stands env i xs p q comma d e f k m (nodes.tree x ∷ is) base h = absurd (tree_open env d.tables i xs p x is d.pieces base f h)
+missing_stands env i xs p q comma d e f k m (nodes.arguments args ∷ is) base h =
+    let o = opened env d.tables i xs p args is d.pieces base f k h in
+    o.close e.tables q (missing args comma) e.pieces m.grown.tables (m.stands env o.parameters args comma o.below o.passed)
+
+pub goes_missing : (env : Env) (i : Item) (xs old new : List Item) (p q : Passed) (comma : Option Token) (d e : Drafted) → old ≡ i ∷ xs → new ≡ with_passed i q ∷ xs → passed_in i ≡ Some p → AllNamed d.tables old → PassesMissing p d e q
+    → Goes env d old e new (behind_node (node.MissingArgument comma))
+goes_missing env i xs old new p q comma d e o n f k m =
+    let g = behind_node (node.MissingArgument comma) in
+    let N : List Item → Type 0 = λ l. AllNamed d.tables l in
+    let A : List Item → Type 0 = λ l. Goes env d l e new g in
+    let B : List Item → Type 0 = λ l. Goes env d (i ∷ xs) e l g in
+    let all = subst N o k in
+    subst A (sym o) (subst B (sym n) (record {
+      grown = m.grown;
+      named = (passed_named e.tables i q p f, all_named d.tables e.tables m.grown.tables xs all.1);
+      stands = λ is base h. missing_stands env i xs p q comma d e f all.1 m is base h;
+    }))
+
+-- the expression on top is an argument
+plain_stands : (env : Env) (x : Tree) (i : Item) (xs : List Item) (p q : Passed) (comma : Option Token) (d e : Drafted) → passed_in i ≡ Some p → AllNamed d.tables xs → PassesPlain p x d e q → (is : List nodes.Item) (base : Base)
+    → Stands env d.tables (item.Tree x ∷ i ∷ xs) is d.pieces base → Stands env e.tables (with_passed i q ∷ xs) (behind_node (node.PlainArgument comma) is) e.pieces base
+plain_stands env x i xs p q comma d e f k m [] base h = absurd h
+plain_stands env x i xs p q comma d e f k m (nodes.arguments args ∷ is) base h = absurd h
+plain_stands env x i xs p q comma d e f k m (nodes.tree y ∷ []) base h = absurd (none_open env d.tables i xs p h.0 base f h.1.1)
+plain_stands env x i xs p q comma d e f k m (nodes.tree y ∷ nodes.tree z ∷ is) base h = absurd (tree_open env d.tables i xs p z is h.0 base f h.1.1)
+plain_stands env x i xs p q comma d e f k m (nodes.tree y ∷ nodes.arguments args ∷ is) base h =
+    let o = opened env d.tables i xs p args is h.0 base f k h.1.1 in
+    o.close e.tables q (plain args comma y) e.pieces m.grown.tables (m.stands env o.parameters args comma y h.0 o.below h.1.0 o.passed)
+
+pub adds_passed : (i : Item) (p q : Passed) (x : Tree) (d e : Drafted) → passed_in i ≡ Some p → PassesPlain p x d e q → AddsArgument i x d e (with_passed i q)
+adds_passed i p q x d e f m = record { grown = m.grown; named = passed_named e.tables i q p f; stands = λ env comma xs is base k h. plain_stands env x i xs p q comma d e f k m is base h }
+
+-- arguments end
+index_stands : (env : Env) (x : Call) (ending : Ending) (left right : Token) (xs : List Item) (d e : Drafted) → AllNamed d.tables xs → EndsCall x.routine x.passed d e ending → (is : List nodes.Item) (base : Base)
+    → Stands env d.tables (item.Call x ∷ xs) is d.pieces base
+    → Stands env e.tables (item.Tree (record { place = x.place; name = None; is_qualifier = false; term = term.Value ending }) ∷ xs) (behind_node (node.Index left right) is) e.pieces base
+index_stands env x ending left right xs d e k c [] base h = absurd h
+index_stands env x ending left right xs d e k c (nodes.tree y ∷ is) base h = absurd h
+index_stands env x ending left right xs d e k c (nodes.arguments args ∷ []) base h = absurd h
+index_stands env x ending left right xs d e k c (nodes.arguments args ∷ nodes.arguments more ∷ is) base h = absurd h
+index_stands env x ending left right xs d e k c (nodes.arguments args ∷ nodes.tree y ∷ is) base h =
+    let s = h.1.0 in (
+      h.0,
+      (
+        record {
+          term_is = call_stands env e.tables x.routine x.passed d e ending (callee env y (term_of env y)) (place_of_expression y) args h.0 h.0 c s.routine s.passed;
+          place_is = s.place_is ∙ sym (expression_front y (marked left mark.LeftParenthesis ∷ (spell_args args ++ marked right mark.RightParenthesis ∷ [])));
+          name_is = refl;
+          qualifier_is = refl;
+          leaf = tt;
+        },
+        stands_grows env d.tables e.tables c.grown.tables xs k is h.0 base h.1.1,
+      ),
+    )
+
+pub closes_call : (x : Call) (ending : Ending) (d e : Drafted) → EndsCall x.routine x.passed d e ending → Closes (item.Call x) d e (record { place = x.place; name = None; is_qualifier = false; term = term.Value ending })
+closes_call x ending d e c = record {
+  grown = c.grown;
+  named = ending_call x.routine x.passed d e ending c;
+  stands = λ env left right xs is base k h. index_stands env x ending left right xs d e k c is base h;
+}
+
+-- ---- ends of calls
+
+pub parameters_long : (ps : List Parameter) → length (map parameter_view ps) ≡ length ps
+parameters_long [] = refl
+parameters_long (p ∷ ps) = omega (arith, parameters_long ps)
+
+pub ends_call : (r : Routine) (x : Passed) (d e : Drafted) (left arguments : ℕ) → left ≡ length x.left.now → arguments ≡ x.count + left → PassesRest x.left.now d e
+    → EndsCall r x d e (record { kind = kind.Call r.procedure arguments; of = r.of })
+ends_call r x d e left arguments a b h =
+    let count : arguments ≡ x.count + length h.made = omega (arith, a, b, left_long (map parameter_view x.left.now) h.made h.left, parameters_long x.left.now) in
+    let A : ℕ → Ending = λ n. record { kind = kind.Call r.procedure n; of = r.of } in record { grown = h.grown; made = h.made; left = h.left; on_top = h.on_top; ending_is = ap A count }
+
+pub pushes_call : (r : Routine) (x : Passed) (place : Place) (d d1 e : Drafted) (ending : Ending) (of : DeclaredType) → EndsCall r x d d1 ending → Pushes (no_object ending) place d1 e (Some of) → PushesCall r x place d e
+pushes_call r x place d d1 e ending of h p = record {
+  grown = grown_twice d d1 e h.grown p.grown;
+  stands = λ env y args qs below s t.
+      let z = indexed env place y (givens env args) in
+      let v = takes_value ending d1 (ending_call r x d d1 ending h) in
+      let is = p.stands (λ q. value_of env z q) below (v.stands env z below (call_stands env d1.tables r x d d1 ending y place args qs below h s t)) in
+      record { made = is.made; is = is.is; on_top = is.on_top };
+}

@@ -1,0 +1,144 @@
+-- What stands on a stack stands there still when the tables of the draft grow.
+use Rattle.std.proofs.Common.{◌≡◌, List, [], ◌∷◌, refl, ap, ◌∙◌, arith}
+use Rattle.vba_values.specs.Val.{Val}
+use Rattle.vba_expression.specs.Tree.{Expr, no_args, missing, plain, named}
+use Rattle.vba_expression.specs.Nodes as nodes
+use Rattle.bound_project.specs.declared.node.NodeKind.{NodeKind}
+use Rattle.bound_project.specs.declared.node.NodeKind.TheVariants as node
+use Rattle.bound_project.specs.declared.node.Node.{Node}
+use Rattle.bound_project.specs.Expressions.{constant, call, in_order}
+use Rattle.bound_project.specs.Expressions as bound
+use Rattle.bound_project.specs.Pieces.{Piece, an_argument, default_taken, Tables, arguments_off, of_found, expr_of, put_kind}
+use Rattle.bound_project.specs.Drafts.{Drafted, NodeNamed, with_constant}
+use Rattle.bound_project.proofs.Drafts.{Extends, constant_extends}
+use Rattle.binder.specs.Terms.{Env}
+use Rattle.binder.specs.Terms as terms
+use Rattle.binder.specs.ExpressionsBound.{term_of}
+use Rattle.bound_calls.specs.declared.term.Term.{Term}
+use Rattle.bound_calls.specs.declared.term.Term.TheVariants as term
+use Rattle.bound_calls.specs.declared.term.Tree.{Tree}
+use Rattle.bound_calls.specs.declared.term.Item.{Item}
+use Rattle.bound_calls.specs.declared.term.Item.TheVariants as item
+use Rattle.bound_calls.specs.Standing.{TermStands, TreeStands, Stands, TermNamed, ItemNamed, AllNamed, Grown, Base}
+
+pub extends_same : (t : Tables) → Extends t t
+extends_same t = record {
+  constant_is = λ i lt. refl;
+  order_is = λ i lt. refl;
+  constants_more = omega arith;
+  orders_more = omega arith;
+}
+
+pub extends_twice : (t u v : Tables) → Extends t u → Extends u v → Extends t v
+extends_twice t u v e f = record {
+  constant_is = λ i lt. f.constant_is i (omega (arith, e.constants_more)) ∙ e.constant_is i lt;
+  order_is = λ i lt. f.order_is i (omega (arith, e.orders_more)) ∙ e.order_is i lt;
+  constants_more = omega (arith, e.constants_more, f.constants_more);
+  orders_more = omega (arith, e.orders_more, f.orders_more);
+}
+
+pub grown_same : (d : Drafted) → Grown d d
+grown_same d = record { tables = extends_same d.tables; statements = refl; bodies = refl }
+
+pub grown_twice : (d e f : Drafted) → Grown d e → Grown e f → Grown d f
+grown_twice d e f g h = record {
+  tables = extends_twice d.tables e.tables f.tables g.tables h.tables;
+  statements = h.statements ∙ g.statements;
+  bodies = h.bodies ∙ g.bodies;
+}
+
+-- only the pieces change
+pub grown_pieces : (d : Drafted) (ps : List Piece) → Grown d (record d { pieces = ps })
+grown_pieces d ps = record { tables = extends_same d.tables; statements = refl; bodies = refl }
+
+-- one more constant
+pub grown_constant : (d : Drafted) (v : Val) → Grown d (record d { tables = with_constant d.tables v })
+grown_constant d v = record { tables = constant_extends d.tables v; statements = refl; bodies = refl }
+
+-- a node puts what it put
+pub put_same : (t u : Tables) → Extends t u → (n : Node) (k : NodeKind) → NodeNamed t k → (st : List Piece) → put_kind u n k st ≡ put_kind t n k st
+put_same t u e n (node.Constant i) h st = ap (λ v. expr_of n (constant v) ∷ st) (e.constant_is i h)
+put_same t u e n (node.ByDefault i) h st = ap (λ v. an_argument (default_taken v) ∷ st) (e.constant_is i h)
+put_same t u e n (node.CallInOrder p count order) h st = ap (λ o. of_found (λ args. expr_of n (call p (in_order o args))) (arguments_off count st bound.no_args)) (e.order_is order h)
+put_same t u e n k h st = refl
+
+pub node_named : (t u : Tables) → Extends t u → (k : NodeKind) → NodeNamed t k → NodeNamed u k
+node_named t u e (node.Constant i) h = omega (arith, e.constants_more)
+node_named t u e (node.ByDefault i) h = omega (arith, e.constants_more)
+node_named t u e (node.CallInOrder p count order) h = omega (arith, e.orders_more)
+node_named t u e k h = tt
+
+pub term_named : (t u : Tables) → Extends t u → (x : Term) → TermNamed t x → TermNamed u x
+term_named t u e (term.Place kind of bounded lends) h = node_named t u e kind h
+term_named t u e (term.Value ending) h = node_named t u e ending.kind h
+term_named t u e x h = tt
+
+pub item_named : (t u : Tables) → Extends t u → (x : Item) → ItemNamed t x → ItemNamed u x
+item_named t u e (item.Tree x) h = term_named t u e x.term h
+item_named t u e x h = tt
+
+pub all_named : (t u : Tables) → Extends t u → (xs : List Item) → AllNamed t xs → AllNamed u xs
+all_named t u e [] h = tt
+all_named t u e (x ∷ xs) h = (item_named t u e x h.0, all_named t u e xs h.1)
+
+pub term_grows : (env : Env) (t u : Tables) → Extends t u → (x : Term) → TermNamed t x → (y : terms.Term) (ps below : List Piece) → TermStands env t x y ps below → TermStands env u x y ps below
+term_grows env t u e (term.Place kind of bounded lends) k y ps below h = record { at = h.at; is = h.is; ends = λ n. put_same t u e n kind k ps ∙ h.ends n }
+term_grows env t u e (term.Value ending) k y ps below h = record { made = h.made; is = h.is; ends = λ n. put_same t u e n ending.kind k ps ∙ h.ends n }
+term_grows env t u e (term.Routine r) k y ps below h = h
+term_grows env t u e (term.Function f) k y ps below h = h
+term_grows env t u e term.Err k y ps below h = h
+term_grows env t u e term.ErrRaise k y ps below h = h
+term_grows env t u e term.ErrClear k y ps below h = h
+term_grows env t u e term.ErrorWord k y ps below h = h
+term_grows env t u e term.Nothing k y ps below h = h
+
+pub tree_grows : (env : Env) (t u : Tables) → Extends t u → (x : Tree) → TermNamed t x.term → (tree : Expr) (ps below : List Piece) → TreeStands env t x tree ps below → TreeStands env u x tree ps below
+tree_grows env t u e x k tree ps below h =
+    record { term_is = term_grows env t u e x.term k (term_of env tree) ps below h.term_is; place_is = h.place_is; name_is = h.name_is; qualifier_is = h.qualifier_is; leaf = h.leaf }
+
+pub stands_grows : (env : Env) (t u : Tables) → Extends t u → (xs : List Item) → AllNamed t xs → (is : List nodes.Item) (ps : List Piece) (base : Base) → Stands env t xs is ps base → Stands env u xs is ps base
+stands_grows env t u e [] k is ps base h = h
+stands_grows env t u e (item.Tree x ∷ xs) k [] ps base h = absurd h
+stands_grows env t u e (item.Tree x ∷ xs) k (nodes.arguments args ∷ is) ps base h = absurd h
+stands_grows env t u e (item.Tree x ∷ xs) k (nodes.tree tree ∷ is) ps base h = (
+  h.0,
+  (
+    tree_grows env t u e x k.0 tree ps h.0 h.1.0,
+    stands_grows env t u e xs k.1 is h.0 base h.1.1,
+  ),
+)
+stands_grows env t u e (item.Operand x ∷ xs) k [] ps base h = absurd h
+stands_grows env t u e (item.Operand x ∷ xs) k (nodes.arguments args ∷ is) ps base h = absurd h
+stands_grows env t u e (item.Operand x ∷ xs) k (nodes.tree tree ∷ is) ps base h = (h.0, (h.1.0, stands_grows env t u e xs k.1 is h.0 base h.1.1))
+stands_grows env t u e (item.Call x ∷ xs) k [] ps base h = absurd h
+stands_grows env t u e (item.Call x ∷ xs) k (nodes.tree tree ∷ is) ps base h = absurd h
+stands_grows env t u e (item.Call x ∷ xs) k (nodes.arguments args ∷ []) ps base h = absurd h
+stands_grows env t u e (item.Call x ∷ xs) k (nodes.arguments args ∷ nodes.arguments more ∷ is) ps base h = absurd h
+stands_grows env t u e (item.Call x ∷ xs) k (nodes.arguments args ∷ nodes.tree tree ∷ is) ps base h = (h.0, (h.1.0, stands_grows env t u e xs k.1 is h.0 base h.1.1))
+stands_grows env t u e (item.Listed x ∷ xs) k [] ps base h = absurd h
+stands_grows env t u e (item.Listed x ∷ xs) k (nodes.tree tree ∷ is) ps base h = absurd h
+stands_grows env t u e (item.Listed x ∷ xs) k (nodes.arguments args ∷ is) ps base h = (h.0, (h.1.0, stands_grows env t u e xs k.1 is h.0 base h.1.1))
+stands_grows env t u e (item.Indexed x ∷ xs) k [] ps base h = absurd h
+stands_grows env t u e (item.Indexed x ∷ xs) k (nodes.tree tree ∷ is) ps base h = absurd h
+stands_grows env t u e (item.Indexed x ∷ xs) k (nodes.arguments args ∷ []) ps base h = absurd h
+stands_grows env t u e (item.Indexed x ∷ xs) k (nodes.arguments args ∷ nodes.arguments more ∷ is) ps base h = absurd h
+stands_grows env t u e (item.Indexed x ∷ xs) k (nodes.arguments args ∷ nodes.tree tree ∷ is) ps base h = (h.0, (h.1.0, stands_grows env t u e xs k.1 is h.0 base h.1.1))
+stands_grows env t u e (item.Function x ∷ xs) k [] ps base h = absurd h
+stands_grows env t u e (item.Function x ∷ xs) k (nodes.tree tree ∷ is) ps base h = absurd h
+stands_grows env t u e (item.Function x ∷ xs) k (nodes.arguments args ∷ []) ps base h = absurd h
+stands_grows env t u e (item.Function x ∷ xs) k (nodes.arguments args ∷ nodes.arguments more ∷ is) ps base h = absurd h
+stands_grows env t u e (item.Function x ∷ xs) k (nodes.arguments args ∷ nodes.tree tree ∷ is) ps base h = (h.0, (h.1.0, stands_grows env t u e xs k.1 is h.0 base h.1.1))
+stands_grows env t u e (item.Named x ∷ xs) k [] ps base h = absurd h
+stands_grows env t u e (item.Named x ∷ xs) k (nodes.tree tree ∷ is) ps base h = absurd h
+stands_grows env t u e (item.Named x ∷ xs) k (nodes.arguments no_args ∷ is) ps base h = absurd h
+stands_grows env t u e (item.Named x ∷ xs) k (nodes.arguments (missing before comma) ∷ is) ps base h = absurd h
+stands_grows env t u e (item.Named x ∷ xs) k (nodes.arguments (plain before comma tree) ∷ is) ps base h = absurd h
+stands_grows env t u e (item.Named x ∷ xs) k (nodes.arguments (named before comma name mark tree) ∷ is) ps base h =
+    (h.0, (h.1.0, stands_grows env t u e xs k.1 (nodes.arguments before ∷ is) h.0 base h.1.1))
+stands_grows env t u e (item.Gathered ∷ xs) k [] ps base h = absurd h
+stands_grows env t u e (item.Gathered ∷ xs) k (nodes.tree tree ∷ is) ps base h = absurd h
+stands_grows env t u e (item.Gathered ∷ xs) k (nodes.arguments no_args ∷ is) ps base h = absurd h
+stands_grows env t u e (item.Gathered ∷ xs) k (nodes.arguments (missing before comma) ∷ is) ps base h = absurd h
+stands_grows env t u e (item.Gathered ∷ xs) k (nodes.arguments (named before comma name mark tree) ∷ is) ps base h = absurd h
+stands_grows env t u e (item.Gathered ∷ xs) k (nodes.arguments (plain before comma tree) ∷ is) ps base h =
+    (h.0, (h.1.0, stands_grows env t u e xs k.1 (nodes.arguments before ∷ is) h.0 base h.1.1))

@@ -1,0 +1,9 @@
+pub mod Growing
+pub mod Taking
+pub mod Steps
+pub mod Passing
+pub mod Arguing
+pub mod Reading
+pub mod CallSteps
+pub mod InOrder
+pub mod NamedSteps

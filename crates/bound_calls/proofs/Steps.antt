@@ -1,0 +1,303 @@
+-- What the nodes of an expression do to the stack.
+use Rattle.std.proofs.lemmas.List.{drop_more, drop_all}
+use Rattle.std.proofs.Common.{◌≡◌, ℕ, false, ◌<◌, ◌≤◌, ◌+◌, get_or, drop, length, arith, length-append, List, [], ◌∷◌, Option, Some, None, refl, sym, ap, subst, ◌∙◌}
+use Rattle.std.specs.Prelude.{option_map}
+use Rattle.vba_base.specs.declared.place.Place.{Place}
+use Rattle.vba_lexer.specs.declared.token.Token.{Token}
+use Rattle.vba_words.specs.Spelling.{read}
+use Rattle.vba_values.specs.declared.types.Compare.{Compare}
+use Rattle.vba_values.specs.Val.{Val}
+use Rattle.vba_expression.specs.declared.operator.UnaryOperator.{UnaryOperator}
+use Rattle.vba_expression.specs.declared.operator.BinaryOperator.{BinaryOperator}
+use Rattle.vba_expression.specs.declared.node.ExpressionNode.TheVariants as node
+use Rattle.vba_expression.specs.Tree.{Expr, parenthesised, unary}
+use Rattle.vba_expression.specs.Spelling.{binary_reading, spell}
+use Rattle.vba_expression.specs.Reader.{name_in}
+use Rattle.vba_expression.specs.Nodes as nodes
+use Rattle.vba_expression.specs.declared.node.ExpressionNode.{ExpressionNode}
+use Rattle.vba_expression.specs.Nodes.{behind_node, behind_nodes, items_of, last_tree, tree_in}
+use Rattle.module_parts.proofs.Firsts.{expression_front}
+use Rattle.bound_project.specs.declared.declared_type.DeclaredType.{DeclaredType}
+use Rattle.bound_project.specs.declared.node.NodeKind.TheVariants as kind
+use Rattle.vba_values.specs.Types.{Declared}
+use Rattle.bound_project.specs.View.{declared_view}
+use Rattle.bound_project.specs.Expressions as bound
+use Rattle.bound_project.specs.Expressions.{constant}
+use Rattle.bound_project.specs.Pieces.{Piece, Tables, expr_of}
+use Rattle.bound_project.specs.Drafts.{Drafted}
+use Rattle.bound_project.proofs.Drafts.{constant_last}
+use Rattle.binder.specs.Constants.{place_of_expression, compare_in, value_type}
+use Rattle.binder.specs.Terms.{Env, no_term, a_value}
+use Rattle.binder.specs.Terms as plain
+use Rattle.binder.specs.ExpressionsBound.{term_of, value_of, operand_of, as_value, if_there, value_term, literal_term, bound_value, bound_operand}
+use Rattle.vba_words.specs.declared.identifier.Identifier.{Identifier}
+use Rattle.bound_calls.specs.declared.term.Ending.{Ending}
+use Rattle.bound_calls.specs.declared.term.Term.{Term}
+use Rattle.bound_calls.specs.declared.term.Term.TheVariants as term
+use Rattle.bound_calls.specs.declared.term.Tree.{Tree}
+use Rattle.bound_calls.specs.declared.term.Operand.{Operand}
+use Rattle.bound_calls.specs.declared.term.Item.{Item}
+use Rattle.bound_calls.specs.declared.term.Item.TheVariants as item
+use Rattle.bound_calls.specs.Standing.{TermStands, TermNamed, QualifierStands, LeafStands, TreeStands, PushedStands, EndingStands, EndingNamed, Stands, AllNamed, Grown, Base, on_pieces}
+use Rattle.bound_calls.specs.Taking.{TakesValue, TakesOperand, Pushes}
+use Rattle.bound_calls.specs.Steps.{PushesOperand, PushesValue, Leaves, Binds, Goes, MakesUnary, MakesBinary, MakesLeaf, AddsConstant, as_term}
+use Rattle.bound_calls.proofs.Growing.{grown_same, grown_constant, grown_twice, all_named, stands_grows}
+
+pub pushes_operand : (x : Tree) (d d1 e : Drafted) (ending : Option Ending) (of : Option DeclaredType) → TakesOperand x.term d d1 ending → Pushes ending x.place d1 e of → PushesOperand x d e of
+pushes_operand x d d1 e ending of t p = record {
+  grown = grown_twice d d1 e t.grown p.grown;
+  stands = λ env tree below k.
+      let P : Place → Type 0 = λ place. PushedStands of (operand_of env (term_of env tree) place) e.pieces below in
+      subst P k.place_is (p.stands (λ place. operand_of env (term_of env tree) place) below (t.stands env (term_of env tree) below k.term_is));
+}
+
+pub goes_same : (env : Env) (d : Drafted) (xs : List Item) → AllNamed d.tables xs → Goes env d xs d xs (λ is. is)
+goes_same env d xs n = record { grown = grown_same d; named = n; stands = λ is base h. h }
+
+-- ---- a left operand
+
+settle_stands : (env : Env) (x : Tree) (xs : List Item) (d e : Drafted) (of : Option DeclaredType) → AllNamed d.tables (item.Tree x ∷ xs) → PushesOperand x d e of → (is : List nodes.Item) (base : Base)
+    → Stands env d.tables (item.Tree x ∷ xs) is d.pieces base → Stands env e.tables (item.Operand (record { place = x.place; of = of }) ∷ xs) is e.pieces base
+settle_stands env x xs d e of n p [] base h = absurd h
+settle_stands env x xs d e of n p (nodes.arguments args ∷ is) base h = absurd h
+settle_stands env x xs d e of n p (nodes.tree tree ∷ is) base h =
+    (h.0, (record { pushed = p.stands env tree h.0 h.1.0; place_is = h.1.0.place_is }, stands_grows env d.tables e.tables p.grown.tables xs n.1 is h.0 base h.1.1))
+
+pub settle_tree : (env : Env) (x : Tree) (xs : List Item) (d e : Drafted) (of : Option DeclaredType) → AllNamed d.tables (item.Tree x ∷ xs) → PushesOperand x d e of
+    → Goes env d (item.Tree x ∷ xs) e (item.Operand (record { place = x.place; of = of }) ∷ xs) (λ is. is)
+settle_tree env x xs d e of n p = record {
+  grown = p.grown;
+  named = (tt, all_named d.tables e.tables p.grown.tables xs n.1);
+  stands = λ is base h. settle_stands env x xs d e of n p is base h;
+}
+
+-- as the calls say it
+pub settled : (env : Env) (x : Tree) (xs old new : List Item) (d e : Drafted) (of : Option DeclaredType) → old ≡ item.Tree x ∷ xs → new ≡ item.Operand (record { place = x.place; of = of }) ∷ xs → AllNamed d.tables old
+    → PushesOperand x d e of → Goes env d old e new (λ is. is)
+settled env x xs old new d e of o n k p =
+    let N : List Item → Type 0 = λ l. AllNamed d.tables l in
+    let A : List Item → Type 0 = λ l. Goes env d l e new (λ is. is) in
+    let B : List Item → Type 0 = λ l. Goes env d (item.Tree x ∷ xs) e l (λ is. is) in
+    subst A (sym o) (subst B (sym n) (settle_tree env x xs d e of (subst N o k) p))
+
+pub put_back : (env : Env) (xs old new : List Item) (d : Drafted) → old ≡ new → AllNamed d.tables old → Goes env d old d new (λ is. is)
+put_back env xs old new d o k = let A : List Item → Type 0 = λ l. Goes env d old d l (λ is. is) in subst A o (goes_same env d old k)
+
+-- ---- leaves
+
+leaf_same : (name : Option Identifier) (ps : List Piece) → LeafStands name ps ps
+leaf_same (Some name) ps = refl
+leaf_same None ps = tt
+
+leaf_stands : (env : Env) (xs ys : List Item) (d e f : Drafted) (x : Tree) (tree : Expr) → Goes env d xs e ys (λ is. is) → MakesLeaf env e f x.term (term_of env tree) → x.place ≡ place_of_expression tree
+    → option_map (λ name. name.now) x.name ≡ name_in tree → QualifierStands env (option_map (λ name. name.now) x.name) x.is_qualifier tree → (is : List nodes.Item) (base : Base) → Stands env d.tables xs is d.pieces base
+    → Stands env f.tables (item.Tree x ∷ ys) (nodes.tree tree ∷ is) f.pieces base
+leaf_stands env xs ys d e f x tree g m p n q is base h = (
+  f.pieces,
+  (
+    record { term_is = m.stands f.pieces; place_is = p; name_is = n; qualifier_is = q; leaf = leaf_same (option_map (λ name. name.now) x.name) f.pieces },
+    (let A : List Piece → Type 0 = λ ps. Stands env f.tables ys is ps base in
+        subst A (sym m.pieces) (stands_grows env e.tables f.tables m.grown.tables ys g.named is e.pieces base (g.stands is base h))),
+  ),
+)
+
+pub goes_leaf : (env : Env) (xs ys new : List Item) (d e f : Drafted) (x : Tree) (tree : Expr) → Goes env d xs e ys (λ is. is) → MakesLeaf env e f x.term (term_of env tree) → x.place ≡ place_of_expression tree
+    → option_map (λ name. name.now) x.name ≡ name_in tree → QualifierStands env (option_map (λ name. name.now) x.name) x.is_qualifier tree → new ≡ item.Tree x ∷ ys → Goes env d xs f new (λ is. nodes.tree tree ∷ is)
+goes_leaf env xs ys new d e f x tree g m p n q eq =
+    let A : List Item → Type 0 = λ l. Goes env d xs f l (λ is. nodes.tree tree ∷ is) in
+    subst A (sym eq) (record {
+      grown = grown_twice d e f g.grown m.grown;
+      named = (m.named, all_named e.tables f.tables m.grown.tables ys g.named);
+      stands = λ is base h. leaf_stands env xs ys d e f x tree g m p n q is base h;
+    })
+
+-- ---- parentheses
+
+as_value_none : (env : Env) (y : plain.Term) (place : Place) → value_of env y place ≡ None → as_value env y place ≡ no_term
+as_value_none env y place h = ap (λ o. if_there (option_map value_term o)) h
+
+as_value_some : (env : Env) (y : plain.Term) (place : Place) (made : bound.Expr) → value_of env y place ≡ Some made → as_value env y place ≡ value_term made
+as_value_some env y place made h = ap (λ o. if_there (option_map value_term o)) h
+
+valued : (env : Env) (t : Tables) (ending : Option Ending) (y : plain.Term) (place : Place) (ps below : List Piece) → EndingStands t ending (λ p. value_of env y p) ps below
+    → TermStands env t (as_term ending) (as_value env y place) ps below
+valued env t None y place ps below h = as_value_none env y place (h place)
+valued env t (Some e) y place ps below h =
+    record { made = h.made; is = as_value_some env y place (bound.expr h.made place (declared_view e.of) (declared_view e.of)) (h.is place); ends = h.ends }
+
+as_term_named : (t : Tables) (ending : Option Ending) → EndingNamed t ending → TermNamed t (as_term ending)
+as_term_named t None h = tt
+as_term_named t (Some e) h = h
+
+-- what is made of the tree on top
+made_of_tree : (env : Env) (x y : Tree) (xs : List Item) (d e : Drafted) (f : Expr → Expr) → Grown d e → AllNamed d.tables xs
+    → ((tree : Expr) (below : List Piece) → TreeStands env d.tables x tree d.pieces below → TreeStands env e.tables y (f tree) e.pieces below)
+    → (g : List nodes.Item → List nodes.Item) → ((tree : Expr) (is : List nodes.Item) → g (nodes.tree tree ∷ is) ≡ nodes.tree (f tree) ∷ is)
+    → (is : List nodes.Item) (base : Base) → Stands env d.tables (item.Tree x ∷ xs) is d.pieces base → Stands env e.tables (item.Tree y ∷ xs) (g is) e.pieces base
+made_of_tree env x y xs d e f grown n make g eq [] base h = absurd h
+made_of_tree env x y xs d e f grown n make g eq (nodes.arguments args ∷ is) base h = absurd h
+made_of_tree env x y xs d e f grown n make g eq (nodes.tree tree ∷ is) base h =
+    let A : List nodes.Item → Type 0 = λ l. Stands env e.tables (item.Tree y ∷ xs) l e.pieces base in
+    subst A (sym (eq tree is)) (h.0, (make tree h.0 h.1.0, stands_grows env d.tables e.tables grown.tables xs n is h.0 base h.1.1))
+
+pub goes_made : (env : Env) (x y : Tree) (xs old new : List Item) (d e : Drafted) (f : Expr → Expr) → old ≡ item.Tree x ∷ xs → new ≡ item.Tree y ∷ xs → Grown d e → AllNamed d.tables old → TermNamed e.tables y.term
+    → ((tree : Expr) (below : List Piece) → TreeStands env d.tables x tree d.pieces below → TreeStands env e.tables y (f tree) e.pieces below)
+    → (g : List nodes.Item → List nodes.Item) → ((tree : Expr) (is : List nodes.Item) → g (nodes.tree tree ∷ is) ≡ nodes.tree (f tree) ∷ is) → Goes env d old e new g
+goes_made env x y xs old new d e f o n grown k named make g eq =
+    let N : List Item → Type 0 = λ l. AllNamed d.tables l in
+    let A : List Item → Type 0 = λ l. Goes env d l e new g in
+    let B : List Item → Type 0 = λ l. Goes env d (item.Tree x ∷ xs) e l g in
+    let all = subst N o k in
+    subst A (sym o) (subst B (sym n) (record {
+      grown = grown;
+      named = (named, all_named d.tables e.tables grown.tables xs all.1);
+      stands = λ is base h. made_of_tree env x y xs d e f grown all.1 make g eq is base h;
+    }))
+
+pub goes_parenthesised : (env : Env) (x : Tree) (left right : Token) (ending : Option Ending) (xs old new : List Item) (d e : Drafted) → old ≡ item.Tree x ∷ xs
+    → new ≡ item.Tree (record { place = left.place; name = None; is_qualifier = false; term = as_term ending }) ∷ xs → AllNamed d.tables old → TakesValue x.term d e ending → Goes env d old e new (behind_node (node.Parenthesised left right))
+goes_parenthesised env x left right ending xs old new d e o n k v =
+    goes_made env x (record { place = left.place; name = None; is_qualifier = false; term = as_term ending }) xs old new d e (λ tree. parenthesised left tree right) o n v.grown k (as_term_named e.tables ending v.named)
+    (λ tree below h. record { term_is = valued env e.tables ending (term_of env tree) (place_of_expression tree) e.pieces below (v.stands env (term_of env tree) below h.term_is); place_is = refl; name_is = refl; qualifier_is = refl; leaf = tt })
+    (behind_node (node.Parenthesised left right)) (λ tree is. refl)
+
+-- ---- operators
+
+pub goes_unary : (env : Env) (x : Tree) (operator : UnaryOperator) (token : Token) (of : Option DeclaredType) (made : Term) (xs old new : List Item) (d e : Drafted) → old ≡ item.Tree x ∷ xs
+    → new ≡ item.Tree (record { place = token.place; name = None; is_qualifier = false; term = made }) ∷ xs → AllNamed d.tables old → PushesOperand x d e of → MakesUnary operator of made → Goes env d old e new (behind_node (node.Unary operator token))
+goes_unary env x operator token of made xs old new d e o n k p m =
+    goes_made env x (record { place = token.place; name = None; is_qualifier = false; term = made }) xs old new d e (λ tree. unary operator token tree) o n p.grown k (m.named e.tables)
+    (λ tree below h. record { term_is = m.stands env e.tables (operand_of env (term_of env tree) (place_of_expression tree)) e.pieces below (p.stands env tree below h); place_is = refl; name_is = refl; qualifier_is = refl; leaf = tt })
+    (behind_node (node.Unary operator token)) (λ tree is. refl)
+
+binary_stands : (env : Env) (left : Operand) (x : Tree) (operator : BinaryOperator) (token : Token) (of : Option DeclaredType) (made : Term) (xs : List Item) (d e : Drafted) (compare : Compare) → compare ≡ compare_in env.scope
+    → AllNamed d.tables xs → PushesOperand x d e of → MakesBinary compare operator left.of of made → (is : List nodes.Item) (base : Base)
+    → Stands env d.tables (item.Tree x ∷ item.Operand left ∷ xs) is d.pieces base
+    → Stands env e.tables (item.Tree (record { place = left.place; name = None; is_qualifier = false; term = made }) ∷ xs) (behind_node (node.Binary operator token) is) e.pieces base
+binary_stands env left x operator token of made xs d e compare c k p m [] base h = absurd h
+binary_stands env left x operator token of made xs d e compare c k p m (nodes.arguments args ∷ is) base h = absurd h
+binary_stands env left x operator token of made xs d e compare c k p m (nodes.tree r ∷ []) base h = absurd h.1.1
+binary_stands env left x operator token of made xs d e compare c k p m (nodes.tree r ∷ nodes.arguments args ∷ is) base h = absurd h.1.1
+binary_stands env left x operator token of made xs d e compare c k p m (nodes.tree r ∷ nodes.tree l ∷ is) base h =
+    let low = h.1.1 in (
+      low.0,
+      (
+        record {
+          term_is = m.stands env e.tables (operand_of env (term_of env l) (place_of_expression l)) (operand_of env (term_of env r) (place_of_expression r)) e.pieces h.0 low.0 c low.1.0.pushed (p.stands env r h.0 h.1.0);
+          place_is = low.1.0.place_is ∙ sym (expression_front l (read token (binary_reading operator) ∷ spell r));
+          name_is = refl;
+          qualifier_is = refl;
+          leaf = tt;
+        },
+        stands_grows env d.tables e.tables p.grown.tables xs k is low.0 base low.1.1,
+      ),
+    )
+
+pub goes_binary : (env : Env) (left : Operand) (x : Tree) (operator : BinaryOperator) (token : Token) (of : Option DeclaredType) (made : Term) (xs old between new : List Item) (d e : Drafted) (compare : Compare)
+    → compare ≡ compare_in env.scope → old ≡ item.Tree x ∷ between → between ≡ item.Operand left ∷ xs → new ≡ item.Tree (record { place = left.place; name = None; is_qualifier = false; term = made }) ∷ xs → AllNamed d.tables old
+    → PushesOperand x d e of → MakesBinary compare operator left.of of made → Goes env d old e new (behind_node (node.Binary operator token))
+goes_binary env left x operator token of made xs old between new d e compare c o b n k p m =
+    let g = behind_node (node.Binary operator token) in
+    let all : old ≡ item.Tree x ∷ item.Operand left ∷ xs = o ∙ ap (λ l. item.Tree x ∷ l) b in
+    let N : List Item → Type 0 = λ l. AllNamed d.tables l in
+    let A : List Item → Type 0 = λ l. Goes env d l e new g in
+    let B : List Item → Type 0 = λ l. Goes env d (item.Tree x ∷ item.Operand left ∷ xs) e l g in
+    let named = subst N all k in
+    subst A (sym all) (subst B (sym n) (record {
+      grown = p.grown;
+      named = (m.named e.tables, all_named d.tables e.tables p.grown.tables xs named.1.1);
+      stands = λ is base h. binary_stands env left x operator token of made xs d e compare c named.1.1 p m is base h;
+    }))
+
+-- ---- constants
+
+pub makes_constant : (env : Env) (v : Val) (of : DeclaredType) (d e : Drafted) (number : ℕ) → AddsConstant v d e number
+    → MakesLeaf env d e (term.Value (record { kind = kind.Constant number; of = of })) (a_value (constant v) (declared_view of))
+makes_constant env v of d e number h =
+    let A : Drafted → Type 0 = λ x. MakesLeaf env d x (term.Value (record { kind = kind.Constant number; of = of })) (a_value (constant v) (declared_view of)) in
+    subst A (sym h.draft_is) (record {
+      grown = grown_constant d v;
+      pieces = refl;
+      named = omega (arith, h.number_is, length-append d.tables.constants (v ∷ []));
+      stands = λ ps. record { made = constant v; is = refl; ends = λ n. ap (λ w. expr_of n (constant w) ∷ ps) (constant_last d.tables v number h.number_is) };
+    })
+
+pub literal_leaf : (env : Env) (d e : Drafted) (x : Term) (v w : Val) (of : DeclaredType) → declared_view of ≡ value_type v → v ≡ w → MakesLeaf env d e x (a_value (constant v) (declared_view of))
+    → MakesLeaf env d e x (literal_term w)
+literal_leaf env d e x v w of h eq m =
+    let A : Declared → Type 0 = λ u. MakesLeaf env d e x (a_value (constant v) u) in
+    let B : Val → Type 0 = λ u. MakesLeaf env d e x (literal_term u) in subst B eq (subst A h m)
+
+-- ---- all nodes
+
+-- from a stack to another one, and from there to a third
+pub goes_twice : (env : Env) (d e f : Drafted) (xs ys zs : List Item) (g h : List nodes.Item → List nodes.Item) → Goes env d xs e ys g → Goes env e ys f zs h → Goes env d xs f zs (λ is. h (g is))
+goes_twice env d e f xs ys zs g h a b = record {
+  grown = grown_twice d e f a.grown b.grown;
+  named = b.named;
+  stands = λ is base k. b.stands (g is) base (a.stands is base k);
+}
+
+pub goes_as : (env : Env) (d e : Drafted) (xs ys : List Item) (g h : List nodes.Item → List nodes.Item) → ((is : List nodes.Item) → g is ≡ h is) → Goes env d xs e ys g → Goes env d xs e ys h
+goes_as env d e xs ys g h eq a = record {
+  grown = a.grown;
+  named = a.named;
+  stands = λ is base k. (let A : List nodes.Item → Type 0 = λ l. Stands env e.tables ys l e.pieces base in subst A (eq is) (a.stands is base k));
+}
+
+-- some nodes were read, and others are left
+pub record Reading (env : Env) (ns : List ExpressionNode) (d : Drafted) (xs : List Item) (e : Drafted) (ys : List Item) (left : List ExpressionNode) : Type 0 where
+  pub read_as : List nodes.Item → List nodes.Item
+  pub goes : Goes env d xs e ys read_as
+  pub rest_is : (is : List nodes.Item) → behind_nodes (read_as is) left ≡ behind_nodes is ns
+
+pub reading_starts : (env : Env) (ns : List ExpressionNode) (d : Drafted) (xs : List Item) → AllNamed d.tables xs → Reading env ns d xs d xs ns
+reading_starts env ns d xs n = record { read_as = λ is. is; goes = goes_same env d xs n; rest_is = λ is. refl }
+
+pub reading_on : (env : Env) (ns : List ExpressionNode) (d e f : Drafted) (xs ys zs : List Item) (n : ExpressionNode) (left : List ExpressionNode) → Reading env ns d xs e ys (n ∷ left) → Goes env e ys f zs (behind_node n)
+    → Reading env ns d xs f zs left
+reading_on env ns d e f xs ys zs n left r g = record { read_as = λ is. behind_node n (r.read_as is); goes = goes_twice env d e f xs ys zs r.read_as (behind_node n) r.goes g; rest_is = r.rest_is }
+
+pub reading_ends : (env : Env) (ns : List ExpressionNode) (d e : Drafted) (xs ys : List Item) → Reading env ns d xs e ys [] → Goes env d xs e ys (λ is. behind_nodes is ns)
+reading_ends env ns d e xs ys r = goes_as env d e xs ys r.read_as (λ is. behind_nodes is ns) r.rest_is r.goes
+
+pub reading_next : (env : Env) (ns : List ExpressionNode) (d e f : Drafted) (xs ys zs : List Item) (i : ℕ) (n : ExpressionNode) → i < length ns → n ≡ get_or ns i n → Reading env ns d xs e ys (drop i ns)
+    → Goes env e ys f zs (behind_node n) → Reading env ns d xs f zs (drop (i + 1) ns)
+reading_next env ns d e f xs ys zs i n lt is r g =
+    let left : drop i ns ≡ n ∷ drop (i + 1) ns = drop_more ns i n lt ∙ ap (λ m. m ∷ drop (i + 1) ns) (sym is) in
+    let A : List ExpressionNode → Type 0 = λ l. Reading env ns d xs e ys l in
+    reading_on env ns d e f xs ys zs n (drop (i + 1) ns) (subst A left r) g
+
+pub reading_done : (env : Env) (ns : List ExpressionNode) (d e : Drafted) (xs ys : List Item) (i : ℕ) → length ns ≤ i → Reading env ns d xs e ys (drop i ns) → Goes env d xs e ys (λ is. behind_nodes is ns)
+reading_done env ns d e xs ys i le r =
+    let A : List ExpressionNode → Type 0 = λ l. Reading env ns d xs e ys l in
+    reading_ends env ns d e xs ys (subst A (drop_all i ns le) r)
+
+-- ---- the whole expression
+
+-- one item is left
+pub leaves_tree : (env : Env) (ns : List ExpressionNode) (x : Tree) (ys xs : List Item) (d e : Drafted) → ys ≡ item.Tree x ∷ xs → xs ≡ [] → Goes env d [] e ys (λ is. behind_nodes is ns) → Leaves env (tree_in ns) d e x
+leaves_tree env ns x ys xs d e a b g =
+    let all : ys ≡ item.Tree x ∷ [] = a ∙ ap (λ l. item.Tree x ∷ l) b in
+    let N : List Item → Type 0 = λ l. AllNamed e.tables l in
+    let A : List Item → Type 0 = λ l. Stands env e.tables l (items_of ns) e.pieces (on_pieces d.pieces) in
+    record { grown = g.grown; named = (subst N all g.named).0; stands = only_tree env e.tables x (items_of ns) e.pieces (on_pieces d.pieces) (subst A all (g.stands [] (on_pieces d.pieces) (refl, refl))) }
+  where
+    only_tree : (env : Env) (t : Tables) (x : Tree) (is : List nodes.Item) (ps : List Piece) (base : Base) → Stands env t (item.Tree x ∷ []) is ps base → TreeStands env t x (last_tree is) ps base.pieces
+    only_tree env t x [] ps base h = absurd h
+    only_tree env t x (nodes.arguments args ∷ is) ps base h = absurd h
+    only_tree env t x (nodes.tree tree ∷ is) ps base h = let A : List Piece → Type 0 = λ l. TreeStands env t x tree ps l in subst A h.1.1.1 h.1.0
+
+pub pushes_value : (x : Tree) (d d1 e : Drafted) (ending : Option Ending) (of : Option DeclaredType) → TakesValue x.term d d1 ending → Pushes ending x.place d1 e of → PushesValue x d e of
+pushes_value x d d1 e ending of t p = record {
+  grown = grown_twice d d1 e t.grown p.grown;
+  stands = λ env tree below k.
+      let P : Place → Type 0 = λ place. PushedStands of (value_of env (term_of env tree) place) e.pieces below in
+      subst P k.place_is (p.stands (λ place. value_of env (term_of env tree) place) below (t.stands env (term_of env tree) below k.term_is));
+}
+
+pub binds_operand : (env : Env) (tree : Expr) (x : Tree) (d e f : Drafted) (of : Option DeclaredType) → Leaves env tree d e x → PushesOperand x e f of → Binds (bound_operand env tree) d f of
+binds_operand env tree x d e f of l p = record { grown = grown_twice d e f l.grown p.grown; pushed = p.stands env tree d.pieces l.stands }
+
+pub binds_value : (env : Env) (tree : Expr) (x : Tree) (d e f : Drafted) (of : Option DeclaredType) → Leaves env tree d e x → PushesValue x e f of → Binds (bound_value env tree) d f of
+binds_value env tree x d e f of l p = record { grown = grown_twice d e f l.grown p.grown; pushed = p.stands env tree d.pieces l.stands }

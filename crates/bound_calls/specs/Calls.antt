@@ -1,0 +1,139 @@
+-- Serves the code: how arguments and calls are pushed.
+use Rattle.std.specs.Prelude.{◌≡◌, ◌||◌, ◌+◌, length, true, List, ◌∷◌, map, Option, Some, None}
+use Rattle.vba_base.specs.declared.place.Place.{Place}
+use Rattle.vba_lexer.specs.declared.token.Token.{Token}
+use Rattle.vba_expression.specs.Tree.{Expr, Args, missing}
+use Rattle.vba_expression.specs.Tree as tree
+use Rattle.bound_project.specs.declared.declarations.Parameter.{Parameter}
+use Rattle.bound_project.specs.declared.declared_type.DeclaredType.{DeclaredType}
+use Rattle.bound_project.specs.declared.node.NodeKind.{NodeKind}
+use Rattle.bound_project.specs.declared.node.NodeKind.TheVariants as node
+use Rattle.bound_project.specs.declared.node.Node.{Node}
+use Rattle.bound_project.specs.View.{declared_view, parameter_view}
+use Rattle.bound_project.specs.Expressions.{Lvalue}
+use Rattle.bound_project.specs.Expressions as bound
+use Rattle.bound_project.specs.Lists.{above}
+use Rattle.bound_project.specs.Pieces.{Argument, place_lent, value_copied, Piece, an_argument, an_expr}
+use Rattle.bound_project.specs.Project as project
+use Rattle.bound_project.specs.Drafts.{Drafted}
+use Rattle.vba_values.specs.Coerce.{is_same_type}
+use Rattle.binder.specs.Constants.{place_of_expression, is_variant}
+use Rattle.binder.specs.Terms.{Env, Given}
+use Rattle.binder.specs.Terms as plain
+use Rattle.binder.specs.ExpressionsBound.{givens, indexed, term_of, value_of}
+use Rattle.bound_calls.specs.declared.term.Ending.{Ending}
+use Rattle.bound_calls.specs.declared.term.Routine.{Routine}
+use Rattle.bound_calls.specs.declared.term.Term.{Term}
+use Rattle.bound_calls.specs.declared.term.Term.TheVariants as term
+use Rattle.bound_calls.specs.declared.term.Tree.{Tree}
+use Rattle.bound_calls.specs.declared.term.Passed.{Passed}
+use Rattle.bound_calls.specs.declared.term.Item.{Item}
+use Rattle.bound_calls.specs.declared.term.Item.TheVariants as item
+use Rattle.bound_calls.specs.Passing.{Taken, NotGiven, AllLeft}
+use Rattle.bound_calls.specs.Standing.{PlaceEnds, RoutineStands, TreeStands, PassedStands, Grown}
+
+-- ---- one argument
+
+-- a node of a type that it has as an operand too
+abbrev pub node_of : NodeKind → Place → DeclaredType → Node
+node_of kind place of = record { kind = kind; place = place; of = of; operand = of }
+
+-- an expression that is given without a name
+abbrev pub plain_given : Env → Expr → Given
+plain_given env e = record { name = None; term = Some (term_of env e); place = place_of_expression e }
+
+-- a place is lent
+pub record Lends (kind : NodeKind) (d e : Drafted) : Type 0 where
+  pub grown : Grown d e
+  pub stands : (x : Lvalue) (below : List Piece) → PlaceEnds d.tables kind x d.pieces below → e.pieces ≡ an_argument (place_lent x) ∷ below
+
+-- the place that a term lends, and its type
+abbrev pub lent_in : Term → Option Ending
+lent_in (term.Place kind of bounded true) = Some (record { kind = kind; of = of })
+lent_in x = None
+
+-- a place is lent to a parameter that takes one of its type
+pub record LendsTo (p : Parameter) (lent : Ending) (d e : Drafted) : Type 0 where
+  pub fits : (is_variant (declared_view p.of) || is_same_type (declared_view lent.of) (declared_view p.of)) ≡ true
+  pub lends : Lends lent.kind d e
+
+-- a value that was copied for a parameter of a type
+pub record CopiedIs (of : DeclaredType) (found : Option bound.Expr) (ps below : List Piece) : Type 0 where
+  pub made : bound.Expr
+  pub is : found ≡ Some made
+  pub on_top : ps ≡ an_argument (value_copied made (declared_view of)) ∷ below
+
+pub record Copies (of : DeclaredType) (x : Tree) (d e : Drafted) : Type 0 where
+  pub grown : Grown d e
+  pub stands : (env : Env) (tree : Expr) (below : List Piece) → TreeStands env d.tables x tree d.pieces below
+      → CopiedIs of (value_of env (term_of env tree) (place_of_expression tree)) e.pieces below
+
+-- an argument that was pushed for a parameter
+pub record TakenIs (env : Env) (p : project.Parameter) (g : Given) (ps below : List Piece) : Type 0 where
+  pub made : Argument
+  pub taken : Taken (value_of env) p g made
+  pub on_top : ps ≡ an_argument made ∷ below
+
+-- an expression is passed to a parameter
+pub record PassesTree (p : Parameter) (x : Tree) (d e : Drafted) : Type 0 where
+  pub grown : Grown d e
+  pub stands : (env : Env) (tree : Expr) (below : List Piece) → TreeStands env d.tables x tree d.pieces below → TakenIs env (parameter_view p) (plain_given env tree) e.pieces below
+
+-- nothing is given to a parameter, and to others
+pub record PassesNone (p : Parameter) (d e : Drafted) : Type 0 where
+  pub grown : Grown d e
+  pub made : Argument
+  pub left : NotGiven (parameter_view p) made
+  pub on_top : e.pieces ≡ an_argument made ∷ d.pieces
+
+pub record PassesRest (ps : List Parameter) (d e : Drafted) : Type 0 where
+  pub grown : Grown d e
+  pub made : List Argument
+  pub left : AllLeft (map parameter_view ps) made
+  pub on_top : e.pieces ≡ above (map an_argument made) d.pieces
+
+-- ---- one more argument
+
+pub record PassesPlain (x : Passed) (y : Tree) (d e : Drafted) (z : Passed) : Type 0 where
+  pub grown : Grown d e
+  pub stands : (env : Env) (parameters : List project.Parameter) (args : Args) (comma : Option Token) (e' : Expr) (between below : List Piece) → TreeStands env d.tables y e' d.pieces between
+      → PassedStands env parameters x args between below → PassedStands env parameters z (tree.plain args comma e') e.pieces below
+
+pub record PassesMissing (x : Passed) (d e : Drafted) (z : Passed) : Type 0 where
+  pub grown : Grown d e
+  pub stands : (env : Env) (parameters : List project.Parameter) (args : Args) (comma : Option Token) (below : List Piece) → PassedStands env parameters x args d.pieces below
+      → PassedStands env parameters z (missing args comma) e.pieces below
+
+-- the arguments of an item, and an item with others
+abbrev pub passed_in : Item → Option Passed
+passed_in (item.Call x) = Some x.passed
+passed_in (item.Listed x) = Some x
+passed_in x = None
+
+abbrev pub with_passed : Item → Passed → Item
+with_passed (item.Call x) passed = item.Call (record x { passed = passed })
+with_passed (item.Listed x) passed = item.Listed passed
+with_passed x passed = x
+
+-- ---- the ends of calls
+
+-- all but the node of a call is pushed
+pub record EndsCall (r : Routine) (x : Passed) (d e : Drafted) (ending : Ending) : Type 0 where
+  pub grown : Grown d e
+  pub made : List Argument
+  pub left : AllLeft (map parameter_view x.left.now) made
+  pub on_top : e.pieces ≡ above (map an_argument made) d.pieces
+  pub ending_is : ending ≡ record { kind = node.Call r.procedure (x.count + length made); of = r.of }
+
+-- ---- the value of a call
+
+-- the value of a call, and that it was pushed
+pub record CallPushed (env : Env) (y : plain.Term) (args : Args) (place : Place) (ps below : List Piece) : Type 0 where
+  pub made : bound.Expr
+  pub is : value_of env (indexed env place y (givens env args)) place ≡ Some made
+  pub on_top : ps ≡ an_expr made ∷ below
+
+pub record PushesCall (r : Routine) (x : Passed) (place : Place) (d e : Drafted) : Type 0 where
+  pub grown : Grown d e
+  pub stands : (env : Env) (y : plain.Term) (args : Args) (qs below : List Piece) → RoutineStands env r y qs qs → PassedStands env (map parameter_view r.parameters.now) x args d.pieces below
+      → CallPushed env y args place e.pieces below

@@ -1,0 +1,7 @@
+pub mod Standing
+pub mod Taking
+pub mod Steps
+pub mod Passing
+pub mod Calls
+pub mod Indexing
+pub mod InOrder

@@ -1,0 +1,318 @@
+-- Serves the code: what stands on the stack of a pass over the nodes of an expression, beside the pieces of the draft.
+use Rattle.std.specs.Prelude.{◌≡◌, ℕ, length, Bool, true, false, List, [], ◌∷◌, map, Option, Some, None, is_some, option_map, slice_get}
+use Rattle.vba_base.specs.declared.place.Place.{Place}
+use Rattle.vba_values.specs.Types.{Declared}
+use Rattle.vba_words.specs.declared.identifier.Identifier.{Identifier}
+use Rattle.vba_expression.specs.Tree.{Expr, Args, named}
+use Rattle.vba_expression.specs.Tree as tree
+use Rattle.vba_expression.specs.Reader.{name_in}
+use Rattle.vba_expression.specs.Nodes as nodes
+use Rattle.bound_project.specs.declared.declared_type.DeclaredType.{DeclaredType}
+use Rattle.bound_project.specs.declared.node.NodeKind.{NodeKind}
+use Rattle.bound_project.specs.declared.node.Node.{Node}
+use Rattle.bound_project.specs.declared.variable.Variable.{Variable}
+use Rattle.bound_project.specs.View.{declared_view, parameter_view, variable_view}
+use Rattle.bound_project.specs.Expressions.{expr, Exprs, Lvalue, operand_type}
+use Rattle.bound_project.specs.Expressions as bound
+use Rattle.bound_project.specs.Lists.{above}
+use Rattle.bound_project.specs.Pieces.{Argument, Piece, Tables, an_argument, an_expr, expr_of, put_kind, with_argument}
+use Rattle.bound_project.specs.Pieces as piece
+use Rattle.bound_project.specs.Project.{Parameter}
+use Rattle.bound_project.specs.Drafts.{Drafted, NodeNamed}
+use Rattle.bound_project.proofs.Drafts.{Extends}
+use Rattle.binder.specs.Declarations.{Written}
+use Rattle.declared_names.specs.View.{space_view, written_view}
+use Rattle.binder.specs.Scopes.{Space, qualifier_of}
+use Rattle.binder.specs.Constants.{compare_in, place_of_expression}
+use Rattle.binder.specs.Storage.{procedure_number}
+use Rattle.binder.specs.Terms.{Env, Given, a_place, a_value, a_routine, a_function, err_object, err_raise, err_clear, error_word, no_term, expression_of, parameter_named, taken_by}
+use Rattle.binder.specs.Terms as plain
+use Rattle.binder.specs.ExpressionsBound.{reader, parameters_in, call_type, callee, element_place, element_type, function_value, givens, term_of, value_of, operand_of}
+use Rattle.bound_calls.specs.declared.term.Ending.{Ending}
+use Rattle.bound_calls.specs.declared.term.Routine.{Routine}
+use Rattle.bound_calls.specs.declared.term.Function.{Function}
+use Rattle.bound_calls.specs.declared.term.FunctionCall.{FunctionCall}
+use Rattle.bound_calls.specs.declared.term.Term.{Term}
+use Rattle.bound_calls.specs.declared.term.Term.TheVariants as term
+use Rattle.bound_calls.specs.declared.term.Tree.{Tree}
+use Rattle.bound_calls.specs.declared.term.Operand.{Operand}
+use Rattle.bound_calls.specs.declared.term.Named.{Named}
+use Rattle.bound_calls.specs.declared.term.Passed.{Passed}
+use Rattle.bound_calls.specs.declared.term.Call.{Call}
+use Rattle.bound_calls.specs.declared.term.Indexed.{Indexed}
+use Rattle.bound_calls.specs.declared.term.Target.{Target}
+use Rattle.bound_calls.specs.declared.term.Target.TheVariants as target
+use Rattle.bound_calls.specs.declared.term.Item.{Item}
+use Rattle.bound_calls.specs.declared.term.Item.TheVariants as item
+use Rattle.bound_calls.specs.Passing.{AllTaken}
+
+-- ---- pieces that a last node would make
+
+-- a place, and a value, above these pieces, made by one more node
+abbrev pub PlaceEnds : Tables → NodeKind → Lvalue → (ps below : List Piece) → Type 0
+PlaceEnds t kind x ps below = (n : Node) → put_kind t n kind ps ≡ piece.a_place x ∷ below
+
+abbrev pub ValueEnds : Tables → NodeKind → bound.Node → (ps below : List Piece) → Type 0
+ValueEnds t kind made ps below = (n : Node) → put_kind t n kind ps ≡ expr_of n made ∷ below
+
+pub record PlaceStands (t : Tables) (kind : NodeKind) (of : DeclaredType) (bounded lends : Bool) (x : plain.Term) (ps below : List Piece) : Type 0 where
+  pub at : Lvalue
+  pub is : x ≡ a_place at (declared_view of) bounded lends
+  pub ends : PlaceEnds t kind at ps below
+
+pub record ValueStands (t : Tables) (e : Ending) (x : plain.Term) (ps below : List Piece) : Type 0 where
+  pub made : bound.Node
+  pub is : x ≡ a_value made (declared_view e.of)
+  pub ends : ValueEnds t e.kind made ps below
+
+-- a procedure, by what a call of it needs; nothing is pushed for it
+pub record RoutineStands (env : Env) (r : Routine) (x : plain.Term) (ps below : List Piece) : Type 0 where
+  pub space : Space
+  pub number : ℕ
+  pub written : Written
+  pub read : ℕ × Written
+  pub is : x ≡ a_routine space number written
+  pub reads : reader env.scope space number written ≡ Some read
+  pub procedure_is : r.procedure ≡ procedure_number env.scope space read.0
+  pub parameters_are : map parameter_view r.parameters.now ≡ parameters_in env.scope space read.1
+  pub of_is : declared_view r.of ≡ call_type env.scope space read.1
+  pub space_is : space ≡ space_view r.space.now
+  pub written_is : written ≡ written_view r.written
+  pub placed : slice_get env.scope.spaces space.number ≡ Some space
+  pub none_pushed : ps ≡ below
+
+-- a function of the library, for which nothing is pushed
+abbrev pub base_number : (is_one : Bool) → ℕ
+base_number true = 1
+base_number false = 0
+
+pub record FunctionIs (env : Env) (f : Function) (x : plain.Term) : Type 0 where
+  pub is : x ≡ a_function f.function f.is_text_form (base_number f.is_base_one)
+  pub compare_is : f.compare ≡ compare_in env.scope
+
+-- a term of the code is one of the binder; of what isn't bound no piece is told
+abbrev pub TermStands : Env → Tables → Term → plain.Term → (ps below : List Piece) → Type 0
+TermStands env t (term.Place kind of bounded lends) x ps below = PlaceStands t kind of bounded lends x ps below
+TermStands env t (term.Value e) x ps below = ValueStands t e x ps below
+TermStands env t (term.Routine r) x ps below = RoutineStands env r x ps below
+TermStands env t (term.Function f) x ps below = FunctionIs env f x × (ps ≡ below)
+TermStands env t term.Err x ps below = (x ≡ err_object) × (ps ≡ below)
+TermStands env t term.ErrRaise x ps below = (x ≡ err_raise) × (ps ≡ below)
+TermStands env t term.ErrClear x ps below = (x ≡ err_clear) × (ps ≡ below)
+TermStands env t term.ErrorWord x ps below = (x ≡ error_word) × (ps ≡ below)
+TermStands env t term.Nothing x ps below = x ≡ no_term
+
+-- a value whose last node isn't pushed, where there is one
+pub record EndingIs (t : Tables) (e : Ending) (found : Place → Option bound.Expr) (ps below : List Piece) : Type 0 where
+  pub made : bound.Node
+  pub is : (place : Place) → found place ≡ Some (expr made place (declared_view e.of) (declared_view e.of))
+  pub ends : ValueEnds t e.kind made ps below
+
+abbrev pub EndingStands : Tables → Option Ending → (found : Place → Option bound.Expr) → (ps below : List Piece) → Type 0
+EndingStands t None found ps below = (place : Place) → found place ≡ None
+EndingStands t (Some e) found ps below = EndingIs t e found ps below
+
+-- a value that was pushed, by its type, where there is one
+pub record PushedIs (of : DeclaredType) (found : Option bound.Expr) (ps below : List Piece) : Type 0 where
+  pub made : bound.Expr
+  pub is : found ≡ Some made
+  pub operand : operand_type made ≡ declared_view of
+  pub on_top : ps ≡ an_expr made ∷ below
+
+abbrev pub PushedStands : Option DeclaredType → (found : Option bound.Expr) → (ps below : List Piece) → Type 0
+PushedStands None found ps below = found ≡ None
+PushedStands (Some of) found ps below = PushedIs of found ps below
+
+-- ---- the stack, the last item first
+
+-- whether a name behind a dot is looked up in an expression that is no name; of a name that is looked up there
+abbrev pub QualifierStands : Env → (name : Option Identifier) → Bool → Expr → Type 0
+QualifierStands env (Some name) q e = Unit {0}
+QualifierStands env None q e = q ≡ is_some (qualifier_of env.scope e)
+
+-- for a name nothing is pushed
+abbrev pub LeafStands : (name : Option Identifier) → (ps below : List Piece) → Type 0
+LeafStands (Some name) ps below = ps ≡ below
+LeafStands None ps below = Unit {0}
+
+pub record TreeStands (env : Env) (t : Tables) (x : Tree) (e : Expr) (ps below : List Piece) : Type 0 where
+  pub term_is : TermStands env t x.term (term_of env e) ps below
+  pub place_is : x.place ≡ place_of_expression e
+  pub name_is : option_map (λ name. name.now) x.name ≡ name_in e
+  pub qualifier_is : QualifierStands env (option_map (λ name. name.now) x.name) x.is_qualifier e
+  pub leaf : LeafStands (option_map (λ name. name.now) x.name) ps below
+
+pub record OperandStands (env : Env) (x : Operand) (e : Expr) (ps below : List Piece) : Type 0 where
+  pub pushed : PushedStands x.of (operand_of env (term_of env e) (place_of_expression e)) ps below
+  pub place_is : x.place ≡ place_of_expression e
+
+-- arguments that were pushed for the first of these parameters
+pub record PassedStands (env : Env) (parameters : List Parameter) (x : Passed) (args : Args) (ps below : List Piece) : Type 0 where
+  pub made : List Argument
+  pub taken : AllTaken (value_of env) parameters (givens env args) made (map parameter_view x.left.now)
+  pub count_is : x.count ≡ length made
+  pub on_top : ps ≡ above (map an_argument made) below
+
+-- a procedure that is called, and the arguments that were pushed
+pub record CallStands (env : Env) (x : Call) (e : Expr) (args : Args) (ps below : List Piece) : Type 0 where
+  pub routine : RoutineStands env x.routine (callee env e (term_of env e)) below below
+  pub place_is : x.place ≡ place_of_expression e
+  pub passed : PassedStands env (map parameter_view x.routine.parameters.now) x.passed args ps below
+
+-- numbers that were pushed: each was given without a name, and is a value
+pub record NumberIs (value : plain.Term → Place → Option bound.Expr) (g : Given) (e : bound.Expr) : Type 0 where
+  pub no_name : g.name ≡ None
+  pub term : plain.Term
+  pub given : g.term ≡ Some term
+  pub is : value term g.place ≡ Some e
+
+abbrev pub AllNumbers : (plain.Term → Place → Option bound.Expr) → List Given → List bound.Expr → Type 0
+AllNumbers value [] [] = Unit {0}
+AllNumbers value (g ∷ gs) (e ∷ es) = NumberIs value g e × AllNumbers value gs es
+AllNumbers value gs es = ⊥
+
+-- a plain variable that is indexed, for which nothing is pushed
+pub record VariableIndexed (v : Variable) (of : DeclaredType) (lends : Bool) (x : plain.Term) (ps below : List Piece) : Type 0 where
+  pub whole : Declared
+  pub bounded : Bool
+  pub is : x ≡ a_place (bound.variable (variable_view v)) whole bounded lends
+  pub element_is : element_type whole ≡ Some (declared_view of)
+  pub none_pushed : ps ≡ below
+
+-- another place that is indexed, which was pushed
+pub record PlaceIndexed (of : DeclaredType) (lends : Bool) (x : plain.Term) (ps below : List Piece) : Type 0 where
+  pub at : Lvalue
+  pub whole : Declared
+  pub bounded : Bool
+  pub is : x ≡ a_place at whole bounded lends
+  pub element_is : element_type whole ≡ Some (declared_view of)
+  pub no_variable : (es : Exprs) → element_place at es ≡ bound.element at es
+  pub on_top : ps ≡ piece.a_place at ∷ below
+
+-- a value that is indexed, which was pushed
+pub record ValueIndexed (of : DeclaredType) (place : Place) (x : plain.Term) (ps below : List Piece) : Type 0 where
+  pub made : bound.Node
+  pub whole : Declared
+  pub is : x ≡ a_value made whole
+  pub element_is : element_type whole ≡ Some (declared_view of)
+  pub on_top : ps ≡ an_expr (expression_of made place whole) ∷ below
+
+abbrev pub TargetStands : Target → DeclaredType → Bool → Place → plain.Term → (ps below : List Piece) → Type 0
+TargetStands (target.Variable v) of lends place x ps below = VariableIndexed v of lends x ps below
+TargetStands target.Place of lends place x ps below = PlaceIndexed of lends x ps below
+TargetStands target.Value of lends place x ps below = ValueIndexed of place x ps below
+
+-- what is indexed, and the numbers that were pushed
+pub record IndexedStands (env : Env) (x : Indexed) (e : Expr) (args : Args) (ps below : List Piece) : Type 0 where
+  pub between : List Piece
+  pub target_is : TargetStands x.target x.of x.lends (place_of_expression e) (callee env e (term_of env e)) between below
+  pub place_is : x.place ≡ place_of_expression e
+  pub made : List bound.Expr
+  pub numbers : AllNumbers (value_of env) (givens env args) made
+  pub count_is : x.count ≡ length made
+  pub on_top : ps ≡ above (map an_expr made) between
+
+-- a function that is called, and the values that were pushed: each was given without a name
+pub record FunctionStands (env : Env) (x : FunctionCall) (e : Expr) (args : Args) (ps below : List Piece) : Type 0 where
+  pub function_is : FunctionIs env x.function (callee env e (term_of env e))
+  pub place_is : x.place ≡ place_of_expression e
+  pub made : List bound.Expr
+  pub values : AllNumbers (function_value (value_of env)) (givens env args) made
+  pub count_is : x.count ≡ length made
+  pub on_top : ps ≡ above (map an_expr made) below
+
+-- the arguments before those with names
+abbrev pub passed_below : List Item → Option Passed
+passed_below (item.Named x ∷ items) = passed_below items
+passed_below (item.Call x ∷ items) = Some x.passed
+passed_below (item.Listed x ∷ items) = Some x
+passed_below items = None
+
+-- an argument that was pushed for a parameter by its name, among those that the arguments before leave
+pub record NamedStands (env : Env) (passed : Passed) (x : Named) (name : Identifier) (e : Expr) (ps below : List Piece) : Type 0 where
+  pub parameter : Parameter
+  pub found : parameter_named passed.count (map parameter_view passed.left.now) name.name ≡ Some (x.number, parameter)
+  pub made : Argument
+  pub makes : (rest : bound.Args) → taken_by (value_of env) parameter (record { name = Some name.name; term = Some (term_of env e); place = place_of_expression e }) rest ≡ Some (with_argument made rest)
+  pub on_top : ps ≡ an_argument made ∷ below
+
+abbrev pub NamedAbove : Env → Option Passed → Named → Identifier → Expr → (ps below : List Piece) → Type 0
+NamedAbove env None x name e ps below = ⊥
+NamedAbove env (Some passed) x name e ps below = NamedStands env passed x name e ps below
+
+-- whether the first of these parameters is a ParamArray
+abbrev pub is_gathering : List Parameter → Bool
+is_gathering [] = false
+is_gathering (p ∷ ps) = p.many
+
+-- the arguments before the values of a ParamArray
+abbrev pub gathered_below : List Item → Option Passed
+gathered_below (item.Gathered ∷ items) = gathered_below items
+gathered_below (item.Call x ∷ items) = Some x.passed
+gathered_below (item.Listed x ∷ items) = Some x
+gathered_below items = None
+
+-- a value that was pushed for a ParamArray, which is the first parameter that the arguments before leave
+pub record GatheredStands (env : Env) (passed : Passed) (e : Expr) (ps below : List Piece) : Type 0 where
+  pub many : is_gathering (map parameter_view passed.left.now) ≡ true
+  pub made : bound.Expr
+  pub is : value_of env (term_of env e) (place_of_expression e) ≡ Some made
+  pub on_top : ps ≡ an_expr made ∷ below
+
+abbrev pub GatheredAbove : Env → Option Passed → Expr → (ps below : List Piece) → Type 0
+GatheredAbove env None e ps below = ⊥
+GatheredAbove env (Some passed) e ps below = GatheredStands env passed e ps below
+
+-- what is below the stack: pieces, the parameters of the statement whose arguments are read, and items
+pub record Base : Type 0 where
+  pub pieces : List Piece
+  pub parameters : List Parameter
+  pub items : List nodes.Item
+
+abbrev pub on_pieces : List Piece → Base
+on_pieces ps = record { pieces = ps; parameters = []; items = [] }
+
+abbrev pub Stands : Env → Tables → List Item → List nodes.Item → (ps : List Piece) → Base → Type 0
+Stands env t [] is ps base = (is ≡ base.items) × (ps ≡ base.pieces)
+Stands env t (item.Tree x ∷ items) (nodes.tree e ∷ is) ps base =
+    (below : List Piece) × (TreeStands env t x e ps below × Stands env t items is below base)
+Stands env t (item.Operand x ∷ items) (nodes.tree e ∷ is) ps base =
+    (below : List Piece) × (OperandStands env x e ps below × Stands env t items is below base)
+Stands env t (item.Call x ∷ items) (nodes.arguments args ∷ nodes.tree e ∷ is) ps base =
+    (below : List Piece) × (CallStands env x e args ps below × Stands env t items is below base)
+Stands env t (item.Listed x ∷ items) (nodes.arguments args ∷ is) ps base =
+    (below : List Piece) × (PassedStands env base.parameters x args ps below × Stands env t items is below base)
+Stands env t (item.Indexed x ∷ items) (nodes.arguments args ∷ nodes.tree e ∷ is) ps base =
+    (below : List Piece) × (IndexedStands env x e args ps below × Stands env t items is below base)
+Stands env t (item.Function x ∷ items) (nodes.arguments args ∷ nodes.tree e ∷ is) ps base =
+    (below : List Piece) × (FunctionStands env x e args ps below × Stands env t items is below base)
+Stands env t (item.Named x ∷ items) (nodes.arguments (named before comma name mark e) ∷ is) ps base =
+    (below : List Piece) × (NamedAbove env (passed_below items) x name e ps below × Stands env t items (nodes.arguments before ∷ is) below base)
+Stands env t (item.Gathered ∷ items) (nodes.arguments (tree.plain before comma e) ∷ is) ps base =
+    (below : List Piece) × (GatheredAbove env (gathered_below items) e ps below × Stands env t items (nodes.arguments before ∷ is) below base)
+Stands env t items is ps base = ⊥
+
+-- ---- numbers of constants that are in the tables
+
+abbrev pub TermNamed : Tables → Term → Type 0
+TermNamed t (term.Place kind of bounded lends) = NodeNamed t kind
+TermNamed t (term.Value e) = NodeNamed t e.kind
+TermNamed t x = Unit {0}
+
+abbrev pub EndingNamed : Tables → Option Ending → Type 0
+EndingNamed t None = Unit {0}
+EndingNamed t (Some e) = NodeNamed t e.kind
+
+abbrev pub ItemNamed : Tables → Item → Type 0
+ItemNamed t (item.Tree x) = TermNamed t x.term
+ItemNamed t x = Unit {0}
+
+abbrev pub AllNamed : Tables → List Item → Type 0
+AllNamed t [] = Unit {0}
+AllNamed t (x ∷ xs) = ItemNamed t x × AllNamed t xs
+
+-- ---- a draft of which only the pieces change, and the tables grow
+pub record Grown (d e : Drafted) : Type 0 where
+  pub tables : Extends d.tables e.tables
+  pub statements : e.statements ≡ d.statements
+  pub bodies : e.bodies ≡ d.bodies

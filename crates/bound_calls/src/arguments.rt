@@ -1,0 +1,253 @@
+ghost use Rattle.std.specs.Prelude.{◌≡◌, ◌+◌, ◌||◌, true, false, IfOk, OnOk};
+ghost use Rattle.bound_project.specs.DraftView.{draft_view};
+ghost use Rattle.bound_project.specs.Drafts.{NodeNamed};
+ghost use Rattle.bound_project.specs.Pieces.{put};
+ghost use Rattle.bound_project.specs.View.{declared_view};
+ghost use Rattle.binder.specs.Constants.{is_variant};
+ghost use Rattle.vba_values.specs.Coerce.{is_same_type};
+ghost use Rattle.bound_calls.specs.Standing.{TermNamed};
+ghost use Rattle.bound_calls.specs.Calls.{Copies, Lends, LendsTo, PassesMissing, PassesNone, PassesPlain, PassesRest, PassesTree, lent_in, node_of};
+
+use crate::constants::constant_number;
+use crate::take::{push_ending, value_ending};
+use crate::term::{Ending, Passed, Term, Tree};
+use bound_declarations::NotYet;
+use bound_project::{DeclaredType, Draft, ElementType, Node, NodeKind, Parameter};
+use std::alloc::Global;
+use vba_base::{NoMemory, OrMemory, Place};
+use vba_values::{copy_value, is_same_type};
+
+/// Is a type Variant?
+fn is_variant(of: DeclaredType) -> bool
+    ensures { result ≡ is_variant (declared_view of) }
+{
+    match of {
+        DeclaredType::Plain(ElementType::Variant) => true,
+        _ => false,
+    }
+}
+
+/// Is a place of a type lent to a parameter of a type?
+fn is_fitting(alloc: Global, parameter: DeclaredType, of: DeclaredType) -> Result<bool, NoMemory>
+    ensures { IfOk result (λ fits. fits ≡ (is_variant (declared_view parameter) || is_same_type (declared_view of) (declared_view parameter))) }
+{
+    if is_variant(parameter) {
+        return Ok(true);
+    }
+    let of = of.value_type(alloc)?;
+    let parameter = parameter.value_type(alloc)?;
+    Ok(is_same_type(&of, &parameter))
+}
+
+/// One more node, of a type that it has as an operand too.
+fn push_node(
+    draft: &mut Draft,
+    kind: NodeKind,
+    of: DeclaredType,
+    place: Place,
+) -> Result<(), NoMemory>
+    requires { NodeNamed (draft_view draft.old).tables kind }
+    ensures { OnOk result (draft_view draft.new ≡ record (draft_view draft.old) { pieces = put (draft_view draft.old).tables (node_of kind place of) (draft_view draft.old).pieces }) }
+{
+    draft.push(Node {
+        kind,
+        place,
+        of,
+        operand: of,
+    })
+}
+
+/// Lends a place.
+fn lend(draft: &mut Draft, kind: NodeKind, of: DeclaredType, place: Place) -> Result<(), NoMemory>
+    requires { NodeNamed (draft_view draft.old).tables kind }
+    ensures { OnOk result (Lends kind (draft_view draft.old) (draft_view draft.new)) }
+{
+    push_node(draft, kind, of, place)?;
+    push_node(draft, NodeKind::ByPlace, of, place)
+}
+
+/// Copies a value for a parameter of a type.
+fn copy<'a>(
+    alloc: Global,
+    draft: &mut Draft,
+    of: DeclaredType,
+    tree: Tree<'a>,
+) -> Result<(), OrMemory<NotYet>>
+    requires { TermNamed (draft_view draft.old).tables tree.term }
+    ensures { OnOk result (Copies of tree.entry (draft_view draft.old) (draft_view draft.new)) }
+{
+    let ending = value_ending(alloc, draft, tree.term, tree.place)?;
+    let Some(_found) = push_ending(draft, ending, tree.place)? else {
+        return Err(OrMemory::Fault(NotYet));
+    };
+    push_node(draft, NodeKind::ByCopy(of), of, tree.place)?;
+    Ok(())
+}
+
+/// The place that a term lends, and its type.
+fn lent_in<'a>(term: Term<'a>) -> Option<Ending>
+    ensures { result ≡ lent_in term.entry }
+{
+    match term {
+        Term::Place {
+            kind,
+            of,
+            lends: true,
+            ..
+        } => Some(Ending { kind, of }),
+        _ => None,
+    }
+}
+
+/// Lends a place to a parameter that takes one of its type.
+fn lend_to(
+    alloc: Global,
+    draft: &mut Draft,
+    parameter: &Parameter,
+    lent: Ending,
+    place: Place,
+) -> Result<(), OrMemory<NotYet>>
+    requires { NodeNamed (draft_view draft.old).tables lent.kind }
+    ensures { OnOk result (LendsTo parameter.now lent (draft_view draft.old) (draft_view draft.new)) }
+{
+    if !is_fitting(alloc, parameter.of, lent.of)? {
+        return Err(OrMemory::Fault(NotYet));
+    }
+    lend(draft, lent.kind, lent.of, place)?;
+    Ok(())
+}
+
+/// Passes an expression to a parameter that takes a place.
+fn pass_by_reference<'a>(
+    alloc: Global,
+    draft: &mut Draft,
+    parameter: &Parameter,
+    tree: Tree<'a>,
+) -> Result<(), OrMemory<NotYet>>
+    requires named { TermNamed (draft_view draft.old).tables tree.term }
+    requires one { parameter.now.is_param_array ≡ false }
+    requires reference { parameter.now.is_by_reference ≡ true }
+    ensures { OnOk result (PassesTree parameter.now tree.entry (draft_view draft.old) (draft_view draft.new)) }
+{
+    match lent_in(tree.term) {
+        Some(lent) => lend_to(alloc, draft, parameter, lent, tree.place),
+        None => copy(alloc, draft, parameter.of, tree),
+    }
+}
+
+/// Passes an expression to a parameter.
+pub fn pass_tree<'a>(
+    alloc: Global,
+    draft: &mut Draft,
+    parameter: &Parameter,
+    tree: Tree<'a>,
+) -> Result<(), OrMemory<NotYet>>
+    requires { TermNamed (draft_view draft.old).tables tree.term }
+    ensures { OnOk result (PassesTree parameter.now tree.entry (draft_view draft.old) (draft_view draft.new)) }
+{
+    if parameter.is_param_array {
+        Err(OrMemory::Fault(NotYet))
+    } else if parameter.is_by_reference {
+        pass_by_reference(alloc, draft, parameter, tree)
+    } else {
+        copy(alloc, draft, parameter.of, tree)
+    }
+}
+
+/// Where a node stands that nothing in the source is.
+pub fn nowhere() -> Place {
+    Place {
+        module: 0,
+        line: 0,
+        column: 0,
+    }
+}
+
+/// What a parameter has to which nothing is given.
+pub fn pass_none(
+    alloc: Global,
+    draft: &mut Draft,
+    parameter: &Parameter,
+) -> Result<(), OrMemory<NotYet>>
+    ensures { OnOk result (PassesNone parameter.now (draft_view draft.old) (draft_view draft.new)) }
+{
+    if parameter.is_param_array {
+        push_node(
+            draft,
+            NodeKind::ByList { values: 0 },
+            parameter.of,
+            nowhere(),
+        )?;
+        return Ok(());
+    }
+    let Some(value) = &parameter.default else {
+        return Err(OrMemory::Fault(NotYet));
+    };
+    let value = copy_value(alloc, value)?;
+    let constant = constant_number(draft, value)?;
+    push_node(
+        draft,
+        NodeKind::ByDefault { constant },
+        parameter.of,
+        nowhere(),
+    )?;
+    Ok(())
+}
+
+/// What parameters have to which nothing is given.
+pub fn pass_rest(
+    alloc: Global,
+    draft: &mut Draft,
+    parameters: &[Parameter],
+) -> Result<(), OrMemory<NotYet>>
+    ensures { OnOk result (PassesRest parameters.now (draft_view draft.old) (draft_view draft.new)) }
+{
+    for parameter in parameters {
+        pass_none(alloc, draft, parameter)?;
+    }
+    Ok(())
+}
+
+/// The sum of two numbers.
+pub fn sum(one: u32, other: u32) -> Result<u32, NoMemory>
+    ensures { IfOk result (λ sum. sum ≡ one + other) }
+{
+    one.checked_add(other).ok_or(NoMemory)
+}
+
+/// One more argument: the expression on top.
+pub fn pass_plain<'a>(
+    alloc: Global,
+    draft: &mut Draft,
+    passed: Passed<'a>,
+    tree: Tree<'a>,
+) -> Result<Passed<'a>, OrMemory<NotYet>>
+    requires { TermNamed (draft_view draft.old).tables tree.term }
+    ensures { IfOk result (λ more. PassesPlain passed.entry tree.entry (draft_view draft.old) (draft_view draft.new) more) }
+{
+    let Some((parameter, left)) = passed.left.split_first() else {
+        return Err(OrMemory::Fault(NotYet));
+    };
+    let count = sum(passed.count, 1)?;
+    pass_tree(alloc, draft, parameter, tree)?;
+    Ok(Passed { left, count })
+}
+
+/// One more argument, which isn't written.
+pub fn pass_missing<'a>(
+    alloc: Global,
+    draft: &mut Draft,
+    passed: Passed<'a>,
+) -> Result<Passed<'a>, OrMemory<NotYet>>
+    ensures { IfOk result (λ more. PassesMissing passed.entry (draft_view draft.old) (draft_view draft.new) more) }
+{
+    let Some((parameter, left)) = passed.left.split_first() else {
+        return Err(OrMemory::Fault(NotYet));
+    };
+    if parameter.is_param_array {
+        return Err(OrMemory::Fault(NotYet));
+    }
+    let count = sum(passed.count, 1)?;
+    pass_none(alloc, draft, parameter)?;
+    Ok(Passed { left, count })
+}

@@ -1,0 +1,59 @@
+ghost use Rattle.std.specs.Prelude.{◌≡◌, IfOk, length};
+ghost use Rattle.bound_project.specs.DraftView.{draft_view};
+ghost use Rattle.bound_calls.specs.Calls.{EndsCall};
+ghost use Rattle.bound_calls.specs.Taking.{CallsBare};
+
+use crate::arguments::{pass_rest, sum};
+use crate::take::no_object;
+use crate::term::{Ending, Passed, Routine};
+use bound_declarations::NotYet;
+use bound_project::{Draft, NodeKind, Parameter};
+use std::alloc::Global;
+use vba_base::{NoMemory, OrMemory};
+
+/// How many parameters there are.
+pub fn count_of(parameters: &[Parameter]) -> Result<u32, NoMemory>
+    ensures { IfOk result (λ count. count ≡ length parameters.now) }
+{
+    match u32::try_from(parameters.len()) {
+        Ok(count) => Ok(count),
+        Err(_) => Err(NoMemory),
+    }
+}
+
+/// A call whose written arguments were pushed, but for its last node.
+pub fn call_ending<'a>(
+    alloc: Global,
+    draft: &mut Draft,
+    routine: Routine<'a>,
+    passed: Passed<'a>,
+) -> Result<Ending, OrMemory<NotYet>>
+    ensures { IfOk result (λ ending. EndsCall routine.entry passed.entry (draft_view draft.old) (draft_view draft.new) ending) }
+{
+    let left = count_of(passed.left)?;
+    let arguments = sum(passed.count, left)?;
+    pass_rest(alloc, draft, passed.left)?;
+    Ok(Ending {
+        kind: NodeKind::Call {
+            procedure: routine.procedure,
+            arguments,
+        },
+        of: routine.of,
+    })
+}
+
+/// A call without arguments, but for its last node.
+pub fn bare_call<'a>(
+    alloc: Global,
+    draft: &mut Draft,
+    routine: Routine<'a>,
+) -> Result<Option<Ending>, OrMemory<NotYet>>
+    ensures { IfOk result (λ ending. CallsBare routine.entry (draft_view draft.old) (draft_view draft.new) ending) }
+{
+    let passed = Passed {
+        left: routine.parameters,
+        count: 0,
+    };
+    let ending = call_ending(alloc, draft, routine, passed)?;
+    Ok(no_object(ending))
+}

@@ -1,0 +1,22 @@
+//! What an expression is while its nodes are read, and the calls in it: terms, the stack of a pass, the arguments that are
+//! pushed for parameters, and the order in which parameters take those with names.
+#![tactic(auto)]
+
+mod arguments;
+mod calls;
+mod constants;
+mod orders;
+mod stack;
+mod take;
+mod term;
+
+pub use arguments::{nowhere, pass_missing, pass_plain, pass_rest, pass_tree, sum};
+pub use calls::{bare_call, call_ending, count_of};
+pub use constants::value_term;
+pub use orders::{named_ending, push_in_order, take_numbers};
+pub use stack::{push_operand, put_item, settle, take_item};
+pub use take::{no_object, push_ending, push_node, value_ending};
+pub use term::{
+    Call, Ending, Function, FunctionCall, Indexed, Item, Named, Operand, Ordered, Passed, Routine,
+    Target, Term, Tree,
+};

@@ -1,0 +1,130 @@
+ghost use Rattle.std.specs.Prelude.{◌≡◌, IfOk, OnOk};
+ghost use Rattle.bound_project.specs.DraftView.{draft_view};
+ghost use Rattle.bound_project.specs.Drafts.{NodeNamed};
+ghost use Rattle.bound_project.specs.Pieces.{put};
+ghost use Rattle.bound_calls.specs.Calls.{node_of};
+ghost use Rattle.bound_calls.specs.Standing.{EndingNamed, TermNamed};
+ghost use Rattle.bound_calls.specs.Taking.{Loads, Pushes, no_object, TakesOperand, TakesValue};
+
+use crate::calls::bare_call;
+use crate::term::{Ending, Term};
+use bound_declarations::NotYet;
+use bound_project::{DeclaredType, Draft, ElementType, ErrMember, Node, NodeKind};
+use declared_names::is_object;
+use std::alloc::Global;
+use vba_base::{NoMemory, OrMemory, Place};
+
+/// One more node, of a type that it has as an operand too.
+pub fn push_node(
+    draft: &mut Draft,
+    kind: NodeKind,
+    of: DeclaredType,
+    place: Place,
+) -> Result<(), NoMemory>
+    requires { NodeNamed (draft_view draft.old).tables kind }
+    ensures { OnOk result (draft_view draft.new ≡ record (draft_view draft.old) { pieces = put (draft_view draft.old).tables (node_of kind place of) (draft_view draft.old).pieces }) }
+{
+    draft.push(Node {
+        kind,
+        place,
+        of,
+        operand: of,
+    })
+}
+
+/// The value at a place.
+fn load(
+    draft: &mut Draft,
+    kind: NodeKind,
+    of: DeclaredType,
+    place: Place,
+) -> Result<Option<Ending>, NoMemory>
+    requires { TermNamed (draft_view draft.old).tables (Term.Value (record { kind = kind; of = of })) }
+    ensures { IfOk result (λ ending. Loads kind of (draft_view draft.old) (draft_view draft.new) ending) }
+{
+    if is_object(of) {
+        return Ok(None);
+    }
+    draft.push(Node {
+        kind,
+        place,
+        of,
+        operand: of,
+    })?;
+    Ok(Some(Ending {
+        kind: NodeKind::Load,
+        of,
+    }))
+}
+
+/// A value of a type that is no object's.
+pub fn no_object(ending: Ending) -> Option<Ending>
+    ensures { result ≡ no_object ending }
+{
+    if is_object(ending.of) {
+        None
+    } else {
+        Some(ending)
+    }
+}
+
+/// A term as a value, but for the last node of that.
+pub fn value_ending<'a>(
+    alloc: Global,
+    draft: &mut Draft,
+    term: Term<'a>,
+    place: Place,
+) -> Result<Option<Ending>, OrMemory<NotYet>>
+    requires { TermNamed (draft_view draft.old).tables term }
+    ensures { IfOk result (λ ending. TakesValue term.entry (draft_view draft.old) (draft_view draft.new) ending) }
+{
+    match term {
+        Term::Place { kind, of, .. } => {
+            let ending = load(draft, kind, of, place)?;
+            Ok(ending)
+        }
+        Term::Value(ending) => Ok(no_object(ending)),
+        Term::Routine(routine) => bare_call(alloc, draft, routine),
+        _ => Ok(None),
+    }
+}
+
+/// A term as an operand, but for the last node of that: Err is its number.
+pub fn operand_ending<'a>(
+    alloc: Global,
+    draft: &mut Draft,
+    term: Term<'a>,
+    place: Place,
+) -> Result<Option<Ending>, OrMemory<NotYet>>
+    requires { TermNamed (draft_view draft.old).tables term }
+    ensures { IfOk result (λ ending. TakesOperand term.entry (draft_view draft.old) (draft_view draft.new) ending) }
+{
+    match term {
+        Term::Err => Ok(Some(Ending {
+            kind: NodeKind::ErrValue(ErrMember::Number),
+            of: DeclaredType::Plain(ElementType::Long),
+        })),
+        _ => value_ending(alloc, draft, term, place),
+    }
+}
+
+/// Pushes the last node of a value that begins at a place; answers its type.
+pub fn push_ending(
+    draft: &mut Draft,
+    ending: Option<Ending>,
+    place: Place,
+) -> Result<Option<DeclaredType>, NoMemory>
+    requires { EndingNamed (draft_view draft.old).tables ending }
+    ensures { IfOk result (λ of. Pushes ending place (draft_view draft.old) (draft_view draft.new) of) }
+{
+    let Some(ending) = ending else {
+        return Ok(None);
+    };
+    draft.push(Node {
+        kind: ending.kind,
+        place,
+        of: ending.of,
+        operand: ending.of,
+    })?;
+    Ok(Some(ending.of))
+}

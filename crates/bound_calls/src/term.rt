@@ -1,0 +1,146 @@
+use bound_project::{DeclaredType, NodeKind, Parameter, Variable};
+use declared_names::{Space, Written};
+use vba_base::Place;
+use vba_lib::LibraryFunction;
+use vba_values::Compare;
+use vba_words::Identifier;
+
+/// A value whose last node isn't pushed yet, and its type.
+#[derive(Clone, Copy)]
+pub struct Ending {
+    pub kind: NodeKind,
+    pub of: DeclaredType,
+}
+
+/// A procedure or a property, by its module and how that writes it; of what is called where its value is wanted, which
+/// is a property's Get: the number in the project, the parameters, and the type of what it gives.
+#[derive(Clone, Copy)]
+pub struct Routine<'a> {
+    pub space: &'a Space<'a>,
+    pub written: Written<'a>,
+    pub procedure: u32,
+    pub parameters: &'a [Parameter],
+    pub of: DeclaredType,
+}
+
+/// A function of the library: whether `$` stands behind its name, whether the array that Array makes counts from 1, and
+/// how texts compare where it is called.
+#[derive(Clone, Copy)]
+pub struct Function {
+    pub function: LibraryFunction,
+    pub is_text_form: bool,
+    pub is_base_one: bool,
+    pub compare: Compare,
+}
+
+/// What an expression is. The last node of a place and of a value isn't pushed yet, since what takes it says the place
+/// in the source.
+#[derive(Clone, Copy)]
+pub enum Term<'a> {
+    /// A place, its type, whether it is an array with declared bounds, and whether it is lent to a ByRef parameter.
+    Place {
+        kind: NodeKind,
+        of: DeclaredType,
+        is_bounded: bool,
+        lends: bool,
+    },
+    Value(Ending),
+    Routine(Routine<'a>),
+    Function(Function),
+    Err,
+    ErrRaise,
+    ErrClear,
+    /// The word Error, which raises an error.
+    ErrorWord,
+    /// What isn't bound.
+    Nothing,
+}
+
+/// An expression: the place of its first token, the name that it is, whether a name behind a dot is looked up in it
+/// where it is no name itself, and what it is.
+#[derive(Clone, Copy)]
+pub struct Tree<'a> {
+    pub place: Place,
+    pub name: Option<&'a Identifier>,
+    pub is_qualifier: bool,
+    pub term: Term<'a>,
+}
+
+/// A left operand that was pushed: the place of its first token, and its type; none where it isn't bound.
+#[derive(Clone, Copy)]
+pub struct Operand {
+    pub place: Place,
+    pub of: Option<DeclaredType>,
+}
+
+/// Arguments that were pushed: how many, and the parameters that are left for others.
+#[derive(Clone, Copy)]
+pub struct Passed<'a> {
+    pub left: &'a [Parameter],
+    pub count: u32,
+}
+
+/// An argument that was pushed for a parameter by its name: the number of that parameter. It stands above those before
+/// it, and the call or the arguments of a statement below them.
+#[derive(Clone, Copy)]
+pub struct Named {
+    pub number: u32,
+}
+
+/// Arguments that were pushed, and the number of the order in which parameters take them.
+#[derive(Clone, Copy)]
+pub struct Ordered {
+    pub arguments: u32,
+    pub order: u32,
+}
+
+/// A call whose arguments are read: the place of its first token, its procedure, and the arguments that were pushed.
+#[derive(Clone, Copy)]
+pub struct Call<'a> {
+    pub place: Place,
+    pub routine: Routine<'a>,
+    pub passed: Passed<'a>,
+}
+
+/// A function of the library whose arguments are read: the place of its first token, and how many were pushed.
+#[derive(Clone, Copy)]
+pub struct FunctionCall {
+    pub place: Place,
+    pub function: Function,
+    pub count: u32,
+}
+
+/// What is indexed: a plain variable, for which nothing is pushed, or another place or a value, which was pushed.
+#[derive(Clone, Copy)]
+pub enum Target {
+    Variable(Variable),
+    Place,
+    Value,
+}
+
+/// A place or a value whose numbers in brackets are read: the place of its first token, what is indexed, the type of an
+/// element, whether an element is lent to a ByRef parameter, and how many numbers were pushed.
+#[derive(Clone, Copy)]
+pub struct Indexed {
+    pub place: Place,
+    pub target: Target,
+    pub of: DeclaredType,
+    pub lends: bool,
+    pub count: u32,
+}
+
+/// What the nodes of an expression leave on the stack. A call is its procedure and its arguments; the arguments of a
+/// statement stand alone.
+#[derive(Clone, Copy)]
+pub enum Item<'a> {
+    Tree(Tree<'a>),
+    Operand(Operand),
+    Call(Call<'a>),
+    Listed(Passed<'a>),
+    Indexed(Indexed),
+    Function(FunctionCall),
+    Named(Named),
+    /// A value that was pushed for a ParamArray. It stands above those before it, and the call or the arguments of a
+    /// statement below them.
+    Gathered,
+}
