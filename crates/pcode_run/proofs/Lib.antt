@@ -1,4 +1,12 @@
 pub mod Moves
+pub mod Shown
 pub mod Running
 pub mod Tellings
 pub mod Waiting
+pub mod Plainly
+pub mod Stepped
+pub mod Given
+pub mod Reached
+pub mod Loops
+pub mod Tops
+pub mod Apart

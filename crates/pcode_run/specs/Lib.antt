@@ -1,2 +1,5 @@
 pub mod Runs
 pub mod Moving
+pub mod AtOnce
+pub mod Plain
+pub mod Reaching

@@ -4,8 +4,16 @@
 
 mod frames;
 mod letting;
+mod operators;
+mod quick;
+mod rounds;
+mod rows;
 mod runs;
+mod stack;
 mod steps;
+mod texts;
+mod variables;
 
 pub use runs::{Cut, run};
 pub use steps::step;
+pub use texts::Shows;

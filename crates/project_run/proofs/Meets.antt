@@ -14,6 +14,7 @@ use Rattle.simulation.proofs.Whole.{means}
 use Rattle.pcode_vm.specs.View.{ending_view}
 use Rattle.pcode_vm.specs.declared.step.Ending.{Ending}
 use Rattle.pcode_run.specs.Runs.{Ran, CutShort, text_of}
+use Rattle.pcode_run.specs.declared.texts.Shows.{Shows}
 use Rattle.pcode_run.specs.declared.runs.Cut.{Cut}
 use Rattle.project_run.specs.Meant.{outcome_of, meant_outcome, meant_text}
 use Rattle.project_run.specs.declared.outcome.Outcome.{Outcome}
@@ -26,16 +27,16 @@ events_in : Fin → List Event
 events_in (Done e s es) = es
 events_in fin = []
 
-pub meets : (pr : Project) (turns : ℕ) (code : Code) (ending : Ending) (o : Outcome) (old new : Option (List ℕ)) → code ≡ code_of pr
-    → o ≡ outcome_of pr (ending_view ending) → Ran code turns ending old new → (o ≡ meant_outcome pr turns) × Adds old new (meant_text pr turns)
+pub meets : (pr : Project) (turns : ℕ) (shows : Shows) (code : Code) (ending : Ending) (o : Outcome) (old new : Option (List ℕ)) → code ≡ code_of pr
+    → o ≡ outcome_of pr (ending_view ending) → Ran code turns shows ending old new → (o ≡ meant_outcome pr turns) × Adds old new (meant_text pr turns shows)
 unfolding ending_in events_in
-meets pr turns code ending o old new e f r =
+meets pr turns shows code ending o old new e f r =
     let m = means pr turns in
     let same = m.only r.steps (ending_view ending) r.last r.events (subst (λ c. run_code c turns r.steps ≡ Done (ending_view ending) r.last r.events) e r.ends) in
-    (f ∙ ap (λ fin. outcome_of pr (ending_in fin)) same, subst (λ es. Adds old new (text_of es)) (ap events_in same) r.bytes)
+    (f ∙ ap (λ fin. outcome_of pr (ending_in fin)) same, subst (λ es. Adds old new (text_of shows es)) (ap events_in same) r.bytes)
 
-pub begins : (pr : Project) (turns : ℕ) (code : Code) (cut : Cut) (old new : Option (List ℕ)) → code ≡ code_of pr
-    → CutShort code turns cut old new → AddsPrefix old new (meant_text pr turns)
-begins pr turns code cut old new e c =
+pub begins : (pr : Project) (turns : ℕ) (shows : Shows) (code : Code) (cut : Cut) (old new : Option (List ℕ)) → code ≡ code_of pr
+    → CutShort code turns shows cut old new → AddsPrefix old new (meant_text pr turns shows)
+begins pr turns shows code cut old new e c =
     let m = means pr turns in let r = meaning pr turns in
     c.bytes m.ends.0 r.ending r.state r.events (subst (λ k. run_code k turns m.ends.0 ≡ fin_of r) (sym e) m.ends.1)

@@ -8,6 +8,7 @@ use Rattle.vba_meaning.specs.Meaning.{Run, meaning}
 use Rattle.pcode_vm.specs.declared.step.Why.{Why}
 use Rattle.pcode_vm.specs.declared.step.Why.TheVariants as why
 use Rattle.pcode_run.specs.Runs.{text_of}
+use Rattle.pcode_run.specs.declared.texts.Shows.{Shows}
 use Rattle.project_run.specs.declared.outcome.Outcome.{Outcome}
 use Rattle.project_run.specs.declared.outcome.Outcome.TheVariants as outcome
 use Rattle.project_run.specs.declared.outcome.RunFault.{RunFault}
@@ -28,14 +29,14 @@ outcome_of pr plain.Going = outcome.Going
 abbrev pub meant_outcome : Project → ℕ → Outcome
 meant_outcome pr turns = outcome_of pr (meaning pr turns).ending
 
--- what it prints
-abbrev pub meant_text : Project → ℕ → List ℕ
-meant_text pr turns = text_of (meaning pr turns).events
+-- what it shows: what it prints, or the trace of all that it tells
+abbrev pub meant_text : Project → ℕ → Shows → List ℕ
+meant_text pr turns shows = text_of shows (meaning pr turns).events
 
 -- a run ends as is meant and puts all that is meant to its sink; a run that is cut short puts a prefix
-abbrev pub RunsAsMeant : Project → ℕ → Result Outcome RunFault → (old new : Option (List ℕ)) → Type 0
-RunsAsMeant pr turns (Ok o) old new = (o ≡ meant_outcome pr turns) × Adds old new (meant_text pr turns)
-RunsAsMeant pr turns (Err f) old new = AddsPrefix old new (meant_text pr turns)
+abbrev pub RunsAsMeant : Project → ℕ → Shows → Result Outcome RunFault → (old new : Option (List ℕ)) → Type 0
+RunsAsMeant pr turns shows (Ok o) old new = (o ≡ meant_outcome pr turns) × Adds old new (meant_text pr turns shows)
+RunsAsMeant pr turns shows (Err f) old new = AddsPrefix old new (meant_text pr turns shows)
 
 abbrev pub is_write_fault : Result Outcome RunFault → Bool
 is_write_fault (Ok o) = false

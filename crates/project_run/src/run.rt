@@ -15,7 +15,7 @@ use crate::places::{Places, places_of};
 use bound_project::Project;
 use codegen::compile;
 use pcode::Code;
-use pcode_run::{Cut, run};
+use pcode_run::{Cut, Shows, run};
 use pcode_vm::Ending;
 use std::alloc::Global;
 use vba_base::{NoMemory, Sink};
@@ -55,22 +55,23 @@ fn compiled(alloc: Global, project: Project) -> Result<(Places, Code), NoMemory>
     }
 }
 
-/// Runs a project with a bound on its turns, and puts what it prints to the sink. More instructions than a number of 32
-/// bits counts are answered by NoMemory.
+/// Runs a project with a bound on its turns, and puts what it shows to the sink: what it prints, or its trace. More
+/// instructions than a number of 32 bits counts are answered by NoMemory.
 pub fn run_project<S: Sink>(
     alloc: Global,
     project: Project,
     turns: u64,
+    shows: Shows,
     sink: &mut S,
 ) -> Result<Outcome, RunFault>
     requires { Fits project }
-    ensures meant { RunsAsMeant (project_view project) turns result (S.taken sink.old) (S.taken sink.new) }
+    ensures meant { RunsAsMeant (project_view project) turns shows result (S.taken sink.old) (S.taken sink.new) }
     ensures faults { RoseOnly (is_write_fault result) (S.faults sink.old) (S.faults sink.new) }
 {
     let Ok((places, code)) = compiled(alloc, project) else {
         return Err(RunFault::NoMemory);
     };
-    match run(alloc, &code, turns, sink) {
+    match run(alloc, &code, turns, shows, sink) {
         Ok(ending) => Ok(outcome(&places, &ending)),
         Err(Cut::WriteFault) => Err(RunFault::WriteFault),
         Err(Cut::NoMemory) => Err(RunFault::NoMemory),
