@@ -1,5 +1,8 @@
 pub mod SameText
+pub mod Paths
 pub mod Steps
 pub mod Promise
+pub mod Taken
 pub mod Bound
-pub mod Bytes
+pub mod Each
+pub mod Rows

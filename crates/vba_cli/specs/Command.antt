@@ -1,5 +1,5 @@
 -- The words of a command. Words and names are lists of bytes.
-use Rattle.std.specs.Prelude.{ℕ, ◌-◌, Bool, ◌&&◌, not, List, length, drop, codes, Option, Some, None, if◌then◌else◌}
+use Rattle.std.specs.Prelude.{ℕ, ◌-◌, Bool, List, length, drop, codes, Option}
 use Rattle.vba_lexer.specs.Tokens.{is_the_word}
 use Rattle.command_words.specs.Words.{Command, run, check, command_of}
 
@@ -7,24 +7,15 @@ use Rattle.command_words.specs.Words.{Command, run, check, command_of}
 abbrev pub matches : List ℕ → List ℕ → Bool
 matches text word = is_the_word word text
 
--- the last four bytes are `.bas`, in any case
+-- the last four bytes are `.bas`, in any case: the file is one standard module, and else a list
 abbrev pub ends_in_bas : List ℕ → Bool
 ends_in_bas name = matches (drop (length name - 4) name) (codes ".bas")
 
--- a list is one standard module so far, and no run is traced
-abbrev pub is_built : Command → Bool
-is_built (run path turns trace) = ends_in_bas path && not trace
-is_built (check path) = ends_in_bas path
-
-abbrev pub if_built : Option Command → Option Command
-if_built None = None
-if_built (Some command) = if is_built command then Some command else None
-
 -- the command that the words name. All other words are no command
 abbrev pub command_in : List (List ℕ) → Option Command
-command_in words = if_built (command_of words)
+command_in words = command_of words
 
--- the path of a command's list
+-- the path of the file that a command names
 abbrev pub path_in : Command → List ℕ
 path_in (run path turns trace) = path
 path_in (check path) = path

@@ -1,5 +1,5 @@
 -- The texts that are written on `err`.
-use Rattle.std.specs.Prelude.{ℕ, ℤ, ◌==◌, List, [], ◌∷◌, ◌++◌, codes, if◌then◌else◌}
+use Rattle.std.specs.Prelude.{ℕ, zero, suc, ℤ, ◌==◌, List, [], ◌∷◌, ◌++◌, codes, slice_get, unwrap_or, if◌then◌else◌}
 use Rattle.std.specs.Fmt.{decimal, signed_decimal}
 use Rattle.vba_base.specs.declared.place.Place.{Place}
 use Rattle.vba_values.specs.Messages.{message_of}
@@ -65,20 +65,28 @@ abbrev pub refusal_text : List ℕ → ℕ → Place → List ℕ
 refusal_text path rule place =
     codes "vbarun: refused S" ++ decimal rule ++ codes " at " ++ place_text path place ++ codes ": " ++ rule_word rule
 
--- the text of a status of a run of the file with this path, with this bound on its turns
-abbrev pub status_text : List ℕ → ℕ → Status → List ℕ
-status_text path turns status.Ended = []
-status_text path turns (status.Faulted number place) = fault_text path number place
-status_text path turns status.Usage =
+-- the path of a file by its number: 0 is the file that a command names, and behind it come the modules of its list; a
+-- file that is one standard module has its own path besides
+abbrev pub path_at : List ℕ → List (List ℕ) → ℕ → List ℕ
+path_at path modules zero = path
+path_at path modules (suc number) = unwrap_or (slice_get modules number) path
+
+-- the text of a status of a command that names the file with this path, a list of modules with these paths, and has this
+-- bound on its turns
+abbrev pub status_text : List ℕ → List (List ℕ) → ℕ → Status → List ℕ
+status_text path modules turns status.Ended = []
+status_text path modules turns (status.Faulted number place) = fault_text (path_at path modules place.«module») number place
+status_text path modules turns status.Usage =
     codes "vbarun: usage: run [--turns N] [--trace] [--save SUFFIX] LIST, check LIST, code LIST, gen N"
-status_text path turns (status.Refused refusal) = refusal_text path refusal.rule refusal.place
-status_text path turns (status.Stopped why place) = stop_text path why place
-status_text path turns status.Going = codes "vbarun: going after " ++ decimal turns ++ codes " turns"
-status_text path turns (status.ReadFault number) = codes "vbarun: cannot read " ++ path
-status_text path turns status.WriteFault = codes "vbarun: cannot write"
-status_text path turns (status.TooLong number) = codes "vbarun: too long: " ++ path
-status_text path turns (status.NotBuilt place) = codes "vbarun: not built at " ++ place_text path place
-status_text path turns status.NoMemory = codes "vbarun: out of memory"
+status_text path modules turns (status.Refused refusal) = refusal_text (path_at path modules refusal.place.«module») refusal.rule refusal.place
+status_text path modules turns (status.Stopped why place) = stop_text (path_at path modules place.«module») why place
+status_text path modules turns status.Going = codes "vbarun: going after " ++ decimal turns ++ codes " turns"
+status_text path modules turns (status.ReadFault number) = codes "vbarun: cannot read " ++ path_at path modules number
+status_text path modules turns status.WriteFault = codes "vbarun: cannot write"
+status_text path modules turns (status.BadList line) = codes "vbarun: bad list line " ++ decimal line ++ codes " in " ++ path
+status_text path modules turns (status.TooLong number) = codes "vbarun: too long: " ++ path_at path modules number
+status_text path modules turns (status.NotBuilt place) = codes "vbarun: not built at " ++ place_text (path_at path modules place.«module») place
+status_text path modules turns status.NoMemory = codes "vbarun: out of memory"
 
 -- what is written on `err`: the text and a line end, or nothing where there is no text
 abbrev pub error_line : List ℕ → List ℕ

@@ -1,5 +1,6 @@
--- What a file is: a project that runs, or why it is none.
-use Rattle.std.specs.Prelude.{ℕ, List, [], ◌∷◌, codes, false, Option, Some, None, Result, Ok, Err}
+-- What source files are: a project that runs, or why they are none. The rules come in phases: those of tokens and
+-- directives for all modules, then those of lines and modules for all, then those of names.
+use Rattle.std.specs.Prelude.{ℕ, suc, List, [], ◌∷◌, codes, false, Option, Some, None, Result, Ok, Err}
 use Rattle.vba_base.specs.Decode.{decoded}
 use Rattle.vba_base.specs.declared.place.Refusal.{Refusal}
 use Rattle.vba_lexer.specs.Lexed.{LexedLine, lexed}
@@ -10,37 +11,77 @@ use Rattle.module_parser.specs.Parsed.{verdict, read_lexed}
 use Rattle.binder.specs.Sources.{Source, given_name, name_or}
 use Rattle.binder.specs.Bind.{Answer, Startup, refused, bind_of}
 use Rattle.declared_names.specs.Outside.{the_outside}
+use Rattle.list_file.specs.Lists.{Start}
 
--- the lines of a file that conditional compilation keeps, or the first rule that it breaks
-abbrev pub kept_lines : List ℕ → Result (List LexedLine) Refusal
-kept_lines bytes = selected (decoded bytes) (lexed 1 (decoded bytes))
+-- ---- one phase for all modules
+
+-- what comes of one thing, and what comes of those behind it; the first refusal counts
+abbrev pub before : {X : Type 0} → Result X Refusal → Result (List X) Refusal → Result (List X) Refusal
+before (Err refusal) others = Err refusal
+before (Ok x) (Err refusal) = Err refusal
+before (Ok x) (Ok xs) = Ok (x ∷ xs)
+
+-- what comes of each, by its number from this one on, or the refusal of the first that is refused
+abbrev pub each : {X Y : Type 0} → (ℕ → X → Result Y Refusal) → ℕ → List X → Result (List Y) Refusal
+each f number [] = Ok []
+each f number (x ∷ xs) = before (f number x) (each f (suc number) xs)
+
+-- ---- tokens and directives
+
+-- a module that breaks none of their rules: its text, and the lines that conditional compilation keeps
+pub record Kept : Type 0 where
+  pub text : List ℕ
+  pub lines : List LexedLine
+
+abbrev pub kept_as : List ℕ → Result (List LexedLine) Refusal → Result Kept Refusal
+kept_as text (Err refusal) = Err refusal
+kept_as text (Ok lines) = Ok (record { text = text; lines = lines })
+
+-- the module with this number, by the bytes of its file
+abbrev pub kept_of : ℕ → List ℕ → Result Kept Refusal
+kept_of number bytes = kept_as (decoded bytes) (selected (decoded bytes) (lexed number (decoded bytes)))
+
+-- ---- lines and modules
 
 -- a standard module by its text and its parts
 abbrev pub standard_module : List ℕ → List Part → Source
 standard_module text parts = record { is_class = false; text = text; parts = parts }
 
--- the macro to begin with is its Main
-abbrev pub main_of : Source → Startup
-main_of m = record { module_fold = (name_or 1 (given_name m.parts)).fold; sub_fold = codes "main" }
+abbrev pub unless_broken : Option Refusal → Source → Result Source Refusal
+unless_broken None m = Ok m
+unless_broken (Some refusal) m = Err refusal
 
--- a project of that module alone
-abbrev pub bound_module : Source → Answer
-bound_module m = bind_of the_outside (m ∷ []) (main_of m)
+abbrev pub module_of : ℕ → Kept → Result Source Refusal
+module_of number k =
+    unless_broken (verdict false (read_lexed k.text k.lines)) (standard_module k.text (parts_of_lines (trees_of (read_lexed k.text k.lines))))
 
--- the first rule that is broken, or else an answer
-abbrev pub unless_broken : Option Refusal → Answer → Answer
-unless_broken None answer = answer
-unless_broken (Some refusal) answer = refused refusal
+-- ---- names
 
--- kept lines of a standard module, by the rules of lines and modules, and then bound
-abbrev pub bound_lines : List ℕ → List LexedLine → Answer
-bound_lines text lines =
-    unless_broken (verdict false (read_lexed text lines)) (bound_module (standard_module text (parts_of_lines (trees_of (read_lexed text lines)))))
+-- Main of the first module
+abbrev pub main_of : List Source → Startup
+main_of [] = record { module_fold = []; sub_fold = codes "main" }
+main_of (m ∷ ms) = record { module_fold = (name_or 1 (given_name m.parts)).fold; sub_fold = codes "main" }
 
-abbrev pub bound_kept : List ℕ → Result (List LexedLine) Refusal → Answer
-bound_kept text (Err refusal) = refused refusal
-bound_kept text (Ok lines) = bound_lines text lines
+-- the macro to begin with: the one that a list says, or else Main of the first module
+abbrev pub begins_at : Option Start → List Source → Startup
+begins_at None ms = main_of ms
+begins_at (Some start) ms = record { module_fold = start.in_module; sub_fold = start.procedure }
 
--- what a file is bound to: a project, the place of the first part that has no meaning yet, or the first rule that is broken
-unfoldable pub program_of : List ℕ → Answer
-program_of bytes = bound_kept (decoded bytes) (kept_lines bytes)
+-- a project of these modules
+abbrev pub bound_modules : Option Start → List Source → Answer
+bound_modules start ms = bind_of the_outside ms (begins_at start ms)
+
+-- ---- all phases
+
+abbrev pub bound_sources : Option Start → Result (List Source) Refusal → Answer
+bound_sources start (Err refusal) = refused refusal
+bound_sources start (Ok ms) = bound_modules start ms
+
+abbrev pub bound_kept : Option Start → Result (List Kept) Refusal → Answer
+bound_kept start (Err refusal) = refused refusal
+bound_kept start (Ok ks) = bound_sources start (each module_of 1 ks)
+
+-- what the files of standard modules are bound to, in the order of the project: a project, the place of the first part
+-- that has no meaning yet, or the first rule that is broken
+unfoldable pub program_of : Option Start → List (List ℕ) → Answer
+program_of start files = bound_kept start (each kept_of 1 files)

@@ -1,28 +1,23 @@
-ghost use Rattle.std.specs.Prelude.{◌≡◌, ℕ, Bool, List, Option, map, string_bytes, option_map, Some, length, ◌≤◌, None};
+ghost use Rattle.std.specs.Prelude.{◌≡◌, [], Option, map, string_bytes, option_map, None};
 ghost use Rattle.command_words.specs.View.{command_view};
 ghost use Rattle.command_words.specs.Words as words;
-ghost use Rattle.vba_cli.specs.Answer.{all_right, status_of, shown_of_run, file_limit};
+ghost use Rattle.list_file.specs.Sources.{paths_view};
+ghost use Rattle.vba_cli.specs.Answer.{path_of, turns_of};
 ghost use Rattle.vba_cli.specs.Contract.{World, Commands};
-ghost use Rattle.vba_cli.specs.Program.{program_of};
-ghost use Rattle.bound_project.specs.Bodies.{Fits, project_view};
-ghost use Rattle.vba_cli.specs.Steps.{Ran, RanProgram, Performs, Puts, Tells};
+ghost use Rattle.vba_cli.specs.Steps.{Performs, Puts, Tells};
 
-use crate::command::{command_named, path_in, path_of, turns_of};
-use crate::messages::status_line;
-use crate::reading::program;
+use crate::command::{path_of, turns_of};
+use crate::lists::{Performed, alone, take_file};
+use crate::messages::{Told, status_line};
 use crate::status::Status;
-use bind_project::Bound;
-use bound_project::Project;
-use command_words::Command;
-use project_run::{Outcome, RunFault, run_project};
+use command_words::{Command, command_of};
+use list_file::ModulePath;
 use std::alloc::Global;
-use vba_base::{Files, OrMemory, ReadAnswer, Sink, WriteAnswer};
+use vba_base::{Files, Sink, WriteAnswer};
 
-/// The bytes that a file may have.
-const FILE_LIMIT: u64 = 67_108_864;
-
-/// Performs a command: reads the file that its words name, runs it with its output on `out`, or checks it, and writes
-/// the text of the status on `err`. The commands so far are `run [--turns N] NAME.bas` and `check NAME.bas`.
+/// Performs a command: reads the file that its words name, and the modules that it lists where it is a list; runs them
+/// with their output on `out`, or checks them, and writes the text of the status on `err`. The commands so far are
+/// `run [--turns N] [--trace] LIST` and `check LIST`, of lists of standard modules.
 pub fn run_cli<F: Files, O: Sink, E: Sink>(
     alloc: Global,
     words: &Vec<String>,
@@ -34,10 +29,16 @@ pub fn run_cli<F: Files, O: Sink, E: Sink>(
         let new : World = record { told = F.told files.new; counts = F.counts files.new; out = O.taken out.new; out_faults = O.faults out.new; err = E.taken err.new; err_faults = E.faults err.new } in
         Commands (map string_bytes words.now.items) result old new }
 {
-    match command_named(alloc, words.as_slice()) {
+    match command_of(alloc, words.as_slice()) {
         Ok(command) => {
-            let status = perform(alloc, command, files, out);
-            tell(alloc, command, status, err)
+            let performed = perform(alloc, command, files, out);
+            tell(
+                alloc,
+                command,
+                performed.modules.as_slice(),
+                performed.status,
+                err,
+            )
         }
         Err(_) => tell_want(err),
     }
@@ -49,125 +50,52 @@ fn perform<F: Files, O: Sink>(
     command: Option<Command>,
     files: &mut F,
     out: &mut O,
-) -> Status
+) -> Performed
     ensures { let old : World = record { told = F.told files.old; counts = F.counts files.old; out = O.taken out.old; out_faults = O.faults out.old; err = None; err_faults = 0 } in
         let new : World = record { told = F.told files.new; counts = F.counts files.new; out = O.taken out.new; out_faults = O.faults out.new; err = None; err_faults = 0 } in
-        Performs (option_map command_view command.entry) result old new }
+        Performs (option_map command_view command.entry) (paths_view result.modules.items) result.status old new }
 {
     match command {
-        None => Status::Usage,
+        None => alone(alloc, Status::Usage),
         Some(command) => take_file(alloc, command, files, out),
     }
 }
 
-// Reads the file of a command, and does with it what is asked.
-fn take_file<F: Files, O: Sink>(
-    alloc: Global,
-    command: Command,
-    files: &mut F,
-    out: &mut O,
-) -> Status
-    ensures { let old : World = record { told = F.told files.old; counts = F.counts files.old; out = O.taken out.old; out_faults = O.faults out.old; err = None; err_faults = 0 } in
-        let new : World = record { told = F.told files.new; counts = F.counts files.new; out = O.taken out.new; out_faults = O.faults out.new; err = None; err_faults = 0 } in
-        Performs (Some (command_view command.entry)) result old new }
-{
-    let mut source = Vec::new(alloc);
-    match files.read(alloc, path_in(command), FILE_LIMIT, &mut source) {
-        Ok(()) => take_source(alloc, command, &source, out),
-        Err(ReadAnswer::Failed) => Status::ReadFault(0),
-        Err(ReadAnswer::TooLong) => Status::TooLong(0),
-        Err(ReadAnswer::NoMemory) => Status::NoMemory,
-    }
-}
-
-// Does with the bytes of a file what is asked.
-fn take_source<O: Sink>(alloc: Global, command: Command, source: &[u8], out: &mut O) -> Status
-    requires { length source.now ≤ file_limit }
-    ensures { RanProgram (command_view command.entry) (program_of source.now) result (O.taken out.old) (O.taken out.new) (O.faults out.old) (O.faults out.new) }
-{
-    match command {
-        Command::Run { turns, .. } => run_source(alloc, turns, source, out),
-        Command::Check { .. } => check_source(alloc, source, out),
-    }
-}
-
-// Runs the bytes of a file.
-fn run_source<O: Sink>(alloc: Global, turns: u64, source: &[u8], out: &mut O) -> Status
-    requires { length source.now ≤ file_limit }
-    ensures { (path : List ℕ) (trace : Bool) → RanProgram (words.run path turns trace) (program_of source.now) result (O.taken out.old) (O.taken out.new) (O.faults out.old) (O.faults out.new) }
-{
-    match program(alloc, source) {
-        Ok(Bound::Runs(project)) => run_meant(alloc, turns, project, out),
-        Ok(Bound::NotBuilt(place)) => Status::NotBuilt(place),
-        Err(OrMemory::Fault(refusal)) => Status::Refused(refusal),
-        Err(OrMemory::NoMemory) => Status::NoMemory,
-    }
-}
-
-// Checks the bytes of a file.
-#[tactic(auto, using(crate::proofs::Bound::checked))]
-fn check_source<O: Sink>(alloc: Global, source: &[u8], out: &mut O) -> Status
-    requires { length source.now ≤ file_limit }
-    ensures { (path : List ℕ) → RanProgram (words.check path) (program_of source.now) result (O.taken out.old) (O.taken out.new) (O.faults out.old) (O.faults out.new) }
-{
-    match program(alloc, source) {
-        Ok(_) => put_ok(out),
-        Err(OrMemory::Fault(refusal)) => Status::Refused(refusal),
-        Err(OrMemory::NoMemory) => Status::NoMemory,
-    }
-}
-
-// Says on `out` that no rule is broken.
-fn put_ok<O: Sink>(out: &mut O) -> Status
-    ensures { Ran all_right result (O.taken out.old) (O.taken out.new) (O.faults out.old) (O.faults out.new) }
-{
-    match out.put(b"ok\n") {
-        Ok(()) => Status::Ended,
-        Err(WriteAnswer::Failed) => Status::WriteFault,
-        Err(WriteAnswer::NoMemory) => Status::NoMemory,
-    }
-}
-
-// Runs a project, and puts what it prints on `out`.
-fn run_meant<O: Sink>(alloc: Global, turns: u64, project: Project, out: &mut O) -> Status
-    requires { Fits project }
-    ensures { Ran (shown_of_run turns (project_view project)) result (O.taken out.old) (O.taken out.new) (O.faults out.old) (O.faults out.new) }
-{
-    match run_project(alloc, project, turns, out) {
-        Ok(outcome) => ended_as(outcome),
-        Err(RunFault::WriteFault) => Status::WriteFault,
-        Err(RunFault::NoMemory) => Status::NoMemory,
-    }
-}
-
-// The status of a run that ended so.
-fn ended_as(outcome: Outcome) -> Status
-    ensures { result ≡ status_of outcome }
-{
-    match outcome {
-        Outcome::Ended => Status::Ended,
-        Outcome::Faulted(number, place) => Status::Faulted(number, place),
-        Outcome::Stopped(why, place) => Status::Stopped(why, place),
-        Outcome::Going => Status::Going,
-    }
-}
-
 // Puts the text of a status on `err`. Want of memory is told by a text that needs none.
-fn tell<E: Sink>(alloc: Global, command: Option<Command>, status: Status, err: &mut E) -> Status
-    ensures { Tells (option_map command_view command.entry) status result (E.taken err.old) (E.taken err.new) (E.faults err.old) (E.faults err.new) }
+fn tell<E: Sink>(
+    alloc: Global,
+    command: Option<Command>,
+    modules: &[ModulePath],
+    status: Status,
+    err: &mut E,
+) -> Status
+    ensures { Tells (option_map command_view command.entry) (paths_view modules.now) status result (E.taken err.old) (E.taken err.new) (E.faults err.old) (E.faults err.new) }
 {
     match status {
         Status::NoMemory => put_line(OUT_OF_MEMORY, status, err),
-        _ => match status_line(alloc, path_of(command), turns_of(command), status) {
+        _ => match status_line(alloc, told_of(command, modules), status) {
             Ok(line) => put_line(line.as_bytes(), status, err),
             Err(_) => put_line(OUT_OF_MEMORY, Status::NoMemory, err),
         },
     }
 }
 
+// What the texts of a command tell of it.
+fn told_of<'a>(command: Option<Command<'a>>, modules: &'a [ModulePath]) -> Told<'a>
+    ensures path { result.path.now ≡ path_of (option_map command_view command.entry) }
+    ensures modules { result.modules.now ≡ modules.now }
+    ensures turns { result.turns ≡ turns_of (option_map command_view command.entry) }
+{
+    Told {
+        path: path_of(command),
+        modules,
+        turns: turns_of(command),
+    }
+}
+
 // Tells want of memory, whatever the command is.
 fn tell_want<E: Sink>(err: &mut E) -> Status
-    ensures { (command : Option words.Command) → Tells command (Status.NoMemory) result (E.taken err.old) (E.taken err.new) (E.faults err.old) (E.faults err.new) }
+    ensures { (command : Option words.Command) → Tells command [] (Status.NoMemory) result (E.taken err.old) (E.taken err.new) (E.faults err.old) (E.faults err.new) }
 {
     put_line(OUT_OF_MEMORY, Status::NoMemory, err)
 }

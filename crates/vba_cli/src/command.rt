@@ -1,52 +1,19 @@
-ghost use Rattle.std.specs.Prelude.{◌≡◌, map, string_bytes, option_map, IfOk};
+ghost use Rattle.std.specs.Prelude.{◌≡◌, option_map};
 ghost use Rattle.command_words.specs.View.{command_view};
 ghost use Rattle.vba_cli.specs.Answer.{path_of, turns_of};
-ghost use Rattle.vba_cli.specs.Command.{command_in, ends_in_bas, if_built, is_built, path_in, turns_in};
+ghost use Rattle.vba_cli.specs.Command.{ends_in_bas, path_in, turns_in};
 ghost use Rattle.vba_lexer.specs.Tokens.{lower};
 
-use command_words::{Command, command_of};
-use std::alloc::Global;
-use vba_base::NoMemory;
+use command_words::Command;
 
-/// The command that the words name: `run [--turns N] NAME.bas` or `check NAME.bas`, with `.bas` in any case. All other
-/// words are none.
-pub fn command_named<'a>(
-    alloc: Global,
-    words: &'a [String],
-) -> Result<Option<Command<'a>>, NoMemory>
-    ensures { IfOk result (λ found. option_map command_view found ≡ command_in (map string_bytes words.entry.now)) }
+/// Is the file that a command names one standard module?
+pub fn names_module(command: Command) -> bool
+    ensures { result ≡ ends_in_bas (path_in (command_view command.entry)) }
 {
-    let found = command_of(alloc, words)?;
-    Ok(if_built(found))
+    ends_in_bas(path_in(command).as_bytes())
 }
 
-// A command that is built.
-fn if_built<'a>(command: Option<Command<'a>>) -> Option<Command<'a>>
-    ensures { option_map command_view result ≡ if_built (option_map command_view command.entry) }
-{
-    match command {
-        Some(command) => {
-            if is_built(command) {
-                Some(command)
-            } else {
-                None
-            }
-        }
-        None => None,
-    }
-}
-
-// Is the command's list one standard module, and is it no traced run?
-fn is_built(command: Command) -> bool
-    ensures { result ≡ is_built (command_view command.entry) }
-{
-    match command {
-        Command::Run { file, trace, .. } => ends_in_bas(file.as_bytes()) && !trace,
-        Command::Check { file } => ends_in_bas(file.as_bytes()),
-    }
-}
-
-/// The path of a command's list.
+/// The path of the file that a command names.
 pub fn path_in<'a>(command: Command<'a>) -> &'a str
     ensures { result.now ≡ path_in (command_view command.entry) }
 {

@@ -3,8 +3,13 @@
 
 mod cli;
 mod command;
+mod kept;
+mod lists;
 mod messages;
+mod modules;
+mod phases;
 mod reading;
+mod running;
 mod status;
 
 pub use cli::run_cli;

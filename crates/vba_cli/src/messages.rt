@@ -1,8 +1,10 @@
-ghost use Rattle.std.specs.Prelude.{◌≡◌, ◌++◌, ◌∷◌, [], IfOk, string_bytes, codes};
+ghost use Rattle.std.specs.Prelude.{◌≡◌, ◌++◌, IfOk, slice_get, string_bytes, codes, unwrap_or};
 ghost use Rattle.std.specs.Fmt.{decimal, signed_decimal};
-ghost use Rattle.vba_cli.specs.Messages.{place_text, fault_text, rule_word, refusal_text, why_text, stop_text, status_text, error_line};
+ghost use Rattle.list_file.specs.Sources.{paths_view};
+ghost use Rattle.vba_cli.specs.Messages.{path_at, place_text, fault_text, rule_word, refusal_text, why_text, stop_text, status_text, error_line};
 
 use crate::status::Status;
+use list_file::ModulePath;
 use pcode_vm::Why;
 use std::alloc::{AllocError, Global};
 use vba_base::{NoMemory, Place};
@@ -121,31 +123,111 @@ fn refusal_rule(alloc: Global, rule: u8) -> Result<String, AllocError>
     format!(in alloc; "vbarun: refused S{rule}")
 }
 
-/// The text of a status of a run of the file with this path and this bound on its turns.
-pub fn status_message(
-    alloc: Global,
-    path: &str,
-    turns: u64,
-    status: Status,
-) -> Result<String, AllocError>
-    ensures { IfOk result (λ text. string_bytes text ≡ status_text path.now turns status) }
+// The path of a file by its number: 0 is the file that the command names, and behind it come the modules of its list.
+#[tactic(auto, using(crate::proofs::Paths::path_behind))]
+fn path_at<'a>(path: &'a str, modules: &'a [ModulePath], number: u32) -> &'a str
+    ensures { result.now ≡ path_at path.now (paths_view modules.now) number }
+{
+    match number.checked_sub(1) {
+        Some(place) => path_in(path, modules, place as usize),
+        None => path,
+    }
+}
+
+// The path of the module at a place in a list, or the other path where none is there.
+#[tactic(auto, using(crate::proofs::Paths::path_there))]
+fn path_in<'a>(path: &'a str, modules: &'a [ModulePath], place: usize) -> &'a str
+    ensures { result.now ≡ unwrap_or (slice_get (paths_view modules.now) place) path.now }
+{
+    match modules.get(place) {
+        Some(module) => module.path.as_str(),
+        None => path,
+    }
+}
+
+/// What the texts of a command tell of it: the path of the file that it names, the modules of its list, and the bound
+/// on its turns.
+#[derive(Clone, Copy)]
+pub struct Told<'a> {
+    pub path: &'a str,
+    pub modules: &'a [ModulePath],
+    pub turns: u64,
+}
+
+/// The text of a status of a command.
+pub fn status_message(alloc: Global, told: Told, status: Status) -> Result<String, AllocError>
+    ensures { IfOk result (λ text. string_bytes text ≡ status_text told.entry.path.now (paths_view told.entry.modules.now) told.entry.turns status) }
 {
     match status {
         Status::Ended => Ok(String::new(alloc)),
-        Status::Faulted(number, place) => fault_message(alloc, path, number, place),
+        Status::Faulted(number, place) => {
+            fault_message(
+                alloc,
+                path_at(told.path, told.modules, place.module),
+                number,
+                place,
+            )
+        }
         Status::Usage => String::from_str(alloc, USAGE),
-        Status::Refused(refusal) => refusal_message(alloc, path, refusal.rule, refusal.place),
-        Status::Stopped(why, place) => stop_message(alloc, path, why, place),
-        Status::Going => format!(in alloc; "vbarun: going after {turns} turns"),
-        Status::ReadFault(_) => format!(in alloc; "vbarun: cannot read {path}"),
+        Status::Refused(refusal) => {
+            let path = path_at(told.path, told.modules, refusal.place.module);
+            refusal_message(alloc, path, refusal.rule, refusal.place)
+        }
+        Status::Stopped(why, place) => {
+            stop_message(
+                alloc,
+                path_at(told.path, told.modules, place.module),
+                why,
+                place,
+            )
+        }
+        Status::Going => going_message(alloc, told.turns),
+        Status::ReadFault(number) => {
+            joined(
+                alloc,
+                "vbarun: cannot read ",
+                "",
+                path_at(told.path, told.modules, number),
+            )
+        }
         Status::WriteFault => String::from_str(alloc, "vbarun: cannot write"),
-        Status::TooLong(_) => format!(in alloc; "vbarun: too long: {path}"),
+        Status::BadList(line) => bad_list_message(alloc, told.path, line),
+        Status::TooLong(number) => {
+            joined(
+                alloc,
+                "vbarun: too long: ",
+                "",
+                path_at(told.path, told.modules, number),
+            )
+        }
         Status::NotBuilt(place) => {
-            let at = place_named(alloc, path, place)?;
-            format!(in alloc; "vbarun: not built at {at}")
+            not_built_message(alloc, path_at(told.path, told.modules, place.module), place)
         }
         Status::NoMemory => String::from_str(alloc, OUT_OF_MEMORY),
     }
+}
+
+// The text of a run that came to its bound on turns.
+fn going_message(alloc: Global, turns: u64) -> Result<String, AllocError>
+    ensures { IfOk result (λ text. string_bytes text ≡ codes "vbarun: going after " ++ decimal turns ++ codes " turns") }
+{
+    format!(in alloc; "vbarun: going after {turns} turns")
+}
+
+// The text of a list that a line breaks.
+fn bad_list_message(alloc: Global, path: &str, line: u32) -> Result<String, AllocError>
+    ensures { IfOk result (λ text. string_bytes text ≡ codes "vbarun: bad list line " ++ decimal line ++ codes " in " ++ path.now) }
+{
+    let at_line = format!(in alloc; "vbarun: bad list line {line}")?;
+    joined(alloc, at_line.as_str(), " in ", path)
+}
+
+// The text of a part that isn't built yet.
+fn not_built_message(alloc: Global, path: &str, place: Place) -> Result<String, AllocError>
+    ensures { IfOk result (λ text. string_bytes text ≡ codes "vbarun: not built at " ++ place_text path.now place) }
+{
+    let at = place_named(alloc, path, place)?;
+    format!(in alloc; "vbarun: not built at {at}")
 }
 
 const USAGE: &str =
@@ -154,15 +236,10 @@ const USAGE: &str =
 const OUT_OF_MEMORY: &str = "vbarun: out of memory";
 
 /// What is written on `err` for a status: its text and a line end, or nothing where it has no text.
-pub fn status_line(
-    alloc: Global,
-    path: &str,
-    turns: u64,
-    status: Status,
-) -> Result<String, NoMemory>
-    ensures { IfOk result (λ line. string_bytes line ≡ error_line (status_text path.now turns status)) }
+pub fn status_line(alloc: Global, told: Told, status: Status) -> Result<String, NoMemory>
+    ensures { IfOk result (λ line. string_bytes line ≡ error_line (status_text told.entry.path.now (paths_view told.entry.modules.now) told.entry.turns status)) }
 {
-    let mut line = status_message(alloc, path, turns, status)?;
+    let mut line = status_message(alloc, told, status)?;
     if !line.is_empty() {
         line.push('\n')?;
     }

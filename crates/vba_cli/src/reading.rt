@@ -1,110 +1,172 @@
-//! The project that a file is.
+//! The project that the files of standard modules are.
 
-ghost use Rattle.std.specs.Prelude.{◌≡◌, ◌≤◌, [], ◌∷◌, length, map, IfOk};
+ghost use Rattle.std.specs.Prelude.{◌≡◌, ◌≤◌, [], ◌∷◌, ◌++◌, length, map, option_map, IfOk, List, OnOk, Option};
 ghost use Rattle.binder.specs.Sources.{Source as PlainSource};
 ghost use Rattle.binder.specs.Scopes.{spaces_from};
-ghost use Rattle.declared_names.specs.Outside.{the_outside};
-ghost use Rattle.declared_names.specs.View.{space_view};
-ghost use Rattle.vba_lexer.specs.Inside.{AllLieIn};
-ghost use Rattle.vba_lexer.specs.Lexed.{lines_view};
-ghost use Rattle.module_parts.specs.View.{parts_view};
-ghost use Rattle.bind_project.specs.Bound.{IsBound};
 ghost use Rattle.constant_values.specs.Rounds.{AreNumbered};
-ghost use Rattle.vba_cli.specs.Program.{bound_lines, bound_module, main_of, program_of, standard_module};
-ghost use Rattle.vba_cli.specs.Programs.{IsProgram};
+ghost use Rattle.declared_names.specs.Outside.{the_outside};
+ghost use Rattle.declared_names.specs.View.{source_view, space_view};
+ghost use Rattle.list_file.specs.Sources.{bytes_view};
+ghost use Rattle.list_file.specs.View.{start_view};
+ghost use Rattle.bind_project.specs.Bound.{IsBound};
+ghost use Rattle.project_tables.specs.Startups.{startup_view};
+ghost use Rattle.vba_cli.specs.Program.{begins_at, bound_modules, program_of};
+ghost use Rattle.vba_cli.specs.Programs.{IsProgram, first_fold, module_view};
 
-use bind_project::{Bound, Startup, bind};
-use cond_compile::select_lines;
+use crate::modules::ReadModule;
+use crate::phases::{keep_all, read_all};
+use bind_project::{Bound, Startup as BoundStartup, bind};
 use declared_names::{Source, Space, spaces_of};
-use module_parser::read_module;
-use module_parts::Part;
+use list_file::{FileBytes, Startup};
 use name_rules::verdict;
 use std::alloc::Global;
-use vba_base::{NoMemory, OrMemory, Refusal, Units, decode_source};
-use vba_lexer::{Line, lex};
+use vba_base::{NoMemory, OrMemory, Refusal};
 
-/// The project that a file is, a standard module whose Main is the macro to begin with, or the place of a part that
-/// isn't built yet. The fault is the first rule that the file breaks: the first of the rules of tokens and
-/// directives, else the first of those of lines and modules, else the first of those of names. The file has at most
-/// 67108864 bytes.
+/// The project that the files of standard modules are, or the place of a part that isn't built yet. The run begins at
+/// the startup of their list, or else at Main of the first module. The fault is the first rule that is broken: the
+/// first of the rules of tokens and directives, in the order of the modules, else the first of those of lines and
+/// modules, else the first of those of names. No file has more than 67108864 bytes.
 #[tactic(auto, unfolding(crate::specs::Program::program_of))]
-pub fn program(alloc: Global, bytes: &[u8]) -> Result<Bound, OrMemory<Refusal>>
-    requires { length bytes.now ≤ 67108864 }
-    ensures { IsProgram (program_of bytes.now) result }
+pub fn program(
+    alloc: Global,
+    files: &[FileBytes],
+    start: Option<&Startup>,
+) -> Result<Bound, OrMemory<Refusal>>
+    requires { length files.now ≤ 67108865 }
+    ensures { IsProgram (program_of (option_map (λ s. start_view s.now) start.entry) (bytes_view files.now)) result }
 {
-    let source = decode_source(alloc, bytes)?;
-    let lines = lex(alloc, &source, 1)?;
-    let kept = select_lines(alloc, &source, &lines)?;
-    read_lines(alloc, &source, &kept)
+    let kept = keep_all(alloc, files)?;
+    let modules = read_all(alloc, kept.as_slice())?;
+    bound(alloc, modules.as_slice(), start)
 }
 
-// Kept lines of a standard module, read and bound.
-fn read_lines(alloc: Global, source: &Units, lines: &[Line]) -> Result<Bound, OrMemory<Refusal>>
-    requires { AllLieIn source.now lines.now }
-    ensures { IsProgram (bound_lines source.now (lines_view lines.now)) result }
+// Modules as the binder takes them.
+fn sources_of<'a, 'b>(
+    alloc: Global,
+    modules: &'a [ReadModule<'b>],
+) -> Result<Vec<Source<'a>>, NoMemory>
+    ensures { IfOk result (λ sources. map source_view sources.items ≡ map module_view modules.now) }
 {
-    let parts = read_module(alloc, source, lines, false)?;
-    bound(alloc, source, &parts)
+    let mut sources = Vec::new(alloc);
+    for module in modules {
+        push_source(&mut sources, source_of(module))?;
+    }
+    Ok(sources)
 }
 
-// A standard module by its parts, bound.
-#[tactic(auto, using(crate::proofs::Bound::module_numbered))]
-fn bound(alloc: Global, text: &Units, parts: &Vec<Part>) -> Result<Bound, OrMemory<Refusal>>
-    ensures { IsProgram (bound_module (standard_module text.now (parts_view parts.now.items))) result }
+// A module as the binder takes it.
+fn source_of<'a, 'b>(module: &'a ReadModule<'b>) -> Source<'a>
+    ensures { source_view result ≡ module_view module.now }
 {
-    let module = Source {
+    Source {
         is_class: false,
-        text,
-        parts,
-    };
-    let spaces = spaces_of(alloc, &[module])?;
-    judge(alloc, &spaces)
+        text: &*module.text,
+        parts: &module.parts,
+    }
+}
+
+// Adds a module.
+#[tactic(auto, using(crate::proofs::Bound::sources_push))]
+fn push_source<'a>(sources: &mut Vec<Source<'a>>, source: Source<'a>) -> Result<(), NoMemory>
+    ensures { OnOk result (map source_view sources.new.items ≡ map source_view sources.old.items ++ source_view source.entry ∷ []) }
+{
+    Ok(sources.push(source)?)
+}
+
+// Modules, judged and bound.
+fn bound(
+    alloc: Global,
+    modules: &[ReadModule],
+    start: Option<&Startup>,
+) -> Result<Bound, OrMemory<Refusal>>
+    ensures { IsProgram (bound_modules (option_map (λ s. start_view s.now) start.entry) (map module_view modules.now)) result }
+{
+    let sources = sources_of(alloc, modules)?;
+    bound_sources(alloc, sources.as_slice(), start)
+}
+
+// Modules as the binder takes them, judged and bound.
+#[tactic(auto, using(crate::proofs::Bound::modules_numbered))]
+fn bound_sources(
+    alloc: Global,
+    sources: &[Source],
+    start: Option<&Startup>,
+) -> Result<Bound, OrMemory<Refusal>>
+    ensures { IsProgram (bound_modules (option_map (λ s. start_view s.now) start.entry) (map source_view sources.now)) result }
+{
+    let spaces = spaces_of(alloc, sources)?;
+    judge(alloc, &spaces, start)
 }
 
 /// The modules of a project.
 #[derive(Clone, Copy)]
 struct Modules<'a> {
     spaces: &'a [Space<'a>],
+    start: Option<&'a Startup>,
 }
 
-// One module, judged and bound.
-fn judge(alloc: Global, spaces: &[Space]) -> Result<Bound, OrMemory<Refusal>>
+// The modules of a project, judged and bound.
+fn judge(
+    alloc: Global,
+    spaces: &[Space],
+    start: Option<&Startup>,
+) -> Result<Bound, OrMemory<Refusal>>
     requires { AreNumbered (map space_view spaces.now) }
-    ensures { (m : PlainSource) → map space_view spaces.now ≡ spaces_from 0 (m ∷ []) → IsProgram (bound_module m) result }
+    ensures { (ms : List PlainSource) → map space_view spaces.now ≡ spaces_from 0 ms → IsProgram (bound_modules (option_map (λ s. start_view s.now) start.entry) ms) result }
 {
-    judged(alloc, Modules { spaces })
+    judged(alloc, Modules { spaces, start })
 }
 
-// One module: refused by the first rule of names that it breaks, or else bound.
-#[tactic(auto, using(crate::proofs::Bound::module_broken, crate::proofs::Bound::module_bound))]
+// The modules of a project: refused by the first rule of names that they break, or else bound.
+#[tactic(auto, using(crate::proofs::Bound::modules_broken, crate::proofs::Bound::modules_bound))]
 fn judged<'a>(alloc: Global, modules: Modules<'a>) -> Result<Bound, OrMemory<Refusal>>
     requires { AreNumbered (map space_view modules.spaces.now) }
-    ensures { (m : PlainSource) → map space_view modules.entry.spaces.now ≡ spaces_from 0 (m ∷ []) → IsProgram (bound_module m) result }
+    ensures { (ms : List PlainSource) → map space_view modules.entry.spaces.now ≡ spaces_from 0 ms → IsProgram (bound_modules (option_map (λ s. start_view s.now) modules.entry.start) ms) result }
 {
     if let Some(refusal) = verdict(alloc, modules.spaces)? {
         return Err(OrMemory::Fault(refusal));
     }
-    let bound = bind_main(alloc, modules.spaces)?;
+    let bound = bind_at(alloc, modules.spaces, modules.start)?;
     Ok(bound)
 }
 
-// One module, bound with its Main as the macro to begin with.
-#[tactic(auto, using(crate::proofs::Bound::fold_named))]
-fn bind_main<'a>(alloc: Global, spaces: &'a [Space<'a>]) -> Result<Bound, NoMemory>
+// The modules of a project, bound with the macro to begin with.
+fn bind_at<'a>(
+    alloc: Global,
+    spaces: &'a [Space<'a>],
+    start: Option<&'a Startup>,
+) -> Result<Bound, NoMemory>
     requires { AreNumbered (map space_view spaces.now) }
-    ensures { (m : PlainSource) → map space_view spaces.now ≡ spaces_from 0 (m ∷ []) → IfOk result (IsBound the_outside (map space_view spaces.now) (main_of m)) }
+    ensures { (ms : List PlainSource) → map space_view spaces.now ≡ spaces_from 0 ms → IfOk result (IsBound the_outside (map space_view spaces.now) (begins_at (option_map (λ s. start_view s.now) start.entry) ms)) }
 {
-    let Some(space) = spaces.first() else {
-        return Err(NoMemory);
-    };
-    bind(
-        alloc,
-        spaces,
-        Startup {
-            module_fold: space.name.fold.units(),
+    bind(alloc, spaces, startup_of(spaces, start))
+}
+
+// The macro to begin with.
+#[tactic(auto, using(crate::proofs::Bound::main_begins))]
+fn startup_of<'a>(spaces: &'a [Space<'a>], start: Option<&'a Startup>) -> BoundStartup<'a>
+    ensures { (ms : List PlainSource) → map space_view spaces.now ≡ spaces_from 0 ms → startup_view result ≡ begins_at (option_map (λ s. start_view s.now) start.entry) ms }
+{
+    match start {
+        Some(start) => BoundStartup {
+            module_fold: start.in_module.units(),
+            sub_fold: start.procedure.units(),
+        },
+        None => BoundStartup {
+            module_fold: first_fold(spaces),
             sub_fold: &MAIN,
         },
-    )
+    }
+}
+
+// The fold of the name of the first module.
+fn first_fold<'a>(spaces: &'a [Space<'a>]) -> &'a [u16]
+    ensures { result.now ≡ first_fold (map space_view spaces.now) }
+{
+    match spaces.first() {
+        Some(space) => space.name.fold.units(),
+        None => &[],
+    }
 }
 
 /// The fold of Main.

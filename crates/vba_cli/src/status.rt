@@ -4,7 +4,8 @@ ghost use Rattle.vba_cli.specs.Contract.{code_of};
 use pcode_vm::Why;
 use vba_base::{Place, Refusal};
 
-/// How a command ended. The numbers in `ReadFault` and `TooLong` tell which file it was, from 0 in the order of reading.
+/// How a command ended. The numbers in `ReadFault` and `TooLong` tell which file it was: 0 is the file that the command
+/// names, and behind it come the modules of its list.
 #[derive(Clone, Copy, Debug, PartialEq, Eq)]
 pub enum Status {
     /// The command is done.
@@ -23,9 +24,11 @@ pub enum Status {
     ReadFault(u32),
     /// Something can't be written.
     WriteFault,
+    /// The list's line with this number breaks it, and none before it; 0 where the list isn't whole.
+    BadList(u32),
     /// A file has more bytes than the limit.
     TooLong(u32),
-    /// The source has a part that isn't built yet, at this place.
+    /// The source has a part that isn't built yet, at this place; the list has where the place's module is 0.
     NotBuilt(Place),
     /// Memory ran out.
     NoMemory,
@@ -45,6 +48,7 @@ impl Status {
             Status::Going => 5,
             Status::ReadFault(_) => 6,
             Status::WriteFault => 7,
+            Status::BadList(_) => 8,
             Status::TooLong(_) => 9,
             Status::NotBuilt(_) => 69,
             Status::NoMemory => 70,

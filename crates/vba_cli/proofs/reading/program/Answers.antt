@@ -1,27 +1,29 @@
-use Rattle.std.proofs.Common.{length, arith, ap, subst, sym}
-use Rattle.vba_base.proofs.Sources.{length-decoded}
-use Rattle.vba_lexer.specs.Inside.{AllLieIn}
-use Rattle.vba_lexer.specs.Lexed.{lines_view}
-use Rattle.cond_compile.proofs.Kept.{kept_lie_in}
-use Rattle.vba_cli.specs.Program.{bound_lines}
-use Rattle.vba_cli.specs.Programs.{IsProgram}
-use Rattle.vba_cli.proofs.Bytes.{program_read}
+use Rattle.std.proofs.Common.{map, subst, ◌≡◌}
+use Rattle.std.specs.Prelude.{Ok, option_map}
+use Rattle.list_file.specs.Sources.{bytes_view}
+use Rattle.list_file.specs.View.{start_view}
+use Rattle.vba_base.specs.Answer.{Fails}
+use Rattle.vba_cli.specs.Program.{bound_modules, each, module_of}
+use Rattle.vba_cli.specs.Programs.{IsProgram, kept_view, module_view}
+use Rattle.vba_cli.proofs.Bound.{program_read, program_unkept, program_unread}
 use Rattle.vba_cli.proofs.reading.program.Goals as goal
 
--- a source has no more units than its file has bytes
-pub lex-requires : goal.lex-requires
-lex-requires c =
-    omega (arith, c.requires, ap length c.in_ok-source.ensures.text, length-decoded c.args.bytes.now (λ i. omega (arith, c.type_inv.bytes i)))
+pub returns-in_err-kept : goal.returns-in_err-kept
+returns-in_err-kept c =
+    program_unkept (option_map (λ s. start_view s.now) c.args.start) (bytes_view c.args.files.now) c.from_residual.result c.in_err-kept.field-0.0 c.from_residual.ensures.1 c.in_err-kept.ensures
 
--- the tokens of the kept lines lie in the source, as those of all lines do
-pub read_lines-requires : goal.read_lines-requires
-read_lines-requires c =
-    subst (AllLieIn c.in_ok-source.source) (sym c.deref.ensures.value)
-    (kept_lie_in c.in_ok-source.source _ _ c.in_ok-kept.ensures c.in_ok-lines.ensures.inside)
+pub returns-in_err-modules : goal.returns-in_err-modules
+returns-in_err-modules c =
+    let ks = map kept_view c.in_ok-kept.kept.items in
+    program_unread (option_map (λ s. start_view s.now) c.args.start) (bytes_view c.args.files.now) ks c.from_residual-in_err-modules.result c.in_err-modules.field-0.0
+    c.from_residual-in_err-modules.ensures.1 c.in_ok-kept.ensures
+    (subst (λ kept. Fails c.in_err-modules.field-0.0 (each module_of 1 (map kept_view kept))) c.as_slice.ensures.value c.in_err-modules.ensures)
 
--- what is kept is read and bound
 pub returns : goal.returns
 returns c =
-    program_read c.args.bytes.now c.in_ok-source.source (lines_view c.in_ok-lines.lines.items) (lines_view c.in_ok-kept.kept.items) c.read_lines.result
-    c.in_ok-source.ensures.text c.in_ok-lines.ensures.lines c.in_ok-kept.ensures
-    (subst (λ ls. IsProgram (bound_lines c.in_ok-source.source (lines_view ls)) c.read_lines.result) c.deref.ensures.value c.read_lines.ensures)
+    let start = option_map (λ s. start_view s.now) c.args.start in
+    let ks = map kept_view c.in_ok-kept.kept.items in
+    let ms = map module_view c.in_ok-modules.modules.items in
+    program_read start (bytes_view c.args.files.now) ks ms c.bound.result c.in_ok-kept.ensures
+    (subst (λ kept. each module_of 1 (map kept_view kept) ≡ Ok ms) c.as_slice.ensures.value c.in_ok-modules.ensures)
+    (subst (λ modules. IsProgram (bound_modules start (map module_view modules)) c.bound.result) c.as_slice-2.ensures.value c.bound.ensures)
