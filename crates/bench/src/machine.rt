@@ -1,0 +1,103 @@
+//! How long runs of macros take, by the rounds of their loop.
+
+use crate::{micros_now, out_of_memory, tell};
+use std::alloc::{AllocError, Global};
+use std::io;
+use std::time::CpuClock;
+use vba_base::{MemFiles, NeverFails, NoMemory};
+use vba_cli::{Status, run_cli};
+
+/// What a loop does in each of its rounds.
+#[derive(Clone, Copy)]
+enum Pattern {
+    /// A sum of Longs.
+    Sums,
+    /// A call of a function.
+    Calls,
+    /// An element of an array that is read and written.
+    Elements,
+}
+
+impl Pattern {
+    fn name(self) -> &'static str {
+        match self {
+            Pattern::Sums => "run sums",
+            Pattern::Calls => "run calls",
+            Pattern::Elements => "run elements",
+        }
+    }
+
+    /// The text before the number of rounds.
+    fn front(self) -> &'static str {
+        match self {
+            Pattern::Sums | Pattern::Elements => {
+                "Sub Main()\nDim i As Long, s As Long, a(9) As Long\nFor i = 1 To "
+            }
+            Pattern::Calls => {
+                "Function Up(ByVal n As Long) As Long\nUp = n + 1\nEnd Function\n\
+                 Sub Main()\nDim i As Long, s As Long\nFor i = 1 To "
+            }
+        }
+    }
+
+    /// The text behind it.
+    fn back(self) -> &'static str {
+        match self {
+            Pattern::Sums => "\ns = (s + i) Mod 1000\nNext\nEnd Sub\n",
+            Pattern::Calls => "\ns = Up(s)\nNext\nEnd Sub\n",
+            Pattern::Elements => "\na(i Mod 10) = a(i Mod 10) + 1\nNext\nEnd Sub\n",
+        }
+    }
+}
+
+/// Runs loops with so many rounds, and with twice as many.
+pub fn bench_machine(rt: &(impl Print + CpuClock + AllocGlobal), size: u32) -> io::Result<()> {
+    for pattern in [Pattern::Sums, Pattern::Calls, Pattern::Elements] {
+        let once = time_run(rt, pattern, size)?;
+        let twice = time_run(rt, pattern, size.saturating_mul(2))?;
+        tell(rt, pattern.name(), size, once, twice)?;
+    }
+    Ok(())
+}
+
+// The microseconds that a run takes, reading and compiling included.
+fn time_run(rt: &(impl CpuClock + AllocGlobal), pattern: Pattern, size: u32) -> io::Result<u64> {
+    let alloc = rt.alloc();
+    let (Ok(words), Ok(mut files)) = (words(alloc), files(alloc, pattern, size)) else {
+        return Err(out_of_memory());
+    };
+    let mut out = NeverFails::new(alloc);
+    let mut err = NeverFails::new(alloc);
+    let before = micros_now(rt)?;
+    let status = run_cli(alloc, &words, &mut files, &mut out, &mut err);
+    let after = micros_now(rt)?;
+    if status != Status::Ended {
+        return Err(out_of_memory());
+    }
+    Ok(after.saturating_sub(before))
+}
+
+// The words of a run that may take all turns.
+fn words(alloc: Global) -> Result<Vec<String>, AllocError> {
+    let mut words = Vec::new(alloc);
+    for word in ["run", "--turns", "1000000000000", "m.bas"] {
+        words.push(String::from_str(alloc, word)?)?;
+    }
+    Ok(words)
+}
+
+// The one file that is run.
+fn files(alloc: Global, pattern: Pattern, size: u32) -> Result<MemFiles, NoMemory> {
+    let front = pattern.front();
+    let back = pattern.back();
+    let source = format!(in alloc; "{front}{size}{back}")?;
+    let mut held = Vec::new(alloc);
+    held.push((
+        String::from_str(alloc, "m.bas")?,
+        Vec::from_slice(alloc, source.as_bytes())?,
+    ))?;
+    if !MemFiles::are_different(held.as_slice()) {
+        return Err(NoMemory);
+    }
+    Ok(MemFiles::new(alloc, held, Vec::new(alloc)))
+}
