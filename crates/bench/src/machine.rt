@@ -16,6 +16,12 @@ enum Pattern {
     Calls,
     /// An element of an array that is read and written.
     Elements,
+    /// The same of an array of two dimensions.
+    Grids,
+    /// A comparison and a sum.
+    Tests,
+    /// A text that grows by one unit.
+    Texts,
 }
 
 impl Pattern {
@@ -24,15 +30,22 @@ impl Pattern {
             Pattern::Sums => "run sums",
             Pattern::Calls => "run calls",
             Pattern::Elements => "run elements",
+            Pattern::Grids => "run grids",
+            Pattern::Tests => "run tests",
+            Pattern::Texts => "run texts",
         }
     }
 
     /// The text before the number of rounds.
     fn front(self) -> &'static str {
         match self {
-            Pattern::Sums | Pattern::Elements => {
+            Pattern::Sums | Pattern::Elements | Pattern::Tests => {
                 "Sub Main()\nDim i As Long, s As Long, a(9) As Long\nFor i = 1 To "
             }
+            Pattern::Grids => {
+                "Sub Main()\nDim i As Long, k As Long, a(9, 9) As Long\nFor i = 1 To "
+            }
+            Pattern::Texts => "Sub Main()\nDim i As Long, s As String\nFor i = 1 To ",
             Pattern::Calls => {
                 "Function Up(ByVal n As Long) As Long\nUp = n + 1\nEnd Function\n\
                  Sub Main()\nDim i As Long, s As Long\nFor i = 1 To "
@@ -46,13 +59,30 @@ impl Pattern {
             Pattern::Sums => "\ns = (s + i) Mod 1000\nNext\nEnd Sub\n",
             Pattern::Calls => "\ns = Up(s)\nNext\nEnd Sub\n",
             Pattern::Elements => "\na(i Mod 10) = a(i Mod 10) + 1\nNext\nEnd Sub\n",
+            Pattern::Grids => "\nk = i Mod 10\na(k, 3) = a(3, k) + 1\nNext\nEnd Sub\n",
+            Pattern::Tests => "\nIf i Mod 3 = 0 Then s = s Xor i\nNext\nEnd Sub\n",
+            Pattern::Texts => "\ns = s & \"a\"\nNext\nEnd Sub\n",
         }
     }
 }
 
+/// The most units that a text grows to here: twice as many are the most that a text has.
+const MOST_UNITS: u32 = 8_388_608;
+
 /// Runs loops with so many rounds, and with twice as many.
 pub fn bench_machine(rt: &(impl Print + CpuClock + AllocGlobal), size: u32) -> io::Result<()> {
-    for pattern in [Pattern::Sums, Pattern::Calls, Pattern::Elements] {
+    for pattern in [
+        Pattern::Sums,
+        Pattern::Calls,
+        Pattern::Elements,
+        Pattern::Grids,
+        Pattern::Tests,
+        Pattern::Texts,
+    ] {
+        let size = match pattern {
+            Pattern::Texts => size.min(MOST_UNITS),
+            _ => size,
+        };
         let once = time_run(rt, pattern, size)?;
         let twice = time_run(rt, pattern, size.saturating_mul(2))?;
         tell(rt, pattern.name(), size, once, twice)?;

@@ -1,4 +1,4 @@
-//! Declarations of types that run: no objects, and no types that the profile hasn't.
+//! Declarations of types that run: no classes, no Collections, and no types that the profile hasn't.
 
 ghost use Rattle.std.specs.Prelude.{◌≡◌, IfOk, option_map};
 ghost use Rattle.std.specs.List.{list_all};
@@ -21,12 +21,11 @@ fn is_built_element(of: ElementType) -> bool
     ensures { result ≡ plain.is_built_type (element_view of) }
 {
     match of {
+        ElementType::Class(_) | ElementType::Collection => false,
         ElementType::Object
-        | ElementType::Class(_)
-        | ElementType::Collection
         | ElementType::Worksheet
-        | ElementType::Range => false,
-        ElementType::Boolean
+        | ElementType::Range
+        | ElementType::Boolean
         | ElementType::Byte
         | ElementType::Integer
         | ElementType::Long
@@ -53,7 +52,7 @@ fn is_built_meant(meant: Option<TypeMeant>) -> bool
 {
     match meant {
         Some(TypeMeant::Known(of)) => is_built_type(of),
-        Some(TypeMeant::OfHost) => false,
+        Some(TypeMeant::OfHost) => true,
         Some(TypeMeant::LeftOut) => false,
         None => false,
     }

@@ -1,7 +1,7 @@
 -- Statements without their places, to compare them.
 use Rattle.std.specs.Prelude.{List, [], ◌∷◌}
-use Rattle.bound_project.specs.Expressions.{Expr, expr, Node, not_given, constant, load, element_value, field_value, unary, binary, call, err_value, default_of, default_if_any, host_object, same, is_type, library, bound_of, Lvalue, variable, item, element, field, kept_place, Args, no_args, by_place, by_copy, by_default, by_list, in_order, Exprs, no_exprs, also, Prints, no_prints, shown, zone}
-use Rattle.bound_project.specs.Statements.{Tests, no_tests, test_is, test_range, Action, assign, assign_none, evaluate, let_property, print, raise, test, for_to, for_each, select, case_of, with_place, with_value, Statement}
+use Rattle.bound_project.specs.Expressions.{Expr, expr, Node, not_given, constant, load, element_value, field_value, unary, binary, call, err_value, default_of, default_if_any, host_object, active_sheet, host_member, same, is_type, library, bound_of, Lvalue, variable, item, element, field, kept_place, Args, no_args, by_place, by_copy, by_default, by_list, in_order, Exprs, no_exprs, also, Prints, no_prints, shown, zone}
+use Rattle.bound_project.specs.Statements.{Tests, no_tests, test_is, test_range, Action, assign, assign_none, set, assign_default, assign_member, evaluate, let_property, print, raise, test, for_to, for_each, select, case_of, with_place, with_value, Statement}
 use Rattle.bound_project.specs.Project.{nowhere}
 
 abbrev mutual
@@ -21,6 +21,8 @@ abbrev mutual
   bare_node (default_of e) = default_of (bare e)
   bare_node (default_if_any e) = default_if_any (bare e)
   bare_node (host_object o) = host_object o
+  bare_node active_sheet = active_sheet
+  bare_node (host_member e name es) = host_member (bare e) name (bare_exprs es)
   bare_node (same a b) = same (bare a) (bare b)
   bare_node (is_type e of) = is_type (bare e) of
   bare_node (library f text_form es compare base) = library f text_form (bare_exprs es) compare base
@@ -58,6 +60,9 @@ bare_tests (test_range a b ts) = test_range (bare a) (bare b) (bare_tests ts)
 abbrev pub bare_action : Action → Action
 bare_action (assign x e) = assign (bare_place x) (bare e)
 bare_action (assign_none x e) = assign_none (bare x) (bare e)
+bare_action (set x e) = set (bare_place x) (bare e)
+bare_action (assign_default x e) = assign_default (bare x) (bare e)
+bare_action (assign_member base name es e) = assign_member (bare base) name (bare_exprs es) (bare e)
 bare_action (evaluate e) = evaluate (bare e)
 bare_action (let_property p args e of) = let_property p (bare_args args) (bare e) of
 bare_action (print ps ends) = print (bare_prints ps) ends

@@ -81,7 +81,7 @@ unfolding bound_to folded caseless digits
 by_reference = refl
 
 -- where binding stops: a variable of an object type, a library function without an argument that it needs, and a class
-left_variable : ran_all (of_one (codes "Sub Main()\nDebug.Print 1\nDim o As Object\nEnd Sub")) ≡ left_at 1 3 1
+left_variable : ran_all (of_one (codes "Sub Main()\nDebug.Print 1\nDim o As Collection\nEnd Sub")) ≡ left_at 1 3 1
 unfolding ran_all folded caseless digits
 left_variable = refl
 

@@ -4,3 +4,4 @@ mod Bare
 mod RuleRows
 mod BoundRows
 mod ProgramRows
+mod HostRows

@@ -12,6 +12,8 @@ use Rattle.binder.specs.Sources.{Source}
 use Rattle.binder.specs.Scopes.{Outside}
 use Rattle.binder.specs.Violations.{verdict}
 use Rattle.binder.specs.Bind.{Answer, refused, not_built_at, bound_as, bind_of}
+use Rattle.sheet_host.specs.Books.{Sheets, NamedSheet}
+use Rattle.sheet_host.specs.Sheets.{no_content}
 use Rattle.vba_meaning.specs.Memory.{Ending, Ended}
 use Rattle.vba_meaning.specs.Effects.{Event, Printed}
 use Rattle.vba_meaning.specs.Meaning.{meaning}
@@ -30,7 +32,7 @@ some_outside = record { constant = constant_named; is_library = λ fold dollar. 
   words false = codes "left" ∷ codes "chr" ∷ codes "ubound" ∷ codes "array" ∷ codes "vblong" ∷ codes "vbtab" ∷ codes "error" ∷ codes "rnd" ∷ []
 
   hosts : List (List ℕ)
-  hosts = codes "err" ∷ codes "debug" ∷ codes "cells" ∷ []
+  hosts = codes "err" ∷ codes "debug" ∷ codes "cells" ∷ codes "range" ∷ codes "worksheets" ∷ codes "thisworkbook" ∷ codes "application" ∷ []
 
 -- modules by their texts, each a class or not
 abbrev pub sources_from : ℕ → List (Bool × List ℕ) → List Source
@@ -61,14 +63,22 @@ pub data Told : Type 0 where
   broken_rule : List (ℕ × ℕ × ℕ × ℕ) → Told
   left_at : ℕ → ℕ → ℕ → Told
 
-abbrev pub told_by : Answer → Told
-told_by (refused r) = broken_rule (told (Some r))
-told_by (not_built_at p) = left_at p.«module» p.line p.column
-told_by (bound_as pr) = let r = meaning pr 100 in run_of r.ending r.events
+abbrev pub told_by : Sheets → Answer → Told
+told_by book (refused r) = broken_rule (told (Some r))
+told_by book (not_built_at p) = left_at p.«module» p.line p.column
+told_by book (bound_as pr) = let r = meaning pr book 100 in run_of r.ending r.events
 
 unfoldable pub ran_all : List (Bool × List ℕ) → Told
 unfolding bound_of
-ran_all texts = told_by (bound_of texts)
+ran_all texts = told_by [] (bound_of texts)
+
+-- the same over a book of two sheets, S and T, with nothing in their cells
+abbrev empty_sheet : List ℕ → NamedSheet
+empty_sheet name = record { name = name; content = no_content }
+
+unfoldable pub ran_over : List ℕ → Told
+unfolding bound_of
+ran_over source = told_by (empty_sheet (codes "S") ∷ empty_sheet (codes "T") ∷ []) (bound_of (of_one source))
 
 unfoldable pub ran : List ℕ → Told
 unfolding ran_all

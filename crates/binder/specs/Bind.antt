@@ -1,6 +1,6 @@
 -- The bound project of modules, or why there is none: a rule that is broken, or a part that the bound project can't say
 -- yet.
-use Rattle.std.specs.Prelude.{ℕ, suc, Bool, true, false, ◌&&◌, not, List, [], ◌∷◌, ◌++◌, map, flat_map, Option, Some, None, is_some, is_none, option_map, bytes_eq, if◌then◌else◌, unwrap_or, length}
+use Rattle.std.specs.Prelude.{ℕ, suc, Bool, true, false, ◌&&◌, ◌||◌, not, List, [], ◌∷◌, ◌++◌, map, flat_map, Option, Some, None, is_some, is_none, option_map, bytes_eq, if◌then◌else◌, unwrap_or, length}
 use Rattle.std.specs.List.{list_all}
 use Rattle.vba_base.specs.declared.place.Place.{Place}
 use Rattle.vba_base.specs.declared.place.Refusal.{Refusal}
@@ -21,7 +21,8 @@ use Rattle.binder.specs.Options.{or_else, from_two}
 use Rattle.binder.specs.Declarations.{Written, What, a_procedure, Entry}
 use Rattle.binder.specs.Scopes.{Outside, Space, Scope, spaces_from}
 use Rattle.binder.specs.Names.{scope_of, scope_in}
-use Rattle.binder.specs.Types.{TypeMeant, known, type_meant, is_object}
+use Rattle.binder.specs.Types.{TypeMeant, known, of_host, type_meant, is_object}
+use Rattle.binder.specs.ExpressionsBound.{is_host_type}
 use Rattle.binder.specs.Constants.{home}
 use Rattle.binder.specs.Numbering.{Standing, standings_in, body_count}
 use Rattle.binder.specs.Storage.{kind_of, declared_result, declarations_if, is_framed, user_types, shared_from, module_declarations, first_static, procedure_number}
@@ -64,14 +65,15 @@ bound_procedure s p = let s1 = scope_in s p.1 in record {
   parameters = storage.parameters_of s1 p.1;
 }
 
--- ---- what isn't built: classes, objects, and types that the profile hasn't
+-- ---- what isn't built: classes, Collections, and types that the profile hasn't
 
 abbrev pub is_built_type : Declared → Bool
 is_built_type (type.array_of of) = is_built_type of
-is_built_type of = not (is_object of)
+is_built_type of = not (is_object of) || is_host_type of
 
 abbrev pub is_built_meant : Option TypeMeant → Bool
 is_built_meant (Some (known of)) = is_built_type of
+is_built_meant (Some of_host) = true
 is_built_meant other = false
 
 abbrev pub is_built_written : Scope → DeclaredType → Bool

@@ -1,5 +1,5 @@
 -- Expressions as terms ([MS-VBAL] 5.6).
-use Rattle.std.specs.Prelude.{ℕ, ◌==◌, Bool, true, false, ◌&&◌, ◌||◌, not, pos, List, [], ◌∷◌, ◌++◌, length, codes, Option, Some, None, is_some, option_map, option_and_then, bytes_eq, if◌then◌else◌, unwrap_or, nat_le, slice_index_or}
+use Rattle.std.specs.Prelude.{ℕ, zero, ◌==◌, Bool, true, false, ◌&&◌, ◌||◌, not, pos, List, [], ◌∷◌, ◌++◌, length, codes, Option, Some, None, is_some, option_map, option_and_then, bytes_eq, if◌then◌else◌, unwrap_or, nat_le, slice_index_or}
 use Rattle.vba_base.specs.declared.place.Place.{Place}
 use Rattle.vba_values.specs.declared.types.OpKind.{OpKind}
 use Rattle.vba_values.specs.StaticTypes.{static_of}
@@ -9,23 +9,26 @@ use Rattle.vba_values.specs.Val.{Val}
 use Rattle.vba_words.specs.declared.identifier.Identifier.{Identifier}
 use Rattle.vba_expression.specs.Tree.{Expr, literal, me, name, with_member, member, index, parenthesised, new, type_of, unary, binary, Args, no_args, missing, plain}
 use Rattle.vba_expression.specs.Tree as tree
+use Rattle.vba_expression.specs.declared.operator.BinaryOperator.TheVariants as operator
 use Rattle.vba_tree.specs.declared.procedure.ProcedureWords.{ProcedureWords}
 use Rattle.vba_tree.specs.declared.procedure.ProcedureWords.TheVariants as words
 use Rattle.vba_lib.specs.declared.function.LibraryFunction.{LibraryFunction}
 use Rattle.vba_lib.specs.declared.function.LibraryFunction.TheVariants as function
 use Rattle.vba_lib.specs.Library.{arity_of, declared_of}
 use Rattle.vba_lib.specs.Names.{function_named}
-use Rattle.bound_project.specs.Expressions.{Storage, Variable, err_number, err_source, err_description, Node, constant, load, element_value, field_value, err_value, Lvalue, variable, item, element, field, kept_place, Exprs}
+use Rattle.bound_project.specs.Expressions.{Storage, Variable, err_number, err_source, err_description, Node, constant, load, element_value, field_value, err_value, default_of, host_object, active_sheet, host_member, Lvalue, variable, item, element, field, kept_place, Exprs, no_exprs}
 use Rattle.bound_project.specs.Expressions as bound
+use Rattle.vba_values.specs.declared.object.HostRef.{HostRef}
+use Rattle.vba_values.specs.declared.object.HostRef.TheVariants as host
 use Rattle.bound_project.specs.Project.{Declaration, Parameter, UserType, no_name, nowhere}
-use Rattle.binder.specs.Options.{from_two, from_three}
+use Rattle.binder.specs.Options.{or_else, from_two, from_three}
 use Rattle.binder.specs.Sources.{base_of}
 use Rattle.binder.specs.Declarations.{Written, What, a_variable, a_constant, a_member, a_procedure, Entry, Own, the_result, a_parameter, a_local_constant, Local}
 use Rattle.binder.specs.Scopes.{Space, Scope, plainly, called, Meant, of_procedure, of_module, of_host, of_library, Qualifier, declares, behind, qualifier_of, is_named, first_at, seen_from, has_dollar}
 use Rattle.binder.specs.Names.{scope_in}
 use Rattle.binder.specs.Constants.{literal_meant, value_type, operator_kind, unary_kind, compare_in, meant_by, names_in, home, place_of_expression}
 use Rattle.binder.specs.Storage.{parameter_type, result_type, parameters_of, own_declaration, declared_variable, user_types, module_storage, own_storage, procedure_number, gives_value}
-use Rattle.binder.specs.Terms.{Within, Env, Term, a_place, a_value, a_routine, a_function, err_object, err_raise, err_clear, error_word, no_term, expression_of, value_with, Given, listed_values, bound_arguments, has_names}
+use Rattle.binder.specs.Terms.{Within, Env, HostMember, Term, a_place, a_value, a_routine, a_function, a_host_member, err_object, err_raise, err_clear, error_word, no_term, expression_of, value_with, Given, listed_values, bound_arguments, has_names}
 
 -- ---- calls
 
@@ -127,13 +130,130 @@ call_with value env place gs space number p = if_there (option_map called_as (re
 abbrev pub bare_call : Env → Space → ℕ → Written → Term
 bare_call env space number p = call_with (λ t place. None) env p.place [] space number p
 
--- a term as a value, and as an operand, where Err is its number
 abbrev pub value_of : Env → Term → Place → Option bound.Expr
 value_of env t place = value_with (bare_call env) t place
 
+-- ---- objects of the host ([MS-VBAL] 5.6.12)
+
+-- the types of objects that are taken as references: Object, and those of sheets and ranges
+abbrev pub is_host_type : Declared → Bool
+is_host_type type.object = true
+is_host_type type.worksheet = true
+is_host_type type.range = true
+is_host_type other = false
+
+abbrev pub typed_reference : Node → Place → Declared → Option bound.Expr
+typed_reference node place of = if is_host_type of then Some (expression_of node place of) else None
+
+-- a term as a reference to an object
+abbrev pub reference_of : Env → Term → Place → Option bound.Expr
+reference_of env (a_place x of bounded lends) place = typed_reference (load x) place of
+reference_of env (a_value node of) place = typed_reference node place of
+reference_of env (a_host_member e m) place = if m.least == 0 then typed_reference (host_member e m.name no_exprs) place m.of else None
+reference_of env (a_routine space number p) place = of_call (bare_call env space number p)
+  where
+    of_call : Term → Option bound.Expr
+    of_call (a_value node of) = typed_reference node place of
+    of_call other = None
+reference_of env err_object place = Some (expression_of (host_object host.ErrObject) place type.object)
+reference_of env other place = None
+
+-- a term as a value or a reference, as it is
+abbrev pub given_as : Env → Term → Place → Option bound.Expr
+given_as env t place = or_else (value_of env t place) (reference_of env t place)
+
+-- the value of the default member of an object: a worksheet has none
+abbrev pub has_default : Declared → Bool
+has_default type.worksheet = false
+has_default other = true
+
+abbrev pub default_value : Place → bound.Expr → Option bound.Expr
+default_value place (bound.expr node at of operand) = if has_default of then Some (expression_of (default_of (bound.expr node at of operand)) place type.variant) else None
+
+-- a term as an operand: Err is its number, and another object gives way to the value of its default member
 abbrev pub operand_of : Env → Term → Place → Option bound.Expr
 operand_of env err_object place = Some (expression_of (err_value err_number) place type.long)
-operand_of env t place = value_of env t place
+operand_of env t place = or_else (value_of env t place) (option_and_then (default_value place) (reference_of env t place))
+
+-- what an object is, where that is known before the run
+pub data HostKind : Type 0 where
+  application : HostKind
+  workbook : HostKind
+  sheets : HostKind
+  sheet : HostKind
+  area : HostKind
+  any_object : HostKind
+
+abbrev pub kind_by_type : Declared → Option HostKind
+kind_by_type type.worksheet = Some sheet
+kind_by_type type.range = Some area
+kind_by_type type.object = Some any_object
+kind_by_type other = None
+
+abbrev pub kind_of_object : HostRef → Option HostKind
+kind_of_object host.Application = Some application
+kind_of_object host.Workbook = Some workbook
+kind_of_object host.Sheets = Some sheets
+kind_of_object other = None
+
+abbrev pub host_kind : Node → Declared → Option HostKind
+host_kind (host_object reference) of = kind_of_object reference
+host_kind node of = kind_by_type of
+
+abbrev pub member_with : List ℕ → Declared → (least greatest : ℕ) → HostMember
+member_with fold of least greatest = record { name = fold; of = of; least = least; greatest = Some greatest }
+
+abbrev pub mark_members : List HostMember
+mark_members =
+    member_with (codes "enableevents") type.boolean 0 0 ∷ member_with (codes "screenupdating") type.boolean 0 0
+    ∷ member_with (codes "displayalerts") type.boolean 0 0 ∷ []
+
+abbrev pub sheets_members : List HostMember
+sheets_members = member_with (codes "count") type.long 0 0 ∷ member_with (codes "item") type.worksheet 1 1 ∷ []
+
+abbrev pub sheet_members : List HostMember
+sheet_members =
+    member_with (codes "name") type.text 0 0 ∷ member_with (codes "index") type.long 0 0 ∷ member_with (codes "cells") type.range 0 2
+    ∷ member_with (codes "range") type.range 1 2 ∷ member_with (codes "usedrange") type.range 0 0 ∷ []
+
+-- what Rows and Columns give has no declared type of its own
+abbrev pub area_members : List HostMember
+area_members =
+    member_with (codes "value") type.variant 0 0 ∷ member_with (codes "address") type.text 0 0 ∷ member_with (codes "row") type.long 0 0
+    ∷ member_with (codes "column") type.long 0 0 ∷ member_with (codes "count") type.long 0 0 ∷ member_with (codes "rows") type.object 0 0
+    ∷ member_with (codes "columns") type.object 0 0 ∷ member_with (codes "cells") type.range 0 2 ∷ member_with (codes "item") type.range 2 2
+    ∷ member_with (codes "offset") type.range 2 2 ∷ member_with (codes "resize") type.range 2 2 ∷ member_with (codes "clearcontents") type.variant 0 0
+    ∷ member_with (codes "worksheet") type.worksheet 0 0 ∷ member_with (codes "parent") type.worksheet 0 0 ∷ []
+
+abbrev pub listed_member : List HostMember → List ℕ → Option HostMember
+listed_member [] fold = None
+listed_member (m ∷ ms) fold = if bytes_eq fold m.name then Some (record m { name = fold }) else listed_member ms fold
+
+-- a member of a kind of objects: of an object of an unknown kind the run decides
+abbrev pub member_in : HostKind → List ℕ → Option HostMember
+member_in application fold = listed_member mark_members fold
+member_in workbook fold = None
+member_in sheets fold = listed_member sheets_members fold
+member_in sheet fold = listed_member sheet_members fold
+member_in area fold = listed_member area_members fold
+member_in any_object fold = Some (record { name = fold; of = type.object; least = 0; greatest = None })
+
+abbrev pub sheets_value : Term
+sheets_value = a_value (host_object host.Sheets) type.object
+
+-- what stands behind a dot behind an object; the sheets of the workbook are those of the host
+abbrev pub member_of_kind : HostKind → bound.Expr → List ℕ → Term
+member_of_kind workbook object fold = if bytes_eq fold (codes "worksheets") || bytes_eq fold (codes "sheets") then sheets_value else no_term
+member_of_kind kind object fold = unwrap_or (option_map (λ m. a_host_member object m) (member_in kind fold)) no_term
+
+abbrev pub object_member : Place → Node → Declared → List ℕ → Term
+object_member place node of fold = unwrap_or (option_map (λ kind. member_of_kind kind (expression_of node place of) fold) (host_kind node of)) no_term
+
+-- what brackets behind an object take: its default member with arguments is Item
+abbrev pub item_of : Place → Term → Term
+item_of place (a_place x of bounded lends) = if is_host_type of then object_member place (load x) of (codes "item") else a_place x of bounded lends
+item_of place (a_value node of) = if is_host_type of then object_member place node of (codes "item") else a_value node of
+item_of place t = t
 
 abbrev pub no_type : UserType
 no_type = record { name = no_name; fields = [] }
@@ -156,25 +276,26 @@ err_member fold =
     else if bytes_eq fold (codes "clear") then err_clear
     else no_term
 
-abbrev pub field_of_place : Env → Lvalue → Declared → Bool → Identifier → Term
-field_of_place env x (type.udt number) lends f = with_field (field_named env number f) (λ i d. a_place (field x i d.of (has_bounds d)) d.of (has_bounds d) lends)
-field_of_place env x of lends f = no_term
+abbrev pub field_of_place : Env → Place → Lvalue → Declared → Bool → Identifier → Term
+field_of_place env place x (type.udt number) lends f = with_field (field_named env number f) (λ i d. a_place (field x i d.of (has_bounds d)) d.of (has_bounds d) lends)
+field_of_place env place x of lends f = object_member place (load x) of f.name
 
 abbrev pub field_of_value : Env → Place → Node → Declared → Identifier → Term
 field_of_value env place node (type.udt number) f = with_field (field_named env number f) (λ i d. a_value (field_value (expression_of node place (type.udt number)) i) d.of)
-field_of_value env place node of f = no_term
+field_of_value env place node of f = object_member place node of f.name
 
 -- what stands behind a dot
 abbrev pub member_of : Env → Place → Term → Identifier → Term
-member_of env place (a_place x of bounded lends) f = field_of_place env x of lends f
+member_of env place (a_place x of bounded lends) f = field_of_place env place x of lends f
 member_of env place (a_value node of) f = field_of_value env place node of f
 member_of env place (a_routine space number p) f = node_or (bare_call env space number p) (λ node of. field_of_value env place node of f)
+member_of env place (a_host_member e m) f = if m.least == 0 then object_member place (host_member e m.name no_exprs) m.of f.name else no_term
 member_of env place err_object f = err_member f.name
 member_of env place other f = no_term
 
 -- what stands behind a dot that begins a place
-abbrev pub kept_member : Env → Option Within → Identifier → Term
-kept_member env within f = if_there (option_map (λ w. field_of_place env (kept_place w.header) w.of w.lends f) within)
+abbrev pub kept_member : Env → Place → Option Within → Identifier → Term
+kept_member env place within f = if_there (option_map (λ w. field_of_place env place (kept_place w.header) w.of w.lends f) within)
 
 -- ---- functions of the library ([MS-VBAL] 6.1.2)
 
@@ -207,12 +328,35 @@ function_called env f text_form base gs =
     then if_there (option_map (λ es. a_value (bound.library f text_form es (compare_in env.scope) (pos base)) (declared_of f text_form)) (listed_values (function_value (value_of env)) gs))
     else no_term
 
+-- the arguments of a member: each is given, and none by a name
+abbrev pub host_arguments : Env → List Given → Option Exprs
+host_arguments env gs = if all_given gs then listed_values (given_as env) gs else None
+
+-- whether a member takes so many arguments; behind one that takes none they index what it gives
+abbrev pub takes_behind : Declared → ℕ → Bool
+takes_behind type.variant count = true
+takes_behind type.range count = count == 2
+takes_behind other count = false
+
+abbrev pub takes_arguments : HostMember → ℕ → Bool
+takes_arguments m count = at m.greatest
+  where
+    at : Option ℕ → Bool
+    at None = true
+    at (Some zero) = takes_behind m.of count
+    at (Some greatest) = nat_le m.least count && nat_le count greatest
+
+abbrev pub host_called : Env → bound.Expr → HostMember → List Given → Term
+host_called env e m gs =
+    if takes_arguments m (length gs) then if_there (option_map (λ es. a_value (host_member e m.name es) m.of) (host_arguments env gs)) else no_term
+
 -- what arguments in brackets make of a term
 abbrev pub indexed : Env → Place → Term → List Given → Term
 indexed env place (a_place x of bounded lends) gs = with_type (element_type of) (numbers_of (value_of env) gs) (λ u es. a_place (element_place x es) u false lends)
 indexed env place (a_value node of) gs = indexed_value place node of (numbers_of (value_of env) gs)
 indexed env place (a_routine space number p) gs = call_with (value_of env) env place gs space number p
 indexed env place (a_function f text_form base) gs = function_called env f text_form base gs
+indexed env place (a_host_member e m) gs = host_called env e m gs
 indexed env place other gs = no_term
 
 -- ---- names
@@ -266,8 +410,19 @@ library_term env x = if bytes_eq x.name (codes "error") then error_word else at 
     at (Some f) = a_function f (has_dollar x) (array_base env f)
     at None = constant_term env x (Some of_library)
 
+-- the first sheet is the active one
+abbrev pub sheet_term : Identifier → Term
+sheet_term x = object_member nowhere active_sheet type.worksheet x.name
+
 abbrev pub host_term : Identifier → Term
-host_term x = if bytes_eq x.name (codes "err") then err_object else no_term
+host_term x =
+    if bytes_eq x.name (codes "err") then err_object
+    else if bytes_eq x.name (codes "worksheets") || bytes_eq x.name (codes "sheets") then sheets_value
+    else if bytes_eq x.name (codes "cells") || bytes_eq x.name (codes "range") then sheet_term x
+    else if bytes_eq x.name (codes "activesheet") then a_value active_sheet type.worksheet
+    else if bytes_eq x.name (codes "thisworkbook") || bytes_eq x.name (codes "activeworkbook") then a_value (host_object host.Workbook) type.object
+    else if bytes_eq x.name (codes "application") then a_value (host_object host.Application) type.object
+    else no_term
 
 abbrev pub meant_term : Env → Identifier → Option Meant → Term
 meant_term env x (Some (of_procedure number l)) = own_term env x number l
@@ -303,6 +458,10 @@ abbrev pub binary_term : Env → Option OpKind → Option bound.Expr → Option 
 binary_term env kind left right =
     if_there (from_three (λ o a b. a_value (bound.binary o (compare_in env.scope) a b) (result_of o (bound.operand_type a) (bound.operand_type b))) kind left right)
 
+-- Is: whether both are the same object ([MS-VBAL] 5.6.9.7)
+abbrev pub same_term : (left right : Option bound.Expr) → Term
+same_term left right = if_there (from_two (λ a b. a_value (bound.same a b) type.boolean) left right)
+
 -- a parenthesised expression is a value
 abbrev pub value_term : bound.Expr → Term
 value_term (bound.expr node place of operand) = a_value node of
@@ -318,13 +477,16 @@ abbrev mutual
   term_of env (literal l) = literal_term (literal_meant l.value)
   term_of env (me token) = no_term
   term_of env (name x) = meant_term env x (declares plainly env.scope x)
-  term_of env (with_member dot x) = kept_member env env.within x
+  term_of env (with_member dot x) = kept_member env dot.place env.within x
   term_of env (member base dot x) = behind_term env (qualifier_of env.scope base) x (member_of env (place_of_expression base) (term_of env base) x)
-  term_of env (index base left args right) = indexed env (place_of_expression base) (callee env base (term_of env base)) (givens env args)
+  term_of env (index base left args right) =
+      indexed env (place_of_expression base) (item_of (place_of_expression base) (callee env base (term_of env base))) (givens env args)
   term_of env (parenthesised left e right) = as_value env (term_of env e) (place_of_expression e)
   term_of env (new new_word t) = no_term
   term_of env (type_of type_of_word e is_word t) = no_term
   term_of env (unary o token e) = unary_term (unary_kind o) (operand_of env (term_of env e) (place_of_expression e))
+  term_of env (binary l operator.Is token r) =
+      same_term (reference_of env (term_of env l) (place_of_expression l)) (reference_of env (term_of env r) (place_of_expression r))
   term_of env (binary l o token r) =
       binary_term env (operator_kind o) (operand_of env (term_of env l) (place_of_expression l)) (operand_of env (term_of env r) (place_of_expression r))
 
@@ -338,6 +500,13 @@ abbrev mutual
 -- an expression as a value, and as an operand
 abbrev pub bound_value : Env → Expr → Option bound.Expr
 bound_value env e = value_of env (term_of env e) (place_of_expression e)
+
+-- the same as a reference, and as it is
+abbrev pub bound_reference : Env → Expr → Option bound.Expr
+bound_reference env e = reference_of env (term_of env e) (place_of_expression e)
+
+abbrev pub bound_as_given : Env → Expr → Option bound.Expr
+bound_as_given env e = given_as env (term_of env e) (place_of_expression e)
 
 abbrev pub bound_operand : Env → Expr → Option bound.Expr
 bound_operand env e = operand_of env (term_of env e) (place_of_expression e)

@@ -1,5 +1,6 @@
 -- The statements of a procedure in one list ([MS-VBAL] 5.4).
-use Rattle.std.specs.Prelude.{ℕ, zero, suc, ◌+◌, ◌==◌, Bool, true, false, ◌&&◌, not, pos, List, [], ◌∷◌, ◌++◌, length, codes, Option, Some, None, is_some, option_map, option_and_then, if◌then◌else◌}
+use Rattle.std.specs.Prelude.{ℕ, zero, suc, ◌+◌, ◌==◌, Bool, true, false, ◌&&◌, ◌||◌, not, bytes_eq, pos, List, [], ◌∷◌, ◌++◌, length, codes, Option, Some, None, is_some, option_map, option_and_then, if◌then◌else◌}
+use Rattle.std.specs.List.{list_any}
 use Rattle.vba_base.specs.declared.place.Place.{Place}
 use Rattle.vba_values.specs.declared.types.OpKind.TheVariants as op
 use Rattle.vba_values.specs.declared.types.WholeKind.TheVariants as kind
@@ -25,7 +26,7 @@ use Rattle.vba_module.specs.Parts.{Part, label, statement, place_of}
 use Rattle.vba_module.specs.Blocks.{for_loop, do_loop, select, same_kind, Role, opens, divides, closes, role_of}
 use Rattle.vba_module.specs.Headers.{all_of}
 use Rattle.vba_module.specs.Misplaced.{statement_place}
-use Rattle.bound_project.specs.Expressions.{Variable, Node, constant, Lvalue, variable, Exprs, no_exprs, also, Prints, no_prints, shown, zone}
+use Rattle.bound_project.specs.Expressions.{Variable, Node, constant, load, Lvalue, variable, Exprs, no_exprs, also, Prints, no_prints, shown, zone}
 use Rattle.bound_project.specs.Expressions as bound
 use Rattle.bound_project.specs.Statements as to
 use Rattle.bound_project.specs.Statements.{Statement, Block, Action, Tests, no_tests, test_is, test_range, Handling, passed_on, skipped, handled_at, Resizes, no_resizes, resize, Arrays, no_arrays, an_array}
@@ -40,8 +41,8 @@ use Rattle.binder.specs.Types.{written_type, is_object}
 use Rattle.binder.specs.Constants.{known_length}
 use Rattle.binder.specs.Numbering.{count, count_list, simple_count, part_count, here, an_arm, behind_block, behind_kind, Opened, Standing, sought_behind}
 use Rattle.binder.specs.Violations.{same_label_name}
-use Rattle.binder.specs.Terms.{Within, Env, Term, a_place, a_value, a_routine, err_raise, err_clear, error_word, expression_of, Given, bound_arguments, has_names}
-use Rattle.binder.specs.ExpressionsBound.{writer, bare_call, parameters_in, value_of, indexed, callee, term_of, givens, bound_value, bound_operand}
+use Rattle.binder.specs.Terms.{Within, Env, HostMember, Term, a_place, a_value, a_routine, a_host_member, err_raise, err_clear, error_word, expression_of, Given, bound_arguments, has_names}
+use Rattle.binder.specs.ExpressionsBound.{writer, bare_call, parameters_in, value_of, reference_of, given_as, mark_members, item_of, host_arguments, takes_arguments, indexed, callee, term_of, givens, bound_value, bound_reference, bound_as_given, bound_operand}
 
 -- ---- the procedure round a statement
 
@@ -62,6 +63,7 @@ settled env t = t
 abbrev pub keeps : ℕ → Term → Option Within
 keeps header (a_place x of bounded lends) = Some (record { header = header; of = of; lends = lends })
 keeps header (a_value node of) = Some (record { header = header; of = of; lends = false })
+keeps header (a_host_member e m) = Some (record { header = header; of = m.of; lends = false })
 keeps header other = None
 
 abbrev pub with_object : Part → Option Expr
@@ -117,8 +119,8 @@ called_term env place err_raise gs = raised env gs
 called_term env place err_clear [] = Some to.clear_err
 called_term env place error_word gs = if is_one gs then raised env gs else None
 called_term env place (a_routine space number p) gs = option_map to.evaluate (value_of env (indexed env place (a_routine space number p) gs) place)
-called_term env place t [] = option_map to.evaluate (value_of env t place)
-called_term env place t gs = option_map to.evaluate (value_of env (indexed env place t gs) place)
+called_term env place t [] = option_map to.evaluate (given_as env t place)
+called_term env place t gs = option_map to.evaluate (given_as env (indexed env place (item_of place t) gs) place)
 
 abbrev pub called_with : Env → Expr → List Given → Option Action
 called_with env e gs = called_term env (place_of_expression e) (callee env e (term_of env e)) gs
@@ -145,24 +147,67 @@ let_to env space gs v f = at (parameters_in env.scope space f.1)
     at : List Parameter → Option Action
     at ps = option_map (λ args. to.let_property (procedure_number env.scope space f.0) args v (value_type ps)) (bound_arguments (value_of env) (but_last ps) gs)
 
+-- the default member of an object is written: that of a range is Value, and a sheet has none
+abbrev pub has_written_default : Declared → Bool
+has_written_default type.range = true
+has_written_default type.object = true
+has_written_default other = false
+
+abbrev pub default_written : bound.Expr → Declared → bound.Expr → Option Action
+default_written target of v = if has_written_default of then Some (to.assign_default target v) else None
+
+-- a member of an object is written: one that can be, or the default member of the object that it gives
+abbrev pub is_written_member : HostMember → Bool
+is_written_member m =
+    bytes_eq m.name (codes "value") || has_written_default m.of || list_any (λ (w : HostMember). bytes_eq m.name w.name) mark_members
+
+-- arguments behind a member that takes none would index its value, of which nothing is kept
+abbrev pub fits_written : HostMember → List Given → Bool
+fits_written m [] = m.least == 0
+fits_written m gs = takes_arguments m (length gs) && has_written_default m.of
+
+abbrev pub member_written : Env → bound.Expr → HostMember → List Given → bound.Expr → Option Action
+member_written env e m gs v =
+    if is_written_member m && fits_written m gs then option_map (λ es. to.assign_member e m.name es v) (host_arguments env gs) else None
+
 -- an element that nothing has is read and left
 abbrev pub assigned : Env → Place → bound.Expr → List Given → Term → Option Action
-assigned env place v gs (a_place x of bounded lends) = if is_object of then None else Some (to.assign x v)
+assigned env place v gs (a_place x of bounded lends) = if is_object of then default_written (expression_of (load x) place of) of v else Some (to.assign x v)
 assigned env place v gs (a_routine space number p) = option_and_then (let_to env space gs v) (writer env.scope space p)
-assigned env place v gs (a_value node of) = option_map (λ x. to.assign_none x v) (value_of env (a_value node of) place)
+assigned env place v gs (a_host_member e m) = member_written env e m gs v
+assigned env place v gs (a_value node of) =
+    if is_object of then default_written (expression_of node place of) of v else option_map (λ x. to.assign_none x v) (value_of env (a_value node of) place)
 assigned env place v gs other = None
 
--- a property takes its arguments with the value
-abbrev pub is_property_term : Env → Term → Bool
-is_property_term env (a_routine space number p) = is_some (writer env.scope space p)
-is_property_term env t = false
+-- a property, and a member of an object of the host, take their arguments with the value
+abbrev pub takes_value : Env → Term → Bool
+takes_value env (a_routine space number p) = is_some (writer env.scope space p)
+takes_value env (a_host_member e m) = true
+takes_value env t = false
+
+-- what an assignment with brackets at the end of its target is to, before their arguments
+abbrev pub target_before : Env → Expr → Term
+target_before env base = item_of (place_of_expression base) (callee env base (term_of env base))
 
 abbrev pub assigned_to : Env → Expr → bound.Expr → Option Action
 assigned_to env (index base left args right) v =
-    let t = callee env base (term_of env base) in
-    if is_property_term env t then assigned env (place_of_expression base) v (givens env args) t
+    let t = target_before env base in
+    if takes_value env t then assigned env (place_of_expression base) v (givens env args) t
     else assigned env (place_of_expression base) v [] (indexed env (place_of_expression base) t (givens env args))
 assigned_to env e v = assigned env (place_of_expression e) v [] (term_of env e)
+
+-- the value of an assignment: where the target takes it with arguments an object comes as it is
+abbrev pub is_given_with : Env → Expr → Bool
+is_given_with env (index base left args right) = takes_value env (target_before env base)
+is_given_with env e = takes_value env (term_of env e)
+
+abbrev pub value_for : Env → Expr → Expr → Option bound.Expr
+value_for env x e = if is_given_with env x then bound_as_given env e else bound_operand env e
+
+-- Set: a variable of an object type is given a reference ([MS-VBAL] 5.4.3.9)
+abbrev pub set_to : Term → bound.Expr → Option Action
+set_to (a_place x of bounded lends) v = if is_object of then Some (to.set x v) else None
+set_to other v = None
 
 -- ReDim: the base of the module where no low bound is written
 abbrev pub integer : Place → ℕ → bound.Expr
@@ -271,6 +316,10 @@ abbrev pub for_action : Option Variable → Env → Option bound.Expr → Option
 for_action counter env start last step first behind =
     option_and_then (λ x. from_three (λ a b c. to.for_to x (compare_in env.scope) a b c first behind) start last step) counter
 
+-- what a For Each walks: an array, or for a variable of an object type the sheets or the cells of a range
+abbrev pub walked : Env → Variable → Expr → Option bound.Expr
+walked env v group = if is_object v.of then bound_as_given env group else bound_value env group
+
 -- the line that opened the innermost block
 abbrev pub line_of : Part → Option BlockLine
 line_of (statement (simple (block_line line))) = Some line
@@ -317,8 +366,9 @@ selected a (o ∷ os) = option_and_then at (line_of o.line)
     at line = None
 
 abbrev pub with_action : Term → Env → Place → Option Action
-with_action (a_place x of bounded lends) env place = if is_object of then None else Some (to.with_place x)
-with_action t env place = option_map to.with_value (value_of env t place)
+with_action (a_place x of bounded lends) env place =
+    if is_object of then option_map to.with_value (reference_of env (a_place x of bounded lends) place) else Some (to.with_place x)
+with_action t env place = option_map to.with_value (given_as env t place)
 
 abbrev pub block_action : Around → Standing → BlockLine → Option Action
 block_action a s line = at line
@@ -344,7 +394,8 @@ block_action a s line = at line
         from_two (λ v ts. to.case_of ts (header_of s.around) (bound.operand_type v) (compare_in env.scope) first next_arm) (selected a s.around) (case_tests env (all_of tests))
     at (for_line for_word x equal start to_word limit step) =
         for_action (loop_variable env x) env (bound_operand env start) (bound_operand env limit) (step_value env (place_of s.part) step) first behind
-    at (for_each for_word each_word x in_word group) = from_two (λ v e. to.for_each v e first behind) (loop_variable env x) (bound_value env group)
+    at (for_each for_word each_word x in_word group) =
+        option_and_then (λ v. option_map (λ e. to.for_each v e first behind) (walked env v group)) (loop_variable env x)
     at (next_line next_word x) = next_action env s.around
     at (do_line do_word c) = loop_action env c first behind
     at (loop_line loop_word c) = loop_action env c (header_of s.around) first
@@ -357,7 +408,8 @@ block_action a s line = at line
 -- ---- statements
 
 abbrev pub simple_action : Around → Standing → Simple → Option Action
-simple_action a s (assignment let_word x equal e) = option_and_then (assigned_to (env_at a s) x) (bound_operand (env_at a s) e)
+simple_action a s (assignment let_word x equal e) = option_and_then (assigned_to (env_at a s) x) (value_for (env_at a s) x e)
+simple_action a s (set_assignment set_word x equal e) = option_and_then (set_to (term_of (env_at a s) x)) (bound_reference (env_at a s) e)
 simple_action a s (call_place call_word e) = called_place (env_at a s) e
 simple_action a s (call e args) = called_with (env_at a s) e (givens (env_at a s) args)
 simple_action a s (re_dim redim_word preserve_word arrays) = option_map (to.redim (is_some preserve_word)) (redim_arrays (env_at a s) (all_of arrays))

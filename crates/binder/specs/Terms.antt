@@ -7,7 +7,7 @@ use Rattle.vba_values.specs.Coerce.{is_same_type}
 use Rattle.vba_values.specs.Types.{Declared}
 use Rattle.vba_values.specs.Types as type
 use Rattle.vba_lib.specs.declared.function.LibraryFunction.{LibraryFunction}
-use Rattle.bound_project.specs.Expressions.{Storage, Variable, ErrMember, err_number, err_source, err_description, Node, not_given, constant, load, element_value, field_value, call, err_value, Lvalue, variable, item, element, field, kept_place, Exprs, no_exprs, also}
+use Rattle.bound_project.specs.Expressions.{Storage, Variable, ErrMember, err_number, err_source, err_description, Node, not_given, constant, load, element_value, field_value, call, err_value, host_member, Lvalue, variable, item, element, field, kept_place, Exprs, no_exprs, also}
 use Rattle.bound_project.specs.Expressions as bound
 use Rattle.bound_project.specs.Project.{Parameter}
 use Rattle.binder.specs.Options.{from_two}
@@ -28,6 +28,14 @@ pub record Env : Type 0 where
   pub first : ℕ
   pub within : Option Within
 
+-- a member of an object of the host: its folded name, the type of what it gives, the least number of its arguments and,
+-- where it is known before the run, the greatest
+pub record HostMember : Type 0 where
+  pub name : List ℕ
+  pub of : Declared
+  pub least : ℕ
+  pub greatest : Option ℕ
+
 pub data Term : Type 0 where
   -- a place, whether it is an array that is declared with bounds, and whether it is lent to a ByRef parameter
   a_place : Lvalue → Declared → (bounded lends : Bool) → Term
@@ -36,6 +44,8 @@ pub data Term : Type 0 where
   a_routine : Space → ℕ → Written → Term
   -- a function of the library: whether $ stands behind its name, and from where the array counts that Array makes
   a_function : LibraryFunction → (text_form : Bool) → (base : ℕ) → Term
+  -- a member of an object of the host, which is neither read nor called yet
+  a_host_member : bound.Expr → HostMember → Term
   err_object : Term
   err_raise : Term
   err_clear : Term
@@ -48,7 +58,7 @@ pub data Term : Type 0 where
 abbrev pub expression_of : Node → Place → Declared → bound.Expr
 expression_of node place of = bound.expr node place of of
 
--- objects aren't built, so a value of an object type is none
+-- a value of an object type is none: it is taken as a reference, or gives way to its default member's value
 abbrev pub typed_value : Node → Place → Declared → Option bound.Expr
 typed_value node place of = if is_object of then None else Some (expression_of node place of)
 
@@ -56,6 +66,7 @@ typed_value node place of = if is_object of then None else Some (expression_of n
 abbrev pub value_with : (call_of : Space → ℕ → Written → Term) → Term → Place → Option bound.Expr
 value_with call_of (a_place x of bounded lends) place = typed_value (load x) place of
 value_with call_of (a_value node of) place = typed_value node place of
+value_with call_of (a_host_member e m) place = if m.least == 0 then typed_value (host_member e m.name no_exprs) place m.of else None
 value_with call_of (a_routine space number p) place = of_call (call_of space number p)
   where
     of_call : Term → Option bound.Expr
@@ -77,12 +88,15 @@ pub record Item : Type 0 where
   pub add : bound.Args → Option bound.Args
 
 -- the way in which a parameter takes what is given: a variable of its own type by its place, unless it is ByVal; a
--- Variant takes one of any type
+-- Variant takes one of any type but an object's
 abbrev pub by_copy : (Term → Place → Option bound.Expr) → Parameter → Term → Place → bound.Args → Option bound.Args
 by_copy value p t place rest = option_map (λ e. bound.by_copy e p.of rest) (value t place)
 
+abbrev pub is_lent_to : (of parameter : Declared) → Bool
+is_lent_to of parameter = (is_variant parameter && not (is_object of)) || is_same_type of parameter
+
 abbrev pub lent_to : Parameter → Lvalue → Declared → bound.Args → Option bound.Args
-lent_to p x of rest = if is_variant p.of || is_same_type of p.of then Some (bound.by_place x rest) else None
+lent_to p x of rest = if is_lent_to of p.of then Some (bound.by_place x rest) else None
 
 abbrev pub by_reference : (Term → Place → Option bound.Expr) → Parameter → Term → Place → bound.Args → Option bound.Args
 by_reference value p (a_place x of bounded true) place rest = lent_to p x of rest

@@ -1,5 +1,5 @@
 -- What the value of an assignment goes to.
-use Rattle.std.proofs.Common.{◌≡◌, ℕ, Bool, true, List, [], ◌∷◌, ◌++◌, map, length, Some, is_some, if◌then◌else◌, refl, sym, ap, subst, ◌∙◌}
+use Rattle.std.proofs.Common.{◌≡◌, ℕ, Bool, true, List, [], ◌∷◌, ◌++◌, map, length, Option, Some, is_some, if◌then◌else◌, refl, sym, ap, subst, ◌∙◌}
 use Rattle.std.specs.Prelude.{option_and_then, slice_get}
 use Rattle.std.proofs.lemmas.List.{map-append}
 use Rattle.vba_base.specs.declared.place.Place.{Place}
@@ -7,8 +7,10 @@ use Rattle.vba_lexer.specs.declared.token.Token.{Token}
 use Rattle.bound_project.specs.Project as project
 use Rattle.vba_expression.specs.Tree.{Expr, index, Args}
 use Rattle.vba_expression.specs.Nodes as nodes
-use Rattle.vba_expression.specs.Nodes.{tree_in}
+use Rattle.vba_expression.specs.Nodes.{behind_nodes, last_tree, tree_in}
 use Rattle.vba_expression.specs.declared.node.ExpressionNode.{ExpressionNode}
+use Rattle.vba_expression.specs.declared.node.ExpressionNode.TheVariants as node
+use Rattle.vba_words.specs.declared.identifier.Identifier.{Identifier}
 use Rattle.bound_project.specs.declared.declared_type.DeclaredType.{DeclaredType}
 use Rattle.bound_project.specs.declared.declarations.Parameter.{Parameter}
 use Rattle.bound_project.specs.declared.statement.ActionKind.{ActionKind}
@@ -28,16 +30,18 @@ use Rattle.binder.specs.Scopes.{Space}
 use Rattle.binder.specs.Storage.{procedure_number}
 use Rattle.binder.specs.Terms.{Env, Given, a_routine}
 use Rattle.binder.specs.Terms as plain
-use Rattle.binder.specs.ExpressionsBound.{bound_operand, callee, givens, indexed, parameters_in, term_of, value_of}
-use Rattle.binder.specs.StatementsBound.{assigned, assigned_to, is_property_term}
+use Rattle.binder.specs.ExpressionsBound.{callee, item_of, givens, indexed, parameters_in, term_of, value_of}
+use Rattle.binder.specs.StatementsBound.{assigned, assigned_to, is_given_with, takes_value, target_before, value_for}
 use Rattle.declared_names.specs.View.{space_view, written_view}
 use Rattle.bound_actions.specs.declared.trees.Split.{Split}
 use Rattle.bound_terms.specs.declared.properties.Writer.{Writer}
 use Rattle.bound_calls.specs.declared.term.Term.{Term}
 use Rattle.bound_calls.specs.declared.term.Tree.{Tree}
 use Rattle.bound_calls.specs.Standing.{RoutineStands, TermStands, TreeStands}
-use Rattle.bound_calls.specs.Steps.{Binds, Leaves}
+use Rattle.bound_calls.specs.Steps.{Leaves}
 use Rattle.bound_actions.specs.Actions.{ActionStands, Assigns}
+use Rattle.bound_actions.specs.Assigning.{ValueFor}
+use Rattle.bound_actions.specs.Members.{AssignsItem, AssignsTree, NamedBy}
 use Rattle.bound_calls.specs.Calls.{PassesRest}
 use Rattle.bound_actions.specs.Called.{ActionIs, AllPassed, AssignsTo, IsBare, LeavesAlone, Lets, LetsOn, PassesAll, SplitAt, args_on}
 use Rattle.bound_terms.specs.Callee.{CalleeIs, IsWriter, WriterOf}
@@ -46,6 +50,7 @@ use Rattle.bound_calls.proofs.Arguing.{left_long}
 use Rattle.bound_calls.proofs.CallSteps.{parameters_long}
 use Rattle.bound_calls.proofs.Passing.{arguments_bound}
 use Rattle.bound_actions.proofs.Called.{index_is}
+use Rattle.bound_actions.proofs.NodeTrees.{behind_both}
 use Rattle.bound_calls.proofs.Reading.{let_is}
 
 -- ---- properties that are assigned to
@@ -96,6 +101,7 @@ pub lets_bare : (env : Env) (w : Writer) (procedure : ℕ) (parameters front : L
 lets_bare env w procedure parameters front last all d e is number_is found split a h = record {
   grown = h.grown;
   named = tt;
+  takes = refl;
   stands = let_stands env w procedure parameters front last [] 0 all d e is number_is found split (passes_front env front d e all h a);
 }
 
@@ -108,6 +114,7 @@ lets_given env w procedure parameters front last ns written all d e is number_is
   lets = λ items. record {
     grown = h.grown;
     named = tt;
+    takes = refl;
     stands = let_stands env w procedure parameters front last (givens env (args_on items ns)) written all d e is number_is found split (h.stands items);
   };
 }
@@ -119,39 +126,74 @@ pub assigns_place : (env : Env) (place : Expr) (x : Tree) (d f e : Drafted) → 
 assigns_place env place x d f e l a = record {
   grown = grown_twice d f e l.grown a.grown;
   named = tt;
+  takes = a.takes env place d.pieces l.stands;
   stands = λ value alone.
       let T : List Piece → Type 0 = λ ps. TreeStands env f.tables x place f.pieces ps in
       let s = a.stands env place value (subst T alone l.stands) in
       record { made = assign s.0 value; is = s.1; fits = ap (λ ps. action_of e.tables action.Assign ps) s.2 };
 }
 
-bare_assigned : (env : Env) (place : Expr) (value : bound.Expr) → IsBare place → assigned_to env place value ≡ assigned env (place_of_expression place) value [] (term_of env place)
+pub place_assigned : (x : Tree) (name : Option Identifier) (d e : Drafted) → Assigns x d e → AssignsTree x name d e action.Assign
+place_assigned x name d e a = record {
+  grown = a.grown;
+  named = tt;
+  takes = λ env tree below bare h. a.takes env tree below h;
+  stands = λ env tree value bare k h.
+      let s = a.stands env tree value h in
+      record { made = assign s.0 value; is = s.1; fits = ap (λ ps. action_of e.tables action.Assign ps) s.2 };
+}
+
+pub bare_assigned : (env : Env) (place : Expr) (value : bound.Expr) → IsBare place → assigned_to env place value ≡ assigned env (place_of_expression place) value [] (term_of env place)
 bare_assigned env (index base left args right) value h = absurd h
 bare_assigned env e value h = refl
 
+pub bare_given : (env : Env) (place : Expr) → IsBare place → is_given_with env place ≡ takes_value env (term_of env place)
+bare_given env (index base left args right) h = absurd h
+bare_given env e h = refl
+
 -- to a property without arguments
+routine_is : (env : Env) (w : Writer) (y : plain.Term) (ps below : List Piece) → (s : RoutineStands env w.routine y ps below) → y ≡ a_routine (space_view w.routine.space.now) s.number (written_view w.routine.written)
+routine_is env w y ps below s =
+    s.is ∙ ap (λ q. a_routine q s.number s.written) s.space_is ∙ ap (λ q. a_routine (space_view w.routine.space.now) s.number q) s.written_is
+
+has_writer : (env : Env) (w : Writer) (y : plain.Term) (ps below : List Piece) → IsWriter env.scope w → RoutineStands env w.routine y ps below → takes_value env y ≡ true
+has_writer env w y ps below is s = ap (λ z. takes_value env z) (routine_is env w y ps below s) ∙ ap (λ o. is_some o) is.found
+
 pub assigns_bare : (env : Env) (place : Expr) (x : Tree) (w : Writer) (d f e : Drafted) (kind : ActionKind) → IsBare place → Leaves env place d f x → WriterOf env.scope x.term w → Lets env w.routine [] f e kind → AssignsTo env place d e kind
-assigns_bare env place x w d f e kind bare l is h = record {
-  grown = grown_twice d f e l.grown h.grown;
-  named = h.named;
+assigns_bare env place x w d f e kind bare l is h =
+    let T : Term → Type 0 = λ t. TermStands env f.tables t (term_of env place) f.pieces d.pieces in
+    let s = subst T is.is l.stands.term_is in
+    record {
+      grown = grown_twice d f e l.grown h.grown;
+      named = h.named;
+      takes = bare_given env place bare ∙ has_writer env w (term_of env place) f.pieces d.pieces is.writer s ∙ sym h.takes;
+      stands = λ value alone.
+          let m = h.stands (term_of env place) (place_of_expression place) value f.pieces d.pieces s (s.none_pushed ∙ alone) in
+          record { made = m.made; is = bare_assigned env place value bare ∙ m.is; fits = m.fits };
+    }
+
+-- to another expression that doesn't end with arguments
+pub assigns_tree : (env : Env) (place : Expr) (x : Tree) (name : Option Identifier) (d f e : Drafted) (kind : ActionKind) → IsBare place → NamedBy name (term_of env place) → Leaves env place d f x → AssignsTree x name f e kind → AssignsTo env place d e kind
+assigns_tree env place x name d f e kind bare called l a = record {
+  grown = grown_twice d f e l.grown a.grown;
+  named = a.named;
+  takes = a.takes env place d.pieces bare l.stands;
   stands = λ value alone.
-      let T : Term → Type 0 = λ t. TermStands env f.tables t (term_of env place) f.pieces d.pieces in
-      let s = subst T is.is l.stands.term_is in
-      let m = h.stands (term_of env place) (place_of_expression place) value f.pieces d.pieces s (s.none_pushed ∙ alone) in
-      record { made = m.made; is = bare_assigned env place value bare ∙ m.is; fits = m.fits };
+      let T : List Piece → Type 0 = λ ps. TreeStands env f.tables x place f.pieces ps in
+      a.stands env place value bare called (subst T alone l.stands);
 }
 
 -- to a property with arguments
-has_writer : (env : Env) (w : Writer) (y : plain.Term) (ps below : List Piece) → IsWriter env.scope w → RoutineStands env w.routine y ps below → is_property_term env y ≡ true
-has_writer env w y ps below is s =
-    let term_is : y ≡ a_routine (space_view w.routine.space.now) s.number (written_view w.routine.written) =
-    s.is ∙ ap (λ q. a_routine q s.number s.written) s.space_is ∙ ap (λ q. a_routine (space_view w.routine.space.now) s.number q) s.written_is in
-    ap (λ z. is_property_term env z) term_is ∙ ap (λ o. is_some o) is.found
+item_itself : (place : Place) (y : plain.Term) (space : Space) (number : ℕ) (p : Written) → y ≡ a_routine space number p → item_of place y ≡ y
+item_itself place y space number p e = ap (λ z. item_of place z) e ∙ sym e
 
-split_assigned : (env : Env) (base : Expr) (left right : Token) (args : Args) (value : bound.Expr) → is_property_term env (callee env base (term_of env base)) ≡ true
-    → assigned_to env (index base left args right) value ≡ assigned env (place_of_expression base) value (givens env args) (callee env base (term_of env base))
+split_given : (env : Env) (base : Expr) (left right : Token) (args : Args) → takes_value env (target_before env base) ≡ true → is_given_with env (index base left args right) ≡ true
+split_given env base left right args h = h
+
+split_assigned : (env : Env) (base : Expr) (left right : Token) (args : Args) (value : bound.Expr) → takes_value env (target_before env base) ≡ true
+    → assigned_to env (index base left args right) value ≡ assigned env (place_of_expression base) value (givens env args) (target_before env base)
 split_assigned env base left right args value h =
-    let t = callee env base (term_of env base) in
+    let t = target_before env base in
     ap (λ (b : Bool). if b then assigned env (place_of_expression base) value (givens env args) t else assigned env (place_of_expression base) value [] (indexed env (place_of_expression base) t (givens env args))) h
 
 pub assigns_split : (env : Env) (split : Split) (all : List ExpressionNode) (x : Tree) (y : Term) (w : Writer) (d f g e : Drafted) (kind : ActionKind) → SplitAt split all → LeavesAlone env split.target.now d f x → CalleeIs env x f g y
@@ -165,17 +207,47 @@ assigns_split env split all x y w d f g e kind at l c is h =
     let z = callee env base (term_of env base) in
     let T : Term → Type 0 = λ t. TermStands env g.tables t z f.pieces d.pieces in
     let s : RoutineStands env w.routine z f.pieces d.pieces = subst T is.is (c.stands base f.pieces d.pieces l.leaves.stands) in
+    let same : target_before env base ≡ z = item_itself (place_of_expression base) z (space_view w.routine.space.now) s.number (written_view w.routine.written) (routine_is env w z f.pieces d.pieces s) in
+    let taken : takes_value env (target_before env base) ≡ true = ap (λ q. takes_value env q) same ∙ has_writer env w z f.pieces d.pieces is.writer s in
     subst P (sym (index_is split all at l.alone h.framed)) (record {
       grown = grown_twice d f e l.leaves.grown (grown_twice f g e c.grown m.grown);
       named = m.named;
+      takes = split_given env base at.left at.right args taken ∙ sym m.takes;
       stands = λ value alone.
           let done = m.stands z (place_of_expression base) value f.pieces d.pieces s (c.pieces ∙ s.none_pushed ∙ alone) in
-          record { made = done.made; is = split_assigned env base at.left at.right args value (has_writer env w z f.pieces d.pieces is.writer s) ∙ done.is; fits = done.fits };
+          record {
+            made = done.made;
+            is = split_assigned env base at.left at.right args value taken ∙ ap (λ q. assigned env (place_of_expression base) value (givens env args) q) same ∙ done.is;
+            fits = done.fits;
+          };
     })
 
-pub action_assigned : (env : Env) (value place : Expr) (of : DeclaredType) (d e g : Drafted) (kind : ActionKind) → d.pieces ≡ [] → Binds (bound_operand env value) d e (Some of) → AssignsTo env place e g kind
-    → ActionStands (Some kind) (option_and_then (assigned_to env place) (bound_operand env value)) d g
-action_assigned env value place of d e g kind none b a =
+-- to a member with arguments
+all_is : (split : Split) (all : List ExpressionNode) (s : SplitAt split all) → behind_nodes [] split.target.now ≡ nodes.tree (tree_in split.target.now) ∷ []
+    → tree_in all ≡ last_tree (behind_nodes (nodes.tree (tree_in split.target.now) ∷ []) (split.arguments.now ++ node.Index s.left s.right ∷ []))
+all_is split all s alone =
+    let base = nodes.tree (tree_in split.target.now) ∷ [] in
+    ap tree_in s.is ∙ ap last_tree (behind_both [] split.target.now split.closed.now) ∙ ap (λ is. last_tree (behind_nodes is split.closed.now)) alone
+    ∙ ap (λ (l : List ExpressionNode). last_tree (behind_nodes base l)) s.closed_is
+
+pub assigns_member : (env : Env) (split : Split) (all : List ExpressionNode) (x : Tree) (y : Term) (d f g e : Drafted) (kind : ActionKind) → SplitAt split all → LeavesAlone env split.target.now d f x → CalleeIs env x f g y
+    → AssignsItem env x.place y split.arguments.now g e kind → AssignsTo env (tree_in all) d e kind
+assigns_member env split all x y d f g e kind at l c a =
+    let base = tree_in split.target.now in
+    let P : Expr → Type 0 = λ t. AssignsTo env t d e kind in
+    let z = callee env base (term_of env base) in
+    let T : List Piece → Type 0 = λ ps. TermStands env g.tables y z ps d.pieces in
+    let m = a.stands base at.left at.right d.pieces l.leaves.stands.place_is (subst T (sym c.pieces) (c.stands base f.pieces d.pieces l.leaves.stands)) in
+    subst P (sym (all_is split all at l.alone)) (record {
+      grown = grown_twice d f e l.leaves.grown (grown_twice f g e c.grown a.grown);
+      named = a.named;
+      takes = m.given ∙ sym a.takes;
+      stands = m.does;
+    })
+
+pub action_assigned : (env : Env) (value place : Expr) (d e g : Drafted) (kind : ActionKind) → d.pieces ≡ [] → ValueFor (value_for env place value) d e → AssignsTo env place e g kind
+    → ActionStands (Some kind) (option_and_then (assigned_to env place) (value_for env place value)) d g
+action_assigned env value place d e g kind none b a =
     let made = b.pushed.made in
     let alone : e.pieces ≡ an_expr made ∷ [] = b.pushed.on_top ∙ ap (λ (ps : List Piece). an_expr made ∷ ps) none in
     let s = a.stands made alone in

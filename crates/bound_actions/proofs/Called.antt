@@ -15,17 +15,17 @@ use Rattle.bound_project.specs.Expressions as bound
 use Rattle.bound_project.specs.Statements.{evaluate}
 use Rattle.bound_project.specs.Statements as to
 use Rattle.bound_project.specs.Bodies.{action_of, whole}
-use Rattle.bound_project.specs.View.{parameter_view}
+use Rattle.bound_project.specs.View.{declared_view, parameter_view}
 use Rattle.bound_project.specs.Lists.{above, args_of}
 use Rattle.bound_project.proofs.Lists.{args_are}
-use Rattle.bound_project.specs.Pieces.{Argument, Piece, Tables, an_argument}
+use Rattle.bound_project.specs.Pieces.{Argument, Piece, Tables, an_argument, put}
 use Rattle.bound_project.specs.Project as project
 use Rattle.bound_project.specs.Drafts.{Drafted}
 use Rattle.binder.specs.Declarations.{Written}
 use Rattle.binder.specs.Scopes.{Space}
-use Rattle.binder.specs.Terms.{Env, Given, a_place, a_value, a_routine, a_function, err_object, err_raise, err_clear, error_word, no_term, value_with, bound_arguments, has_names}
+use Rattle.binder.specs.Terms.{Env, Given, a_place, a_value, a_routine, a_function, a_host_member, err_object, err_raise, err_clear, error_word, no_term, value_with, bound_arguments, has_names}
 use Rattle.binder.specs.Terms as plain
-use Rattle.binder.specs.ExpressionsBound.{bare_call, call_with, callee, givens, indexed, term_of, value_of}
+use Rattle.binder.specs.ExpressionsBound.{bare_call, call_with, callee, given_as, givens, indexed, term_of, value_of}
 use Rattle.binder.specs.StatementsBound.{called_place, called_term, called_with, is_one, raise_parameters}
 use Rattle.bound_actions.specs.declared.trees.Split.{Split}
 use Rattle.bound_calls.specs.declared.term.Ending.{Ending}
@@ -36,12 +36,13 @@ use Rattle.bound_calls.specs.declared.term.Passed.{Passed}
 use Rattle.bound_calls.specs.Passing.{AllTaken}
 use Rattle.bound_calls.specs.Standing.{TermStands, TreeStands}
 use Rattle.bound_calls.specs.Steps.{Leaves}
+use Rattle.bound_calls.specs.References.{TakesGiven}
 use Rattle.bound_calls.specs.Taking.{Pushes, TakesValue}
 use Rattle.bound_actions.specs.Actions.{ActionStands}
-use Rattle.bound_calls.specs.Calls.{PassesRest}
-use Rattle.bound_actions.specs.Called.{IsBare, LeavesAlone, SplitAt, args_on, Framed, Reads, RestPushed, AllPassed, PassesAll, ActionIs, Acts, ActsOn, CallsTree, CallsTreeOn}
+use Rattle.bound_calls.specs.Calls.{PassesRest, node_of}
+use Rattle.bound_actions.specs.Called.{IsBare, LeavesAlone, SplitAt, args_on, Framed, is_routine, Reads, RestPushed, AllPassed, PassesAll, ActionIs, Acts, ActsOn, CallsTree, CallsTreeOn}
 use Rattle.bound_terms.specs.Callee.{CalleeIs}
-use Rattle.bound_calls.proofs.Growing.{grown_same, grown_twice}
+use Rattle.bound_calls.proofs.Growing.{grown_same, grown_pieces, grown_twice}
 use Rattle.bound_calls.proofs.Arguing.{left_long}
 use Rattle.bound_calls.proofs.CallSteps.{above_both, parameters_long}
 use Rattle.bound_actions.proofs.NodeTrees.{behind_both}
@@ -159,6 +160,7 @@ routine_bare env s n w place (a_value node of) made h = h
 routine_bare env s n w place (a_place x of bounded lends) made h = absurd (none_there made h)
 routine_bare env s n w place (a_routine a b c) made h = absurd (none_there made h)
 routine_bare env s n w place (a_function f text_form base) made h = absurd (none_there made h)
+routine_bare env s n w place (a_host_member e m) made h = absurd (none_there made h)
 routine_bare env s n w place err_object made h = absurd (none_there made h)
 routine_bare env s n w place err_raise made h = absurd (none_there made h)
 routine_bare env s n w place err_clear made h = absurd (none_there made h)
@@ -168,27 +170,79 @@ routine_bare env s n w place no_term made h = absurd (none_there made h)
 no_arguments : (env : Env) (place : Place) (s : Space) (n : ℕ) (w : Written) → call_with (value_of env) env place [] s n w ≡ bare_call env s n w
 no_arguments env place s n w = refl
 
-called_bare : (env : Env) (place : Place) (t : plain.Term) (made : bound.Expr) → value_of env t place ≡ Some made → called_term env place t [] ≡ Some (evaluate made)
-called_bare env place (a_place x of bounded lends) made h = ap (λ o. option_map evaluate o) h
-called_bare env place (a_value node of) made h = ap (λ o. option_map evaluate o) h
-called_bare env place (a_routine s n w) made h =
+-- a procedure that is called without arguments
+called_bare : (env : Env) (place : Place) (s : Space) (n : ℕ) (w : Written) (made : bound.Expr) → value_of env (a_routine s n w) place ≡ Some made → called_term env place (a_routine s n w) [] ≡ Some (evaluate made)
+called_bare env place s n w made h =
     let A : plain.Term → Type 0 = λ z. value_of env z place ≡ Some made in
     ap (λ o. option_map evaluate o) (subst A (sym (no_arguments env place s n w)) (routine_bare env s n w place (bare_call env s n w) made h))
-called_bare env place (a_function f text_form base) made h = absurd (none_there made h)
-called_bare env place err_object made h = absurd (none_there made h)
-called_bare env place err_raise made h = absurd (none_there made h)
-called_bare env place err_clear made h = absurd (none_there made h)
-called_bare env place error_word made h = absurd (none_there made h)
-called_bare env place no_term made h = absurd (none_there made h)
 
-pub acts_value : (env : Env) (x : Term) (place : Place) (d d1 e : Drafted) (ending : Option Ending) (of : DeclaredType) → TakesValue x d d1 ending → Pushes ending place d1 e (Some of) → Acts env x place [] d e action.Evaluate
-acts_value env x place d d1 e ending of t p = record {
+routine_evaluated : (env : Env) (t : Tables) (x : Term) (y : plain.Term) (ps below : List Piece) (place : Place) (made : bound.Expr) → is_routine x ≡ true → TermStands env t x y ps below → value_of env y place ≡ Some made
+    → called_term env place y [] ≡ Some (evaluate made)
+routine_evaluated env t (term.Routine r) y ps below place made a s h =
+    let A : plain.Term → Type 0 = λ z. value_of env z place ≡ Some made in
+    let B : plain.Term → Type 0 = λ z. called_term env place z [] ≡ Some (evaluate made) in
+    subst B (sym s.is) (called_bare env place s.space s.number s.written made (subst A s.is h))
+routine_evaluated env t (term.Place kind of bounded lends) y ps below place made a s h = let e : false ≡ true = a in absurd cc
+routine_evaluated env t (term.Value e) y ps below place made a s h = let e : false ≡ true = a in absurd cc
+routine_evaluated env t (term.Function f) y ps below place made a s h = let e : false ≡ true = a in absurd cc
+routine_evaluated env t (term.HostMember m) y ps below place made a s h = let e : false ≡ true = a in absurd cc
+routine_evaluated env t (term.SheetMember m) y ps below place made a s h = let e : false ≡ true = a in absurd cc
+routine_evaluated env t term.Err y ps below place made a s h = let e : false ≡ true = a in absurd cc
+routine_evaluated env t term.ErrRaise y ps below place made a s h = let e : false ≡ true = a in absurd cc
+routine_evaluated env t term.ErrClear y ps below place made a s h = let e : false ≡ true = a in absurd cc
+routine_evaluated env t term.ErrorWord y ps below place made a s h = let e : false ≡ true = a in absurd cc
+routine_evaluated env t term.Nothing y ps below place made a s h = let e : false ≡ true = a in absurd cc
+
+pub acts_value : (env : Env) (x : Term) (place : Place) (d d1 e : Drafted) (ending : Option Ending) (of : DeclaredType) → is_routine x ≡ true → TakesValue x d d1 ending → Pushes ending place d1 e (Some of) → Acts env x place [] d e action.Evaluate
+acts_value env x place d d1 e ending of r t p = record {
   grown = grown_twice d d1 e t.grown p.grown;
   named = tt;
   stands = λ y h.
       let m = p.stands (λ q. value_of env y q) [] (t.stands env y [] h) in
-      record { made = evaluate m.made; is = called_bare env place y m.made m.is; fits = ap (λ ps. action_of e.tables action.Evaluate ps) m.on_top };
+      record { made = evaluate m.made; is = routine_evaluated env d.tables x y d.pieces [] place m.made r h m.is; fits = ap (λ ps. action_of e.tables action.Evaluate ps) m.on_top };
 }
+
+-- what is no procedure is a value or an object
+given_none : (env : Env) (place : Place) (z t : plain.Term) (made : bound.Expr) → z ≡ t → given_as env t place ≡ None → given_as env z place ≡ Some made → ⊥
+given_none env place z t made is none h = none_there made (sym none ∙ sym (ap (λ y. given_as env y place) is) ∙ h)
+
+called_given : (env : Env) (t : Tables) (x : Term) (z : plain.Term) (ps below : List Piece) (place : Place) (made : bound.Expr) → is_routine x ≡ false → TermStands env t x z ps below → given_as env z place ≡ Some made
+    → called_term env place z [] ≡ Some (evaluate made)
+called_given env t (term.Place kind of bounded lends) z ps below place made r h k =
+    let A : plain.Term → Type 0 = λ y. called_term env place y [] ≡ option_map evaluate (given_as env y place) in subst A (sym h.is) refl ∙ ap (λ o. option_map evaluate o) k
+called_given env t (term.Value e) z ps below place made r h k =
+    let A : plain.Term → Type 0 = λ y. called_term env place y [] ≡ option_map evaluate (given_as env y place) in subst A (sym h.is) refl ∙ ap (λ o. option_map evaluate o) k
+called_given env t (term.Function f) z ps below place made r h k =
+    let A : plain.Term → Type 0 = λ y. called_term env place y [] ≡ option_map evaluate (given_as env y place) in subst A (sym h.0.is) refl ∙ ap (λ o. option_map evaluate o) k
+called_given env t (term.HostMember m) z ps below place made r h k =
+    let A : plain.Term → Type 0 = λ y. called_term env place y [] ≡ option_map evaluate (given_as env y place) in subst A (sym h.is) refl ∙ ap (λ o. option_map evaluate o) k
+called_given env t (term.SheetMember m) z ps below place made r h k =
+    let A : plain.Term → Type 0 = λ y. called_term env place y [] ≡ option_map evaluate (given_as env y place) in subst A (sym h.0) refl ∙ ap (λ o. option_map evaluate o) k
+called_given env t term.Err z ps below place made r h k =
+    let A : plain.Term → Type 0 = λ y. called_term env place y [] ≡ option_map evaluate (given_as env y place) in subst A (sym h.0) refl ∙ ap (λ o. option_map evaluate o) k
+called_given env t term.Nothing z ps below place made r h k = absurd (given_none env place z no_term made h refl k)
+called_given env t term.ErrRaise z ps below place made r h k = absurd (given_none env place z err_raise made h.0 refl k)
+called_given env t term.ErrClear z ps below place made r h k = absurd (given_none env place z err_clear made h.0 refl k)
+called_given env t term.ErrorWord z ps below place made r h k = absurd (given_none env place z error_word made h.0 refl k)
+called_given env t (term.Routine s) z ps below place made r h k = let e : true ≡ false = r in absurd cc
+
+pub acts_given : (env : Env) (x : Term) (place : Place) (d d1 e : Drafted) (ending : Ending) → is_routine x ≡ false → TakesGiven x d d1 ending → e ≡ record d1 { pieces = put d1.tables (node_of ending.kind place ending.of) d1.pieces }
+    → Acts env x place [] d e action.Evaluate
+acts_given env x place d d1 e ending r t eq =
+    let P : Drafted → Type 0 = λ z. Acts env x place [] d z action.Evaluate in
+    let n = node_of ending.kind place ending.of in
+    subst P (sym eq) (record {
+      grown = grown_twice d d1 (record d1 { pieces = put d1.tables n d1.pieces }) t.grown (grown_pieces d1 (put d1.tables n d1.pieces));
+      named = tt;
+      stands = λ y h.
+          let m = t.stands env y [] h in
+          let made = plain.expression_of m.made place (declared_view ending.of) in
+          record {
+            made = evaluate made;
+            is = called_given env d.tables x y d.pieces [] place made r h (m.is place);
+            fits = ap (λ ps. action_of d1.tables action.Evaluate ps) (m.ends n);
+          };
+    })
 
 pub acts_none : (env : Env) (x : Term) (place : Place) (ns : List ExpressionNode) (d e : Drafted) (kind : ActionKind) → ns ≡ node.NoArguments ∷ [] → Acts env x place [] d e kind → ActsOn env x place ns d e kind
 acts_none env x place ns d e kind is a =

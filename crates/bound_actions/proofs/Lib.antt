@@ -5,3 +5,6 @@ pub mod Assigned
 pub mod Placing
 pub mod Folding
 pub mod NamedCalls
+pub mod NamesOfMembers
+pub mod WrittenMembers
+pub mod GivenValues

@@ -109,6 +109,9 @@ bare_dot (binary l o token r) dot x = tt
 pub bare_name : (ns : List ExpressionNode) (x : Identifier) → IsBare (tree_in (ns ++ node.Name x ∷ []))
 bare_name ns x = let A : List nodes.Item → Type 0 = λ is. IsBare (last_tree is) in subst A (sym (behind_push [] ns (node.Name x))) tt
 
+pub bare_with : (ns : List ExpressionNode) (dot : Token) (x : Identifier) → IsBare (tree_in (ns ++ node.WithMember dot x ∷ []))
+bare_with ns dot x = let A : List nodes.Item → Type 0 = λ is. IsBare (last_tree is) in subst A (sym (behind_push [] ns (node.WithMember dot x))) tt
+
 pub bare_member : (ns : List ExpressionNode) (dot : Token) (x : Identifier) → IsBare (tree_in (ns ++ node.Member dot x ∷ []))
 bare_member ns dot x =
     let A : List nodes.Item → Type 0 = λ is. IsBare (last_tree is) in

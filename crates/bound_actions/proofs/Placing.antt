@@ -1,5 +1,5 @@
 -- Places that statements name, and what With keeps.
-use Rattle.std.proofs.Common.{◌≡◌, ℕ, Bool, false, List, [], ◌∷◌, Option, Some, None, option_map, if◌then◌else◌, refl, sym, ap, subst, ◌∙◌}
+use Rattle.std.proofs.Common.{◌≡◌, ℕ, Bool, true, false, List, [], ◌∷◌, Option, Some, None, option_map, if◌then◌else◌, refl, sym, ap, subst, ◌∙◌}
 use Rattle.vba_base.specs.declared.place.Place.{Place}
 use Rattle.vba_expression.specs.Tree.{Expr}
 use Rattle.bound_project.specs.declared.declared_type.DeclaredType.{DeclaredType}
@@ -7,6 +7,9 @@ use Rattle.bound_project.specs.declared.node.NodeKind.{NodeKind}
 use Rattle.bound_project.specs.declared.statement.ActionKind.TheVariants as action
 use Rattle.bound_project.specs.View.{declared_view}
 use Rattle.bound_project.specs.Expressions as bound
+use Rattle.bound_project.specs.Expressions.{Lvalue}
+use Rattle.vba_values.specs.Types.{Declared}
+use Rattle.vba_values.specs.Types as type
 use Rattle.bound_project.specs.Bodies.{action_of}
 use Rattle.bound_project.specs.Pieces.{Piece, Tables, an_expr, a_place, put}
 use Rattle.bound_project.specs.Drafts.{Drafted}
@@ -15,18 +18,20 @@ use Rattle.binder.specs.Constants.{place_of_expression}
 use Rattle.binder.specs.Types.{is_object}
 use Rattle.binder.specs.Terms.{Env}
 use Rattle.binder.specs.Terms as terms
-use Rattle.binder.specs.ExpressionsBound.{bare_call, term_of, value_of}
+use Rattle.binder.specs.ExpressionsBound.{bare_call, given_as, is_host_type, reference_of, term_of, value_of}
 use Rattle.binder.specs.StatementsBound.{keeps, place_in, settled, with_action}
 use Rattle.bound_terms.specs.declared.env.Within.{Within}
 use Rattle.bound_calls.specs.declared.term.Ending.{Ending}
+use Rattle.bound_calls.specs.declared.term.HostMember.{HostMember}
 use Rattle.bound_calls.specs.declared.term.Routine.{Routine}
 use Rattle.bound_calls.specs.declared.term.Term.{Term}
 use Rattle.bound_calls.specs.declared.term.Term.TheVariants as term
 use Rattle.bound_calls.specs.declared.term.Tree.{Tree}
 use Rattle.bound_actions.specs.Actions.{ActionStands, PlacePushed}
 use Rattle.bound_calls.specs.Calls.{node_of}
-use Rattle.bound_actions.specs.Kept.{Keeps, PushesTree, WithPlacePushed, place_ending}
+use Rattle.bound_actions.specs.Kept.{Keeps, WithPlacePushed, place_ending}
 use Rattle.bound_calls.specs.Standing.{TermStands, PlaceStands}
+use Rattle.bound_calls.specs.References.{PushesGiven, PushesReference}
 use Rattle.bound_calls.specs.Steps.{Leaves}
 use Rattle.bound_calls.specs.Taking.{CallsBare}
 use Rattle.bound_terms.specs.View.{within_view}
@@ -64,10 +69,14 @@ with_pushed kind of place d e none eq =
     let P : Drafted → Type 0 = λ (z : Drafted). WithPlacePushed kind of d z in
     subst P (sym eq) (record { grown = grown_pieces d (put d.tables (node_of kind place of) d.pieces); no_object = none; stands = λ at below h. h (node_of kind place of) })
 
+kept_there : (at : Lvalue) (reference : Option bound.Expr) (of : Declared) → is_object of ≡ false → (if is_object of then option_map with_value reference else Some (with_place at)) ≡ Some (with_place at)
+kept_there at reference of h = ap (λ (b : Bool). if b then option_map with_value reference else Some (with_place at)) h
+
 pub with_place_bound : (env : Env) (tree : Expr) (x : Tree) (at : Ending) (d e g : Drafted) → d.pieces ≡ [] → Leaves env tree d e x → place_ending x.term ≡ Some at → WithPlacePushed at.kind at.of e g
     → ActionStands (Some action.WithPlace) (with_action (term_of env tree) env (place_of_expression tree)) d g
 with_place_bound env tree x at d e g empty l is w =
-    let p = (place_there env e.tables x.term at (term_of env tree) e.pieces d.pieces is l.stands.term_is).stands in
+    let q = place_there env e.tables x.term at (term_of env tree) e.pieces d.pieces is l.stands.term_is in
+    let p = q.stands in
     let all = grown_twice d e g l.grown w.grown in
     let top : g.pieces ≡ a_place p.at ∷ [] = w.stands p.at d.pieces p.ends ∙ ap (λ (ps : List Piece). a_place p.at ∷ ps) empty in
     record {
@@ -75,30 +84,77 @@ with_place_bound env tree x at d e g empty l is w =
       bodies = all.bodies;
       named = tt;
       made = with_place p.at;
-      is = ap (λ (z : terms.Term). with_action z env (place_of_expression tree)) p.is ∙ ap (λ (b : Bool). if b then None else Some (with_place p.at)) w.no_object;
+      is = ap (λ (z : terms.Term). with_action z env (place_of_expression tree)) p.is
+          ∙ kept_there p.at (reference_of env (terms.a_place p.at (declared_view at.of) q.bounded q.lends) (place_of_expression tree)) (declared_view at.of) w.no_object;
       fits = ap (λ (ps : List Piece). action_of g.tables action.WithPlace ps) top;
     }
 
--- what is no place is taken as a value
-no_place : (env : Env) (t : Tables) (x : Term) (z : terms.Term) (ps below : List Piece) (place : Place) → place_ending x ≡ None → TermStands env t x z ps below → with_action z env place ≡ option_map with_value (value_of env z place)
+-- a place of an object is kept as a reference
+with_object : (env : Env) (place : Place) (at : Lvalue) (of : Declared) (bounded lends : Bool) → is_host_type of ≡ true
+    → with_action (terms.a_place at of bounded lends) env place ≡ option_map with_value (reference_of env (terms.a_place at of bounded lends) place)
+with_object env place at type.object bounded lends h = refl
+with_object env place at type.worksheet bounded lends h = refl
+with_object env place at type.range bounded lends h = refl
+with_object env place at type.boolean bounded lends h = let e : false ≡ true = h in absurd cc
+with_object env place at type.byte bounded lends h = let e : false ≡ true = h in absurd cc
+with_object env place at type.integer bounded lends h = let e : false ≡ true = h in absurd cc
+with_object env place at type.long bounded lends h = let e : false ≡ true = h in absurd cc
+with_object env place at type.long_long bounded lends h = let e : false ≡ true = h in absurd cc
+with_object env place at type.currency bounded lends h = let e : false ≡ true = h in absurd cc
+with_object env place at type.text bounded lends h = let e : false ≡ true = h in absurd cc
+with_object env place at (type.fixed_text n) bounded lends h = let e : false ≡ true = h in absurd cc
+with_object env place at (type.class n) bounded lends h = let e : false ≡ true = h in absurd cc
+with_object env place at type.collection bounded lends h = let e : false ≡ true = h in absurd cc
+with_object env place at type.variant bounded lends h = let e : false ≡ true = h in absurd cc
+with_object env place at (type.udt n) bounded lends h = let e : false ≡ true = h in absurd cc
+with_object env place at (type.array_of of) bounded lends h = let e : false ≡ true = h in absurd cc
+
+pub with_object_bound : (env : Env) (tree : Expr) (x : Tree) (at : Ending) (of : DeclaredType) (d e g : Drafted) → d.pieces ≡ [] → Leaves env tree d e x → place_ending x.term ≡ Some at → is_host_type (declared_view at.of) ≡ true → PushesReference x e g of
+    → ActionStands (Some action.WithValue) (with_action (term_of env tree) env (place_of_expression tree)) d g
+with_object_bound env tree x at of d e g empty l is host p =
+    let q = place_there env e.tables x.term at (term_of env tree) e.pieces d.pieces is l.stands.term_is in
+    let m = p.stands env tree d.pieces l.stands in
+    let made = terms.expression_of m.made m.place (declared_view of) in
+    let all = grown_twice d e g l.grown p.grown in
+    let P : terms.Term → Type 0 = λ (y : terms.Term). with_action y env (place_of_expression tree) ≡ option_map with_value (reference_of env y (place_of_expression tree)) in
+    record {
+      statements = all.statements;
+      bodies = all.bodies;
+      named = tt;
+      made = with_value made;
+      is = subst P (sym q.stands.is) (with_object env (place_of_expression tree) q.stands.at (declared_view at.of) q.bounded q.lends host) ∙ ap (λ (o : Option bound.Expr). option_map with_value o) m.is;
+      fits = ap (λ (ps : List Piece). action_of g.tables action.WithValue ps) (m.on_top ∙ ap (λ (ps : List Piece). an_expr made ∷ ps) empty);
+    }
+
+-- what is no place is kept as it is
+no_place : (env : Env) (t : Tables) (x : Term) (z : terms.Term) (ps below : List Piece) (place : Place) → place_ending x ≡ None → TermStands env t x z ps below → with_action z env place ≡ option_map with_value (given_as env z place)
 no_place env t (term.Place kind of bounded lends) z ps below place is h = let e : Ending = record { kind = kind; of = of } in let k : Some e ≡ None = is in absurd cc
 no_place env t (term.Value e) z ps below place is h =
-    let P : terms.Term → Type 0 = λ (y : terms.Term). with_action y env place ≡ option_map with_value (value_of env y place) in subst P (sym h.is) refl
+    let P : terms.Term → Type 0 = λ (y : terms.Term). with_action y env place ≡ option_map with_value (given_as env y place) in subst P (sym h.is) refl
 no_place env t (term.Routine r) z ps below place is h =
-    let P : terms.Term → Type 0 = λ (y : terms.Term). with_action y env place ≡ option_map with_value (value_of env y place) in subst P (sym h.is) refl
+    let P : terms.Term → Type 0 = λ (y : terms.Term). with_action y env place ≡ option_map with_value (given_as env y place) in subst P (sym h.is) refl
 no_place env t (term.Function f) z ps below place is h =
-    let P : terms.Term → Type 0 = λ (y : terms.Term). with_action y env place ≡ option_map with_value (value_of env y place) in subst P (sym h.0.is) refl
-no_place env t term.Err z ps below place is h = let P : terms.Term → Type 0 = λ (y : terms.Term). with_action y env place ≡ option_map with_value (value_of env y place) in subst P (sym h.0) refl
-no_place env t term.ErrRaise z ps below place is h = let P : terms.Term → Type 0 = λ (y : terms.Term). with_action y env place ≡ option_map with_value (value_of env y place) in subst P (sym h.0) refl
-no_place env t term.ErrClear z ps below place is h = let P : terms.Term → Type 0 = λ (y : terms.Term). with_action y env place ≡ option_map with_value (value_of env y place) in subst P (sym h.0) refl
-no_place env t term.ErrorWord z ps below place is h = let P : terms.Term → Type 0 = λ (y : terms.Term). with_action y env place ≡ option_map with_value (value_of env y place) in subst P (sym h.0) refl
-no_place env t term.Nothing z ps below place is h = let P : terms.Term → Type 0 = λ (y : terms.Term). with_action y env place ≡ option_map with_value (value_of env y place) in subst P (sym h) refl
+    let P : terms.Term → Type 0 = λ (y : terms.Term). with_action y env place ≡ option_map with_value (given_as env y place) in subst P (sym h.0.is) refl
+no_place env t (term.HostMember m) z ps below place is h =
+    let P : terms.Term → Type 0 = λ (y : terms.Term). with_action y env place ≡ option_map with_value (given_as env y place) in subst P (sym h.is) refl
+no_place env t (term.SheetMember m) z ps below place is h =
+    let P : terms.Term → Type 0 = λ (y : terms.Term). with_action y env place ≡ option_map with_value (given_as env y place) in subst P (sym h.0) refl
+no_place env t term.Err z ps below place is h =
+    let P : terms.Term → Type 0 = λ (y : terms.Term). with_action y env place ≡ option_map with_value (given_as env y place) in subst P (sym h.0) refl
+no_place env t term.ErrRaise z ps below place is h =
+    let P : terms.Term → Type 0 = λ (y : terms.Term). with_action y env place ≡ option_map with_value (given_as env y place) in subst P (sym h.0) refl
+no_place env t term.ErrClear z ps below place is h =
+    let P : terms.Term → Type 0 = λ (y : terms.Term). with_action y env place ≡ option_map with_value (given_as env y place) in subst P (sym h.0) refl
+no_place env t term.ErrorWord z ps below place is h =
+    let P : terms.Term → Type 0 = λ (y : terms.Term). with_action y env place ≡ option_map with_value (given_as env y place) in subst P (sym h.0) refl
+no_place env t term.Nothing z ps below place is h =
+    let P : terms.Term → Type 0 = λ (y : terms.Term). with_action y env place ≡ option_map with_value (given_as env y place) in subst P (sym h) refl
 
-pub with_value_bound : (env : Env) (tree : Expr) (x : Tree) (d e g : Drafted) → d.pieces ≡ [] → Leaves env tree d e x → place_ending x.term ≡ None → PushesTree x e g
+pub with_value_bound : (env : Env) (tree : Expr) (x : Tree) (of : DeclaredType) (d e g : Drafted) → d.pieces ≡ [] → Leaves env tree d e x → place_ending x.term ≡ None → PushesGiven x e g of
     → ActionStands (Some action.WithValue) (with_action (term_of env tree) env (place_of_expression tree)) d g
-with_value_bound env tree x d e g empty l is p =
-    let m = p.pushes.stands env tree d.pieces l.stands in
-    let all = grown_twice d e g l.grown p.pushes.grown in
+with_value_bound env tree x of d e g empty l is p =
+    let m = p.stands env tree d.pieces l.stands in
+    let all = grown_twice d e g l.grown p.grown in
     let top : g.pieces ≡ an_expr m.made ∷ [] = m.on_top ∙ ap (λ (ps : List Piece). an_expr m.made ∷ ps) empty in
     record {
       statements = all.statements;
@@ -117,6 +173,12 @@ keeps_place header kind of bounded lends d w is env z below h = ap (λ (y : term
 
 pub keeps_value : (header : ℕ) (e : Ending) (d : Drafted) (w : Within) → within_view w ≡ record { header = header; of = declared_view e.of; lends = false } → Keeps header (term.Value e) d w
 keeps_value header e d w is env z below h = ap (λ (y : terms.Term). keeps header (settled env y)) h.is ∙ ap (λ (y : terms.Within). Some y) (sym is)
+
+pub keeps_member : (header : ℕ) (m : HostMember) (d : Drafted) (w : Within) → within_view w ≡ record { header = header; of = declared_view m.of; lends = false } → Keeps header (term.HostMember m) d w
+keeps_member header m d w is env z below h = ap (λ (y : terms.Term). keeps header (settled env y)) h.is ∙ ap (λ (y : terms.Within). Some y) (sym is)
+
+pub keeps_sheet : (header : ℕ) (m : HostMember) (d : Drafted) (w : Within) → within_view w ≡ record { header = header; of = declared_view m.of; lends = false } → Keeps header (term.SheetMember m) d w
+keeps_sheet header m d w is env z below h = ap (λ (y : terms.Term). keeps header (settled env y)) h.0 ∙ ap (λ (y : terms.Within). Some y) (sym is)
 
 pub keeps_call : (header : ℕ) (r : Routine) (ending : Ending) (d e : Drafted) (w : Within) → CallsBare r d e (Some ending) → within_view w ≡ record { header = header; of = declared_view ending.of; lends = false }
     → Keeps header (term.Routine r) d w

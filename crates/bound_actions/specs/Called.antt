@@ -1,5 +1,5 @@
 -- Serves the code: calls that stand as statements.
-use Rattle.std.specs.Prelude.{◌≡◌, ℕ, ◌+◌, length, false, List, [], ◌∷◌, ◌++◌, map, Option, Some}
+use Rattle.std.specs.Prelude.{◌≡◌, ℕ, ◌+◌, length, Bool, true, false, List, [], ◌∷◌, ◌++◌, map, Option, Some}
 use Rattle.vba_base.specs.declared.place.Place.{Place}
 use Rattle.vba_lexer.specs.declared.token.Token.{Token}
 use Rattle.vba_expression.specs.Tree.{Expr, Args, index}
@@ -18,12 +18,14 @@ use Rattle.bound_project.specs.Statements.{Action}
 use Rattle.binder.specs.Terms.{Env, Given, bound_arguments, has_names}
 use Rattle.binder.specs.Terms as plain
 use Rattle.binder.specs.ExpressionsBound.{givens, value_of}
-use Rattle.binder.specs.StatementsBound.{assigned, assigned_to, called_term, called_with}
+use Rattle.binder.specs.StatementsBound.{assigned, assigned_to, called_term, called_with, is_given_with}
 use Rattle.bound_actions.specs.declared.trees.Split.{Split}
+use Rattle.bound_actions.specs.Actions.{takes_with}
 use Rattle.bound_calls.specs.declared.term.Item.TheVariants as item
 use Rattle.bound_calls.specs.declared.term.Passed.{Passed}
 use Rattle.bound_calls.specs.declared.term.Routine.{Routine}
 use Rattle.bound_calls.specs.declared.term.Term.{Term}
+use Rattle.bound_calls.specs.declared.term.Term.TheVariants as term
 use Rattle.bound_calls.specs.declared.term.Tree.{Tree}
 use Rattle.bound_calls.specs.Standing.{RoutineStands, PassedStands, TermStands, TreeStands, Grown}
 use Rattle.bound_calls.specs.Steps.{Goes, Leaves}
@@ -88,6 +90,10 @@ pub record PassesAll (env : Env) (parameters : List project.Parameter) (ns : Lis
 
 -- ---- what is done
 
+abbrev pub is_routine : Term → Bool
+is_routine (term.Routine r) = true
+is_routine x = false
+
 pub record ActionIs (kind : ActionKind) (found : Option Action) (t : Tables) (ps : List Piece) : Type 0 where
   pub made : Action
   pub is : found ≡ Some made
@@ -120,6 +126,7 @@ pub record CallsTreeOn (env : Env) (x : Tree) (ns : List ExpressionNode) (d e : 
 pub record Lets (env : Env) (r : Routine) (gs : List Given) (d e : Drafted) (kind : ActionKind) : Type 0 where
   pub grown : Grown d e
   pub named : ActionNamed e.tables kind
+  pub takes : takes_with kind ≡ true
   pub stands : (y : plain.Term) (place : Place) (value : bound.Expr) (ps below : List Piece) → RoutineStands env r y ps below → d.pieces ≡ an_expr value ∷ [] → ActionIs kind (assigned env place value gs y) e.tables e.pieces
 
 pub record LetsOn (env : Env) (r : Routine) (ns : List ExpressionNode) (d e : Drafted) (kind : ActionKind) : Type 0 where
@@ -130,4 +137,5 @@ pub record LetsOn (env : Env) (r : Routine) (ns : List ExpressionNode) (d e : Dr
 pub record AssignsTo (env : Env) (place : Expr) (d e : Drafted) (kind : ActionKind) : Type 0 where
   pub grown : Grown d e
   pub named : ActionNamed e.tables kind
+  pub takes : is_given_with env place ≡ takes_with kind
   pub stands : (value : bound.Expr) → d.pieces ≡ an_expr value ∷ [] → ActionIs kind (assigned_to env place value) e.tables e.pieces

@@ -14,9 +14,7 @@ use Rattle.bound_terms.specs.declared.env.Within.{Within}
 use Rattle.bound_calls.specs.declared.term.Ending.{Ending}
 use Rattle.bound_calls.specs.declared.term.Term.{Term}
 use Rattle.bound_calls.specs.declared.term.Term.TheVariants as term
-use Rattle.bound_calls.specs.declared.term.Tree.{Tree}
 use Rattle.bound_calls.specs.Standing.{PlaceEnds, TermStands, Grown}
-use Rattle.bound_calls.specs.Steps.{PushesValue}
 use Rattle.bound_terms.specs.View.{within_view}
 
 -- the place that a term is, but for its last node
@@ -29,11 +27,6 @@ pub record WithPlacePushed (kind : NodeKind) (of : DeclaredType) (d e : Drafted)
   pub grown : Grown d e
   pub no_object : is_object (declared_view of) ≡ false
   pub stands : (at : Lvalue) (below : List Piece) → PlaceEnds d.tables kind at d.pieces below → e.pieces ≡ a_place at ∷ below
-
--- an expression was pushed as a value
-pub record PushesTree (x : Tree) (d e : Drafted) : Type 0 where
-  pub of : DeclaredType
-  pub pushes : PushesValue x d e (Some of)
 
 -- what a With block keeps of a term
 abbrev pub Keeps : ℕ → Term → Drafted → Within → Type 0

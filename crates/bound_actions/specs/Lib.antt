@@ -2,3 +2,5 @@ pub mod Called
 pub mod Actions
 pub mod Kept
 pub mod NamedCalls
+pub mod Members
+pub mod Assigning

@@ -1,21 +1,23 @@
-ghost use Rattle.std.specs.Prelude.{◌≡◌, [], IfOk, option_map, option_and_then};
+ghost use Rattle.std.specs.Prelude.{◌≡◌, [], IfOk, OnOk, option_map, option_and_then};
 ghost use Rattle.vba_expression.specs.View.{view as expression_view, arguments_view};
 ghost use Rattle.bound_project.specs.DraftView.{draft_view};
 ghost use Rattle.bound_project.specs.View.{variable_view};
-ghost use Rattle.binder.specs.ExpressionsBound.{bound_operand, givens};
+ghost use Rattle.binder.specs.ExpressionsBound.{bound_reference, givens, term_of};
 ghost use Rattle.binder.specs.StatementsBound as plain;
-ghost use Rattle.bound_actions.specs.Actions.{ActionStands, IsVariable};
+ghost use Rattle.bound_actions.specs.Actions.{ActionStands, IsVariable, SetsPlace};
+ghost use Rattle.bound_calls.specs.Standing.{TermNamed};
 ghost use Rattle.bound_actions.specs.Called.{IsBare};
 ghost use Rattle.bound_terms.specs.View.{EnvStands, env_view};
 
+use crate::assigned_values::bind_assigned;
 use crate::assigning::assign_to;
 use crate::statement_calls::{call_bare, call_tree};
 use crate::trees::{ends_bare, nodes_tree, split_call};
-use bound_calls::Term;
+use bound_calls::{Term, Tree, push_node};
 use bound_declarations::NotYet;
 use bound_project::{ActionKind, Draft, NodeKind, Variable};
-use bound_terms::{Env, bind_operand, meant_variable, tree_of};
-use declared_names::{Use, declares};
+use bound_terms::{Env, bind_reference, meant_variable, tree_of};
+use declared_names::{Use, declares, is_object};
 use std::alloc::Global;
 use vba_base::OrMemory;
 use vba_expression::{Arguments, Expression};
@@ -32,15 +34,47 @@ pub fn bind_assignment<'a>(
     requires env { EnvStands env }
     requires empty { (draft_view draft.old).pieces ≡ [] }
     ensures { IfOk result (λ kind. ActionStands kind
-        (option_and_then (plain.assigned_to (env_view env.entry) (expression_view place.now)) (bound_operand (env_view env.entry) (expression_view value.now)))
+        (option_and_then (plain.assigned_to (env_view env.entry) (expression_view place.now)) (plain.value_for (env_view env.entry) (expression_view place.now) (expression_view value.now)))
         (draft_view draft.old) (draft_view draft.new)) }
 {
-    let found = bind_operand(alloc, draft, env, value)?;
-    let Some(_of) = found else {
-        return Err(OrMemory::Fault(NotYet));
-    };
+    bind_assigned(alloc, draft, env, place, value)?;
     let kind = assign_to(alloc, draft, env, place)?;
     Ok(Some(kind))
+}
+
+/// Pushes the place of an object that is set.
+fn set_place<'a>(draft: &mut Draft, tree: Tree<'a>) -> Result<(), OrMemory<NotYet>>
+    requires { TermNamed (draft_view draft.old).tables tree.term }
+    ensures { OnOk result (SetsPlace tree.entry.term (draft_view draft.old) (draft_view draft.new)) }
+{
+    let Term::Place { kind, of, .. } = tree.term else {
+        return Err(OrMemory::Fault(NotYet));
+    };
+    if !is_object(of) {
+        return Err(OrMemory::Fault(NotYet));
+    }
+    push_node(draft, kind, of, tree.place)?;
+    Ok(())
+}
+
+/// `Set place = value`
+pub fn bind_set<'a>(
+    alloc: Global,
+    draft: &mut Draft,
+    env: Env<'a>,
+    place: &'a Expression,
+    value: &'a Expression,
+) -> Result<Option<ActionKind>, OrMemory<NotYet>>
+    requires env { EnvStands env }
+    requires empty { (draft_view draft.old).pieces ≡ [] }
+    ensures { IfOk result (λ kind. ActionStands kind
+        (option_and_then (plain.set_to (term_of (env_view env.entry) (expression_view place.now))) (bound_reference (env_view env.entry) (expression_view value.now)))
+        (draft_view draft.old) (draft_view draft.new)) }
+{
+    bind_reference(alloc, draft, env, value)?;
+    let tree = tree_of(alloc, draft, env, place)?;
+    set_place(draft, tree)?;
+    Ok(Some(ActionKind::Set))
 }
 
 /// `target arguments`

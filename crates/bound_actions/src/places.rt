@@ -9,14 +9,15 @@ ghost use Rattle.binder.specs.Constants.{place_of_expression};
 ghost use Rattle.binder.specs.ExpressionsBound.{term_of};
 ghost use Rattle.binder.specs.StatementsBound as plain;
 ghost use Rattle.bound_actions.specs.Actions.{ActionStands, PlacePushed};
-ghost use Rattle.bound_actions.specs.Kept.{Keeps, PushesTree, WithPlacePushed, place_ending};
-ghost use Rattle.bound_calls.specs.Standing.{TermNamed};
+ghost use Rattle.bound_actions.specs.Kept.{Keeps, WithPlacePushed, place_ending};
 ghost use Rattle.bound_terms.specs.View.{EnvStands, env_view, within_view};
 
-use bound_calls::{Ending, Routine, Term, Tree, bare_call, push_node};
+use bound_calls::{
+    Ending, Routine, Term, bare_call, is_host_type, push_given, push_node, push_reference,
+};
 use bound_declarations::NotYet;
 use bound_project::{ActionKind, DeclaredType, Draft, NodeKind};
-use bound_terms::{Env, Within, push_value, tree_of};
+use bound_terms::{Env, Within, tree_of};
 use declared_names::is_object;
 use std::alloc::Global;
 use vba_base::{OrMemory, Place};
@@ -50,7 +51,7 @@ pub fn bind_place<'a>(
     Ok(())
 }
 
-/// Pushes a place that a With block keeps.
+/// Pushes a place that a With block keeps, which is no object.
 fn with_place(
     draft: &mut Draft,
     kind: NodeKind,
@@ -64,17 +65,6 @@ fn with_place(
         return Err(OrMemory::Fault(NotYet));
     }
     push_node(draft, kind, of, place)?;
-    Ok(())
-}
-
-/// Pushes an expression as a value.
-fn push_tree<'a>(alloc: Global, draft: &mut Draft, tree: Tree<'a>) -> Result<(), OrMemory<NotYet>>
-    requires { TermNamed (draft_view draft.old).tables tree.term }
-    ensures { OnOk result (PushesTree tree.entry (draft_view draft.old) (draft_view draft.new)) }
-{
-    let Some(_found) = push_value(alloc, draft, tree)? else {
-        return Err(OrMemory::Fault(NotYet));
-    };
     Ok(())
 }
 
@@ -94,11 +84,15 @@ pub fn bind_with<'a>(
     let tree = tree_of(alloc, draft, env, expression)?;
     match place_ending(tree.term) {
         Some(at) => {
+            if is_host_type(at.of) {
+                push_reference(draft, tree)?;
+                return Ok(Some(ActionKind::WithValue));
+            }
             with_place(draft, at.kind, at.of, tree.place)?;
             Ok(Some(ActionKind::WithPlace))
         }
         None => {
-            push_tree(alloc, draft, tree)?;
+            push_given(alloc, draft, tree)?;
             Ok(Some(ActionKind::WithValue))
         }
     }
@@ -139,6 +133,8 @@ fn kept_term<'a>(
         Term::Place { of, lends, .. } => Ok(kept_place(header, of, lends)),
         Term::Value(ending) => Ok(kept_place(header, ending.of, false)),
         Term::Routine(routine) => kept_call(alloc, draft, header, routine),
+        Term::HostMember(member) => Ok(kept_place(header, member.of, false)),
+        Term::SheetMember(member) => Ok(kept_place(header, member.of, false)),
         _ => Err(OrMemory::Fault(NotYet)),
     }
 }

@@ -1,12 +1,12 @@
 //! Calls that stand as statements.
 
-ghost use Rattle.std.specs.Prelude.{◌≡◌, ◌≢◌, [], ◌∷◌, IfOk, MatchBool, OnOk, map, reverse};
+ghost use Rattle.std.specs.Prelude.{◌≡◌, ◌≢◌, true, false, [], ◌∷◌, IfOk, MatchBool, OnOk, map, reverse};
 ghost use Rattle.vba_expression.specs.declared.node.ExpressionNode.TheVariants as node;
 ghost use Rattle.bound_project.specs.DraftView.{draft_view};
 ghost use Rattle.bound_project.specs.View.{parameter_view};
 ghost use Rattle.bound_project.specs.declared.statement.ActionKind.TheVariants as action;
 ghost use Rattle.binder.specs.Terms as plain;
-ghost use Rattle.bound_actions.specs.Called.{Acts, ActsOn, CallsTree, CallsTreeOn, PassesAll, Reads, RestPushed};
+ghost use Rattle.bound_actions.specs.Called.{Acts, ActsOn, CallsTree, CallsTreeOn, PassesAll, Reads, RestPushed, is_routine};
 ghost use Rattle.bound_actions.specs.NamedCalls.{PushesNamed, PushesValues, ReadsNamed, ReadsWritten};
 ghost use Rattle.bound_calls.specs.Calls.{PushesCall};
 ghost use Rattle.bound_calls.specs.Standing.{TermNamed};
@@ -15,8 +15,9 @@ ghost use Rattle.bound_calls.specs.declared.term.Term.TheVariants as term;
 
 use crate::raising::{raise, raise_number};
 use bound_calls::{
-    Item, Passed, Routine, Term, Tree, call_ending, count_of, named_ending, no_object, pass_rest,
-    push_ending, put_item, sum, take_item, take_numbers, value_ending,
+    Item, Passed, Routine, Term, Tree, call_ending, count_of, given_ending, named_ending,
+    no_object, pass_rest, push_ending, push_node, put_item, sum, take_item, take_numbers,
+    value_ending,
 };
 use bound_declarations::NotYet;
 use bound_project::{ActionKind, Draft, Parameter};
@@ -225,7 +226,57 @@ fn call_routine<'a>(
     Ok(ActionKind::Evaluate)
 }
 
-/// A statement that is a value.
+/// A statement that is the value of a call.
+fn evaluate_call<'a>(
+    alloc: Global,
+    draft: &mut Draft,
+    term: Term<'a>,
+    place: Place,
+) -> Result<ActionKind, OrMemory<NotYet>>
+    requires named { TermNamed (draft_view draft.old).tables term }
+    requires routine { is_routine term ≡ true }
+    ensures { IfOk result (λ kind. (env : plain.Env) → Acts env term.entry place [] (draft_view draft.old) (draft_view draft.new) kind) }
+{
+    let ending = value_ending(alloc, draft, term, place)?;
+    let Some(_found) = push_ending(draft, ending, place)? else {
+        return Err(OrMemory::Fault(NotYet));
+    };
+    Ok(ActionKind::Evaluate)
+}
+
+/// A statement that is a value or an object.
+fn evaluate_given<'a>(
+    alloc: Global,
+    draft: &mut Draft,
+    term: Term<'a>,
+    place: Place,
+) -> Result<ActionKind, OrMemory<NotYet>>
+    requires named { TermNamed (draft_view draft.old).tables term }
+    requires no_routine { is_routine term ≡ false }
+    ensures { IfOk result (λ kind. (env : plain.Env) → Acts env term.entry place [] (draft_view draft.old) (draft_view draft.new) kind) }
+{
+    let tree = Tree {
+        place,
+        name: None,
+        is_qualifier: false,
+        term,
+    };
+    let ending = given_ending(alloc, draft, tree)?;
+    push_node(draft, ending.kind, ending.of, place)?;
+    Ok(ActionKind::Evaluate)
+}
+
+/// Is a term a procedure?
+fn is_routine<'a>(term: Term<'a>) -> bool
+    ensures { result ≡ is_routine term.entry }
+{
+    match term {
+        Term::Routine(_) => true,
+        _ => false,
+    }
+}
+
+/// A statement that is the value of a call, another value or an object.
 fn evaluate_term<'a>(
     alloc: Global,
     draft: &mut Draft,
@@ -235,11 +286,11 @@ fn evaluate_term<'a>(
     requires { TermNamed (draft_view draft.old).tables term }
     ensures { IfOk result (λ kind. (env : plain.Env) → Acts env term.entry place [] (draft_view draft.old) (draft_view draft.new) kind) }
 {
-    let ending = value_ending(alloc, draft, term, place)?;
-    let Some(_found) = push_ending(draft, ending, place)? else {
-        return Err(OrMemory::Fault(NotYet));
-    };
-    Ok(ActionKind::Evaluate)
+    if is_routine(term) {
+        evaluate_call(alloc, draft, term, place)
+    } else {
+        evaluate_given(alloc, draft, term, place)
+    }
 }
 
 /// A statement that calls without arguments.

@@ -1,9 +1,12 @@
 //! Expressions by a part of their nodes: what stands before the last arguments in brackets.
 
-ghost use Rattle.std.specs.Prelude.{◌≡◌, IfOk, MatchBool, IfSome};
+ghost use Rattle.std.specs.Prelude.{◌≡◌, IfOk, MatchBool, IfSome, option_map};
 ghost use Rattle.vba_expression.specs.Nodes.{tree_in};
 ghost use Rattle.bound_project.specs.DraftView.{draft_view};
+ghost use Rattle.binder.specs.ExpressionsBound.{term_of};
+ghost use Rattle.binder.specs.Terms as plain;
 ghost use Rattle.bound_actions.specs.Called.{Continues, IsBare, LeavesAlone, SplitAt};
+ghost use Rattle.bound_actions.specs.Members.{NamedBy};
 ghost use Rattle.bound_calls.specs.Standing.{TermNamed};
 ghost use Rattle.bound_terms.specs.View.{EnvStands, env_view};
 
@@ -14,6 +17,7 @@ use bound_terms::{Env, run};
 use std::alloc::Global;
 use vba_base::OrMemory;
 use vba_expression::ExpressionNode;
+use vba_words::Identifier;
 
 /// What nodes are that are an expression; all but the last one are pushed.
 pub fn nodes_tree<'a>(
@@ -106,13 +110,25 @@ pub fn continue_tree<'a>(
     }
 }
 
-/// Are these the nodes of a name, or of a dot and a name behind something?
+/// Are these the nodes of a name, or of a dot and a name, behind something or at the front?
 pub fn ends_bare(nodes: &[ExpressionNode]) -> bool
     ensures { MatchBool result (IsBare (tree_in nodes.now)) (Unit {0}) }
 {
     match nodes.split_last() {
         Some((ExpressionNode::Name(_), _)) => true,
         Some((ExpressionNode::Member { .. }, _)) => true,
+        Some((ExpressionNode::WithMember { .. }, _)) => true,
         _ => false,
+    }
+}
+
+/// The name behind the dot that nodes end with.
+pub fn member_name<'a>(nodes: &'a [ExpressionNode]) -> Option<&'a Identifier>
+    ensures { (env : plain.Env) → NamedBy (option_map (λ name. name.now) result) (term_of env (tree_in nodes.now)) }
+{
+    match nodes.split_last() {
+        Some((ExpressionNode::Member { member, .. }, _)) => Some(member),
+        Some((ExpressionNode::WithMember { member, .. }, _)) => Some(member),
+        _ => None,
     }
 }

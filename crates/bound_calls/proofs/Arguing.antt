@@ -1,9 +1,8 @@
 -- How arguments and calls are pushed.
-use Rattle.std.proofs.Common.{◌≡◌, T, ℕ, ◌<◌, ◌≤◌, ◌+◌, Bool, true, false, ◌||◌, List, [], ◌∷◌, ◌++◌, map, length, get_or, drop, Option, Some, None, option_map, is_some, if◌then◌else◌, refl, sym, ap, subst, ◌∙◌, arith, length-append, append-nil, append_assoc}
+use Rattle.std.proofs.Common.{◌≡◌, T, ℕ, ◌<◌, ◌≤◌, ◌+◌, Bool, true, false, List, [], ◌∷◌, ◌++◌, map, length, get_or, drop, Option, Some, None, option_map, is_some, if◌then◌else◌, refl, sym, ap, subst, ◌∙◌, arith, length-append, append-nil, append_assoc}
 use Rattle.std.proofs.lemmas.List.{map_push, drop_more, drop_all}
 use Rattle.std.specs.Prelude.{unwrap_or}
 use Rattle.vba_base.specs.declared.place.Place.{Place}
-use Rattle.vba_values.specs.Coerce.{is_same_type}
 use Rattle.vba_values.specs.Val.{Val}
 use Rattle.vba_values.specs.declared.value.Value.{Value}
 use Rattle.vba_values.specs.View.{view as value_view}
@@ -22,8 +21,8 @@ use Rattle.bound_project.specs.Pieces.{Argument, place_lent, value_copied, defau
 use Rattle.bound_project.specs.Project as project
 use Rattle.bound_project.specs.Drafts.{Drafted, NodeNamed, with_constant}
 use Rattle.bound_project.proofs.Drafts.{constant_last}
-use Rattle.binder.specs.Constants.{place_of_expression, is_variant}
-use Rattle.binder.specs.Terms.{Env, Given, a_place, taken_by, not_given_to, by_reference, by_copy, lent_to}
+use Rattle.binder.specs.Constants.{place_of_expression}
+use Rattle.binder.specs.Terms.{Env, Given, taken_by, by_reference, by_copy, is_lent_to}
 use Rattle.binder.specs.Terms as plain
 use Rattle.binder.specs.ExpressionsBound.{term_of, value_of, givens}
 use Rattle.bound_calls.specs.declared.term.Ending.{Ending}
@@ -109,6 +108,8 @@ copied_anyway env x d y below n h p place rest = at x.term n h
     at (term.Value e) n h = let A : plain.Term → Type 0 = λ z. by_reference (value_of env) p z place rest ≡ by_copy (value_of env) p z place rest in subst A (sym h.is) refl
     at (term.Routine r) n h = let A : plain.Term → Type 0 = λ z. by_reference (value_of env) p z place rest ≡ by_copy (value_of env) p z place rest in subst A (sym h.is) refl
     at (term.Function f) n h = let A : plain.Term → Type 0 = λ z. by_reference (value_of env) p z place rest ≡ by_copy (value_of env) p z place rest in subst A (sym h.0.is) refl
+    at (term.HostMember m) n h = let A : plain.Term → Type 0 = λ z. by_reference (value_of env) p z place rest ≡ by_copy (value_of env) p z place rest in subst A (sym h.is) refl
+    at (term.SheetMember m) n h = let A : plain.Term → Type 0 = λ z. by_reference (value_of env) p z place rest ≡ by_copy (value_of env) p z place rest in subst A (sym h.0) refl
     at term.Err n h = let A : plain.Term → Type 0 = λ z. by_reference (value_of env) p z place rest ≡ by_copy (value_of env) p z place rest in subst A (sym h.0) refl
     at term.ErrRaise n h = let A : plain.Term → Type 0 = λ z. by_reference (value_of env) p z place rest ≡ by_copy (value_of env) p z place rest in subst A (sym h.0) refl
     at term.ErrClear n h = let A : plain.Term → Type 0 = λ z. by_reference (value_of env) p z place rest ≡ by_copy (value_of env) p z place rest in subst A (sym h.0) refl
@@ -125,7 +126,7 @@ passed_anyway p x d e many reference n h =
 
 -- a place is lent
 pub passed_place : (p : Parameter) (x : Tree) (kind : NodeKind) (of : DeclaredType) (bounded : Bool) (d e : Drafted) → p.is_param_array ≡ false → p.is_by_reference ≡ true → x.term ≡ term.Place kind of bounded true
-    → (is_variant (declared_view p.of) || is_same_type (declared_view of) (declared_view p.of)) ≡ true → Lends kind d e → PassesTree p x d e
+    → is_lent_to (declared_view of) (declared_view p.of) ≡ true → Lends kind d e → PassesTree p x d e
 passed_place p x kind of bounded d e many reference is fits h = record {
   grown = h.grown;
   stands = λ env tree below k.
@@ -169,6 +170,8 @@ nothing_lent (term.Place kind of bounded false) h = tt
 nothing_lent (term.Value e) h = tt
 nothing_lent (term.Routine r) h = tt
 nothing_lent (term.Function f) h = tt
+nothing_lent (term.HostMember m) h = tt
+nothing_lent (term.SheetMember m) h = tt
 nothing_lent term.Err h = tt
 nothing_lent term.ErrRaise h = tt
 nothing_lent term.ErrClear h = tt

@@ -12,7 +12,7 @@ use Rattle.vba_expression.specs.declared.node.ExpressionNode.TheVariants as node
 use Rattle.vba_expression.specs.Tree.{Expr, name, Args, missing, plain}
 use Rattle.vba_expression.specs.Reader.{name_in}
 use Rattle.vba_expression.specs.Nodes as nodes
-use Rattle.vba_expression.specs.Nodes.{behind_node, behind_nodes, last_tree, last_arguments, rest, tree_in, arguments_in}
+use Rattle.vba_expression.specs.Nodes.{behind_node}
 use Rattle.bound_project.specs.declared.declared_type.DeclaredType.{DeclaredType}
 use Rattle.bound_project.specs.declared.node.NodeKind.TheVariants as kind
 use Rattle.bound_project.specs.declared.node.Node.{Node}
@@ -29,9 +29,9 @@ use Rattle.vba_values.specs.Types.{Declared}
 use Rattle.binder.specs.Constants.{place_of_expression}
 use Rattle.binder.specs.Declarations.{Written}
 use Rattle.binder.specs.Scopes.{Space}
-use Rattle.binder.specs.Terms.{Env, Given, a_place, a_value, a_routine, err_object, err_raise, err_clear, error_word, no_term, expression_of, bound_arguments, value_with}
+use Rattle.binder.specs.Terms.{Env, Given, a_value, a_routine, value_with}
 use Rattle.binder.specs.Terms as plain_terms
-use Rattle.binder.specs.ExpressionsBound.{call_with, bare_call, callee, indexed, term_of, value_of, givens}
+use Rattle.binder.specs.ExpressionsBound.{call_with, bare_call, callee, indexed, item_of, term_of, value_of, givens}
 use Rattle.module_parts.proofs.Firsts.{expression_front}
 use Rattle.bound_calls.specs.declared.term.Ending.{Ending}
 use Rattle.bound_calls.specs.declared.term.Routine.{Routine}
@@ -156,6 +156,7 @@ opened env t (item.Tree x) xs p args is ps base f k h = absurd (none_there p f)
 opened env t (item.Operand x) xs p args is ps base f k h = absurd (none_there p f)
 opened env t (item.Indexed x) xs p args is ps base f k h = absurd (none_there p f)
 opened env t (item.Function x) xs p args is ps base f k h = absurd (none_there p f)
+opened env t (item.Member x) xs p args is ps base f k h = absurd (none_there p f)
 opened env t (item.Named x) xs p args is ps base f k h = absurd (none_there p f)
 opened env t item.Gathered xs p args is ps base f k h = absurd (none_there p f)
 opened env t (item.Call x) xs p args [] ps base f k h = absurd h
@@ -180,6 +181,7 @@ none_open env t (item.Call x) xs p ps base f h = absurd h
 none_open env t (item.Listed x) xs p ps base f h = absurd h
 none_open env t (item.Indexed x) xs p ps base f h = absurd h
 none_open env t (item.Function x) xs p ps base f h = absurd h
+none_open env t (item.Member x) xs p ps base f h = absurd h
 none_open env t (item.Named x) xs p ps base f h = absurd h
 none_open env t item.Gathered xs p ps base f h = absurd h
 
@@ -190,6 +192,7 @@ tree_open env t (item.Call x) xs p e is ps base f h = absurd h
 tree_open env t (item.Listed x) xs p e is ps base f h = absurd h
 tree_open env t (item.Indexed x) xs p e is ps base f h = absurd h
 tree_open env t (item.Function x) xs p e is ps base f h = absurd h
+tree_open env t (item.Member x) xs p e is ps base f h = absurd h
 tree_open env t (item.Named x) xs p e is ps base f h = absurd h
 tree_open env t item.Gathered xs p e is ps base f h = absurd h
 
@@ -200,6 +203,7 @@ passed_named t (item.Call x) q p f = tt
 passed_named t (item.Listed x) q p f = tt
 passed_named t (item.Indexed x) q p f = absurd (none_there p f)
 passed_named t (item.Function x) q p f = absurd (none_there p f)
+passed_named t (item.Member x) q p f = absurd (none_there p f)
 passed_named t (item.Named x) q p f = absurd (none_there p f)
 passed_named t item.Gathered q p f = absurd (none_there p f)
 
@@ -240,6 +244,10 @@ plain_stands env x i xs p q comma d e f k m (nodes.tree y ∷ nodes.arguments ar
 pub adds_passed : (i : Item) (p q : Passed) (x : Tree) (d e : Drafted) → passed_in i ≡ Some p → PassesPlain p x d e q → AddsArgument i x d e (with_passed i q)
 adds_passed i p q x d e f m = record { grown = m.grown; named = passed_named e.tables i q p f; stands = λ env comma xs is base k h. plain_stands env x i xs p q comma d e f k m is base h }
 
+-- brackets behind a procedure are its arguments
+pub routine_item : (place : Place) (z : plain_terms.Term) (space : Space) (number : ℕ) (w : Written) → z ≡ a_routine space number w → item_of place z ≡ z
+routine_item place z space number w h = ap (λ y. item_of place y) h ∙ sym h
+
 -- arguments end
 index_stands : (env : Env) (x : Call) (ending : Ending) (left right : Token) (xs : List Item) (d e : Drafted) → AllNamed d.tables xs → EndsCall x.routine x.passed d e ending → (is : List nodes.Item) (base : Base)
     → Stands env d.tables (item.Call x ∷ xs) is d.pieces base
@@ -249,11 +257,13 @@ index_stands env x ending left right xs d e k c (nodes.tree y ∷ is) base h = a
 index_stands env x ending left right xs d e k c (nodes.arguments args ∷ []) base h = absurd h
 index_stands env x ending left right xs d e k c (nodes.arguments args ∷ nodes.arguments more ∷ is) base h = absurd h
 index_stands env x ending left right xs d e k c (nodes.arguments args ∷ nodes.tree y ∷ is) base h =
-    let s = h.1.0 in (
+    let s = h.1.0 in
+    let A : plain_terms.Term → Type 0 = λ z. ValueStands e.tables ending (indexed env (place_of_expression y) z (givens env args)) e.pieces h.0 in (
       h.0,
       (
         record {
-          term_is = call_stands env e.tables x.routine x.passed d e ending (callee env y (term_of env y)) (place_of_expression y) args h.0 h.0 c s.routine s.passed;
+          term_is = subst A (sym (routine_item (place_of_expression y) (callee env y (term_of env y)) s.routine.space s.routine.number s.routine.written s.routine.is))
+              (call_stands env e.tables x.routine x.passed d e ending (callee env y (term_of env y)) (place_of_expression y) args h.0 h.0 c s.routine s.passed);
           place_is = s.place_is ∙ sym (expression_front y (marked left mark.LeftParenthesis ∷ (spell_args args ++ marked right mark.RightParenthesis ∷ [])));
           name_is = refl;
           qualifier_is = refl;

@@ -1,25 +1,31 @@
 -- What stands on a stack stands there still when the tables of the draft grow.
-use Rattle.std.proofs.Common.{◌≡◌, List, [], ◌∷◌, refl, ap, ◌∙◌, arith}
+use Rattle.std.proofs.Common.{◌≡◌, ℕ, ◌<◌, length, map, List, [], ◌∷◌, refl, sym, ap, ◌∙◌, arith}
 use Rattle.vba_values.specs.Val.{Val}
-use Rattle.vba_expression.specs.Tree.{Expr, no_args, missing, plain, named}
+use Rattle.vba_expression.specs.Tree.{Expr, Args, no_args, missing, plain, named}
 use Rattle.vba_expression.specs.Nodes as nodes
 use Rattle.bound_project.specs.declared.node.NodeKind.{NodeKind}
 use Rattle.bound_project.specs.declared.node.NodeKind.TheVariants as node
 use Rattle.bound_project.specs.declared.node.Node.{Node}
-use Rattle.bound_project.specs.Expressions.{constant, call, in_order}
+use Rattle.bound_project.specs.Project.{nowhere}
+use Rattle.bound_project.specs.Expressions.{constant, call, active_sheet, host_member, in_order}
 use Rattle.bound_project.specs.Expressions as bound
-use Rattle.bound_project.specs.Pieces.{Piece, an_argument, default_taken, Tables, arguments_off, of_found, expr_of, put_kind}
+use Rattle.bound_project.specs.Lists.{above}
+use Rattle.bound_project.specs.View.{declared_view}
+use Rattle.bound_project.specs.Pieces.{Piece, a_member, an_argument, an_expr, default_taken, Tables, arguments_off, exprs_off, name_in, name_of, of_found, of_member_found, of_value, expr_of, put_kind}
 use Rattle.bound_project.specs.Drafts.{Drafted, NodeNamed, with_constant}
 use Rattle.bound_project.proofs.Drafts.{Extends, constant_extends}
-use Rattle.binder.specs.Terms.{Env}
+use Rattle.vba_values.specs.Types as type
+use Rattle.binder.specs.Terms.{Env, a_host_member, expression_of}
 use Rattle.binder.specs.Terms as terms
 use Rattle.binder.specs.ExpressionsBound.{term_of}
 use Rattle.bound_calls.specs.declared.term.Term.{Term}
 use Rattle.bound_calls.specs.declared.term.Term.TheVariants as term
+use Rattle.bound_calls.specs.declared.term.HostMember.{HostMember}
+use Rattle.bound_calls.specs.declared.term.MemberCall.{MemberCall}
 use Rattle.bound_calls.specs.declared.term.Tree.{Tree}
 use Rattle.bound_calls.specs.declared.term.Item.{Item}
 use Rattle.bound_calls.specs.declared.term.Item.TheVariants as item
-use Rattle.bound_calls.specs.Standing.{TermStands, TreeStands, Stands, TermNamed, ItemNamed, AllNamed, Grown, Base}
+use Rattle.bound_calls.specs.Standing.{TermStands, TreeStands, MemberStands, member_is, Stands, TermNamed, ItemNamed, AllNamed, Grown, Base}
 
 pub extends_same : (t : Tables) → Extends t t
 extends_same t = record {
@@ -60,32 +66,54 @@ pub put_same : (t u : Tables) → Extends t u → (n : Node) (k : NodeKind) → 
 put_same t u e n (node.Constant i) h st = ap (λ v. expr_of n (constant v) ∷ st) (e.constant_is i h)
 put_same t u e n (node.ByDefault i) h st = ap (λ v. an_argument (default_taken v) ∷ st) (e.constant_is i h)
 put_same t u e n (node.CallInOrder p count order) h st = ap (λ o. of_found (λ args. expr_of n (call p (in_order o args))) (arguments_off count st bound.no_args)) (e.order_is order h)
+put_same t u e n (node.MemberThere i given) h st = ap (λ v. of_value (λ x. a_member x (name_of v) given) st) (e.constant_is i h)
+put_same t u e n (node.HostMember i count) h st =
+    ap (λ v. of_member_found (name_of v) (λ x es. expr_of n (host_member x (name_of v) es)) (exprs_off count st bound.no_exprs)) (e.constant_is i h)
 put_same t u e n k h st = refl
 
 pub node_named : (t u : Tables) → Extends t u → (k : NodeKind) → NodeNamed t k → NodeNamed u k
 node_named t u e (node.Constant i) h = omega (arith, e.constants_more)
 node_named t u e (node.ByDefault i) h = omega (arith, e.constants_more)
 node_named t u e (node.CallInOrder p count order) h = omega (arith, e.orders_more)
+node_named t u e (node.MemberThere i given) h = omega (arith, e.constants_more)
+node_named t u e (node.HostMember i count) h = omega (arith, e.constants_more)
 node_named t u e k h = tt
 
 pub term_named : (t u : Tables) → Extends t u → (x : Term) → TermNamed t x → TermNamed u x
 term_named t u e (term.Place kind of bounded lends) h = node_named t u e kind h
 term_named t u e (term.Value ending) h = node_named t u e ending.kind h
+term_named t u e (term.HostMember m) h = omega (arith, e.constants_more)
+term_named t u e (term.SheetMember m) h = omega (arith, e.constants_more)
 term_named t u e x h = tt
 
 pub item_named : (t u : Tables) → Extends t u → (x : Item) → ItemNamed t x → ItemNamed u x
 item_named t u e (item.Tree x) h = term_named t u e x.term h
+item_named t u e (item.Member x) h = omega (arith, e.constants_more)
 item_named t u e x h = tt
 
 pub all_named : (t u : Tables) → Extends t u → (xs : List Item) → AllNamed t xs → AllNamed u xs
 all_named t u e [] h = tt
 all_named t u e (x ∷ xs) h = (item_named t u e x h.0, all_named t u e xs h.1)
 
+-- the name of a member stays
+name_same : (t u : Tables) → Extends t u → (i : ℕ) → i < length t.constants → name_in u i ≡ name_in t i
+name_same t u e i h = ap name_of (e.constant_is i h)
+
+pub member_same : (t u : Tables) → Extends t u → (m : HostMember) → m.name < length t.constants → member_is t m ≡ member_is u m
+member_same t u e m h = ap named (sym (name_same t u e m.name h))
+  where
+    named : List ℕ → terms.HostMember
+    named n = record { name = n; of = declared_view m.of; least = m.least; greatest = m.greatest }
+
 pub term_grows : (env : Env) (t u : Tables) → Extends t u → (x : Term) → TermNamed t x → (y : terms.Term) (ps below : List Piece) → TermStands env t x y ps below → TermStands env u x y ps below
 term_grows env t u e (term.Place kind of bounded lends) k y ps below h = record { at = h.at; is = h.is; ends = λ n. put_same t u e n kind k ps ∙ h.ends n }
 term_grows env t u e (term.Value ending) k y ps below h = record { made = h.made; is = h.is; ends = λ n. put_same t u e n ending.kind k ps ∙ h.ends n }
 term_grows env t u e (term.Routine r) k y ps below h = h
 term_grows env t u e (term.Function f) k y ps below h = h
+term_grows env t u e (term.HostMember m) k y ps below h =
+    record { object = h.object; is = h.is ∙ ap (λ z. a_host_member h.object z) (member_same t u e m k); on_top = h.on_top }
+term_grows env t u e (term.SheetMember m) k y ps below h =
+    (h.0 ∙ ap (λ z. a_host_member (expression_of active_sheet nowhere type.worksheet) z) (member_same t u e m k), h.1)
 term_grows env t u e term.Err k y ps below h = h
 term_grows env t u e term.ErrRaise k y ps below h = h
 term_grows env t u e term.ErrClear k y ps below h = h
@@ -95,6 +123,18 @@ term_grows env t u e term.Nothing k y ps below h = h
 pub tree_grows : (env : Env) (t u : Tables) → Extends t u → (x : Tree) → TermNamed t x.term → (tree : Expr) (ps below : List Piece) → TreeStands env t x tree ps below → TreeStands env u x tree ps below
 tree_grows env t u e x k tree ps below h =
     record { term_is = term_grows env t u e x.term k (term_of env tree) ps below h.term_is; place_is = h.place_is; name_is = h.name_is; qualifier_is = h.qualifier_is; leaf = h.leaf }
+
+pub member_grows : (env : Env) (t u : Tables) → Extends t u → (x : MemberCall) → x.member.name < length t.constants → (tree : Expr) (args : Args) (ps below : List Piece) → MemberStands env t x tree args ps below → MemberStands env u x tree args ps below
+member_grows env t u e x k tree args ps below h = record {
+  object = h.object;
+  is = h.is ∙ ap (λ z. a_host_member h.object z) (member_same t u e x.member k);
+  place_is = h.place_is;
+  made = h.made;
+  values = h.values;
+  all_given = h.all_given;
+  count_is = h.count_is;
+  on_top = h.on_top ∙ ap (λ (n : List ℕ). above (map an_expr h.made) (a_member h.object n x.given ∷ below)) (sym (name_same t u e x.member.name k));
+}
 
 pub stands_grows : (env : Env) (t u : Tables) → Extends t u → (xs : List Item) → AllNamed t xs → (is : List nodes.Item) (ps : List Piece) (base : Base) → Stands env t xs is ps base → Stands env u xs is ps base
 stands_grows env t u e [] k is ps base h = h
@@ -128,6 +168,12 @@ stands_grows env t u e (item.Function x ∷ xs) k (nodes.tree tree ∷ is) ps ba
 stands_grows env t u e (item.Function x ∷ xs) k (nodes.arguments args ∷ []) ps base h = absurd h
 stands_grows env t u e (item.Function x ∷ xs) k (nodes.arguments args ∷ nodes.arguments more ∷ is) ps base h = absurd h
 stands_grows env t u e (item.Function x ∷ xs) k (nodes.arguments args ∷ nodes.tree tree ∷ is) ps base h = (h.0, (h.1.0, stands_grows env t u e xs k.1 is h.0 base h.1.1))
+stands_grows env t u e (item.Member x ∷ xs) k [] ps base h = absurd h
+stands_grows env t u e (item.Member x ∷ xs) k (nodes.tree tree ∷ is) ps base h = absurd h
+stands_grows env t u e (item.Member x ∷ xs) k (nodes.arguments args ∷ []) ps base h = absurd h
+stands_grows env t u e (item.Member x ∷ xs) k (nodes.arguments args ∷ nodes.arguments more ∷ is) ps base h = absurd h
+stands_grows env t u e (item.Member x ∷ xs) k (nodes.arguments args ∷ nodes.tree tree ∷ is) ps base h =
+    (h.0, (member_grows env t u e x k.0 tree args ps h.0 h.1.0, stands_grows env t u e xs k.1 is h.0 base h.1.1))
 stands_grows env t u e (item.Named x ∷ xs) k [] ps base h = absurd h
 stands_grows env t u e (item.Named x ∷ xs) k (nodes.tree tree ∷ is) ps base h = absurd h
 stands_grows env t u e (item.Named x ∷ xs) k (nodes.arguments no_args ∷ is) ps base h = absurd h

@@ -1,5 +1,6 @@
 pub mod Growing
 pub mod Taking
+pub mod Referring
 pub mod Steps
 pub mod Passing
 pub mod Arguing

@@ -52,7 +52,7 @@ use Rattle.bound_calls.specs.Calls.{PassesTree, passed_in}
 use Rattle.bound_calls.specs.InOrder.{is_there, all_apart, counted_from, places_from, other_numbers, others, numbers_given, numbers_pushed, NamedTaken, AllNamedTaken, is_named, with_named, OtherPassed, PassesOthers, PassesApart, AddsOrder, Orders, EndsInOrder, EndsNamed}
 use Rattle.bound_calls.proofs.Growing.{grown_same, grown_twice, all_named, stands_grows}
 use Rattle.bound_calls.proofs.Arguing.{left_long}
-use Rattle.bound_calls.proofs.CallSteps.{above_both, parameters_long}
+use Rattle.bound_calls.proofs.CallSteps.{above_both, parameters_long, routine_item}
 use Rattle.bound_calls.proofs.InOrder.{named_bound}
 
 -- ---- lists of numbers, with one more
@@ -102,6 +102,7 @@ below_one (item.Tree x) xs p f = let e : None ≡ Some p = f in absurd cc
 below_one (item.Operand x) xs p f = let e : None ≡ Some p = f in absurd cc
 below_one (item.Indexed x) xs p f = let e : None ≡ Some p = f in absurd cc
 below_one (item.Function x) xs p f = let e : None ≡ Some p = f in absurd cc
+below_one (item.Member x) xs p f = let e : None ≡ Some p = f in absurd cc
 below_one (item.Named x) xs p f = let e : None ≡ Some p = f in absurd cc
 below_one item.Gathered xs p f = let e : None ≡ Some p = f in absurd cc
 
@@ -112,6 +113,7 @@ below_other (item.Tree x) xs h = refl
 below_other (item.Operand x) xs h = refl
 below_other (item.Indexed x) xs h = refl
 below_other (item.Function x) xs h = refl
+below_other (item.Member x) xs h = refl
 below_other item.Gathered xs h = refl
 below_other (item.Named x) xs h = let e : true ≡ false = h in absurd cc
 
@@ -123,6 +125,7 @@ below_same (item.Tree x) xs h = let n : false ≡ true = h in absurd cc
 below_same (item.Operand x) xs h = let n : false ≡ true = h in absurd cc
 below_same (item.Indexed x) xs h = let n : false ≡ true = h in absurd cc
 below_same (item.Function x) xs h = let n : false ≡ true = h in absurd cc
+below_same (item.Member x) xs h = let n : false ≡ true = h in absurd cc
 below_same item.Gathered xs h = let n : false ≡ true = h in absurd cc
 
 -- looked up from the last item
@@ -151,6 +154,7 @@ arguments_below env t (item.Tree x ∷ xs) p is ps base f h = let e : None ≡ S
 arguments_below env t (item.Operand x ∷ xs) p is ps base f h = let e : None ≡ Some p = f in absurd cc
 arguments_below env t (item.Indexed x ∷ xs) p is ps base f h = let e : None ≡ Some p = f in absurd cc
 arguments_below env t (item.Function x ∷ xs) p is ps base f h = let e : None ≡ Some p = f in absurd cc
+arguments_below env t (item.Member x ∷ xs) p is ps base f h = let e : None ≡ Some p = f in absurd cc
 arguments_below env t (item.Gathered ∷ xs) p is ps base f h = let e : None ≡ Some p = f in absurd cc
 arguments_below env t (item.Named x ∷ xs) p [] ps base f h = absurd h
 arguments_below env t (item.Named x ∷ xs) p (nodes.tree e ∷ is) ps base f h = absurd h
@@ -522,11 +526,13 @@ index_stands env x k ks ending left right xs d e n c (nodes.arguments args ∷ n
     let u = unpacked env d.tables (k ∷ ks) (item.Call x) xs x.passed args (nodes.tree y ∷ is) d.pieces base refl h in
     let s = u.stands.1.0 in
     let below = u.stands.0 in
+    let T : plain_terms.Term → Type 0 = λ z. ValueStands e.tables ending (indexed env (place_of_expression y) z (givens env args)) e.pieces below in
     let N : List Given → Type 0 = λ l. AllNamedTaken (value_of env) x.passed.count (map parameter_view x.passed.left.now) l (reverse (k ∷ ks)) u.made in (
       below,
       (
         record {
-          term_is = called_stands env x d e (reverse (k ∷ ks)) ending y u.before u.given u.made (givens env args) u.between below (λ z. none_given (value_of env) x.passed.count (map parameter_view x.passed.left.now) k ks u.made (subst N z u.taken)) c u.givens_are s u.taken u.on_top;
+          term_is = subst T (sym (routine_item (place_of_expression y) (callee env y (term_of env y)) s.routine.space s.routine.number s.routine.written s.routine.is))
+              (called_stands env x d e (reverse (k ∷ ks)) ending y u.before u.given u.made (givens env args) u.between below (λ z. none_given (value_of env) x.passed.count (map parameter_view x.passed.left.now) k ks u.made (subst N z u.taken)) c u.givens_are s u.taken u.on_top);
           place_is = s.place_is ∙ sym (expression_front y (marked left mark.LeftParenthesis ∷ (spell_args args ++ marked right mark.RightParenthesis ∷ [])));
           name_is = refl;
           qualifier_is = refl;

@@ -1,6 +1,6 @@
 -- What the nodes of an expression do to the stack.
 use Rattle.std.proofs.lemmas.List.{drop_more, drop_all}
-use Rattle.std.proofs.Common.{◌≡◌, ℕ, false, ◌<◌, ◌≤◌, ◌+◌, get_or, drop, length, arith, length-append, List, [], ◌∷◌, Option, Some, None, refl, sym, ap, subst, ◌∙◌}
+use Rattle.std.proofs.Common.{◌≡◌, ℕ, true, false, ◌<◌, ◌≤◌, ◌+◌, get_or, drop, length, arith, length-append, List, [], ◌∷◌, Option, Some, None, refl, sym, ap, subst, ◌∙◌}
 use Rattle.std.specs.Prelude.{option_map}
 use Rattle.vba_base.specs.declared.place.Place.{Place}
 use Rattle.vba_lexer.specs.declared.token.Token.{Token}
@@ -9,8 +9,9 @@ use Rattle.vba_values.specs.declared.types.Compare.{Compare}
 use Rattle.vba_values.specs.Val.{Val}
 use Rattle.vba_expression.specs.declared.operator.UnaryOperator.{UnaryOperator}
 use Rattle.vba_expression.specs.declared.operator.BinaryOperator.{BinaryOperator}
+use Rattle.vba_expression.specs.declared.operator.BinaryOperator.TheVariants as operators
 use Rattle.vba_expression.specs.declared.node.ExpressionNode.TheVariants as node
-use Rattle.vba_expression.specs.Tree.{Expr, parenthesised, unary}
+use Rattle.vba_expression.specs.Tree.{Expr, binary, parenthesised, unary}
 use Rattle.vba_expression.specs.Spelling.{binary_reading, spell}
 use Rattle.vba_expression.specs.Reader.{name_in}
 use Rattle.vba_expression.specs.Nodes as nodes
@@ -23,13 +24,13 @@ use Rattle.vba_values.specs.Types.{Declared}
 use Rattle.bound_project.specs.View.{declared_view}
 use Rattle.bound_project.specs.Expressions as bound
 use Rattle.bound_project.specs.Expressions.{constant}
-use Rattle.bound_project.specs.Pieces.{Piece, Tables, expr_of}
+use Rattle.bound_project.specs.Pieces.{Piece, Tables, expr_of, put}
 use Rattle.bound_project.specs.Drafts.{Drafted}
 use Rattle.bound_project.proofs.Drafts.{constant_last}
-use Rattle.binder.specs.Constants.{place_of_expression, compare_in, value_type}
+use Rattle.binder.specs.Constants.{place_of_expression, compare_in, operator_kind, value_type}
 use Rattle.binder.specs.Terms.{Env, no_term, a_value}
 use Rattle.binder.specs.Terms as plain
-use Rattle.binder.specs.ExpressionsBound.{term_of, value_of, operand_of, as_value, if_there, value_term, literal_term, bound_value, bound_operand}
+use Rattle.binder.specs.ExpressionsBound.{term_of, value_of, operand_of, as_value, binary_term, if_there, value_term, literal_term, bound_value, bound_operand}
 use Rattle.vba_words.specs.declared.identifier.Identifier.{Identifier}
 use Rattle.bound_calls.specs.declared.term.Ending.{Ending}
 use Rattle.bound_calls.specs.declared.term.Term.{Term}
@@ -40,16 +41,20 @@ use Rattle.bound_calls.specs.declared.term.Item.{Item}
 use Rattle.bound_calls.specs.declared.term.Item.TheVariants as item
 use Rattle.bound_calls.specs.Standing.{TermStands, TermNamed, QualifierStands, LeafStands, TreeStands, PushedStands, EndingStands, EndingNamed, Stands, AllNamed, Grown, Base, on_pieces}
 use Rattle.bound_calls.specs.Taking.{TakesValue, TakesOperand, Pushes}
-use Rattle.bound_calls.specs.Steps.{PushesOperand, PushesValue, Leaves, Binds, Goes, MakesUnary, MakesBinary, MakesLeaf, AddsConstant, as_term}
-use Rattle.bound_calls.proofs.Growing.{grown_same, grown_constant, grown_twice, all_named, stands_grows}
+use Rattle.bound_calls.specs.Steps.{PushesOperand, PushesValue, Leaves, Binds, Goes, MakesUnary, MakesBinary, MakesLeaf, AddsConstant, as_term, is_same}
+use Rattle.bound_calls.proofs.Growing.{grown_same, grown_constant, grown_pieces, grown_twice, all_named, stands_grows}
+use Rattle.bound_calls.proofs.Taking.{node_of}
 
-pub pushes_operand : (x : Tree) (d d1 e : Drafted) (ending : Option Ending) (of : Option DeclaredType) → TakesOperand x.term d d1 ending → Pushes ending x.place d1 e of → PushesOperand x d e of
-pushes_operand x d d1 e ending of t p = record {
-  grown = grown_twice d d1 e t.grown p.grown;
-  stands = λ env tree below k.
-      let P : Place → Type 0 = λ place. PushedStands of (operand_of env (term_of env tree) place) e.pieces below in
-      subst P k.place_is (p.stands (λ place. operand_of env (term_of env tree) place) below (t.stands env (term_of env tree) below k.term_is));
-}
+pub pushes_operand : (x : Tree) (d m e : Drafted) (v : Ending) → TakesOperand x.term d m v → e ≡ record m { pieces = put m.tables (node_of v.kind x.place v.of) m.pieces } → PushesOperand x d e (Some v.of)
+pushes_operand x d m e v t eq =
+    let P : Drafted → Type 0 = λ z. PushesOperand x d z (Some v.of) in
+    subst P (sym eq) (record {
+      grown = grown_twice d m (record m { pieces = put m.tables (node_of v.kind x.place v.of) m.pieces }) t.grown (grown_pieces m (put m.tables (node_of v.kind x.place v.of) m.pieces));
+      stands = λ env tree below k.
+          let h = t.stands env (term_of env tree) below k.term_is in
+          let A : Place → Type 0 = λ place. operand_of env (term_of env tree) place ≡ Some (bound.expr h.made x.place (declared_view v.of) (declared_view v.of)) in
+          record { made = bound.expr h.made x.place (declared_view v.of) (declared_view v.of); is = subst A k.place_is (h.is x.place); operand = refl; on_top = h.ends (node_of v.kind x.place v.of) };
+    })
 
 pub goes_same : (env : Env) (d : Drafted) (xs : List Item) → AllNamed d.tables xs → Goes env d xs d xs (λ is. is)
 goes_same env d xs n = record { grown = grown_same d; named = n; stands = λ is base h. h }
@@ -170,20 +175,45 @@ goes_unary env x operator token of made xs old new d e o n k p m =
     (λ tree below h. record { term_is = m.stands env e.tables (operand_of env (term_of env tree) (place_of_expression tree)) e.pieces below (p.stands env tree below h); place_is = refl; name_is = refl; qualifier_is = refl; leaf = tt })
     (behind_node (node.Unary operator token)) (λ tree is. refl)
 
-binary_stands : (env : Env) (left : Operand) (x : Tree) (operator : BinaryOperator) (token : Token) (of : Option DeclaredType) (made : Term) (xs : List Item) (d e : Drafted) (compare : Compare) → compare ≡ compare_in env.scope
+-- but for Is an operator takes operands
+two_operands : (env : Env) (l r : Expr) (o : BinaryOperator) (token : Token) → is_same o ≡ false
+    → term_of env (binary l o token r) ≡ binary_term env (operator_kind o) (operand_of env (term_of env l) (place_of_expression l)) (operand_of env (term_of env r) (place_of_expression r))
+two_operands env l r operators.Power token h = refl
+two_operands env l r operators.Divide token h = refl
+two_operands env l r operators.Multiply token h = refl
+two_operands env l r operators.IntegerDivide token h = refl
+two_operands env l r operators.Modulo token h = refl
+two_operands env l r operators.Add token h = refl
+two_operands env l r operators.Subtract token h = refl
+two_operands env l r operators.Join token h = refl
+two_operands env l r operators.Equal token h = refl
+two_operands env l r operators.NotEqual token h = refl
+two_operands env l r operators.Less token h = refl
+two_operands env l r operators.Greater token h = refl
+two_operands env l r operators.LessEqual token h = refl
+two_operands env l r operators.GreaterEqual token h = refl
+two_operands env l r operators.And token h = refl
+two_operands env l r operators.Or token h = refl
+two_operands env l r operators.Xor token h = refl
+two_operands env l r operators.Eqv token h = refl
+two_operands env l r operators.Imp token h = refl
+two_operands env l r operators.Is token h = let e : true ≡ false = h in absurd cc
+
+binary_stands : (env : Env) (left : Operand) (x : Tree) (operator : BinaryOperator) (token : Token) (of : Option DeclaredType) (made : Term) (xs : List Item) (d e : Drafted) (compare : Compare) → is_same operator ≡ false → compare ≡ compare_in env.scope
     → AllNamed d.tables xs → PushesOperand x d e of → MakesBinary compare operator left.of of made → (is : List nodes.Item) (base : Base)
     → Stands env d.tables (item.Tree x ∷ item.Operand left ∷ xs) is d.pieces base
     → Stands env e.tables (item.Tree (record { place = left.place; name = None; is_qualifier = false; term = made }) ∷ xs) (behind_node (node.Binary operator token) is) e.pieces base
-binary_stands env left x operator token of made xs d e compare c k p m [] base h = absurd h
-binary_stands env left x operator token of made xs d e compare c k p m (nodes.arguments args ∷ is) base h = absurd h
-binary_stands env left x operator token of made xs d e compare c k p m (nodes.tree r ∷ []) base h = absurd h.1.1
-binary_stands env left x operator token of made xs d e compare c k p m (nodes.tree r ∷ nodes.arguments args ∷ is) base h = absurd h.1.1
-binary_stands env left x operator token of made xs d e compare c k p m (nodes.tree r ∷ nodes.tree l ∷ is) base h =
-    let low = h.1.1 in (
+binary_stands env left x operator token of made xs d e compare o c k p m [] base h = absurd h
+binary_stands env left x operator token of made xs d e compare o c k p m (nodes.arguments args ∷ is) base h = absurd h
+binary_stands env left x operator token of made xs d e compare o c k p m (nodes.tree r ∷ []) base h = absurd h.1.1
+binary_stands env left x operator token of made xs d e compare o c k p m (nodes.tree r ∷ nodes.arguments args ∷ is) base h = absurd h.1.1
+binary_stands env left x operator token of made xs d e compare o c k p m (nodes.tree r ∷ nodes.tree l ∷ is) base h =
+    let low = h.1.1 in
+    let A : plain.Term → Type 0 = λ z. TermStands env e.tables made z e.pieces low.0 in (
       low.0,
       (
         record {
-          term_is = m.stands env e.tables (operand_of env (term_of env l) (place_of_expression l)) (operand_of env (term_of env r) (place_of_expression r)) e.pieces h.0 low.0 c low.1.0.pushed (p.stands env r h.0 h.1.0);
+          term_is = subst A (sym (two_operands env l r operator token o)) (m.stands env e.tables (operand_of env (term_of env l) (place_of_expression l)) (operand_of env (term_of env r) (place_of_expression r)) e.pieces h.0 low.0 c low.1.0.pushed (p.stands env r h.0 h.1.0));
           place_is = low.1.0.place_is ∙ sym (expression_front l (read token (binary_reading operator) ∷ spell r));
           name_is = refl;
           qualifier_is = refl;
@@ -194,9 +224,9 @@ binary_stands env left x operator token of made xs d e compare c k p m (nodes.tr
     )
 
 pub goes_binary : (env : Env) (left : Operand) (x : Tree) (operator : BinaryOperator) (token : Token) (of : Option DeclaredType) (made : Term) (xs old between new : List Item) (d e : Drafted) (compare : Compare)
-    → compare ≡ compare_in env.scope → old ≡ item.Tree x ∷ between → between ≡ item.Operand left ∷ xs → new ≡ item.Tree (record { place = left.place; name = None; is_qualifier = false; term = made }) ∷ xs → AllNamed d.tables old
+    → is_same operator ≡ false → compare ≡ compare_in env.scope → old ≡ item.Tree x ∷ between → between ≡ item.Operand left ∷ xs → new ≡ item.Tree (record { place = left.place; name = None; is_qualifier = false; term = made }) ∷ xs → AllNamed d.tables old
     → PushesOperand x d e of → MakesBinary compare operator left.of of made → Goes env d old e new (behind_node (node.Binary operator token))
-goes_binary env left x operator token of made xs old between new d e compare c o b n k p m =
+goes_binary env left x operator token of made xs old between new d e compare other c o b n k p m =
     let g = behind_node (node.Binary operator token) in
     let all : old ≡ item.Tree x ∷ item.Operand left ∷ xs = o ∙ ap (λ l. item.Tree x ∷ l) b in
     let N : List Item → Type 0 = λ l. AllNamed d.tables l in
@@ -206,7 +236,7 @@ goes_binary env left x operator token of made xs old between new d e compare c o
     subst A (sym all) (subst B (sym n) (record {
       grown = p.grown;
       named = (m.named e.tables, all_named d.tables e.tables p.grown.tables xs named.1.1);
-      stands = λ is base h. binary_stands env left x operator token of made xs d e compare c named.1.1 p m is base h;
+      stands = λ is base h. binary_stands env left x operator token of made xs d e compare other c named.1.1 p m is base h;
     }))
 
 -- ---- constants

@@ -1,6 +1,6 @@
 -- How terms are taken.
-use Rattle.std.proofs.Common.{◌≡◌, Bool, true, false, List, ◌∷◌, Option, Some, None, refl, sym, ap, subst, ◌∙◌}
-use Rattle.std.specs.Prelude.{if◌then◌else◌}
+use Rattle.std.proofs.Common.{◌≡◌, ◌<◌, length, Bool, true, false, List, [], ◌∷◌, Option, Some, None, refl, sym, ap, subst, ◌∙◌}
+use Rattle.std.specs.Prelude.{◌==◌, if◌then◌else◌, option_and_then}
 use Rattle.vba_base.specs.declared.place.Place.{Place}
 use Rattle.vba_values.specs.Types as type
 use Rattle.bound_project.specs.declared.declared_type.DeclaredType.{DeclaredType}
@@ -11,21 +11,25 @@ use Rattle.bound_project.specs.declared.node.NodeKind.{NodeKind}
 use Rattle.bound_project.specs.declared.node.NodeKind.TheVariants as node
 use Rattle.bound_project.specs.declared.node.Node.{Node}
 use Rattle.bound_project.specs.View.{declared_view}
-use Rattle.bound_project.specs.Expressions.{expr, load, err_value, err_number, Lvalue}
+use Rattle.bound_project.specs.Project.{nowhere}
+use Rattle.bound_project.specs.Expressions.{expr, load, active_sheet, err_value, err_number, host_member, no_exprs}
 use Rattle.bound_project.specs.Expressions as bound
-use Rattle.bound_project.specs.Pieces.{Piece, Tables, of_place, expr_of, put}
+use Rattle.bound_project.specs.Pieces.{Piece, Tables, a_member, an_expr, exprs_off, name_in, of_member_found, of_place, of_value, expr_of, put}
+use Rattle.bound_project.proofs.Lists.{member_put}
 use Rattle.bound_project.specs.Drafts.{Drafted, NodeNamed}
+use Rattle.binder.specs.Options.{or_else}
 use Rattle.binder.specs.Types.{is_object}
-use Rattle.binder.specs.Terms.{Env, expression_of, typed_value}
+use Rattle.binder.specs.Terms.{Env, a_host_member, expression_of, typed_value}
 use Rattle.binder.specs.Terms as plain
-use Rattle.binder.specs.ExpressionsBound.{value_of, operand_of}
+use Rattle.binder.specs.ExpressionsBound.{value_of, reference_of, default_value, operand_of}
 use Rattle.bound_calls.specs.declared.term.Ending.{Ending}
+use Rattle.bound_calls.specs.declared.term.HostMember.{HostMember}
 use Rattle.bound_calls.specs.declared.term.Routine.{Routine}
 use Rattle.bound_calls.specs.declared.term.Term.{Term}
 use Rattle.bound_calls.specs.declared.term.Term.TheVariants as term
-use Rattle.bound_calls.specs.Standing.{TermStands, EndingStands, EndingNamed}
-use Rattle.bound_calls.specs.Taking.{Loads, CallsBare, TakesValue, TakesOperand, Pushes}
-use Rattle.bound_calls.proofs.Growing.{grown_same, grown_pieces}
+use Rattle.bound_calls.specs.Standing.{TermStands, EndingIs, EndingStands, EndingNamed, member_is}
+use Rattle.bound_calls.specs.Taking.{Loads, CallsBare, PushesSheet, ReadsMember, TakesValue, TakesOperand, Pushes, sheet_expression}
+use Rattle.bound_calls.proofs.Growing.{grown_same, grown_pieces, grown_twice}
 
 -- a node of a type that it has as an operand too
 abbrev pub node_of : NodeKind → Place → DeclaredType → Node
@@ -81,6 +85,68 @@ ending_named e false d h = h
 pub takes_value : (e : Ending) (d : Drafted) → NodeNamed d.tables e.kind → TakesValue (term.Value e) d d (plain_ending (is_object (declared_view e.of)) e)
 takes_value e d k = record { grown = grown_same d; named = ending_named e (is_object (declared_view e.of)) d k; stands = value_value e (is_object (declared_view e.of)) refl d }
 
+-- a member that is read without arguments
+pub reads_member : (m : HostMember) (place : Place) (d e : Drafted) → m.least ≡ 0 → m.name < length d.tables.constants → e ≡ record d { pieces = put d.tables (node_of (node.MemberThere m.name 0) place m.of) d.pieces }
+    → ReadsMember m d e (record { kind = node.HostMember m.name 0; of = m.of })
+reads_member m place d e least named eq =
+    let P : Drafted → Type 0 = λ x. ReadsMember m d x (record { kind = node.HostMember m.name 0; of = m.of }) in
+    let name = name_in d.tables m.name in
+    subst P (sym eq) (record {
+      grown = grown_pieces d (put d.tables (node_of (node.MemberThere m.name 0) place m.of) d.pieces);
+      named = named;
+      least_is = least;
+      of_is = refl;
+      ends = λ object below k n.
+          ap (λ st. of_member_found name (λ x es. expr_of n (host_member x name es)) (exprs_off 0 (of_value (λ x. a_member x name 0) st) no_exprs)) k
+          ∙ member_put name (λ x es. expr_of n (host_member x name es)) object [] below;
+    })
+
+value_when : (b : Bool) (made : bound.Node) (place : Place) (of : DeclaredType) → b ≡ true → is_object (declared_view of) ≡ false
+    → (if b then typed_value made place (declared_view of) else None) ≡ Some (expr made place (declared_view of) (declared_view of))
+value_when b made place of eq h = ap (λ c. if c then typed_value made place (declared_view of) else None) eq ∙ no_object made place of h
+
+member_valued : (m : HostMember) (d e : Drafted) (v : Ending) → is_object (declared_view m.of) ≡ false → ReadsMember m d e v → (env : Env) (y : plain.Term) (below : List Piece)
+    → TermStands env d.tables (term.HostMember m) y d.pieces below → EndingIs e.tables v (λ place. value_of env y place) e.pieces below
+member_valued m d e v r h env y below k =
+    let made = host_member k.object (name_in d.tables m.name) no_exprs in
+    let P : DeclaredType → Type 0 = λ of. (place : Place) → value_of env y place ≡ Some (expr made place (declared_view of) (declared_view of)) in
+    record {
+      made = made;
+      is = subst P (sym h.of_is) (λ place. ap (λ z. value_of env z place) k.is ∙ value_when (m.least == 0) made place m.of (ap (λ n. n == 0) h.least_is) r);
+      ends = h.ends k.object below k.on_top;
+    }
+
+pub takes_member : (m : HostMember) (d e : Drafted) (v : Ending) → is_object (declared_view m.of) ≡ false → ReadsMember m d e v → TakesValue (term.HostMember m) d e (Some v)
+takes_member m d e v r h = record { grown = h.grown; named = h.named; stands = member_valued m d e v r h }
+
+pub pushes_sheet : (place : Place) (d e : Drafted) → place ≡ nowhere → e ≡ record d { pieces = put d.tables (node_of node.ActiveSheet place (Plain element.Worksheet)) d.pieces } → PushesSheet d e
+pushes_sheet place d e p eq =
+    let P : Drafted → Type 0 = λ x. PushesSheet d x in
+    subst P (sym eq) (record {
+      grown = grown_pieces d (put d.tables (node_of node.ActiveSheet place (Plain element.Worksheet)) d.pieces);
+      tables_are = refl;
+      on_top = ap (λ q. an_expr (expr active_sheet q type.worksheet type.worksheet) ∷ d.pieces) p;
+    })
+
+-- a member of the active sheet, once that is pushed
+pub sheet_stands : (m : HostMember) (d e : Drafted) → PushesSheet d e → (env : Env) (y : plain.Term) (below : List Piece) → TermStands env d.tables (term.SheetMember m) y d.pieces below
+    → TermStands env e.tables (term.HostMember m) y e.pieces below
+sheet_stands m d e s env y below h = record {
+  object = sheet_expression;
+  is = h.0 ∙ ap (λ (t : Tables). a_host_member sheet_expression (member_is t m)) (sym s.tables_are);
+  on_top = s.on_top ∙ ap (λ ps. an_expr sheet_expression ∷ ps) h.1;
+}
+
+pub named_still : (m : HostMember) (d e : Drafted) → PushesSheet d e → m.name < length d.tables.constants → m.name < length e.tables.constants
+named_still m d e s h = let P : Tables → Type 0 = λ t. m.name < length t.constants in subst P (sym s.tables_are) h
+
+pub takes_sheet : (m : HostMember) (d s e : Drafted) (v : Option Ending) → PushesSheet d s → TakesValue (term.HostMember m) s e v → TakesValue (term.SheetMember m) d e v
+takes_sheet m d s e v p h = record {
+  grown = grown_twice d s e p.grown h.grown;
+  named = h.named;
+  stands = λ env y below k. h.stands env y below (sheet_stands m d s p env y below k);
+}
+
 pub takes_routine : (r : Routine) (d e : Drafted) (ending : Option Ending) → CallsBare r d e ending → TakesValue (term.Routine r) d e ending
 takes_routine r d e ending h = record { grown = h.grown; named = h.named; stands = h.stands }
 
@@ -89,6 +155,8 @@ pub none_of : (x : Term) → Type 0
 none_of (term.Place kind of bounded lends) = ⊥
 none_of (term.Value e) = ⊥
 none_of (term.Routine r) = ⊥
+none_of (term.HostMember m) = ⊥
+none_of (term.SheetMember m) = ⊥
 none_of x = Unit {0}
 
 no_value : (t : Tables) (x : Term) → none_of x → (env : Env) (y : plain.Term) (ps below : List Piece) → TermStands env t x y ps below → (place : Place) → value_of env y place ≡ None
@@ -96,6 +164,8 @@ unfolding none_of
 no_value t (term.Place kind of bounded lends) n env y ps below h place = absurd n
 no_value t (term.Value e) n env y ps below h place = absurd n
 no_value t (term.Routine r) n env y ps below h place = absurd n
+no_value t (term.HostMember m) n env y ps below h place = absurd n
+no_value t (term.SheetMember m) n env y ps below h place = absurd n
 no_value t (term.Function f) n env y ps below h place = ap (λ z. value_of env z place) h.0.is
 no_value t term.Err n env y ps below h place = ap (λ z. value_of env z place) h.0
 no_value t term.ErrRaise n env y ps below h place = ap (λ z. value_of env z place) h.0
@@ -108,23 +178,28 @@ takes_none x d n = record { grown = grown_same d; named = tt; stands = λ env y 
 
 -- ---- operands
 
--- but for Err an operand is a value
-not_err : Term → Type 0
+-- but for Err an operand is a value, or what an object gives way to
+unfoldable pub not_err : Term → Type 0
 not_err term.Err = ⊥
 not_err x = Unit {0}
 
-operand_is : (t : Tables) (x : Term) → not_err x → (env : Env) (y : plain.Term) (ps below : List Piece) → TermStands env t x y ps below → (place : Place) → operand_of env y place ≡ value_of env y place
-unfolding not_err
-operand_is t (term.Place kind of bounded lends) n env y ps below h place =
-    let P : plain.Term → Type 0 = λ z. operand_of env z place ≡ value_of env z place in subst P (sym h.is) refl
-operand_is t (term.Value e) n env y ps below h place = let P : plain.Term → Type 0 = λ z. operand_of env z place ≡ value_of env z place in subst P (sym h.is) refl
-operand_is t (term.Routine r) n env y ps below h place = let P : plain.Term → Type 0 = λ z. operand_of env z place ≡ value_of env z place in subst P (sym h.is) refl
-operand_is t (term.Function f) n env y ps below h place = let P : plain.Term → Type 0 = λ z. operand_of env z place ≡ value_of env z place in subst P (sym h.0.is) refl
-operand_is t term.Err n env y ps below h place = absurd n
-operand_is t term.ErrRaise n env y ps below h place = let P : plain.Term → Type 0 = λ z. operand_of env z place ≡ value_of env z place in subst P (sym h.0) refl
-operand_is t term.ErrClear n env y ps below h place = let P : plain.Term → Type 0 = λ z. operand_of env z place ≡ value_of env z place in subst P (sym h.0) refl
-operand_is t term.ErrorWord n env y ps below h place = let P : plain.Term → Type 0 = λ z. operand_of env z place ≡ value_of env z place in subst P (sym h.0) refl
-operand_is t term.Nothing n env y ps below h place = let P : plain.Term → Type 0 = λ z. operand_of env z place ≡ value_of env z place in subst P (sym h) refl
+Splits : Env → Place → plain.Term → Type 0
+Splits env place z = operand_of env z place ≡ or_else (value_of env z place) (option_and_then (default_value place) (reference_of env z place))
+
+pub operand_split : (env : Env) (t : Tables) (x : Term) → not_err x → (y : plain.Term) (ps below : List Piece) → TermStands env t x y ps below → (place : Place)
+    → operand_of env y place ≡ or_else (value_of env y place) (option_and_then (default_value place) (reference_of env y place))
+unfolding not_err Splits
+operand_split env t (term.Place kind of bounded lends) n y ps below h place = subst (Splits env place) (sym h.is) refl
+operand_split env t (term.Value e) n y ps below h place = subst (Splits env place) (sym h.is) refl
+operand_split env t (term.Routine r) n y ps below h place = subst (Splits env place) (sym h.is) refl
+operand_split env t (term.Function f) n y ps below h place = subst (Splits env place) (sym h.0.is) refl
+operand_split env t (term.HostMember m) n y ps below h place = subst (Splits env place) (sym h.is) refl
+operand_split env t (term.SheetMember m) n y ps below h place = subst (Splits env place) (sym h.0) refl
+operand_split env t term.Err n y ps below h place = absurd n
+operand_split env t term.ErrRaise n y ps below h place = subst (Splits env place) (sym h.0) refl
+operand_split env t term.ErrClear n y ps below h place = subst (Splits env place) (sym h.0) refl
+operand_split env t term.ErrorWord n y ps below h place = subst (Splits env place) (sym h.0) refl
+operand_split env t term.Nothing n y ps below h place = subst (Splits env place) (sym h) refl
 
 -- an ending of what is the same
 pub same_ending : (t : Tables) (ending : Option Ending) (found other : Place → Option bound.Expr) (ps below : List Piece) → ((place : Place) → other place ≡ found place) → EndingStands t ending found ps below
@@ -132,18 +207,26 @@ pub same_ending : (t : Tables) (ending : Option Ending) (found other : Place →
 same_ending t None found other ps below e h = λ place. e place ∙ h place
 same_ending t (Some ending) found other ps below e h = record { made = h.made; is = λ place. e place ∙ h.is place; ends = h.ends }
 
-as_operand : (x : Term) → not_err x → (d e : Drafted) (ending : Option Ending) → TakesValue x d e ending → TakesOperand x d e ending
+as_operand : (x : Term) → not_err x → (d e : Drafted) (ending : Ending) → TakesValue x d e (Some ending) → TakesOperand x d e ending
 as_operand x n d e ending h = record {
   grown = h.grown;
   named = h.named;
-  stands = λ env y below k. same_ending e.tables ending (λ place. value_of env y place) (λ place. operand_of env y place) e.pieces below (operand_is d.tables x n env y d.pieces below k) (h.stands env y below k);
+  stands = λ env y below k.
+      let v = h.stands env y below k in
+      record {
+        made = v.made;
+        is = λ place. operand_split env d.tables x n y d.pieces below k place ∙ ap (λ o. or_else o (option_and_then (default_value place) (reference_of env y place))) (v.is place);
+        ends = v.ends;
+      };
 }
 
-pub takes_operand : (x : Term) → ((x ≡ term.Err) → ⊥) → (d e : Drafted) (ending : Option Ending) → TakesValue x d e ending → TakesOperand x d e ending
+pub takes_operand : (x : Term) → ((x ≡ term.Err) → ⊥) → (d e : Drafted) (ending : Ending) → TakesValue x d e (Some ending) → TakesOperand x d e ending
 takes_operand (term.Place kind of bounded lends) n d e ending h = unfold not_err in as_operand (term.Place kind of bounded lends) tt d e ending h
 takes_operand (term.Value v) n d e ending h = unfold not_err in as_operand (term.Value v) tt d e ending h
 takes_operand (term.Routine r) n d e ending h = unfold not_err in as_operand (term.Routine r) tt d e ending h
 takes_operand (term.Function f) n d e ending h = unfold not_err in as_operand (term.Function f) tt d e ending h
+takes_operand (term.HostMember m) n d e ending h = unfold not_err in as_operand (term.HostMember m) tt d e ending h
+takes_operand (term.SheetMember m) n d e ending h = unfold not_err in as_operand (term.SheetMember m) tt d e ending h
 takes_operand term.Err n d e ending h = absurd (n refl)
 takes_operand term.ErrRaise n d e ending h = unfold not_err in as_operand term.ErrRaise tt d e ending h
 takes_operand term.ErrClear n d e ending h = unfold not_err in as_operand term.ErrClear tt d e ending h
@@ -153,14 +236,14 @@ takes_operand term.Nothing n d e ending h = unfold not_err in as_operand term.No
 abbrev pub err_ending : Ending
 err_ending = record { kind = node.ErrValue err_member.Number; of = Plain element.Long }
 
-err_stands : (d : Drafted) (env : Env) (y : plain.Term) (below : List Piece) → TermStands env d.tables term.Err y d.pieces below → EndingStands d.tables (Some err_ending) (λ place. operand_of env y place) d.pieces below
+err_stands : (d : Drafted) (env : Env) (y : plain.Term) (below : List Piece) → TermStands env d.tables term.Err y d.pieces below → EndingIs d.tables err_ending (λ place. operand_of env y place) d.pieces below
 err_stands d env y below h =
     let P : plain.Term → Type 0 = λ z. (place : Place) → operand_of env z place ≡ Some (expr (err_value err_number) place type.long type.long) in
     record { made = err_value err_number; is = subst P (sym h.0) (λ place. refl); ends = λ n. ap (λ st. expr_of n (err_value err_number) ∷ st) h.1 }
 
-pub takes_err : (x : Term) → x ≡ term.Err → (d : Drafted) → TakesOperand x d d (Some err_ending)
+pub takes_err : (x : Term) → x ≡ term.Err → (d : Drafted) → TakesOperand x d d err_ending
 takes_err x e d =
-    let P : Term → Type 0 = λ z. TakesOperand z d d (Some err_ending) in
+    let P : Term → Type 0 = λ z. TakesOperand z d d err_ending in
     subst P (sym e) (record { grown = grown_same d; named = tt; stands = err_stands d })
 
 -- ---- what is pushed

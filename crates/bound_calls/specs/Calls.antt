@@ -1,5 +1,5 @@
 -- Serves the code: how arguments and calls are pushed.
-use Rattle.std.specs.Prelude.{◌≡◌, ◌||◌, ◌+◌, length, true, List, ◌∷◌, map, Option, Some, None}
+use Rattle.std.specs.Prelude.{◌≡◌, ◌+◌, length, true, List, ◌∷◌, map, Option, Some, None}
 use Rattle.vba_base.specs.declared.place.Place.{Place}
 use Rattle.vba_lexer.specs.declared.token.Token.{Token}
 use Rattle.vba_expression.specs.Tree.{Expr, Args, missing}
@@ -16,9 +16,8 @@ use Rattle.bound_project.specs.Lists.{above}
 use Rattle.bound_project.specs.Pieces.{Argument, place_lent, value_copied, Piece, an_argument, an_expr}
 use Rattle.bound_project.specs.Project as project
 use Rattle.bound_project.specs.Drafts.{Drafted}
-use Rattle.vba_values.specs.Coerce.{is_same_type}
-use Rattle.binder.specs.Constants.{place_of_expression, is_variant}
-use Rattle.binder.specs.Terms.{Env, Given}
+use Rattle.binder.specs.Constants.{place_of_expression}
+use Rattle.binder.specs.Terms.{Env, Given, is_lent_to}
 use Rattle.binder.specs.Terms as plain
 use Rattle.binder.specs.ExpressionsBound.{givens, indexed, term_of, value_of}
 use Rattle.bound_calls.specs.declared.term.Ending.{Ending}
@@ -54,7 +53,7 @@ lent_in x = None
 
 -- a place is lent to a parameter that takes one of its type
 pub record LendsTo (p : Parameter) (lent : Ending) (d e : Drafted) : Type 0 where
-  pub fits : (is_variant (declared_view p.of) || is_same_type (declared_view lent.of) (declared_view p.of)) ≡ true
+  pub fits : is_lent_to (declared_view lent.of) (declared_view p.of) ≡ true
   pub lends : Lends lent.kind d e
 
 -- a value that was copied for a parameter of a type

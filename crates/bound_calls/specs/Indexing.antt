@@ -15,7 +15,7 @@ use Rattle.bound_project.specs.Pieces as piece
 use Rattle.bound_project.specs.Drafts.{Drafted}
 use Rattle.binder.specs.Constants.{place_of_expression}
 use Rattle.binder.specs.Terms.{Env}
-use Rattle.binder.specs.ExpressionsBound.{callee, element_place, givens, indexed, term_of}
+use Rattle.binder.specs.ExpressionsBound.{callee, element_place, givens, indexed, item_of, term_of}
 use Rattle.bound_calls.specs.declared.term.Term.{Term}
 use Rattle.bound_calls.specs.declared.term.Tree.{Tree}
 use Rattle.bound_calls.specs.declared.term.Target.{Target}
@@ -75,4 +75,4 @@ pub record Closes (i : Item) (d e : Drafted) (y : Tree) : Type 0 where
 pub record EndsIndexed (x : Indexed) (y : Term) : Type 0 where
   pub named : (t : Tables) → TermNamed t y
   pub stands : (env : Env) (t : Tables) (e : Expr) (args : Args) (ps below : List Piece) → IndexedStands env x e args ps below
-      → TermStands env t y (indexed env (place_of_expression e) (callee env e (term_of env e)) (givens env args)) ps below
+      → TermStands env t y (indexed env (place_of_expression e) (item_of (place_of_expression e) (callee env e (term_of env e))) (givens env args)) ps below

@@ -1,5 +1,6 @@
 pub mod Standing
 pub mod Taking
+pub mod References
 pub mod Steps
 pub mod Passing
 pub mod Calls

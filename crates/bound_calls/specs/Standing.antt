@@ -1,7 +1,8 @@
 -- Serves the code: what stands on the stack of a pass over the nodes of an expression, beside the pieces of the draft.
-use Rattle.std.specs.Prelude.{◌≡◌, ℕ, length, Bool, true, false, List, [], ◌∷◌, map, Option, Some, None, is_some, option_map, slice_get}
+use Rattle.std.specs.Prelude.{◌≡◌, ℕ, suc, ◌<◌, length, Bool, true, false, List, [], ◌∷◌, map, Option, Some, None, is_some, option_map, slice_get}
 use Rattle.vba_base.specs.declared.place.Place.{Place}
 use Rattle.vba_values.specs.Types.{Declared}
+use Rattle.vba_values.specs.Types as type
 use Rattle.vba_words.specs.declared.identifier.Identifier.{Identifier}
 use Rattle.vba_expression.specs.Tree.{Expr, Args, named}
 use Rattle.vba_expression.specs.Tree as tree
@@ -12,12 +13,12 @@ use Rattle.bound_project.specs.declared.node.NodeKind.{NodeKind}
 use Rattle.bound_project.specs.declared.node.Node.{Node}
 use Rattle.bound_project.specs.declared.variable.Variable.{Variable}
 use Rattle.bound_project.specs.View.{declared_view, parameter_view, variable_view}
-use Rattle.bound_project.specs.Expressions.{expr, Exprs, Lvalue, operand_type}
+use Rattle.bound_project.specs.Expressions.{expr, active_sheet, Exprs, also, given_count, Lvalue, operand_type}
 use Rattle.bound_project.specs.Expressions as bound
 use Rattle.bound_project.specs.Lists.{above}
-use Rattle.bound_project.specs.Pieces.{Argument, Piece, Tables, an_argument, an_expr, expr_of, put_kind, with_argument}
+use Rattle.bound_project.specs.Pieces.{Argument, Piece, Tables, a_member, an_argument, an_expr, expr_of, put_kind, with_argument}
 use Rattle.bound_project.specs.Pieces as piece
-use Rattle.bound_project.specs.Project.{Parameter}
+use Rattle.bound_project.specs.Project.{Parameter, nowhere}
 use Rattle.bound_project.specs.Drafts.{Drafted, NodeNamed}
 use Rattle.bound_project.proofs.Drafts.{Extends}
 use Rattle.binder.specs.Declarations.{Written}
@@ -25,13 +26,15 @@ use Rattle.declared_names.specs.View.{space_view, written_view}
 use Rattle.binder.specs.Scopes.{Space, qualifier_of}
 use Rattle.binder.specs.Constants.{compare_in, place_of_expression}
 use Rattle.binder.specs.Storage.{procedure_number}
-use Rattle.binder.specs.Terms.{Env, Given, a_place, a_value, a_routine, a_function, err_object, err_raise, err_clear, error_word, no_term, expression_of, parameter_named, taken_by}
+use Rattle.binder.specs.Terms.{Env, Given, a_place, a_value, a_routine, a_function, a_host_member, err_object, err_raise, err_clear, error_word, no_term, expression_of, parameter_named, taken_by}
 use Rattle.binder.specs.Terms as plain
-use Rattle.binder.specs.ExpressionsBound.{reader, parameters_in, call_type, callee, element_place, element_type, function_value, givens, term_of, value_of, operand_of}
+use Rattle.binder.specs.ExpressionsBound.{reader, parameters_in, call_type, callee, item_of, element_place, element_type, function_value, givens, given_as, term_of, value_of, operand_of}
 use Rattle.bound_calls.specs.declared.term.Ending.{Ending}
 use Rattle.bound_calls.specs.declared.term.Routine.{Routine}
 use Rattle.bound_calls.specs.declared.term.Function.{Function}
 use Rattle.bound_calls.specs.declared.term.FunctionCall.{FunctionCall}
+use Rattle.bound_calls.specs.declared.term.HostMember.{HostMember}
+use Rattle.bound_calls.specs.declared.term.MemberCall.{MemberCall}
 use Rattle.bound_calls.specs.declared.term.Term.{Term}
 use Rattle.bound_calls.specs.declared.term.Term.TheVariants as term
 use Rattle.bound_calls.specs.declared.term.Tree.{Tree}
@@ -90,12 +93,23 @@ pub record FunctionIs (env : Env) (f : Function) (x : plain.Term) : Type 0 where
   pub is : x ≡ a_function f.function f.is_text_form (base_number f.is_base_one)
   pub compare_is : f.compare ≡ compare_in env.scope
 
+-- a member of an object of the host, and the object that was pushed
+abbrev pub member_is : Tables → HostMember → plain.HostMember
+member_is t m = record { name = piece.name_in t m.name; of = declared_view m.of; least = m.least; greatest = m.greatest }
+
+pub record HostMemberStands (t : Tables) (m : HostMember) (x : plain.Term) (ps below : List Piece) : Type 0 where
+  pub object : bound.Expr
+  pub is : x ≡ a_host_member object (member_is t m)
+  pub on_top : ps ≡ an_expr object ∷ below
+
 -- a term of the code is one of the binder; of what isn't bound no piece is told
 abbrev pub TermStands : Env → Tables → Term → plain.Term → (ps below : List Piece) → Type 0
 TermStands env t (term.Place kind of bounded lends) x ps below = PlaceStands t kind of bounded lends x ps below
 TermStands env t (term.Value e) x ps below = ValueStands t e x ps below
 TermStands env t (term.Routine r) x ps below = RoutineStands env r x ps below
 TermStands env t (term.Function f) x ps below = FunctionIs env f x × (ps ≡ below)
+TermStands env t (term.HostMember m) x ps below = HostMemberStands t m x ps below
+TermStands env t (term.SheetMember m) x ps below = (x ≡ a_host_member (expression_of active_sheet nowhere type.worksheet) (member_is t m)) × (ps ≡ below)
 TermStands env t term.Err x ps below = (x ≡ err_object) × (ps ≡ below)
 TermStands env t term.ErrRaise x ps below = (x ≡ err_raise) × (ps ≡ below)
 TermStands env t term.ErrClear x ps below = (x ≡ err_clear) × (ps ≡ below)
@@ -221,6 +235,22 @@ pub record FunctionStands (env : Env) (x : FunctionCall) (e : Expr) (args : Args
   pub count_is : x.count ≡ length made
   pub on_top : ps ≡ above (map an_expr made) below
 
+-- values that count as given
+abbrev pub AllGiven : List bound.Expr → Type 0
+AllGiven [] = Unit {0}
+AllGiven (e ∷ es) = ((rest : Exprs) → given_count (also e rest) ≡ suc (given_count rest)) × AllGiven es
+
+-- a member whose object was looked at, and the values that were pushed for it: each was given without a name
+pub record MemberStands (env : Env) (t : Tables) (x : MemberCall) (e : Expr) (args : Args) (ps below : List Piece) : Type 0 where
+  pub object : bound.Expr
+  pub is : item_of (place_of_expression e) (callee env e (term_of env e)) ≡ a_host_member object (member_is t x.member)
+  pub place_is : x.place ≡ place_of_expression e
+  pub made : List bound.Expr
+  pub values : AllNumbers (given_as env) (givens env args) made
+  pub all_given : AllGiven made
+  pub count_is : x.count ≡ length made
+  pub on_top : ps ≡ above (map an_expr made) (a_member object (piece.name_in t x.member.name) x.given ∷ below)
+
 -- the arguments before those with names
 abbrev pub passed_below : List Item → Option Passed
 passed_below (item.Named x ∷ items) = passed_below items
@@ -286,6 +316,8 @@ Stands env t (item.Indexed x ∷ items) (nodes.arguments args ∷ nodes.tree e �
     (below : List Piece) × (IndexedStands env x e args ps below × Stands env t items is below base)
 Stands env t (item.Function x ∷ items) (nodes.arguments args ∷ nodes.tree e ∷ is) ps base =
     (below : List Piece) × (FunctionStands env x e args ps below × Stands env t items is below base)
+Stands env t (item.Member x ∷ items) (nodes.arguments args ∷ nodes.tree e ∷ is) ps base =
+    (below : List Piece) × (MemberStands env t x e args ps below × Stands env t items is below base)
 Stands env t (item.Named x ∷ items) (nodes.arguments (named before comma name mark e) ∷ is) ps base =
     (below : List Piece) × (NamedAbove env (passed_below items) x name e ps below × Stands env t items (nodes.arguments before ∷ is) below base)
 Stands env t (item.Gathered ∷ items) (nodes.arguments (tree.plain before comma e) ∷ is) ps base =
@@ -297,6 +329,8 @@ Stands env t items is ps base = ⊥
 abbrev pub TermNamed : Tables → Term → Type 0
 TermNamed t (term.Place kind of bounded lends) = NodeNamed t kind
 TermNamed t (term.Value e) = NodeNamed t e.kind
+TermNamed t (term.HostMember m) = m.name < length t.constants
+TermNamed t (term.SheetMember m) = m.name < length t.constants
 TermNamed t x = Unit {0}
 
 abbrev pub EndingNamed : Tables → Option Ending → Type 0
@@ -305,6 +339,7 @@ EndingNamed t (Some e) = NodeNamed t e.kind
 
 abbrev pub ItemNamed : Tables → Item → Type 0
 ItemNamed t (item.Tree x) = TermNamed t x.term
+ItemNamed t (item.Member x) = x.member.name < length t.constants
 ItemNamed t x = Unit {0}
 
 abbrev pub AllNamed : Tables → List Item → Type 0

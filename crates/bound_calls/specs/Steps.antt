@@ -1,9 +1,10 @@
 -- Serves the code: what a node does to what stands on the stack.
-use Rattle.std.specs.Prelude.{◌≡◌, ℕ, length, List, ◌∷◌, Option, Some, None}
+use Rattle.std.specs.Prelude.{◌≡◌, ℕ, Bool, true, false, length, List, ◌∷◌, Option, Some, None}
 use Rattle.vba_values.specs.declared.types.Compare.{Compare}
 use Rattle.vba_values.specs.Val.{Val}
 use Rattle.vba_expression.specs.declared.operator.UnaryOperator.{UnaryOperator}
 use Rattle.vba_expression.specs.declared.operator.BinaryOperator.{BinaryOperator}
+use Rattle.vba_expression.specs.declared.operator.BinaryOperator.TheVariants as operators
 use Rattle.vba_expression.specs.Tree.{Expr}
 use Rattle.vba_expression.specs.Nodes as nodes
 use Rattle.bound_project.specs.declared.declared_type.DeclaredType.{DeclaredType}
@@ -54,6 +55,11 @@ pub record MakesLeaf (env : Env) (d e : Drafted) (x : Term) (y : plain.Term) : T
   pub pieces : e.pieces ≡ d.pieces
   pub named : TermNamed e.tables x
   pub stands : (ps : List Piece) → TermStands env e.tables x y ps ps
+
+-- the operator Is, which takes references
+abbrev pub is_same : BinaryOperator → Bool
+is_same operators.Is = true
+is_same o = false
 
 -- a value as a term
 abbrev pub as_term : Option Ending → Term

@@ -1,21 +1,24 @@
 -- Serves the code: how terms are taken: as values, and as operands.
-use Rattle.std.specs.Prelude.{List, Option, Some, None, if◌then◌else◌}
+use Rattle.std.specs.Prelude.{◌≡◌, List, ◌∷◌, Option, Some, None, if◌then◌else◌}
 use Rattle.vba_base.specs.declared.place.Place.{Place}
 use Rattle.bound_project.specs.declared.declared_type.DeclaredType.{DeclaredType}
 use Rattle.bound_project.specs.declared.node.NodeKind.{NodeKind}
 use Rattle.bound_project.specs.View.{declared_view}
 use Rattle.bound_project.specs.Expressions as bound
-use Rattle.bound_project.specs.Expressions.{load, Lvalue}
-use Rattle.bound_project.specs.Pieces.{Piece}
-use Rattle.bound_project.specs.Drafts.{Drafted}
+use Rattle.bound_project.specs.Expressions.{load, active_sheet, host_member, no_exprs, Lvalue}
+use Rattle.bound_project.specs.Project.{nowhere}
+use Rattle.vba_values.specs.Types as type
+use Rattle.bound_project.specs.Pieces.{Piece, an_expr, name_in}
+use Rattle.bound_project.specs.Drafts.{Drafted, NodeNamed}
 use Rattle.binder.specs.Types.{is_object}
 use Rattle.binder.specs.Terms.{Env, typed_value}
 use Rattle.binder.specs.Terms as plain
 use Rattle.binder.specs.ExpressionsBound.{value_of, operand_of}
 use Rattle.bound_calls.specs.declared.term.Ending.{Ending}
+use Rattle.bound_calls.specs.declared.term.HostMember.{HostMember}
 use Rattle.bound_calls.specs.declared.term.Routine.{Routine}
 use Rattle.bound_calls.specs.declared.term.Term.{Term}
-use Rattle.bound_calls.specs.Standing.{PlaceEnds, RoutineStands, TermStands, EndingStands, EndingNamed, PushedStands, Grown}
+use Rattle.bound_calls.specs.Standing.{PlaceEnds, ValueEnds, RoutineStands, TermStands, EndingIs, EndingStands, EndingNamed, PushedStands, Grown}
 
 -- a place gives way to the value there
 pub record Loads (kind : NodeKind) (of : DeclaredType) (d e : Drafted) (ending : Option Ending) : Type 0 where
@@ -35,10 +38,28 @@ pub record TakesValue (x : Term) (d e : Drafted) (ending : Option Ending) : Type
   pub named : EndingNamed e.tables ending
   pub stands : (env : Env) (y : plain.Term) (below : List Piece) → TermStands env d.tables x y d.pieces below → EndingStands e.tables ending (λ place. value_of env y place) e.pieces below
 
-pub record TakesOperand (x : Term) (d e : Drafted) (ending : Option Ending) : Type 0 where
+pub record TakesOperand (x : Term) (d e : Drafted) (ending : Ending) : Type 0 where
   pub grown : Grown d e
-  pub named : EndingNamed e.tables ending
-  pub stands : (env : Env) (y : plain.Term) (below : List Piece) → TermStands env d.tables x y d.pieces below → EndingStands e.tables ending (λ place. operand_of env y place) e.pieces below
+  pub named : NodeNamed e.tables ending.kind
+  pub stands : (env : Env) (y : plain.Term) (below : List Piece) → TermStands env d.tables x y d.pieces below → EndingIs e.tables ending (λ place. operand_of env y place) e.pieces below
+
+-- the active sheet is pushed
+abbrev pub sheet_expression : bound.Expr
+sheet_expression = plain.expression_of active_sheet nowhere type.worksheet
+
+pub record PushesSheet (d e : Drafted) : Type 0 where
+  pub grown : Grown d e
+  pub tables_are : e.tables ≡ d.tables
+  pub on_top : e.pieces ≡ an_expr sheet_expression ∷ d.pieces
+
+-- a member of an object of the host is read without arguments
+pub record ReadsMember (m : HostMember) (d e : Drafted) (ending : Ending) : Type 0 where
+  pub grown : Grown d e
+  pub named : NodeNamed e.tables ending.kind
+  pub least_is : m.least ≡ 0
+  pub of_is : ending.of ≡ m.of
+  pub ends : (object : bound.Expr) (below : List Piece) → d.pieces ≡ an_expr object ∷ below
+      → ValueEnds e.tables ending.kind (host_member object (name_in d.tables m.name) no_exprs) e.pieces below
 
 -- the last node of a value is pushed
 pub record Pushes (ending : Option Ending) (place : Place) (d e : Drafted) (of : Option DeclaredType) : Type 0 where

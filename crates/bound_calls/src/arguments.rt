@@ -1,18 +1,19 @@
-ghost use Rattle.std.specs.Prelude.{◌≡◌, ◌+◌, ◌||◌, true, false, IfOk, OnOk};
+ghost use Rattle.std.specs.Prelude.{◌≡◌, ◌+◌, true, false, IfOk, OnOk};
 ghost use Rattle.bound_project.specs.DraftView.{draft_view};
 ghost use Rattle.bound_project.specs.Drafts.{NodeNamed};
-ghost use Rattle.bound_project.specs.Pieces.{put};
+ghost use Rattle.bound_project.specs.Project.{nowhere};
 ghost use Rattle.bound_project.specs.View.{declared_view};
 ghost use Rattle.binder.specs.Constants.{is_variant};
-ghost use Rattle.vba_values.specs.Coerce.{is_same_type};
+ghost use Rattle.binder.specs.Terms.{is_lent_to};
 ghost use Rattle.bound_calls.specs.Standing.{TermNamed};
-ghost use Rattle.bound_calls.specs.Calls.{Copies, Lends, LendsTo, PassesMissing, PassesNone, PassesPlain, PassesRest, PassesTree, lent_in, node_of};
+ghost use Rattle.bound_calls.specs.Calls.{Copies, Lends, LendsTo, PassesMissing, PassesNone, PassesPlain, PassesRest, PassesTree, lent_in};
 
 use crate::constants::constant_number;
-use crate::take::{push_ending, value_ending};
+use crate::take::{push_ending, push_node, value_ending};
 use crate::term::{Ending, Passed, Term, Tree};
 use bound_declarations::NotYet;
-use bound_project::{DeclaredType, Draft, ElementType, Node, NodeKind, Parameter};
+use bound_project::{DeclaredType, Draft, ElementType, NodeKind, Parameter};
+use declared_names::is_object;
 use std::alloc::Global;
 use vba_base::{NoMemory, OrMemory, Place};
 use vba_values::{copy_value, is_same_type};
@@ -27,34 +28,16 @@ fn is_variant(of: DeclaredType) -> bool
     }
 }
 
-/// Is a place of a type lent to a parameter of a type?
+/// Is a place of a type lent to a parameter of a type? A Variant takes one of any type but an object's.
 fn is_fitting(alloc: Global, parameter: DeclaredType, of: DeclaredType) -> Result<bool, NoMemory>
-    ensures { IfOk result (λ fits. fits ≡ (is_variant (declared_view parameter) || is_same_type (declared_view of) (declared_view parameter))) }
+    ensures { IfOk result (λ fits. fits ≡ is_lent_to (declared_view of) (declared_view parameter)) }
 {
-    if is_variant(parameter) {
+    if is_variant(parameter) && !is_object(of) {
         return Ok(true);
     }
     let of = of.value_type(alloc)?;
     let parameter = parameter.value_type(alloc)?;
     Ok(is_same_type(&of, &parameter))
-}
-
-/// One more node, of a type that it has as an operand too.
-fn push_node(
-    draft: &mut Draft,
-    kind: NodeKind,
-    of: DeclaredType,
-    place: Place,
-) -> Result<(), NoMemory>
-    requires { NodeNamed (draft_view draft.old).tables kind }
-    ensures { OnOk result (draft_view draft.new ≡ record (draft_view draft.old) { pieces = put (draft_view draft.old).tables (node_of kind place of) (draft_view draft.old).pieces }) }
-{
-    draft.push(Node {
-        kind,
-        place,
-        of,
-        operand: of,
-    })
 }
 
 /// Lends a place.
@@ -155,7 +138,9 @@ pub fn pass_tree<'a>(
 }
 
 /// Where a node stands that nothing in the source is.
-pub fn nowhere() -> Place {
+pub fn nowhere() -> Place
+    ensures { result ≡ nowhere }
+{
     Place {
         module: 0,
         line: 0,

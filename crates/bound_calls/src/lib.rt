@@ -6,17 +6,21 @@ mod arguments;
 mod calls;
 mod constants;
 mod orders;
+mod references;
 mod stack;
 mod take;
 mod term;
 
 pub use arguments::{nowhere, pass_missing, pass_plain, pass_rest, pass_tree, sum};
 pub use calls::{bare_call, call_ending, count_of};
-pub use constants::value_term;
+pub use constants::{constant_number, value_term};
 pub use orders::{named_ending, push_in_order, take_numbers};
-pub use stack::{push_operand, put_item, settle, take_item};
-pub use take::{no_object, push_ending, push_node, value_ending};
+pub use references::{
+    given_ending, is_host_type, push_given, push_operand, push_reference, refers,
+};
+pub use stack::{put_item, settle, take_item};
+pub use take::{member_ending, no_object, push_ending, push_node, push_sheet, value_ending};
 pub use term::{
-    Call, Ending, Function, FunctionCall, Indexed, Item, Named, Operand, Ordered, Passed, Routine,
-    Target, Term, Tree,
+    Call, Ending, Function, FunctionCall, HostMember, Indexed, Item, MemberCall, Named, Operand,
+    Ordered, Passed, Routine, Target, Term, Tree,
 };

@@ -1,13 +1,13 @@
-ghost use Rattle.std.specs.Prelude.{◌≡◌, ◌∷◌, OnOk, IfOk, reverse};
+ghost use Rattle.std.specs.Prelude.{◌≡◌, ◌∷◌, OnOk, reverse};
 ghost use Rattle.bound_project.specs.DraftView.{draft_view};
 ghost use Rattle.binder.specs.Terms.{Env};
-ghost use Rattle.bound_calls.specs.Standing.{AllNamed, TermNamed};
-ghost use Rattle.bound_calls.specs.Steps.{Goes, PushesOperand, taken};
+ghost use Rattle.bound_calls.specs.Standing.{AllNamed};
+ghost use Rattle.bound_calls.specs.Steps.{Goes, taken};
 
-use crate::take::{operand_ending, push_ending};
-use crate::term::{Item, Operand, Tree};
+use crate::references::push_operand;
+use crate::term::{Item, Operand};
 use bound_declarations::NotYet;
-use bound_project::{DeclaredType, Draft};
+use bound_project::Draft;
 use std::alloc::Global;
 use vba_base::{NoMemory, OrMemory};
 
@@ -24,20 +24,6 @@ pub fn take_item<'a>(stack: &mut Vec<Item<'a>>) -> Option<Item<'a>>
     ensures { reverse stack.old.items ≡ taken result (reverse stack.new.items) }
 {
     stack.pop()
-}
-
-/// Pushes an expression as an operand; answers its type.
-pub fn push_operand<'a>(
-    alloc: Global,
-    draft: &mut Draft,
-    tree: Tree<'a>,
-) -> Result<Option<DeclaredType>, OrMemory<NotYet>>
-    requires { TermNamed (draft_view draft.old).tables tree.term }
-    ensures { IfOk result (λ of. PushesOperand tree.entry (draft_view draft.old) (draft_view draft.new) of) }
-{
-    let ending = operand_ending(alloc, draft, tree.term, tree.place)?;
-    let of = push_ending(draft, ending, tree.place)?;
-    Ok(of)
 }
 
 /// A tree on top is a left operand, which is pushed.

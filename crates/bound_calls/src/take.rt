@@ -1,13 +1,14 @@
-ghost use Rattle.std.specs.Prelude.{◌≡◌, IfOk, OnOk};
+ghost use Rattle.std.specs.Prelude.{◌≡◌, ◌<◌, length, IfOk, OnOk};
 ghost use Rattle.bound_project.specs.DraftView.{draft_view};
 ghost use Rattle.bound_project.specs.Drafts.{NodeNamed};
 ghost use Rattle.bound_project.specs.Pieces.{put};
 ghost use Rattle.bound_calls.specs.Calls.{node_of};
 ghost use Rattle.bound_calls.specs.Standing.{EndingNamed, TermNamed};
-ghost use Rattle.bound_calls.specs.Taking.{Loads, Pushes, no_object, TakesOperand, TakesValue};
+ghost use Rattle.bound_calls.specs.Taking.{Loads, Pushes, PushesSheet, ReadsMember, no_object, TakesOperand, TakesValue};
 
+use crate::arguments::nowhere;
 use crate::calls::bare_call;
-use crate::term::{Ending, Term};
+use crate::term::{Ending, HostMember, Term};
 use bound_declarations::NotYet;
 use bound_project::{DeclaredType, Draft, ElementType, ErrMember, Node, NodeKind};
 use declared_names::is_object;
@@ -68,6 +69,69 @@ pub fn no_object(ending: Ending) -> Option<Ending>
     }
 }
 
+/// A member of an object of the host that is read without arguments, but for its last node.
+pub fn member_ending(
+    draft: &mut Draft,
+    member: HostMember,
+    place: Place,
+) -> Result<Ending, OrMemory<NotYet>>
+    requires { member.name < length (draft_view draft.old).tables.constants }
+    ensures { IfOk result (λ ending. ReadsMember member (draft_view draft.old) (draft_view draft.new) ending) }
+{
+    if member.least != 0 {
+        return Err(OrMemory::Fault(NotYet));
+    }
+    let there = NodeKind::MemberThere {
+        name: member.name,
+        given: 0,
+    };
+    push_node(draft, there, member.of, place)?;
+    Ok(Ending {
+        kind: NodeKind::HostMember {
+            name: member.name,
+            arguments: 0,
+        },
+        of: member.of,
+    })
+}
+
+/// The active sheet is pushed, for a member of it.
+pub fn push_sheet(draft: &mut Draft) -> Result<(), NoMemory>
+    ensures { OnOk result (PushesSheet (draft_view draft.old) (draft_view draft.new)) }
+{
+    let worksheet = DeclaredType::Plain(ElementType::Worksheet);
+    push_node(draft, NodeKind::ActiveSheet, worksheet, nowhere())
+}
+
+/// A member of the active sheet as a value.
+fn sheet_value(
+    draft: &mut Draft,
+    member: HostMember,
+    place: Place,
+) -> Result<Option<Ending>, OrMemory<NotYet>>
+    requires { member.name < length (draft_view draft.old).tables.constants }
+    ensures { IfOk result (λ ending. TakesValue (Term.SheetMember member) (draft_view draft.old) (draft_view draft.new) ending) }
+{
+    push_sheet(draft)?;
+    member_value(draft, member, place)
+}
+
+/// A member of an object of the host as a value; one that gives an object is a reference.
+fn member_value(
+    draft: &mut Draft,
+    member: HostMember,
+    place: Place,
+) -> Result<Option<Ending>, OrMemory<NotYet>>
+    requires { member.name < length (draft_view draft.old).tables.constants }
+    ensures { IfOk result (λ ending. TakesValue (Term.HostMember member) (draft_view draft.old) (draft_view draft.new) ending) }
+{
+    if is_object(member.of) {
+        return Err(OrMemory::Fault(NotYet));
+    }
+    let ending = member_ending(draft, member, place)?;
+    Ok(Some(ending))
+}
+
 /// A term as a value, but for the last node of that.
 pub fn value_ending<'a>(
     alloc: Global,
@@ -85,26 +149,33 @@ pub fn value_ending<'a>(
         }
         Term::Value(ending) => Ok(no_object(ending)),
         Term::Routine(routine) => bare_call(alloc, draft, routine),
+        Term::HostMember(member) => member_value(draft, member, place),
+        Term::SheetMember(member) => sheet_value(draft, member, place),
         _ => Ok(None),
     }
 }
 
-/// A term as an operand, but for the last node of that: Err is its number.
+/// A term that is no reference as an operand, but for the last node of that: Err is its number.
 pub fn operand_ending<'a>(
     alloc: Global,
     draft: &mut Draft,
     term: Term<'a>,
     place: Place,
-) -> Result<Option<Ending>, OrMemory<NotYet>>
+) -> Result<Ending, OrMemory<NotYet>>
     requires { TermNamed (draft_view draft.old).tables term }
     ensures { IfOk result (λ ending. TakesOperand term.entry (draft_view draft.old) (draft_view draft.new) ending) }
 {
     match term {
-        Term::Err => Ok(Some(Ending {
+        Term::Err => Ok(Ending {
             kind: NodeKind::ErrValue(ErrMember::Number),
             of: DeclaredType::Plain(ElementType::Long),
-        })),
-        _ => value_ending(alloc, draft, term, place),
+        }),
+        _ => {
+            let Some(ending) = value_ending(alloc, draft, term, place)? else {
+                return Err(OrMemory::Fault(NotYet));
+            };
+            Ok(ending)
+        }
     }
 }
 

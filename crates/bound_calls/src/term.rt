@@ -33,6 +33,16 @@ pub struct Function {
     pub compare: Compare,
 }
 
+/// A member of an object of the host: the number of the constant that is its folded name, the type of what it gives, the
+/// least number of its arguments and, where it is known before the run, the greatest.
+#[derive(Clone, Copy)]
+pub struct HostMember {
+    pub name: u32,
+    pub of: DeclaredType,
+    pub least: u32,
+    pub greatest: Option<u32>,
+}
+
 /// What an expression is. The last node of a place and of a value isn't pushed yet, since what takes it says the place
 /// in the source.
 #[derive(Clone, Copy)]
@@ -47,6 +57,9 @@ pub enum Term<'a> {
     Value(Ending),
     Routine(Routine<'a>),
     Function(Function),
+    /// A member of an object that was pushed, and one of the active sheet, for which nothing was pushed.
+    HostMember(HostMember),
+    SheetMember(HostMember),
     Err,
     ErrRaise,
     ErrClear,
@@ -110,6 +123,16 @@ pub struct FunctionCall {
     pub count: u32,
 }
 
+/// A member of an object of the host whose arguments are read: the place of its first token, the member, how many
+/// arguments are to come, and how many were pushed behind the object.
+#[derive(Clone, Copy)]
+pub struct MemberCall {
+    pub place: Place,
+    pub member: HostMember,
+    pub given: u32,
+    pub count: u32,
+}
+
 /// What is indexed: a plain variable, for which nothing is pushed, or another place or a value, which was pushed.
 #[derive(Clone, Copy)]
 pub enum Target {
@@ -139,6 +162,7 @@ pub enum Item<'a> {
     Listed(Passed<'a>),
     Indexed(Indexed),
     Function(FunctionCall),
+    Member(MemberCall),
     Named(Named),
     /// A value that was pushed for a ParamArray. It stands above those before it, and the call or the arguments of a
     /// statement below them.

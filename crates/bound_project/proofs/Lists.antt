@@ -1,7 +1,10 @@
 -- A node takes off the stack just what was put there for it.
-use Rattle.std.proofs.Common.{◌≡◌, ℕ, suc, ◌+◌, List, [], ◌∷◌, ◌++◌, length, map, Option, Some, None, refl, ap, ◌∙◌, arith}
-use Rattle.bound_project.specs.Expressions.{Expr, Exprs, no_exprs, Args, no_args, Prints, no_prints}
-use Rattle.bound_project.specs.Pieces.{Argument, Piece, an_expr, an_argument, exprs_off, arguments_off, prints_off}
+use Rattle.std.proofs.Common.{◌≡◌, true, cond, ℕ, suc, ◌+◌, List, [], ◌∷◌, ◌++◌, length, map, Option, Some, None, refl, ap, ◌∙◌, arith}
+use Rattle.std.specs.Prelude.{◌==◌, ◌&&◌}
+use Rattle.std.proofs.lemmas.Bool.{eq-eqb}
+use Rattle.std.proofs.lemmas.Slice.Eq.{bytes_eq-Decides}
+use Rattle.bound_project.specs.Expressions.{Expr, Exprs, no_exprs, given_count, Args, no_args, Prints, no_prints}
+use Rattle.bound_project.specs.Pieces.{Argument, Piece, an_expr, an_argument, a_member, is_member, of_member_found, misfit, exprs_off, arguments_off, prints_off}
 use Rattle.bound_project.specs.Lists.{above, args_before, args_of, exprs_before, exprs_of, item_piece, print_item, prints_before, prints_of}
 
 -- one more piece on top
@@ -45,3 +48,13 @@ pub prints_are : (items : List (Option Expr)) (st : List Piece) → prints_off (
 prints_are items st =
     let e : length items ≡ length items + 0 = omega arith in
     ap (λ m. prints_off m (above (map item_piece items) st) no_prints) e ∙ prints_taken items 0 st no_prints
+
+-- a member is the one of its own name
+pub is_itself : (name : List ℕ) (es : Exprs) → is_member name name (given_count es) es ≡ true
+is_itself name es = ap (λ b. b && (given_count es == given_count es)) ((bytes_eq-Decides name name).1 refl) ∙ eq-eqb (given_count es) (given_count es) refl
+
+pub member_put : (name : List ℕ) (make : Expr → Exprs → Piece) (object : Expr) (es : List Expr) (st : List Piece)
+    → of_member_found name make (exprs_off (length es) (above (map an_expr es) (a_member object name (given_count (exprs_of es)) ∷ st)) no_exprs) ≡ make object (exprs_of es) ∷ st
+member_put name make object es st =
+    ap (λ o. of_member_found name make o) (exprs_are es (a_member object name (given_count (exprs_of es)) ∷ st))
+    ∙ ap (λ b. cond b (make object (exprs_of es) ∷ st) misfit) (is_itself name (exprs_of es))

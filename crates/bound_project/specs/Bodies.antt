@@ -1,5 +1,5 @@
 -- Serves the code: the plain statements, bodies and projects that lists of nodes stand for.
-use Rattle.std.specs.Prelude.{ℕ, ◌+◌, ◌≤◌, length, IsSome, List, [], ◌∷◌, map, Option, Some, None, take, drop}
+use Rattle.std.specs.Prelude.{ℕ, ◌+◌, ◌≤◌, if◌then◌else◌, length, IsSome, List, [], ◌∷◌, map, Option, Some, None, take, drop}
 use Rattle.vba_values.specs.View.{view as value_view}
 use Rattle.bound_project.specs.declared.statement.Handling.{Handling}
 use Rattle.bound_project.specs.declared.statement.Handling.TheVariants.{PassedOn, Skipped, HandledAt}
@@ -10,12 +10,12 @@ use Rattle.bound_project.specs.declared.node.Node.{Node}
 use Rattle.bound_project.specs.declared.project.Block.{Block}
 use Rattle.bound_project.specs.declared.project.Body.{Body}
 use Rattle.bound_project.specs.declared.project.Project.{Project}
-use Rattle.bound_project.specs.Expressions.{Expr, Lvalue, Args, no_args, in_order, no_prints}
-use Rattle.bound_project.specs.Statements.{no_tests, no_resizes, no_arrays, Action, assign, assign_none, set, assign_default, evaluate, let_property, set_property, print, raise, test, go_to, for_to, next, for_each, next_each, exit_each, select, case_of, redim, erase, with_place, with_value, end_with, go_sub, return_sub, exit_to, on_error, end_handler, clear_err, resume_again, resume_next, resume_at, stop, end_run}
+use Rattle.bound_project.specs.Expressions.{Expr, Lvalue, Args, no_args, in_order, Exprs, no_exprs, no_prints}
+use Rattle.bound_project.specs.Statements.{no_tests, no_resizes, no_arrays, Action, assign, assign_none, set, assign_default, assign_member, evaluate, let_property, set_property, print, raise, test, go_to, for_to, next, for_each, next_each, exit_each, select, case_of, redim, erase, with_place, with_value, end_with, go_sub, return_sub, exit_to, on_error, end_handler, clear_err, resume_again, resume_next, resume_at, stop, end_run}
 use Rattle.bound_project.specs.Statements as plain
 use Rattle.bound_project.specs.Project as project
 use Rattle.bound_project.specs.View.{declared_view, variable_view, declarations_view}
-use Rattle.bound_project.specs.Pieces.{Piece, an_expr, a_place, Tables, order_in, arguments_off, prints_off, tests_off, resizes_off, arrays_off, as_operand, pieces}
+use Rattle.bound_project.specs.Pieces.{Piece, an_expr, a_place, a_member, is_member, Tables, name_in, order_in, exprs_off, arguments_off, prints_off, tests_off, resizes_off, arrays_off, as_operand, pieces}
 
 abbrev pub handling_view : Handling → plain.Handling
 handling_view PassedOn = plain.passed_on
@@ -42,6 +42,15 @@ abbrev pub behind_value : Option (Args × List Piece) → (Args → Expr → Act
 behind_value None go = None
 behind_value (Some (args, st)) go = one_value st (go args)
 
+-- arguments behind a member that was looked for, behind a value
+abbrev pub behind_member : (name : List ℕ) → Exprs → List Piece → Option Action
+behind_member name es (a_member base other given ∷ an_expr e ∷ []) = if is_member name other given es then Some (assign_member base name es e) else None
+behind_member name es st = None
+
+abbrev pub member_found : (name : List ℕ) → Option (Exprs × List Piece) → Option Action
+member_found name None = None
+member_found name (Some (es, st)) = behind_member name es st
+
 -- nothing is there
 abbrev pub alone : List Piece → Action → Option Action
 alone [] a = Some a
@@ -57,6 +66,7 @@ action_of t kind.Set (a_place x ∷ an_expr e ∷ []) = Some (set x e)
 action_of t kind.Set st = None
 action_of t kind.AssignDefault (an_expr x ∷ an_expr e ∷ []) = Some (assign_default x e)
 action_of t kind.AssignDefault st = None
+action_of t (kind.AssignMember i count) st = member_found (name_in t i) (exprs_off count st no_exprs)
 action_of t kind.Evaluate st = one_value st (λ e. evaluate e)
 action_of t (kind.LetProperty p count of) st = behind_value (arguments_off count st no_args) (λ args e. let_property p args e (declared_view of))
 action_of t (kind.LetPropertyInOrder p count order of) st =

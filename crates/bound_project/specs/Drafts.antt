@@ -40,9 +40,12 @@ abbrev pub NodeNamed : Tables → NodeKind → Type 0
 NodeNamed t (node.Constant i) = i < length t.constants
 NodeNamed t (node.ByDefault i) = i < length t.constants
 NodeNamed t (node.CallInOrder p count order) = order < length t.orders
+NodeNamed t (node.MemberThere i given) = i < length t.constants
+NodeNamed t (node.HostMember i count) = i < length t.constants
 NodeNamed t k = Unit {0}
 
 abbrev pub ActionNamed : Tables → ActionKind → Type 0
+ActionNamed t (kind.AssignMember i count) = i < length t.constants
 ActionNamed t (kind.LetPropertyInOrder q count order of) = order < length t.orders
 ActionNamed t (kind.SetPropertyInOrder q count order of) = order < length t.orders
 ActionNamed t (kind.RaiseInOrder count order) = order < length t.orders
@@ -83,9 +86,12 @@ node_named_prop : (t : Tables) (k : NodeKind) → IsProp (NodeNamed t k)
 node_named_prop t (node.Constant i) = le_prop
 node_named_prop t (node.ByDefault i) = le_prop
 node_named_prop t (node.CallInOrder p count order) = le_prop
+node_named_prop t (node.MemberThere i given) = le_prop
+node_named_prop t (node.HostMember i count) = le_prop
 node_named_prop t k = Unit-prop
 
 action_named_prop : (t : Tables) (k : ActionKind) → IsProp (ActionNamed t k)
+action_named_prop t (kind.AssignMember i count) = le_prop
 action_named_prop t (kind.LetPropertyInOrder q count order of) = le_prop
 action_named_prop t (kind.SetPropertyInOrder q count order of) = le_prop
 action_named_prop t (kind.RaiseInOrder count order) = le_prop

@@ -1,6 +1,6 @@
 -- Expressions whose names are replaced by what they stand for. A place in the source is Place; what can be written or
 -- lent is an Lvalue.
-use Rattle.std.specs.Prelude.{ℕ, ℤ, List, Bool}
+use Rattle.std.specs.Prelude.{ℕ, suc, ℤ, List, Bool}
 use Rattle.vba_base.specs.declared.place.Place.{Place}
 use Rattle.vba_values.specs.declared.types.OpKind.{OpKind}
 use Rattle.vba_values.specs.declared.types.Compare.{Compare}
@@ -54,6 +54,10 @@ mutual
     default_if_any : Expr → Node
     -- an object of the host that is always there, as Err
     host_object : HostRef → Node
+    -- the first sheet
+    active_sheet : Node
+    -- a member of an object of the host, by its folded name, and its arguments
+    host_member : Expr → (name : List ℕ) → Exprs → Node
     -- Is: whether both are the same object
     same : (left right : Expr) → Node
     -- TypeOf e Is type
@@ -102,3 +106,9 @@ pub data Prints : Type 0 where
 -- the type that an expression has as an operand
 abbrev pub operand_type : Expr → Declared
 operand_type (expr node place of operand) = operand
+
+-- how many arguments are given
+abbrev pub given_count : Exprs → ℕ
+given_count no_exprs = 0
+given_count (also (expr not_given place of operand) es) = given_count es
+given_count (also e es) = suc (given_count es)

@@ -1,14 +1,14 @@
 -- Serves the code: the trees that nodes in postfix order stand for. Reading a node takes the pieces that it ends off a
 -- stack and puts one piece there. Where the pieces don't fit, one piece is left that fits nowhere.
-use Rattle.std.specs.Prelude.{ℕ, zero, suc, List, [], ◌∷◌, Option, Some, None, option_map, slice_index_or}
+use Rattle.std.specs.Prelude.{ℕ, zero, suc, ◌==◌, Bool, ◌&&◌, if◌then◌else◌, bytes_eq, List, [], ◌∷◌, Option, Some, None, option_map, slice_index_or}
 use Rattle.vba_values.specs.declared.types.OpKind.{OpKind}
 use Rattle.vba_values.specs.Types.{Declared}
-use Rattle.vba_values.specs.Val.{Val, empty}
+use Rattle.vba_values.specs.Val.{Val, empty, text}
 use Rattle.bound_project.specs.declared.declared_type.DeclaredType.{DeclaredType}
 use Rattle.bound_project.specs.declared.node.NodeKind.{NodeKind}
 use Rattle.bound_project.specs.declared.node.NodeKind.TheVariants as node
 use Rattle.bound_project.specs.declared.node.Node.{Node}
-use Rattle.bound_project.specs.Expressions.{Expr, expr, not_given, constant, load, element_value, field_value, unary, binary, call, err_value, default_of, default_if_any, same, is_type, library, bound_of, host_object, Lvalue, variable, item, element, field, kept_place, Args, no_args, by_place, by_copy, by_default, by_list, in_order, Exprs, no_exprs, also, Prints, no_prints, shown, zone}
+use Rattle.bound_project.specs.Expressions.{Expr, expr, not_given, constant, load, element_value, field_value, unary, binary, call, err_value, default_of, default_if_any, same, is_type, library, bound_of, host_object, active_sheet, host_member, Lvalue, variable, item, element, field, kept_place, Args, no_args, by_place, by_copy, by_default, by_list, in_order, Exprs, no_exprs, also, given_count, Prints, shown, zone}
 use Rattle.bound_project.specs.Expressions as plain
 use Rattle.bound_project.specs.Statements.{Tests, test_is, test_range, Resizes, resize, Arrays, an_array}
 use Rattle.bound_project.specs.View.{declared_view, variable_view, member_view, base_view}
@@ -26,6 +26,8 @@ pub data Piece : Type 0 where
   an_expr : Expr → Piece
   a_place : Lvalue → Piece
   an_argument : Argument → Piece
+  -- an object, the folded name of its member, and how many arguments are given
+  a_member : Expr → (name : List ℕ) → (given : ℕ) → Piece
   a_value_shown : Expr → Piece
   a_zone : Piece
   a_test_begun : Piece
@@ -44,6 +46,14 @@ constant_in t i = slice_index_or t.constants i empty
 
 abbrev pub order_in : Tables → ℕ → List ℕ
 order_in t i = slice_index_or t.orders i []
+
+-- the name that a text constant is
+abbrev pub name_of : Val → List ℕ
+name_of (text units) = units
+name_of v = []
+
+abbrev pub name_in : Tables → ℕ → List ℕ
+name_in t i = name_of (constant_in t i)
 
 -- what is left where pieces don't fit
 abbrev pub misfit : List Piece
@@ -128,6 +138,18 @@ abbrev pub of_value_found : (Expr → Exprs → Piece) → Option (Exprs × List
 of_value_found make None = misfit
 of_value_found make (Some found) = of_value (λ e. make e found.0) found.1
 
+-- a member that was looked for is the one of this name, with these arguments
+abbrev pub is_member : (name other : List ℕ) → (given : ℕ) → Exprs → Bool
+is_member name other given es = bytes_eq name other && (given == given_count es)
+
+abbrev pub of_member : (name : List ℕ) → (Expr → Exprs → Piece) → Exprs → List Piece → List Piece
+of_member name make es (a_member e other given ∷ st) = if is_member name other given es then make e es ∷ st else misfit
+of_member name make es st = misfit
+
+abbrev pub of_member_found : (name : List ℕ) → (Expr → Exprs → Piece) → Option (Exprs × List Piece) → List Piece
+of_member_found name make None = misfit
+of_member_found name make (Some found) = of_member name make found.0 found.1
+
 -- ---- what a node makes of the pieces before it
 
 -- the expression that a node is
@@ -161,6 +183,9 @@ put_kind t n node.DefaultIfAny st = of_value (λ e. expr_of n (default_if_any e)
 put_kind t n node.Same st = of_both (λ a b. expr_of n (same a b)) st
 put_kind t n (node.IsType of) st = of_value (λ e. expr_of n (is_type e (declared_view of))) st
 put_kind t n (node.HostObject reference) st = expr_of n (host_object reference) ∷ st
+put_kind t n node.ActiveSheet st = expr_of n active_sheet ∷ st
+put_kind t n (node.MemberThere i given) st = of_value (λ e. a_member e (name_in t i) given) st
+put_kind t n (node.HostMember i count) st = of_member_found (name_in t i) (λ e es. expr_of n (host_member e (name_in t i) es)) (exprs_off count st no_exprs)
 put_kind t n node.ByPlace st = of_place (λ x. an_argument (place_lent x)) st
 put_kind t n (node.ByCopy of) st = of_value (λ e. an_argument (value_copied e (declared_view of))) st
 put_kind t n (node.ByDefault i) st = an_argument (default_taken (constant_in t i)) ∷ st

@@ -42,6 +42,8 @@ pub data Action : Type 0 where
   -- [Let] target = value where the target gives an object, as a variable of an object type does: the default member of
   -- that object is written
   assign_default : (target value : Expr) → Action
+  -- [Let] base.name(arguments) = value, for a member of an object of the host
+  assign_member : (base : Expr) → (name : List ℕ) → Exprs → Expr → Action
   -- a call whose value isn't used
   evaluate : Expr → Action
   -- an assignment to a property of a standard module: its Property Let, that one's other arguments, the value and its

@@ -6,9 +6,9 @@ ghost use Rattle.bound_project.specs.declared.node.NodeKind.TheVariants as node;
 ghost use Rattle.bound_project.specs.declared.statement.ActionKind.TheVariants as kind;
 ghost use Rattle.bound_project.specs.declared.variable.Variable.{Variable};
 ghost use Rattle.bound_project.specs.View.{base_view, variable_view};
-ghost use Rattle.bound_project.specs.Expressions.{Expr, call, item, library};
-ghost use Rattle.bound_project.specs.Statements.{print};
-ghost use Rattle.bound_project.specs.Pieces.{Argument, Piece, Tables, a_place, an_argument, an_expr, expr_of, put_kind};
+ghost use Rattle.bound_project.specs.Expressions.{Expr, call, given_count, host_member, item, library};
+ghost use Rattle.bound_project.specs.Statements.{assign_member, print};
+ghost use Rattle.bound_project.specs.Pieces.{Argument, Piece, Tables, a_member, a_place, an_argument, an_expr, expr_of, name_in, put_kind};
 ghost use Rattle.bound_project.specs.Bodies.{action_of};
 ghost use Rattle.bound_project.specs.Lists.{above, args_of, exprs_of, item_piece, prints_of};
 ghost use Rattle.bound_project.specs.Project.{Project, statement_at, next_of};
@@ -30,6 +30,22 @@ pub fn calls_take_their_arguments()
 pub fn functions_take_their_arguments()
     ensures { (t : Tables) (n : Node) (f : LibraryFunction) (text_form : Bool) (es : List Expr) (compare : Compare) (one : Bool) (st : List Piece)
         → put_kind t n (node.Library f text_form (length es) compare one) (above (map an_expr es) st) ≡ expr_of n (library f text_form (exprs_of es) compare (base_view one)) ∷ st }
+{}
+
+/// A member takes just the values that were put for it behind the object that was looked at for it. It holds of the
+/// definitions alone, and changes nothing.
+pub fn members_take_their_arguments()
+    ensures { (t : Tables) (n : Node) (i : ℕ) (object : Expr) (es : List Expr) (st : List Piece)
+        → put_kind t n (node.HostMember i (length es)) (above (map an_expr es) (a_member object (name_in t i) (given_count (exprs_of es)) ∷ st))
+        ≡ expr_of n (host_member object (name_in t i) (exprs_of es)) ∷ st }
+{}
+
+/// An assignment to a member takes just the values that were put for it. It holds of the definitions alone, and changes
+/// nothing.
+pub fn assignments_take_their_arguments()
+    ensures { (t : Tables) (i : ℕ) (value object : Expr) (es : List Expr)
+        → action_of t (kind.AssignMember i (length es)) (above (map an_expr es) (a_member object (name_in t i) (given_count (exprs_of es)) ∷ an_expr value ∷ []))
+        ≡ Some (assign_member object (name_in t i) (exprs_of es) value) }
 {}
 
 /// An element takes just the numbers that were put for it. It holds of the definitions alone, and changes nothing.

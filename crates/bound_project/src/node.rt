@@ -91,6 +91,19 @@ pub enum NodeKind {
     IsType(DeclaredType),
     /// An object of the host that is always there, as Err.
     HostObject(HostRef),
+    /// The first sheet.
+    ActiveSheet,
+    /// The object of the host before it has a member of this name, which so many given arguments fit. The name is a
+    /// text constant, folded.
+    MemberThere {
+        name: u32,
+        given: u32,
+    },
+    /// That member, behind so many values, of which those that aren't given are `NotGiven`.
+    HostMember {
+        name: u32,
+        arguments: u32,
+    },
     /// An argument: the place before it, the value before it made one of a type, a default, so many values before it.
     ByPlace,
     ByCopy(DeclaredType),

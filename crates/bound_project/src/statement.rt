@@ -23,6 +23,12 @@ pub enum ActionKind {
     Set,
     /// `[Let] target = value` where the target gives an object, behind the value and the target's value.
     AssignDefault,
+    /// `[Let] base.name(arguments) = value` for an object of the host, behind the value, the base, its `MemberThere` and
+    /// so many arguments.
+    AssignMember {
+        name: u32,
+        arguments: u32,
+    },
     Evaluate,
     /// An assignment to a property, behind the value and so many other arguments, and its parameter's type.
     LetProperty {

@@ -1,5 +1,5 @@
 -- Serves the code: what a statement does, by the scope of its part.
-use Rattle.std.specs.Prelude.{◌≡◌, ℕ, Bool, true, false, List, [], ◌∷◌, Option, Some, None, IsSome, is_some, option_map, option_and_then}
+use Rattle.std.specs.Prelude.{◌≡◌, Bool, true, false, List, [], ◌∷◌, Option, Some, IsSome, is_some, option_map, option_and_then}
 use Rattle.vba_module.specs.Parts.{place_of}
 use Rattle.vba_module.specs.Headers.{all_of}
 use Rattle.vba_words.specs.declared.identifier.Identifier.{Identifier}
@@ -13,7 +13,6 @@ use Rattle.bound_project.specs.declared.statement.ActionKind.TheVariants as kind
 use Rattle.bound_project.specs.Expressions as bound
 use Rattle.bound_project.specs.Statements as to
 use Rattle.bound_project.specs.Statements.{Action}
-use Rattle.bound_project.specs.Pieces.{Piece, Tables}
 use Rattle.bound_project.specs.Bodies.{action_of}
 use Rattle.bound_project.specs.Drafts.{Drafted, ActionNamed, no_tables}
 use Rattle.bound_project.specs.View.{declared_view}
@@ -21,8 +20,8 @@ use Rattle.binder.specs.Options.{from_two}
 use Rattle.binder.specs.Constants.{compare_in, place_of_expression}
 use Rattle.binder.specs.Numbering.{Opened, Standing, Sought, here, an_arm, behind_block, sought_behind}
 use Rattle.binder.specs.Terms as terms
-use Rattle.binder.specs.ExpressionsBound.{bound_operand, bound_value, givens, term_of}
-use Rattle.binder.specs.StatementsBound.{Around, assigned_to, called_place, called_with, redim_arrays, erased_arrays, value_shown, items_shown, ends_line, simple_action, block_action, loop_variable, next_action, loop_action, for_action, step_value, case_tests, selected, line_of, header_of, with_action}
+use Rattle.binder.specs.ExpressionsBound.{bound_operand, bound_reference, givens, term_of}
+use Rattle.binder.specs.StatementsBound.{Around, assigned_to, called_place, called_with, redim_arrays, erased_arrays, value_shown, items_shown, ends_line, simple_action, block_action, loop_variable, next_action, loop_action, for_action, step_value, case_tests, selected, line_of, header_of, set_to, value_for, walked, with_action}
 use Rattle.bound_calls.specs.Standing.{PushedIs}
 
 -- a condition of a line: where it holds, control goes to the first statement of its block
@@ -39,7 +38,8 @@ for_in env s x start limit step =
     for_action (loop_variable env x) env (bound_operand env start) (bound_operand env limit) (step_value env (place_of s.part) step) (sought_behind here s) (sought_behind (behind_block 0) s)
 
 abbrev pub each_in : terms.Env → Standing → Identifier → Expr → Option Action
-each_in env s x group = from_two (λ v e. to.for_each v e (sought_behind here s) (sought_behind (behind_block 0) s)) (loop_variable env x) (bound_value env group)
+each_in env s x group =
+    option_and_then (λ v. option_map (λ e. to.for_each v e (sought_behind here s) (sought_behind (behind_block 0) s)) (walked env v group)) (loop_variable env x)
 
 -- a line of a block, in this scope
 abbrev pub block_in : terms.Env → Around → Standing → BlockLine → Option Action
@@ -58,7 +58,8 @@ block_in env a s line = block_action a s line
 
 -- a statement other than a single-line If, in this scope
 abbrev pub simple_in : terms.Env → Around → Standing → Simple → Option Action
-simple_in env a s (tree.assignment let_word x equal e) = option_and_then (assigned_to env x) (bound_operand env e)
+simple_in env a s (tree.assignment let_word x equal e) = option_and_then (assigned_to env x) (value_for env x e)
+simple_in env a s (tree.set_assignment set_word x equal e) = option_and_then (set_to (term_of env x)) (bound_reference env e)
 simple_in env a s (tree.call_place call_word e) = called_place env e
 simple_in env a s (tree.call e args) = called_with env e (givens env args)
 simple_in env a s (tree.re_dim redim_word preserve_word arrays) = option_map (to.redim (is_some preserve_word)) (redim_arrays env (all_of arrays))

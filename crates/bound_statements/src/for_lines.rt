@@ -7,6 +7,7 @@ ghost use Rattle.binder.specs.ExpressionsBound.{bound_operand};
 ghost use Rattle.binder.specs.Numbering as numbering;
 ghost use Rattle.binder.specs.StatementsBound as plain;
 ghost use Rattle.bound_project.specs.DraftView.{draft_view};
+ghost use Rattle.bound_project.specs.View.{variable_view};
 ghost use Rattle.bound_actions.specs.Actions.{ActionPushed};
 ghost use Rattle.bound_terms.specs.View.{EnvStands, env_view};
 ghost use Rattle.statement_numbers.specs.View.{standing_view};
@@ -15,10 +16,11 @@ ghost use Rattle.vba_tree.specs.View.{block_line_view, step_view};
 
 use crate::around::Around;
 use crate::innermost::{innermost_block, opening_line};
-use crate::values::{counter_of, push_integer, push_operand, push_value};
+use crate::values::{counter_of, push_given, push_integer, push_operand, push_value};
 use bound_declarations::NotYet;
-use bound_project::{ActionKind, DeclaredType, Draft};
+use bound_project::{ActionKind, DeclaredType, Draft, Variable};
 use bound_terms::Env;
+use declared_names::is_object;
 use module_parts::place_of;
 use statement_numbers::{Sought, Standing};
 use std::alloc::Global;
@@ -111,6 +113,26 @@ fn bind_for<'a>(
     })
 }
 
+/// Pushes what a For Each walks: for a variable of an object type an object, and else a value.
+#[tactic(auto, using(crate::proofs::Ended::walked_object, crate::proofs::Ended::walked_value))]
+fn push_group<'a>(
+    alloc: Global,
+    draft: &mut Draft,
+    env: Env<'a>,
+    control: Variable,
+    group: &'a Expression,
+) -> Result<DeclaredType, OrMemory<NotYet>>
+    requires { EnvStands env }
+    ensures { IfOk result (λ of. ValuePushed (plain.walked (env_view env.entry) (variable_view control) (expression_view group.now)) of (draft_view draft.old) (draft_view draft.new)) }
+{
+    if is_object(control.of) {
+        let of = push_given(alloc, draft, env, group)?;
+        return Ok(of);
+    }
+    let of = push_value(alloc, draft, env, group)?;
+    Ok(of)
+}
+
 /// `For Each element In group`
 #[tactic(auto, using(crate::proofs::Ended::each_pushed))]
 fn bind_for_each<'a>(
@@ -130,7 +152,7 @@ fn bind_for_each<'a>(
     let first = standing.sought_behind(Sought::Here)?;
     let behind = standing.sought_behind(Sought::BehindBlock(0))?;
     let control = counter_of(alloc, env, element)?;
-    push_value(alloc, draft, env, group)?;
+    push_group(alloc, draft, env, control, group)?;
     Ok(ActionKind::ForEach {
         control,
         first,

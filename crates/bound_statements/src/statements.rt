@@ -21,7 +21,7 @@ use crate::plain_actions::{exit, go_sub, go_to, on_error, resume};
 use crate::prints::bind_print;
 use crate::redims::bind_redim;
 use crate::values::there;
-use bound_actions::{bind_assignment, bind_call, bind_call_place};
+use bound_actions::{bind_assignment, bind_call, bind_call_place, bind_set};
 use bound_declarations::NotYet;
 use bound_project::{ActionKind, Draft};
 use statement_numbers::{Standing, simple_count};
@@ -131,6 +131,9 @@ fn kind_in_scope<'a>(
     match statement {
         SimpleStatement::Assignment { place, value, .. } => {
             there(bind_assignment(alloc, draft, env, place, value)?)
+        }
+        SimpleStatement::SetAssignment { place, value, .. } => {
+            there(bind_set(alloc, draft, env, place, value)?)
         }
         SimpleStatement::CallPlace { place, .. } => {
             there(bind_call_place(alloc, draft, env, place)?)

@@ -1,6 +1,7 @@
 -- What numbers in brackets make of places and values.
 use Rattle.std.proofs.Common.{◌≡◌, ℕ, ◌<◌, ◌+◌, Bool, true, false, ◌&&◌, ◌||◌, not, List, [], ◌∷◌, ◌++◌, map, length, Option, Some, None, is_some, if◌then◌else◌, refl, sym, ap, subst, ◌∙◌, arith, length-append}
 use Rattle.std.proofs.lemmas.List.{map-append}
+use Rattle.std.specs.Prelude.{codes}
 use Rattle.vba_base.specs.declared.place.Place.{Place}
 use Rattle.vba_lexer.specs.declared.token.Token.{Token}
 use Rattle.vba_words.specs.declared.mark.Mark.TheVariants as mark
@@ -11,23 +12,23 @@ use Rattle.vba_expression.specs.Nodes as nodes
 use Rattle.vba_expression.specs.Nodes.{behind_node}
 use Rattle.vba_expression.specs.declared.node.ExpressionNode.TheVariants as node
 use Rattle.vba_values.specs.Types.{Declared}
+use Rattle.vba_values.specs.Types as type
 use Rattle.bound_project.specs.declared.declared_type.DeclaredType.{DeclaredType}
 use Rattle.bound_project.specs.declared.variable.Variable.{Variable}
 use Rattle.bound_project.specs.declared.node.NodeKind.{NodeKind}
 use Rattle.bound_project.specs.declared.node.NodeKind.TheVariants as kinds
 use Rattle.bound_project.specs.declared.node.Node.{Node}
 use Rattle.bound_project.specs.View.{declared_view, variable_view}
-use Rattle.bound_project.specs.Expressions.{Exprs, no_exprs, also, Lvalue, item, element, element_value, field, kept_place}
+use Rattle.bound_project.specs.Expressions.{Exprs, no_exprs, load, Lvalue, item, element, element_value, field, kept_place}
 use Rattle.bound_project.specs.Expressions as bound
 use Rattle.bound_project.specs.Lists.{above, exprs_of}
-use Rattle.bound_project.proofs.Lists.{above_push, exprs_are}
+use Rattle.bound_project.proofs.Lists.{above_push}
 use Rattle.bound_project.specs.Pieces.{Piece, Tables, an_expr, a_place, exprs_off, of_place, of_found, of_place_found, of_value, of_value_found, expr_of, put_kind, put, nothing}
 use Rattle.bound_project.specs.Drafts.{Drafted}
 use Rattle.binder.specs.Constants.{place_of_expression}
-use Rattle.binder.specs.Options.{from_two}
 use Rattle.binder.specs.Terms.{Env, Given, a_value, expression_of, has_names, listed_values}
 use Rattle.binder.specs.Terms as terms
-use Rattle.binder.specs.ExpressionsBound.{are_numbers, numbers_of, element_place, element_type, with_type, indexed, callee, term_of, value_of, givens}
+use Rattle.binder.specs.ExpressionsBound.{are_numbers, numbers_of, element_place, element_type, with_type, indexed, is_host_type, item_of, object_member, callee, term_of, value_of, givens}
 use Rattle.module_parts.proofs.Firsts.{expression_front}
 use Rattle.bound_calls.specs.declared.term.Ending.{Ending}
 use Rattle.bound_calls.specs.declared.term.Routine.{Routine}
@@ -36,14 +37,19 @@ use Rattle.bound_calls.specs.declared.term.Term.TheVariants as term
 use Rattle.bound_calls.specs.declared.term.Tree.{Tree}
 use Rattle.bound_calls.specs.declared.term.Target.{Target}
 use Rattle.bound_calls.specs.declared.term.Target.TheVariants as target
+use Rattle.bound_calls.specs.declared.term.HostMember.{HostMember}
 use Rattle.bound_calls.specs.declared.term.Indexed.{Indexed}
+use Rattle.bound_calls.specs.declared.term.MemberCall.{MemberCall}
 use Rattle.bound_calls.specs.declared.term.Item.{Item}
 use Rattle.bound_calls.specs.declared.term.Item.TheVariants as items
 use Rattle.bound_calls.specs.Calls.{node_of}
-use Rattle.bound_calls.specs.Standing.{NumberIs, AllNumbers, PlaceStands, ValueStands, RoutineStands, TargetStands, TermStands, Stands, AllNamed, Base}
+use Rattle.bound_calls.specs.Standing.{AllNumbers, PlaceStands, ValueStands, RoutineStands, TargetStands, TermStands, Stands, AllNamed, Base}
 use Rattle.bound_calls.specs.Steps.{Goes, PushesValue}
+use Rattle.bound_members.specs.MemberCalls.{OpensMember}
 use Rattle.bound_terms.specs.Callee.{CalleeIs}
+use Rattle.bound_terms.specs.Items.{MakesItem}
 use Rattle.bound_calls.specs.Indexing.{TargetAt, PushesTarget, Opens, OpensTerm, AddsArgument, Closes, EndsIndexed, is_part}
+use Rattle.bound_members.proofs.Listing.{all_listed, numbers_more, taken_off}
 use Rattle.bound_calls.proofs.Growing.{grown_same, grown_twice, grown_pieces, all_named, stands_grows}
 
 -- ---- numbers
@@ -59,31 +65,12 @@ no_names value [] es h = refl
 no_names value (g ∷ gs) [] h = absurd h
 no_names value (g ∷ gs) (e ∷ es) h = ap (λ (o : Option (List ℕ)). is_some o || has_names gs) h.0.no_name ∙ no_names value gs es h.1
 
-one_listed : (value : terms.Term → Place → Option bound.Expr) (given : Option (List ℕ)) (t : terms.Term) (place : Place) (e : bound.Expr) (gs : List Given) → value t place ≡ Some e
-    → listed_values value (record { name = given; term = Some t; place = place } ∷ gs) ≡ from_two also (Some e) (listed_values value gs)
-one_listed value given t place e gs h = ap (λ (o : Option bound.Expr). from_two also o (listed_values value gs)) h
-
-pub all_listed : (value : terms.Term → Place → Option bound.Expr) (gs : List Given) (es : List bound.Expr) → AllNumbers value gs es → listed_values value gs ≡ Some (exprs_of es)
-all_listed value [] [] h = refl
-all_listed value [] (e ∷ es) h = absurd h
-all_listed value (g ∷ gs) [] h = absurd h
-all_listed value (g ∷ gs) (e ∷ es) h =
-    let P : Option terms.Term → Type 0 = λ (o : Option terms.Term). listed_values value (record { name = g.name; term = o; place = g.place } ∷ gs) ≡ from_two also (Some e) (listed_values value gs) in
-    subst P (sym h.0.given) (one_listed value g.name h.0.term g.place e gs h.0.is) ∙ ap (λ (o : Option Exprs). from_two also (Some e) o) (all_listed value gs es h.1)
-
 pub numbers_are : (value : terms.Term → Place → Option bound.Expr) (gs : List Given) (es : List bound.Expr) → AllNumbers value gs es → 0 < length es → numbers_of value gs ≡ Some (exprs_of es)
 numbers_are value gs [] h lt = absurd (omega (arith, lt))
 numbers_are value [] (e ∷ es) h lt = absurd h
 numbers_are value (g ∷ gs) (e ∷ es) h lt =
     ap (λ (b : Bool). if b && not (has_names (g ∷ gs)) then listed_values value (g ∷ gs) else None) (all_numbers value g gs e es h)
     ∙ ap (λ (b : Bool). if not b then listed_values value (g ∷ gs) else None) (no_names value (g ∷ gs) (e ∷ es) h) ∙ all_listed value (g ∷ gs) (e ∷ es) h
-
-pub numbers_more : (value : terms.Term → Place → Option bound.Expr) (gs : List Given) (es : List bound.Expr) (g : Given) (e : bound.Expr) → AllNumbers value gs es → NumberIs value g e
-    → AllNumbers value (gs ++ g ∷ []) (es ++ e ∷ [])
-numbers_more value [] [] g e h k = (k, tt)
-numbers_more value [] (f ∷ es) g e h k = absurd h
-numbers_more value (f ∷ gs) [] g e h k = absurd h
-numbers_more value (f ∷ gs) (d ∷ es) g e h k = (h.0, numbers_more value gs es g e h.1 k)
 
 -- ---- what is indexed
 
@@ -221,6 +208,17 @@ opens env x y i d e f c o = record {
       o.stands tree others is below base h.place_is (subst A (sym c.pieces) (c.stands tree d.pieces below h)) s;
 }
 
+-- arguments of a member begin
+pub opens_item : (env : Env) (x : Tree) (y : Term) (m : HostMember) (c : MemberCall) (d e f g : Drafted) → CalleeIs env x d e y → MakesItem x.place y e f (term.HostMember m) → OpensMember x.place m f g c → Opens env x d g (items.Member c)
+opens_item env x y m c d e f g k i o = record {
+  grown = grown_twice d f g (grown_twice d e f k.grown i.grown) o.grown;
+  named = o.named;
+  stands = λ tree xs is below base h s.
+      let P : Place → Type 0 = λ (place : Place). TermStands env f.tables (term.HostMember m) (item_of place (callee env tree (term_of env tree))) f.pieces below in
+      let A : List Piece → Type 0 = λ (ps : List Piece). TermStands env e.tables y (callee env tree (term_of env tree)) ps below in
+      o.stands env tree xs is below base h.place_is (subst P h.place_is (i.stands env (callee env tree (term_of env tree)) below (subst A (sym k.pieces) (k.stands tree d.pieces below h)))) s;
+}
+
 begin_stands : (env : Env) (x : Tree) (i : Item) (xs : List Item) (d e : Drafted) → AllNamed d.tables xs → Opens env x d e i → (is : List nodes.Item) (base : Base) → Stands env d.tables (items.Tree x ∷ xs) is d.pieces base
     → Stands env e.tables (i ∷ xs) (nodes.arguments no_args ∷ is) e.pieces base
 begin_stands env x i xs d e k o [] base h = absurd h
@@ -292,6 +290,32 @@ goes_argument env x i j xs old between new comma d e o b n k m =
 
 -- ---- elements
 
+-- what numbers index is no object
+no_object : (of u : Declared) → element_type of ≡ Some u → is_host_type of ≡ false
+no_object (type.array_of of) u h = refl
+no_object type.variant u h = refl
+no_object type.boolean u h = refl
+no_object type.byte u h = refl
+no_object type.integer u h = refl
+no_object type.long u h = refl
+no_object type.long_long u h = refl
+no_object type.currency u h = refl
+no_object type.text u h = refl
+no_object (type.fixed_text n) u h = refl
+no_object (type.class n) u h = refl
+no_object type.collection u h = refl
+no_object (type.udt n) u h = refl
+no_object type.object u h = let e : None ≡ Some u = h in absurd cc
+no_object type.worksheet u h = let e : None ≡ Some u = h in absurd cc
+no_object type.range u h = let e : None ≡ Some u = h in absurd cc
+
+same_place : (place : Place) (at : Lvalue) (whole u : Declared) (bounded lends : Bool) → element_type whole ≡ Some u → item_of place (terms.a_place at whole bounded lends) ≡ terms.a_place at whole bounded lends
+same_place place at whole u bounded lends h =
+    ap (λ (b : Bool). if b then object_member place (load at) whole (codes "item") else terms.a_place at whole bounded lends) (no_object whole u h)
+
+same_value : (place : Place) (made : bound.Node) (whole u : Declared) → element_type whole ≡ Some u → item_of place (a_value made whole) ≡ a_value made whole
+same_value place made whole u h = ap (λ (b : Bool). if b then object_member place made whole (codes "item") else a_value made whole) (no_object whole u h)
+
 place_indexed : (env : Env) (place : Place) (at : Lvalue) (whole : Declared) (bounded lends : Bool) (gs : List Given) (of : Declared) (es : Exprs) → element_type whole ≡ Some of → numbers_of (value_of env) gs ≡ Some es
     → indexed env place (terms.a_place at whole bounded lends) gs ≡ terms.a_place (element_place at es) of false lends
 place_indexed env place at whole bounded lends gs of es h k =
@@ -303,11 +327,6 @@ value_indexed : (env : Env) (place : Place) (made : bound.Node) (whole : Declare
 value_indexed env place made whole gs of es h k =
     let T : Declared → Exprs → terms.Term = λ (u : Declared) (xs : Exprs). a_value (element_value (expression_of made place whole) xs) u in
     ap (λ (o : Option Declared). with_type o (numbers_of (value_of env) gs) T) h ∙ ap (λ (o : Option Exprs). with_type (Some of) o T) k
-
--- the numbers that an element's node takes
-pub taken_off : (count : ℕ) (made : List bound.Expr) (ps between : List Piece) → count ≡ length made → ps ≡ above (map an_expr made) between → exprs_off count ps no_exprs ≡ Some (exprs_of made, between)
-taken_off count made ps between c p =
-    ap (λ (m : ℕ). exprs_off m ps no_exprs) c ∙ ap (λ (st : List Piece). exprs_off (length made) st no_exprs) p ∙ exprs_are made between
 
 there_are : (x : Indexed) (made : List bound.Expr) → 0 < x.count → x.count ≡ length made → 0 < length made
 there_are x made lt c = omega (arith, lt, c)
@@ -322,10 +341,11 @@ ends_variable x v is lt = record {
       let q = subst T is s.target_is in
       let es = exprs_of s.made in
       let numbers = numbers_are (value_of env) gs s.made s.numbers (there_are x s.made lt s.count_is) in
-      let A : terms.Term → Type 0 = λ (z : terms.Term). PlaceStands t (kinds.Item v x.count) x.of false x.lends (indexed env place z gs) ps below in
+      let A : terms.Term → Type 0 = λ (z : terms.Term). PlaceStands t (kinds.Item v x.count) x.of false x.lends (indexed env place (item_of place z) gs) ps below in
       subst A (sym q.is) (record {
         at = item (variable_view v) es;
-        is = place_indexed env place (bound.variable (variable_view v)) q.whole q.bounded x.lends gs (declared_view x.of) es q.element_is numbers;
+        is = ap (λ (z : terms.Term). indexed env place z gs) (same_place place (bound.variable (variable_view v)) q.whole (declared_view x.of) q.bounded x.lends q.element_is)
+            ∙ place_indexed env place (bound.variable (variable_view v)) q.whole q.bounded x.lends gs (declared_view x.of) es q.element_is numbers;
         ends = λ n. ap (λ (o : Option (Exprs × List Piece)). of_found (λ (xs : Exprs). a_place (item (variable_view v) xs)) o) (taken_off x.count s.made ps s.between s.count_is s.on_top) ∙ ap (λ (st : List Piece). a_place (item (variable_view v) es) ∷ st) q.none_pushed;
       });
 }
@@ -340,10 +360,10 @@ ends_place x is lt = record {
       let q = subst T is s.target_is in
       let es = exprs_of s.made in
       let numbers = numbers_are (value_of env) gs s.made s.numbers (there_are x s.made lt s.count_is) in
-      let A : terms.Term → Type 0 = λ (z : terms.Term). PlaceStands t (kinds.Element x.count) x.of false x.lends (indexed env place z gs) ps below in
+      let A : terms.Term → Type 0 = λ (z : terms.Term). PlaceStands t (kinds.Element x.count) x.of false x.lends (indexed env place (item_of place z) gs) ps below in
       subst A (sym q.is) (record {
         at = element q.at es;
-        is = place_indexed env place q.at q.whole q.bounded x.lends gs (declared_view x.of) es q.element_is numbers ∙ ap (λ (y : Lvalue). terms.a_place y (declared_view x.of) false x.lends) (q.no_variable es);
+        is = ap (λ (z : terms.Term). indexed env place z gs) (same_place place q.at q.whole (declared_view x.of) q.bounded x.lends q.element_is) ∙ place_indexed env place q.at q.whole q.bounded x.lends gs (declared_view x.of) es q.element_is numbers ∙ ap (λ (y : Lvalue). terms.a_place y (declared_view x.of) false x.lends) (q.no_variable es);
         ends = λ n.
             ap (λ (o : Option (Exprs × List Piece)). of_place_found (λ (y : Lvalue) (xs : Exprs). a_place (element y xs)) o) (taken_off x.count s.made ps s.between s.count_is s.on_top)
             ∙ ap (λ (st : List Piece). of_place (λ (y : Lvalue). a_place (element y es)) st) q.on_top;
@@ -360,10 +380,10 @@ ends_value x is lt = record {
       let q = subst T is s.target_is in
       let es = exprs_of s.made in
       let numbers = numbers_are (value_of env) gs s.made s.numbers (there_are x s.made lt s.count_is) in
-      let A : terms.Term → Type 0 = λ (z : terms.Term). ValueStands t (record { kind = kinds.ElementValue x.count; of = x.of }) (indexed env place z gs) ps below in
+      let A : terms.Term → Type 0 = λ (z : terms.Term). ValueStands t (record { kind = kinds.ElementValue x.count; of = x.of }) (indexed env place (item_of place z) gs) ps below in
       subst A (sym q.is) (record {
         made = element_value (expression_of q.made place q.whole) es;
-        is = value_indexed env place q.made q.whole gs (declared_view x.of) es q.element_is numbers;
+        is = ap (λ (z : terms.Term). indexed env place z gs) (same_value place q.made q.whole (declared_view x.of) q.element_is) ∙ value_indexed env place q.made q.whole gs (declared_view x.of) es q.element_is numbers;
         ends = λ n.
             ap (λ (o : Option (Exprs × List Piece)). of_value_found (λ (y : bound.Expr) (xs : Exprs). expr_of n (element_value y xs)) o) (taken_off x.count s.made ps s.between s.count_is s.on_top)
             ∙ ap (λ (st : List Piece). of_value (λ (y : bound.Expr). expr_of n (element_value y es)) st) q.on_top;

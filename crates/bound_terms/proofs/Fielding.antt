@@ -1,4 +1,5 @@
 -- Fields of places and values, and names behind dots that begin an expression.
+use Rattle.std.specs.Prelude.{◌==◌, ◌||◌, bytes_eq, codes}
 use Rattle.std.proofs.Common.{◌≡◌, ℕ, Bool, true, false, List, [], ◌∷◌, ◌++◌, map, Option, Some, None, is_some, option_map, if◌then◌else◌, refl, sym, ap, subst, ◌∙◌}
 use Rattle.vba_base.specs.declared.place.Place.{Place}
 use Rattle.vba_lexer.specs.declared.token.Token.{Token}
@@ -11,16 +12,19 @@ use Rattle.vba_expression.specs.Nodes.{behind_node}
 use Rattle.vba_values.specs.Types.{Declared}
 use Rattle.vba_values.specs.Types as type
 use Rattle.bound_project.specs.declared.declared_type.DeclaredType.{DeclaredType}
-use Rattle.bound_project.specs.declared.declared_type.DeclaredType.TheVariants.{Plain}
+use Rattle.vba_values.specs.declared.object.HostRef.TheVariants as host
+use Rattle.bound_project.specs.declared.declared_type.DeclaredType.TheVariants.{Plain, ArrayOf}
 use Rattle.bound_project.specs.declared.declared_type.ElementType.TheVariants as element
 use Rattle.bound_project.specs.declared.declarations.Declarations.{Declarations}
+use Rattle.bound_project.specs.declared.node.Node.{Node}
+use Rattle.bound_project.specs.declared.node.NodeKind.{NodeKind}
 use Rattle.bound_project.specs.declared.node.NodeKind.TheVariants as kinds
-use Rattle.bound_project.specs.Project.{Declaration, UserType}
+use Rattle.bound_project.specs.Project.{Declaration, UserType, nowhere}
 use Rattle.bound_project.specs.Project as project
 use Rattle.bound_project.specs.View.{declared_view, declarations_view, user_type_view}
-use Rattle.bound_project.specs.Expressions.{expr, Lvalue, field, field_value, kept_place}
+use Rattle.bound_project.specs.Expressions.{expr, active_sheet, host_member, host_object, load, no_exprs, Lvalue, field, field_value, kept_place}
 use Rattle.bound_project.specs.Expressions as bound
-use Rattle.bound_project.specs.Pieces.{Piece, a_place, put}
+use Rattle.bound_project.specs.Pieces.{Piece, a_place, expr_of, name_in, put, put_kind}
 use Rattle.bound_project.specs.Drafts.{Drafted}
 use Rattle.binder.specs.Bind.{declarations_of}
 use Rattle.binder.specs.Constants.{home, place_of_expression}
@@ -28,15 +32,16 @@ use Rattle.binder.specs.Declarations.{Written}
 use Rattle.binder.specs.Scopes.{Space, Qualifier, qualifier_of, enum_behind}
 use Rattle.binder.specs.Storage.{types_from, types_of_space, user_types}
 use Rattle.binder.specs.Types.{is_object}
-use Rattle.binder.specs.Terms.{Env, Within, a_place as a_place_term, a_value, a_routine, a_function, err_object, err_raise, err_clear, error_word, no_term, expression_of, value_with}
+use Rattle.binder.specs.Terms.{Env, Within, a_place as a_place_term, a_value, a_routine, a_function, a_host_member, err_object, err_raise, err_clear, error_word, no_term, expression_of, value_with}
 use Rattle.binder.specs.Terms as terms
-use Rattle.binder.specs.ExpressionsBound.{bare_call, behind_term, err_member, field_named, field_of_place, field_of_value, has_bounds, kept_member, member_of, node_or, term_of, value_of, with_field}
+use Rattle.binder.specs.ExpressionsBound.{bare_call, behind_term, err_member, field_named, field_of_place, field_of_value, has_bounds, kept_member, member_of, node_or, object_member, sheets_value, term_of, value_of, with_field}
 use Rattle.declared_names.specs.Outside.{the_outside}
 use Rattle.declared_names.specs.View.{scope_view}
 use Rattle.declared_names.specs.declared.scope.Scope.{Scope as ScopeHere}
 use Rattle.project_tables.specs.Signed.{whole_scope}
 use Rattle.bound_terms.specs.declared.fields.Field.{Field}
 use Rattle.bound_calls.specs.declared.term.Ending.{Ending}
+use Rattle.bound_calls.specs.declared.term.HostMember.{HostMember}
 use Rattle.bound_calls.specs.declared.term.Routine.{Routine}
 use Rattle.bound_calls.specs.declared.term.Term.{Term}
 use Rattle.bound_calls.specs.declared.term.Term.TheVariants as term
@@ -45,11 +50,13 @@ use Rattle.bound_calls.specs.declared.term.Item.{Item}
 use Rattle.bound_calls.specs.declared.term.Item.TheVariants as items
 use Rattle.bound_calls.specs.Calls.{node_of}
 use Rattle.bound_terms.specs.Fields.{FieldFound, KeepsField, MakesBehind, MakesField, MakesFieldValue, user_type_in}
-use Rattle.bound_terms.specs.Owned.{IsQualifier, MakesMember}
-use Rattle.bound_calls.specs.Standing.{TermStands, TreeStands, Stands, Base}
+use Rattle.bound_terms.specs.Items.{FindsBehindPlace, FindsBehindValue}
+use Rattle.bound_terms.specs.Owned.{IsQualifier, IsSheets, MakesMember}
+use Rattle.bound_calls.specs.Standing.{TermStands, TreeStands, Stands, Base, member_is}
 use Rattle.bound_calls.specs.Steps.{Goes, MakesLeaf}
-use Rattle.bound_calls.specs.Taking.{CallsBare}
+use Rattle.bound_calls.specs.Taking.{CallsBare, PushesSheet, ReadsMember}
 use Rattle.bound_calls.proofs.Growing.{grown_same, grown_twice, grown_pieces, all_named, stands_grows}
+use Rattle.bound_calls.proofs.Taking.{sheet_stands}
 use Rattle.bound_terms.proofs.Dotted.{made_tree, member_place, no_qualifier}
 
 -- ---- the fields of user types
@@ -69,9 +76,9 @@ user_type_is of number h = let e : None ≡ Some number = h in absurd cc
 
 -- ---- a field that was found
 
-field_term : (env : Env) (at : Lvalue) (number : ℕ) (lends : Bool) (f : Identifier) (x : Field) → FieldFound (field_named env number f) x
-    → field_of_place env at (type.udt number) lends f ≡ a_place_term (field at x.number (declared_view x.of) x.is_bounded) (declared_view x.of) x.is_bounded lends
-field_term env at number lends f x k =
+field_term : (env : Env) (place : Place) (at : Lvalue) (number : ℕ) (lends : Bool) (f : Identifier) (x : Field) → FieldFound (field_named env number f) x
+    → field_of_place env place at (type.udt number) lends f ≡ a_place_term (field at x.number (declared_view x.of) x.is_bounded) (declared_view x.of) x.is_bounded lends
+field_term env place at number lends f x k =
     let F : ℕ → Declaration → terms.Term = λ (i : ℕ) (d : Declaration). a_place_term (field at i d.of (has_bounds d)) d.of (has_bounds d) lends in
     ap (λ (o : Option (ℕ × Declaration)). with_field o F) k.is
     ∙ ap (λ (u : Declared). a_place_term (field at x.number u (has_bounds k.declaration)) u (has_bounds k.declaration) lends) k.of_is
@@ -81,9 +88,9 @@ pub makes_field : (env : Env) (of : DeclaredType) (number : ℕ) (lends : Bool) 
     → MakesField env of lends f (term.Place (kinds.Field x.number x.of x.is_bounded) x.of x.is_bounded lends)
 makes_field env of number lends f x is k = record {
   named = λ t. tt;
-  stands = λ t at below. record {
+  stands = λ t place at below. record {
     at = field at x.number (declared_view x.of) x.is_bounded;
-    is = ap (λ (u : Declared). field_of_place env at u lends f) (user_type_is of number is) ∙ field_term env at number lends f x k;
+    is = ap (λ (u : Declared). field_of_place env place at u lends f) (user_type_is of number is) ∙ field_term env place at number lends f x k;
     ends = λ n. refl;
   };
 }
@@ -110,20 +117,68 @@ makes_field_value env of number f x is k = record {
 -- ---- what With keeps
 
 pub keeps_field : (env : Env) (header : ℕ) (of : DeclaredType) (lends : Bool) (f : Identifier) (place : Place) (d e : Drafted) (x : Term) → env.within ≡ Some (record { header = header; of = declared_view of; lends = lends })
-    → MakesField env of lends f x → e ≡ record d { pieces = put d.tables (node_of (kinds.KeptPlace header) place of) d.pieces } → KeepsField env f d e x
+    → MakesField env of lends f x → e ≡ record d { pieces = put d.tables (node_of (kinds.KeptPlace header) place of) d.pieces } → KeepsField env place f d e x
 keeps_field env header of lends f place d e x is m eq =
-    let P : Drafted → Type 0 = λ (z : Drafted). KeepsField env f d z x in
-    let A : Option Within → Type 0 = λ (w : Option Within). TermStands env d.tables x (kept_member env w f) (a_place (kept_place header) ∷ d.pieces) d.pieces in
+    let P : Drafted → Type 0 = λ (z : Drafted). KeepsField env place f d z x in
+    let A : Option Within → Type 0 = λ (w : Option Within). TermStands env d.tables x (kept_member env place w f) (a_place (kept_place header) ∷ d.pieces) d.pieces in
     subst P (sym eq) (record {
       grown = grown_pieces d (put d.tables (node_of (kinds.KeptPlace header) place of) d.pieces);
       named = m.named d.tables;
-      stands = subst A (sym is) (m.stands d.tables (kept_place header) d.pieces);
+      stands = subst A (sym is) (m.stands d.tables place (kept_place header) d.pieces);
     })
+
+-- what is of no Type is looked at as an object
+no_type_place : (env : Env) (place : Place) (at : Lvalue) (of : DeclaredType) (lends : Bool) (f : Identifier) → user_type_in of ≡ None → field_of_place env place at (declared_view of) lends f ≡ object_member place (load at) (declared_view of) f.name
+no_type_place env place at (Plain element.Boolean) lends f h = refl
+no_type_place env place at (Plain element.Byte) lends f h = refl
+no_type_place env place at (Plain element.Integer) lends f h = refl
+no_type_place env place at (Plain element.Long) lends f h = refl
+no_type_place env place at (Plain element.LongLong) lends f h = refl
+no_type_place env place at (Plain element.Currency) lends f h = refl
+no_type_place env place at (Plain element.Text) lends f h = refl
+no_type_place env place at (Plain (element.FixedText n)) lends f h = refl
+no_type_place env place at (Plain element.Object) lends f h = refl
+no_type_place env place at (Plain (element.Class n)) lends f h = refl
+no_type_place env place at (Plain element.Collection) lends f h = refl
+no_type_place env place at (Plain element.Worksheet) lends f h = refl
+no_type_place env place at (Plain element.Range) lends f h = refl
+no_type_place env place at (Plain element.Variant) lends f h = refl
+no_type_place env place at (Plain (element.UserType n)) lends f h = let e : Some n ≡ None = h in absurd cc
+no_type_place env place at (ArrayOf u) lends f h = refl
+
+no_type_value : (env : Env) (place : Place) (node : bound.Node) (of : DeclaredType) (f : Identifier) → user_type_in of ≡ None → field_of_value env place node (declared_view of) f ≡ object_member place node (declared_view of) f.name
+no_type_value env place node (Plain element.Boolean) f h = refl
+no_type_value env place node (Plain element.Byte) f h = refl
+no_type_value env place node (Plain element.Integer) f h = refl
+no_type_value env place node (Plain element.Long) f h = refl
+no_type_value env place node (Plain element.LongLong) f h = refl
+no_type_value env place node (Plain element.Currency) f h = refl
+no_type_value env place node (Plain element.Text) f h = refl
+no_type_value env place node (Plain (element.FixedText n)) f h = refl
+no_type_value env place node (Plain element.Object) f h = refl
+no_type_value env place node (Plain (element.Class n)) f h = refl
+no_type_value env place node (Plain element.Collection) f h = refl
+no_type_value env place node (Plain element.Worksheet) f h = refl
+no_type_value env place node (Plain element.Range) f h = refl
+no_type_value env place node (Plain element.Variant) f h = refl
+no_type_value env place node (Plain (element.UserType n)) f h = let e : Some n ≡ None = h in absurd cc
+no_type_value env place node (ArrayOf u) f h = refl
+
+pub keeps_object : (env : Env) (header : ℕ) (of : DeclaredType) (lends : Bool) (f : Identifier) (place : Place) (d e : Drafted) (m : HostMember) → env.within ≡ Some (record { header = header; of = declared_view of; lends = lends })
+    → user_type_in of ≡ None → FindsBehindPlace place (record { kind = kinds.KeptPlace header; of = of }) f.name d e m → KeepsField env place f d e (term.HostMember m)
+keeps_object env header of lends f place d e m is none h =
+    let A : Option Within → Type 0 = λ (w : Option Within). TermStands env e.tables (term.HostMember m) (kept_member env place w f) e.pieces d.pieces in
+    let B : terms.Term → Type 0 = λ (w : terms.Term). TermStands env e.tables (term.HostMember m) w e.pieces d.pieces in
+    record {
+      grown = h.grown;
+      named = h.named;
+      stands = subst A (sym is) (subst B (sym (no_type_place env place (kept_place header) of lends f none)) (h.stands env (kept_place header) d.pieces (λ n. refl)));
+    }
 
 abbrev with_tree : Token → Term → Tree
 with_tree dot t = record { place = dot.place; name = None; is_qualifier = false; term = t }
 
-kept_stands : (env : Env) (xs ys : List Item) (d e g : Drafted) (t : Term) (dot : Token) (f : Identifier) → Goes env d xs e ys (λ is. is) → KeepsField env f e g t → (is : List nodes.Item) (base : Base) → Stands env d.tables xs is d.pieces base
+kept_stands : (env : Env) (xs ys : List Item) (d e g : Drafted) (t : Term) (dot : Token) (f : Identifier) → Goes env d xs e ys (λ is. is) → KeepsField env dot.place f e g t → (is : List nodes.Item) (base : Base) → Stands env d.tables xs is d.pieces base
     → Stands env g.tables (items.Tree (with_tree dot t) ∷ ys) (nodes.tree (with_member dot f) ∷ is) g.pieces base
 kept_stands env xs ys d e g t dot f s k is base h = (
   e.pieces,
@@ -133,7 +188,7 @@ kept_stands env xs ys d e g t dot f s k is base h = (
   ),
 )
 
-pub goes_kept : (env : Env) (xs ys after : List Item) (d e g : Drafted) (t : Term) (dot : Token) (f : Identifier) → Goes env d xs e ys (λ is. is) → KeepsField env f e g t → after ≡ items.Tree (with_tree dot t) ∷ ys
+pub goes_kept : (env : Env) (xs ys after : List Item) (d e g : Drafted) (t : Term) (dot : Token) (f : Identifier) → Goes env d xs e ys (λ is. is) → KeepsField env dot.place f e g t → after ≡ items.Tree (with_tree dot t) ∷ ys
     → Goes env d xs g after (behind_node (node.WithMember dot f))
 goes_kept env xs ys after d e g t dot f s k eq =
     let A : List Item → Type 0 = λ (l : List Item). Goes env d xs g l (behind_node (node.WithMember dot f)) in
@@ -154,8 +209,8 @@ behind_place env place at bounded lends f d e y m eq =
       named = m.named d.tables;
       stands = λ z below k.
           let A : terms.Term → Type 0 = λ (w : terms.Term). TermStands env d.tables y (member_of env place w f) (put d.tables (node_of at.kind place at.of) d.pieces) below in
-          let B : List Piece → Type 0 = λ (ps : List Piece). TermStands env d.tables y (field_of_place env k.at (declared_view at.of) lends f) ps below in
-          subst A (sym k.is) (subst B (sym (k.ends (node_of at.kind place at.of))) (m.stands d.tables k.at below));
+          let B : List Piece → Type 0 = λ (ps : List Piece). TermStands env d.tables y (field_of_place env place k.at (declared_view at.of) lends f) ps below in
+          subst A (sym k.is) (subst B (sym (k.ends (node_of at.kind place at.of))) (m.stands d.tables place k.at below));
       there = λ t z ps below k h. (let e : a_place_term k.at (declared_view at.of) bounded lends ≡ no_term = sym k.is ∙ h in absurd cc);
     })
 
@@ -173,6 +228,87 @@ behind_value env place ending f d e y m eq =
       there = λ t z ps below k h. (let e : a_value k.made (declared_view ending.of) ≡ no_term = sym k.is ∙ h in absurd cc);
     })
 
+-- an object at a place, and one that a value gives
+pub behind_object_place : (env : Env) (place : Place) (at : Ending) (bounded lends : Bool) (f : Identifier) (d e : Drafted) (m : HostMember) → user_type_in at.of ≡ None → FindsBehindPlace place at f.name d e m
+    → MakesBehind env place (term.Place at.kind at.of bounded lends) f d e (term.HostMember m)
+behind_object_place env place at bounded lends f d e m none h = record {
+  grown = h.grown;
+  named = h.named;
+  stands = λ z below k.
+      let A : terms.Term → Type 0 = λ (w : terms.Term). TermStands env e.tables (term.HostMember m) w e.pieces below in
+      subst A (sym (ap (λ (w : terms.Term). member_of env place w f) k.is ∙ no_type_place env place k.at at.of lends f none)) (h.stands env k.at below k.ends);
+  there = λ t z ps below k h. (let e : a_place_term k.at (declared_view at.of) bounded lends ≡ no_term = sym k.is ∙ h in absurd cc);
+}
+
+pub behind_object_value : (env : Env) (place : Place) (v : Ending) (f : Identifier) (d e : Drafted) (m : HostMember) → user_type_in v.of ≡ None → FindsBehindValue place v f.name d e m
+    → MakesBehind env place (term.Value v) f d e (term.HostMember m)
+behind_object_value env place v f d e m none h = record {
+  grown = h.grown;
+  named = h.named;
+  stands = λ z below k.
+      let A : terms.Term → Type 0 = λ (w : terms.Term). TermStands env e.tables (term.HostMember m) w e.pieces below in
+      subst A (sym (ap (λ (w : terms.Term). member_of env place w f) k.is ∙ no_type_value env place k.made v.of f none)) (h.stands env k.made below k.ends);
+  there = λ t z ps below k h. (let e : a_value k.made (declared_view v.of) ≡ no_term = sym k.is ∙ h in absurd cc);
+}
+
+-- a member that is read
+read_when : (b : Bool) (t : terms.Term) → b ≡ true → (if b then t else no_term) ≡ t
+read_when b t h = ap (λ (c : Bool). if c then t else no_term) h
+
+pub behind_member : (env : Env) (place : Place) (read : HostMember) (v : Ending) (f : Identifier) (d b e : Drafted) (m : HostMember) → ReadsMember read d b v → FindsBehindValue place v f.name b e m
+    → MakesBehind env place (term.HostMember read) f d e (term.HostMember m)
+behind_member env place read v f d b e m r h = record {
+  grown = grown_twice d b e r.grown h.grown;
+  named = h.named;
+  stands = λ z below k.
+      let node = host_member k.object (name_in d.tables read.name) no_exprs in
+      let T : DeclaredType → terms.Term = λ (of : DeclaredType). object_member place node (declared_view of) f.name in
+      let A : terms.Term → Type 0 = λ (w : terms.Term). TermStands env e.tables (term.HostMember m) w e.pieces below in
+      subst A (sym (ap (λ (w : terms.Term). member_of env place w f) k.is ∙ read_when (read.least == 0) (T read.of) (ap (λ (n : ℕ). n == 0) r.least_is) ∙ ap T (sym r.of_is)))
+      (h.stands env node below (r.ends k.object below k.on_top));
+  there = λ t z ps below k h. (let e : a_host_member k.object (member_is t read) ≡ no_term = sym k.is ∙ h in absurd cc);
+}
+
+pub behind_sheet : (env : Env) (place : Place) (read : HostMember) (f : Identifier) (d s e : Drafted) (y : Term) → PushesSheet d s → MakesBehind env place (term.HostMember read) f s e y → MakesBehind env place (term.SheetMember read) f d e y
+behind_sheet env place read f d s e y p m = record {
+  grown = grown_twice d s e p.grown m.grown;
+  named = m.named;
+  stands = λ z below k. m.stands z below (sheet_stands read d s p env z below k);
+  there = λ t z ps below k h. (let e : a_host_member (expression_of active_sheet nowhere type.worksheet) (member_is t read) ≡ no_term = sym k.0 ∙ h in absurd cc);
+}
+
+-- the sheets of the workbook
+workbook_made : (n : Node) (made : bound.Node) (ps below : List Piece) → expr_of n (host_object host.Workbook) ∷ ps ≡ expr_of n made ∷ below → made ≡ host_object host.Workbook
+workbook_made n made ps below h = let e : host_object host.Workbook ≡ made = cc in sym e
+
+workbook_below : (n : Node) (made : bound.Node) (ps below : List Piece) → expr_of n (host_object host.Workbook) ∷ ps ≡ expr_of n made ∷ below → ps ≡ below
+workbook_below n made ps below h = cc
+
+any_node : Node
+any_node = record { kind = kinds.NotGiven; place = nowhere; of = Plain element.Variant; operand = Plain element.Variant }
+
+sheets_of : (place : Place) (of : Declared) (fold : List ℕ) → (bytes_eq fold (codes "worksheets") || bytes_eq fold (codes "sheets")) ≡ true → object_member place (host_object host.Workbook) of fold ≡ sheets_value
+sheets_of place of fold h = ap (λ (b : Bool). if b then sheets_value else no_term) h
+
+pub behind_workbook : (env : Env) (place : Place) (v : Ending) (f : Identifier) (d : Drafted) (y : Term) → v.kind ≡ kinds.HostObject host.Workbook → user_type_in v.of ≡ None → IsSheets f y → MakesBehind env place (term.Value v) f d d y
+behind_workbook env place v f d y book none s =
+    let P : Term → Type 0 = λ (t : Term). MakesBehind env place (term.Value v) f d d t in
+    subst P (sym s.is) (record {
+      grown = grown_same d;
+      named = tt;
+      stands = λ z below k.
+          let K : NodeKind → Type 0 = λ (x : NodeKind). put_kind d.tables any_node x d.pieces ≡ expr_of any_node k.made ∷ below in
+          let put = subst K book (k.ends any_node) in
+          let made = workbook_made any_node k.made d.pieces below put in
+          record {
+            made = host_object host.Sheets;
+            is = ap (λ (w : terms.Term). member_of env place w f) k.is ∙ no_type_value env place k.made v.of f none ∙ ap (λ (n : bound.Node). object_member place n (declared_view v.of) f.name) made
+                ∙ sheets_of place (declared_view v.of) f.name s.named;
+            ends = λ n. ap (λ (st : List Piece). expr_of n (host_object host.Sheets) ∷ st) (workbook_below any_node k.made d.pieces below put);
+          };
+      there = λ t z ps below k h. (let e : a_value k.made (declared_view v.of) ≡ no_term = sym k.is ∙ h in absurd cc);
+    })
+
 -- a procedure whose value is known
 typed_is : (b : Bool) (node made : bound.Node) (place : Place) (u of : Declared) → (if b then None else Some (expression_of node place u)) ≡ Some (expr made place of of) → a_value node u ≡ a_value made of
 typed_is true node made place u of h = let e : None ≡ Some (expr made place of of) = h in absurd cc
@@ -186,6 +322,7 @@ value_is (a_value node u) space number w made of place h = typed_is (is_object u
 value_is (a_place_term x u bounded lends) space number w made of place h = let e : None ≡ Some (expr made place of of) = h in absurd cc
 value_is (a_routine s n p) space number w made of place h = let e : None ≡ Some (expr made place of of) = h in absurd cc
 value_is (a_function f text_form base) space number w made of place h = let e : None ≡ Some (expr made place of of) = h in absurd cc
+value_is (a_host_member x m) space number w made of place h = let e : None ≡ Some (expr made place of of) = h in absurd cc
 value_is err_object space number w made of place h = let e : None ≡ Some (expr made place of of) = h in absurd cc
 value_is err_raise space number w made of place h = let e : None ≡ Some (expr made place of of) = h in absurd cc
 value_is err_clear space number w made of place h = let e : None ≡ Some (expr made place of of) = h in absurd cc

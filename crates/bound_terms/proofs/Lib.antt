@@ -3,6 +3,8 @@ pub mod NamedTerms
 pub mod Dotted
 pub mod Elements
 pub mod Library
+pub mod ItemTerms
+pub mod HostNames
 pub mod Sharing
 pub mod Fielding
 pub mod Callees

@@ -1,5 +1,5 @@
 -- Functions of the library: what their names are, and calls of them.
-use Rattle.std.proofs.Common.{◌≡◌, ℕ, ◌+◌, ◌==◌, Bool, true, false, ◌&&◌, not, List, [], ◌∷◌, ◌++◌, map, length, Option, Some, None, is_some, option_map, if◌then◌else◌, refl, sym, ap, subst, ◌∙◌, arith, length-append}
+use Rattle.std.proofs.Common.{◌≡◌, ℕ, ◌+◌, ◌==◌, Bool, true, false, ◌&&◌, List, [], ◌∷◌, ◌++◌, map, length, Option, Some, None, option_map, if◌then◌else◌, refl, sym, ap, subst, ◌∙◌, arith, length-append}
 use Rattle.std.specs.Prelude.{ℤ, pos, option_and_then, bytes_eq, codes}
 use Rattle.std.proofs.lemmas.List.{map-append}
 use Rattle.vba_base.specs.declared.place.Place.{Place}
@@ -33,7 +33,7 @@ use Rattle.binder.specs.Sources.{Source, base_of, has_choice, is_base_one}
 use Rattle.binder.specs.Constants.{compare_in, place_of_expression}
 use Rattle.binder.specs.Terms.{Env, Given, a_function, a_value, error_word, no_term, listed_values}
 use Rattle.binder.specs.Terms as terms
-use Rattle.binder.specs.ExpressionsBound.{all_given, array_base, constant_term, from_zero, function_called, function_value, givens, if_there, indexed, is_user_type, library_term, plain_value, takes_count, term_of, value_of}
+use Rattle.binder.specs.ExpressionsBound.{array_base, constant_term, from_zero, function_called, function_value, givens, if_there, indexed, is_user_type, item_of, library_term, plain_value, takes_count, term_of, value_of}
 use Rattle.module_parts.proofs.Firsts.{expression_front}
 use Rattle.bound_calls.specs.declared.term.Function.{Function}
 use Rattle.bound_calls.specs.declared.term.FunctionCall.{FunctionCall}
@@ -47,7 +47,7 @@ use Rattle.bound_calls.specs.Indexing.{AddsArgument, Closes, OpensTerm}
 use Rattle.bound_calls.specs.Standing.{AllNumbers, TermStands, Stands, AllNamed, Base, base_number}
 use Rattle.bound_calls.specs.Steps.{MakesLeaf, PushesValue}
 use Rattle.bound_calls.proofs.Growing.{grown_same, stands_grows}
-use Rattle.bound_terms.proofs.Elements.{all_listed, numbers_more, taken_off}
+use Rattle.bound_members.proofs.Listing.{all_listed, given_all, given_long, numbers_more, taken_off}
 
 -- ---- names
 
@@ -75,6 +75,8 @@ zero_same env t (term.Place kind of bounded lends) n y ps below h = let P : term
 zero_same env t (term.Value e) n y ps below h = let P : terms.Term → Type 0 = λ (z : terms.Term). from_zero z ≡ z in subst P (sym h.is) refl
 zero_same env t (term.Routine r) n y ps below h = let P : terms.Term → Type 0 = λ (z : terms.Term). from_zero z ≡ z in subst P (sym h.is) refl
 zero_same env t (term.Function f) n y ps below h = absurd (n f refl)
+zero_same env t (term.HostMember m) n y ps below h = let P : terms.Term → Type 0 = λ (z : terms.Term). from_zero z ≡ z in subst P (sym h.is) refl
+zero_same env t (term.SheetMember m) n y ps below h = let P : terms.Term → Type 0 = λ (z : terms.Term). from_zero z ≡ z in subst P (sym h.0) refl
 zero_same env t term.Err n y ps below h = let P : terms.Term → Type 0 = λ (z : terms.Term). from_zero z ≡ z in subst P (sym h.0) refl
 zero_same env t term.ErrRaise n y ps below h = let P : terms.Term → Type 0 = λ (z : terms.Term). from_zero z ≡ z in subst P (sym h.0) refl
 zero_same env t term.ErrClear n y ps below h = let P : terms.Term → Type 0 = λ (z : terms.Term). from_zero z ≡ z in subst P (sym h.0) refl
@@ -159,18 +161,6 @@ adds_value x y of count d e c u p = record { grown = p.grown; named = tt; stands
 
 -- ---- what a function makes of its arguments
 
-given_all : (value : terms.Term → Place → Option bound.Expr) (gs : List Given) (es : List bound.Expr) → AllNumbers value gs es → all_given gs ≡ true
-given_all value [] es h = refl
-given_all value (g ∷ gs) [] h = absurd h
-given_all value (g ∷ gs) (e ∷ es) h =
-    ap (λ (o : Option terms.Term). (is_some o && not (is_some g.name)) && all_given gs) h.0.given ∙ ap (λ (o : Option (List ℕ)). not (is_some o) && all_given gs) h.0.no_name ∙ given_all value gs es h.1
-
-given_long : (value : terms.Term → Place → Option bound.Expr) (gs : List Given) (es : List bound.Expr) → AllNumbers value gs es → length gs ≡ length es
-given_long value [] [] h = refl
-given_long value [] (e ∷ es) h = absurd h
-given_long value (g ∷ gs) [] h = absurd h
-given_long value (g ∷ gs) (e ∷ es) h = omega (arith, given_long value gs es h.1)
-
 base_is : (one : Bool) → pos (base_number one) ≡ base_view one
 base_is true = refl
 base_is false = refl
@@ -200,7 +190,7 @@ ends_function x of takes typed = record {
   stands = λ env t e args ps below s.
       let f = x.function in
       let gs = givens env args in
-      let A : terms.Term → Type 0 = λ (z : terms.Term). indexed env (place_of_expression e) z gs ≡ a_value (library f.function f.is_text_form (exprs_of s.made) f.compare (base_view f.is_base_one)) (declared_view of) in
+      let A : terms.Term → Type 0 = λ (z : terms.Term). indexed env (place_of_expression e) (item_of (place_of_expression e) z) gs ≡ a_value (library f.function f.is_text_form (exprs_of s.made) f.compare (base_view f.is_base_one)) (declared_view of) in
       record {
         made = library f.function f.is_text_form (exprs_of s.made) f.compare (base_view f.is_base_one);
         is = subst A (sym s.function_is.is) (called_is env f.function f.is_text_form f.is_base_one f.compare x.count of gs s.made s.function_is.compare_is s.count_is takes typed s.values);

@@ -45,13 +45,14 @@ use Rattle.bound_calls.specs.Calls.{PassesRest, passed_in, plain_given}
 use Rattle.bound_calls.specs.Passing.{AllLeft, AllTaken}
 use Rattle.bound_calls.specs.Standing.{AllNamed, AllNumbers, Base, GatheredAbove, GatheredStands, PushedIs, RoutineStands, Stands, ValueStands, gathered_below, is_gathering}
 use Rattle.bound_calls.specs.Steps.{Goes, PushesValue}
-use Rattle.bound_calls.proofs.CallSteps.{parameters_long}
+use Rattle.bound_calls.proofs.CallSteps.{parameters_long, routine_item}
 use Rattle.bound_calls.proofs.Arguing.{left_long}
 use Rattle.bound_calls.proofs.Growing.{all_named, grown_pieces, grown_twice, stands_grows}
 use Rattle.bound_calls.proofs.NamedSteps.{call_is}
 use Rattle.bound_calls.proofs.Passing.{bound_by, built_rest, is_for, other_number, rest_from, rest_is}
 use Rattle.bound_terms.specs.Gathering.{EndsGathered, PassesGathered, gathers, with_gathered}
-use Rattle.bound_terms.proofs.Elements.{all_listed, no_names, numbers_more}
+use Rattle.bound_members.proofs.Listing.{all_listed, numbers_more}
+use Rattle.bound_terms.proofs.Elements.{no_names}
 
 -- ---- values on the stack
 
@@ -70,6 +71,7 @@ first_below (item.Tree x) xs p f = let e : None ≡ Some p = f in absurd cc
 first_below (item.Operand x) xs p f = let e : None ≡ Some p = f in absurd cc
 first_below (item.Indexed x) xs p f = let e : None ≡ Some p = f in absurd cc
 first_below (item.Function x) xs p f = let e : None ≡ Some p = f in absurd cc
+first_below (item.Member x) xs p f = let e : None ≡ Some p = f in absurd cc
 first_below (item.Named x) xs p f = let e : None ≡ Some p = f in absurd cc
 first_below item.Gathered xs p f = let e : None ≡ Some p = f in absurd cc
 
@@ -94,6 +96,7 @@ gather_stands env x (item.Tree y) xs comma of d e g k m (nodes.tree a ∷ is) ba
 gather_stands env x (item.Operand y) xs comma of d e g k m (nodes.tree a ∷ is) base h = let n : false ≡ true = g in absurd cc
 gather_stands env x (item.Indexed y) xs comma of d e g k m (nodes.tree a ∷ is) base h = let n : false ≡ true = g in absurd cc
 gather_stands env x (item.Function y) xs comma of d e g k m (nodes.tree a ∷ is) base h = let n : false ≡ true = g in absurd cc
+gather_stands env x (item.Member y) xs comma of d e g k m (nodes.tree a ∷ is) base h = let n : false ≡ true = g in absurd cc
 gather_stands env x (item.Named y) xs comma of d e g k m (nodes.tree a ∷ is) base h = let n : false ≡ true = g in absurd cc
 gather_stands env x (item.Call y) xs comma of d e g k m (nodes.tree a ∷ []) base h = absurd h.1.1
 gather_stands env x (item.Call y) xs comma of d e g k m (nodes.tree a ∷ nodes.tree b ∷ is) base h = absurd h.1.1
@@ -363,13 +366,14 @@ index_stands env x n ending left right xs d e k c (nodes.arguments args ∷ node
     let below = u.stands.0 in
     let many = gathering env d.tables n (item.Call x) xs x.passed args (nodes.tree y ∷ is) d.pieces base refl h in
     let z = callee env y (term_of env y) in
+    let T : terms.Term → Type 0 = λ (t : terms.Term). ValueStands e.tables ending (indexed env (place_of_expression y) t (givens env args)) e.pieces below in
     let A : List Given → Type 0 = λ l. ValueStands e.tables ending (indexed env (place_of_expression y) z l) e.pieces below in (
       below,
       (
         record {
           term_is =
-              subst A (sym u.givens_are)
-              (called_gathered env x.routine x.passed (suc n) d e ending z (place_of_expression y) (givens env u.before) p.made u.given u.made below u.between below many u.count_is (λ e0. absurd (omega (arith, e0))) c s.routine p.taken p.count_is u.values u.on_top p.on_top);
+              subst T (sym (routine_item (place_of_expression y) z s.routine.space s.routine.number s.routine.written s.routine.is)) (subst A (sym u.givens_are)
+              (called_gathered env x.routine x.passed (suc n) d e ending z (place_of_expression y) (givens env u.before) p.made u.given u.made below u.between below many u.count_is (λ e0. absurd (omega (arith, e0))) c s.routine p.taken p.count_is u.values u.on_top p.on_top));
           place_is = s.place_is ∙ sym (expression_front y (marked left mark.LeftParenthesis ∷ (spell_args args ++ marked right mark.RightParenthesis ∷ [])));
           name_is = refl;
           qualifier_is = refl;

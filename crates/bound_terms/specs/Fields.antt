@@ -36,7 +36,7 @@ pub record FieldFound (found : Option (ℕ × Declaration)) (field : Field) : Ty
 -- a field of a place, and of a value, that was pushed
 pub record MakesField (env : Env) (of : DeclaredType) (lends : Bool) (f : Identifier) (x : Term) : Type 0 where
   pub named : (t : Tables) → TermNamed t x
-  pub stands : (t : Tables) (at : Lvalue) (below : List Piece) → TermStands env t x (field_of_place env at (declared_view of) lends f) (a_place at ∷ below) below
+  pub stands : (t : Tables) (place : Place) (at : Lvalue) (below : List Piece) → TermStands env t x (field_of_place env place at (declared_view of) lends f) (a_place at ∷ below) below
 
 pub record MakesFieldValue (env : Env) (of : DeclaredType) (f : Identifier) (x : Term) : Type 0 where
   pub named : (t : Tables) → TermNamed t x
@@ -44,10 +44,10 @@ pub record MakesFieldValue (env : Env) (of : DeclaredType) (f : Identifier) (x :
       → TermStands env t x (field_of_value env place made (declared_view of) f) (an_expr (expression_of made place (declared_view of)) ∷ below) below
 
 -- a field of what the With block round an expression keeps
-pub record KeepsField (env : Env) (f : Identifier) (d e : Drafted) (x : Term) : Type 0 where
+pub record KeepsField (env : Env) (place : Place) (f : Identifier) (d e : Drafted) (x : Term) : Type 0 where
   pub grown : Grown d e
   pub named : TermNamed e.tables x
-  pub stands : TermStands env e.tables x (kept_member env env.within f) e.pieces d.pieces
+  pub stands : TermStands env e.tables x (kept_member env place env.within f) e.pieces d.pieces
 
 -- what stands behind a dot, behind a term that begins at a place
 pub record MakesBehind (env : Env) (place : Place) (x : Term) (f : Identifier) (d e : Drafted) (y : Term) : Type 0 where

@@ -5,4 +5,5 @@ pub mod Properties
 pub mod PropertyView
 pub mod Callee
 pub mod Functions
+pub mod Items
 pub mod Gathering

@@ -1,5 +1,5 @@
 -- Serves the code: what names of procedures and modules are.
-use Rattle.std.specs.Prelude.{◌≡◌, ℕ, Bool, List, Option, Some, None, slice_get}
+use Rattle.std.specs.Prelude.{◌≡◌, ℕ, Bool, true, ◌||◌, List, codes, bytes_eq, Option, Some, None, if◌then◌else◌, slice_get}
 use Rattle.vba_values.specs.Types.{Declared}
 use Rattle.vba_words.specs.declared.identifier.Identifier.{Identifier}
 use Rattle.vba_lexer.specs.declared.token.Token.{Token}
@@ -11,13 +11,20 @@ use Rattle.binder.specs.Storage.{own_storage}
 use Rattle.binder.specs.Terms.{Env}
 use Rattle.binder.specs.Terms as plain
 use Rattle.binder.specs.ExpressionsBound.{has_bounds, own_term, place_term}
-use Rattle.bound_project.specs.Expressions.{Storage, shared}
+use Rattle.vba_values.specs.Types as type
+use Rattle.bound_project.specs.Expressions.{Storage, shared, active_sheet, host_object}
 use Rattle.bound_project.specs.Project.{Declaration}
 use Rattle.bound_project.specs.View.{declared_view}
 use Rattle.bound_project.specs.Pieces.{Piece}
 use Rattle.bound_project.specs.Drafts.{Drafted}
 use Rattle.bound_terms.specs.declared.names.Shape.{Shape}
+use Rattle.vba_values.specs.declared.object.HostRef.TheVariants as host
+use Rattle.bound_project.specs.declared.declared_type.DeclaredType.TheVariants.{Plain}
+use Rattle.bound_project.specs.declared.declared_type.ElementType.TheVariants as element
+use Rattle.bound_project.specs.declared.node.NodeKind.TheVariants as kinds
 use Rattle.bound_calls.specs.declared.term.Routine.{Routine}
+use Rattle.bound_calls.specs.declared.term.Term.{Term}
+use Rattle.bound_calls.specs.declared.term.Term.TheVariants as term
 use Rattle.bound_calls.specs.declared.term.Tree.{Tree}
 use Rattle.bound_calls.specs.Standing.{RoutineStands, TermNamed, TreeStands, Grown}
 
@@ -38,6 +45,19 @@ pub record SharedShape (ds : List Declaration) (kept : Storage) (x : Shape) : Ty
   pub declaration : Declaration
   pub at : slice_get ds number ≡ Some declaration
   pub shape : IsShape declaration.of (has_bounds declaration) x
+
+-- a name of the host that is neither Err, nor the sheets, nor a member of the active sheet
+abbrev pub host_rest : Identifier → plain.Term
+host_rest x =
+    if bytes_eq x.name (codes "activesheet") then plain.a_value active_sheet type.worksheet
+    else if bytes_eq x.name (codes "thisworkbook") || bytes_eq x.name (codes "activeworkbook") then plain.a_value (host_object host.Workbook) type.object
+    else if bytes_eq x.name (codes "application") then plain.a_value (host_object host.Application) type.object
+    else plain.no_term
+
+-- a name behind the workbook is its sheets
+pub record IsSheets (f : Identifier) (x : Term) : Type 0 where
+  pub is : x ≡ term.Value (record { kind = kinds.HostObject host.Sheets; of = Plain element.Object })
+  pub named : (bytes_eq f.name (codes "worksheets") || bytes_eq f.name (codes "sheets")) ≡ true
 
 -- a procedure for which nothing is pushed
 abbrev pub IsRoutine : Env → Routine → plain.Term → Type 0

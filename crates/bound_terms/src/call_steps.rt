@@ -18,12 +18,13 @@ use bound_project::Draft;
 use std::alloc::Global;
 use vba_base::OrMemory;
 
-/// Arguments begin: the expression on top is called or indexed.
+/// Arguments begin, so many of them: the expression on top is called or indexed.
 pub fn step_no_arguments<'a>(
     alloc: Global,
     draft: &mut Draft,
     env: Env<'a>,
     stack: &mut Vec<Item<'a>>,
+    given: u32,
 ) -> Result<(), OrMemory<NotYet>>
     requires env { EnvStands env }
     requires named { AllNamed (draft_view draft.old).tables (reverse stack.old.items) }
@@ -32,7 +33,7 @@ pub fn step_no_arguments<'a>(
     let Some(Item::Tree(tree)) = take_item(stack) else {
         return Err(OrMemory::NoMemory);
     };
-    let item = begin_arguments(alloc, draft, env, tree)?;
+    let item = begin_arguments(alloc, draft, env, tree, given)?;
     put_item(stack, item)?;
     Ok(())
 }

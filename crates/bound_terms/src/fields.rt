@@ -14,6 +14,8 @@ ghost use Rattle.bound_calls.specs.Steps.{Goes};
 ghost use Rattle.bound_terms.specs.View.{EnvStands, env_view};
 
 use crate::env::Env;
+use crate::items::behind_object_place;
+use crate::names::folded;
 use bound_calls::{Ending, Item, Term, Tree, push_node, put_item, settle};
 use bound_declarations::NotYet;
 use bound_project::{Declaration, DeclaredType, Draft, ElementType, NodeKind, UserType};
@@ -31,7 +33,7 @@ pub struct Field {
 }
 
 /// The number of the user type that a type is.
-fn user_type(of: DeclaredType) -> Option<u32>
+pub fn user_type(of: DeclaredType) -> Option<u32>
     ensures { result ≡ user_type_in of }
 {
     match of {
@@ -146,25 +148,36 @@ pub fn value_field<'a>(
     }))
 }
 
-/// A field of what the With block round an expression keeps.
+/// A field, or a member of an object, of what the With block round an expression keeps.
 fn kept_field<'a>(
+    alloc: Global,
     draft: &mut Draft,
     env: Env<'a>,
     place: Place,
     name: &Identifier,
 ) -> Result<Term<'a>, OrMemory<NotYet>>
     requires { EnvStands env }
-    ensures { IfOk result (λ term. KeepsField (env_view env.entry) name.now (draft_view draft.old) (draft_view draft.new) term) }
+    ensures { IfOk result (λ term. KeepsField (env_view env.entry) place name.now (draft_view draft.old) (draft_view draft.new) term) }
 {
     let Some(within) = env.within else {
         return Err(OrMemory::Fault(NotYet));
     };
-    let term = place_field(env, within.of, within.lends, name)?;
     let kind = NodeKind::KeptPlace {
         header: within.header,
     };
-    push_node(draft, kind, within.of, place)?;
-    Ok(term)
+    let of = within.of;
+    match user_type(of) {
+        None => {
+            let name = folded(alloc, name)?;
+            let found = behind_object_place(draft, place, Ending { kind, of }, name)?;
+            Ok(Term::HostMember(found))
+        }
+        Some(_) => {
+            let term = place_field(env, of, within.lends, name)?;
+            push_node(draft, kind, of, place)?;
+            Ok(term)
+        }
+    }
 }
 
 /// A dot that begins an expression, and a name.
@@ -181,7 +194,7 @@ pub fn step_with_member<'a>(
     ensures { OnOk result (Goes (env_view env.entry) (draft_view draft.old) (reverse stack.old.items) (draft_view draft.new) (reverse stack.new.items) (behind_node (node.WithMember dot member.now))) }
 {
     settle(alloc, draft, stack)?;
-    let term = kept_field(draft, env, dot.place, member)?;
+    let term = kept_field(alloc, draft, env, dot.place, member)?;
     put_item(
         stack,
         Item::Tree(Tree {

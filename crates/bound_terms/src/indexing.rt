@@ -7,19 +7,21 @@ ghost use Rattle.bound_project.specs.View.{declared_view};
 ghost use Rattle.binder.specs.ExpressionsBound.{element_type};
 ghost use Rattle.binder.specs.Terms as plain;
 ghost use Rattle.bound_calls.specs.Indexing.{AddsArgument, Closes, EndsIndexed, Opens, OpensTerm, PushesTarget, is_part};
-ghost use Rattle.bound_calls.specs.Standing.{TermNamed};
+ghost use Rattle.bound_calls.specs.Standing.{ItemNamed, TermNamed};
 ghost use Rattle.bound_terms.specs.View.{EnvStands, env_view};
 
 use crate::call_steps::{passed_in, with_passed};
 use crate::callee::callee_term;
 use crate::env::Env;
 use crate::functions::{add_value, close_function, open_function};
+use crate::items::{item_member, takes_item};
 use crate::pass::push_value;
 use bound_calls::{
     Call, Ending, Indexed, Item, Passed, Routine, Target, Term, Tree, call_ending, pass_plain,
     push_node, sum,
 };
 use bound_declarations::NotYet;
+use bound_members::{add_given, close_member, open_member};
 use bound_project::{DeclaredType, Draft, ElementType, NodeKind};
 use std::alloc::Global;
 use vba_base::{OrMemory, Place};
@@ -172,18 +174,24 @@ fn open_term<'a>(
     }
 }
 
-/// What an expression is whose arguments are read from now on.
+/// What an expression is whose arguments are read from now on; for a member of an object so many are to come.
 pub fn begin_arguments<'a>(
     alloc: Global,
     draft: &mut Draft,
     env: Env<'a>,
     tree: Tree<'a>,
+    given: u32,
 ) -> Result<Item<'a>, OrMemory<NotYet>>
     requires env { EnvStands env }
     requires named { TermNamed (draft_view draft.old).tables tree.term }
     ensures { IfOk result (λ item. Opens (env_view env.entry) tree.entry (draft_view draft.old) (draft_view draft.new) item) }
 {
     let term = callee_term(alloc, draft, env, tree)?;
+    if takes_item(term) {
+        let member = item_member(alloc, draft, tree.place, term)?;
+        let call = open_member(draft, tree.place, member, given)?;
+        return Ok(Item::Member(call));
+    }
     open_term(draft, tree, term)
 }
 
@@ -228,10 +236,15 @@ pub fn add_argument<'a>(
     item: Item<'a>,
     tree: Tree<'a>,
 ) -> Result<Item<'a>, OrMemory<NotYet>>
-    requires { TermNamed (draft_view draft.old).tables tree.term }
+    requires named { TermNamed (draft_view draft.old).tables tree.term }
+    requires item { ItemNamed (draft_view draft.old).tables item }
     ensures { IfOk result (λ more. AddsArgument item.entry tree.entry (draft_view draft.old) (draft_view draft.new) more) }
 {
     match item {
+        Item::Member(call) => {
+            let more = add_given(alloc, draft, call, tree)?;
+            Ok(Item::Member(more))
+        }
         Item::Indexed(indexed) => {
             let more = add_number(alloc, draft, indexed, tree)?;
             Ok(Item::Indexed(more))
@@ -304,9 +317,19 @@ pub fn end_arguments<'a>(
     draft: &mut Draft,
     item: Item<'a>,
 ) -> Result<Tree<'a>, OrMemory<NotYet>>
+    requires { ItemNamed (draft_view draft.old).tables item }
     ensures { IfOk result (λ tree. Closes item.entry (draft_view draft.old) (draft_view draft.new) tree) }
 {
     match item {
+        Item::Member(call) => {
+            let term = close_member(call)?;
+            Ok(Tree {
+                place: call.place,
+                name: None,
+                is_qualifier: false,
+                term,
+            })
+        }
         Item::Call(call) => close_call(alloc, draft, call),
         Item::Indexed(indexed) => {
             let term = close_indexed(indexed)?;

@@ -9,6 +9,7 @@ mod fields;
 mod functions;
 mod gathering;
 mod indexing;
+mod items;
 mod members;
 mod named;
 mod names;
@@ -22,6 +23,9 @@ mod types;
 pub use callee::callee_term;
 pub use env::{Env, Within};
 pub use gathering::{gathered_ending, take_gathered};
+pub use items::{item_member, item_term, takes_item};
 pub use names::{meant_term, meant_variable};
-pub use pass::{bind_operand, bind_value, push_value, run, tree_of};
+pub use pass::{
+    bind_given, bind_operand, bind_reference, bind_value, given_at, push_value, run, tree_of,
+};
 pub use properties::{Writer, writer_of};

@@ -1,4 +1,4 @@
-ghost use Rattle.std.specs.Prelude.{◌≡◌, Bool, false, OnOk, IfOk, None, Some, is_some, option_map, reverse};
+ghost use Rattle.std.specs.Prelude.{◌≡◌, ◌<◌, length, Bool, false, OnOk, IfOk, None, Some, is_some, option_map, reverse};
 ghost use Rattle.vba_expression.specs.declared.node.ExpressionNode.TheVariants as node;
 ghost use Rattle.vba_expression.specs.Nodes.{behind_node};
 ghost use Rattle.vba_lexer.specs.declared.token.Token.{Token};
@@ -11,21 +11,27 @@ ghost use Rattle.binder.specs.Terms as plain;
 ghost use Rattle.constant_values.specs.Rounds.{IsPlace};
 ghost use Rattle.declared_names.specs.View.{qualifier_view, scope_view};
 ghost use Rattle.bound_terms.specs.Owned.{IsQualifier, MakesMember};
-ghost use Rattle.bound_terms.specs.Fields.{MakesBehind};
+ghost use Rattle.bound_terms.specs.Fields.{MakesBehind, user_type_in};
+ghost use Rattle.bound_terms.specs.Owned.{IsSheets};
 ghost use Rattle.bound_calls.specs.Standing.{AllNamed, TermNamed};
 ghost use Rattle.bound_calls.specs.Steps.{Goes, MakesLeaf};
 ghost use Rattle.bound_terms.specs.View.{EnvStands, env_view};
 
 use crate::env::Env;
-use crate::fields::{place_field, value_field};
+use crate::fields::{place_field, user_type, value_field};
 use crate::functions::from_zero;
-use crate::names::{is_word, meant_term};
-use bound_calls::{Ending, Item, Routine, Term, Tree, bare_call, push_node, put_item, take_item};
+use crate::items::{behind_object_place, behind_object_value};
+use crate::names::{folded, is_either, is_word, meant_term, sheets_value};
+use bound_calls::{
+    Ending, HostMember, Item, Routine, Term, Tree, bare_call, member_ending, push_node, push_sheet,
+    put_item, take_item,
+};
 use bound_declarations::NotYet;
 use bound_project::{DeclaredType, Draft, ElementType, ErrMember, NodeKind};
 use declared_names::{Qualifier, Use, as_qualifier, behind, declares, enum_behind};
 use std::alloc::Global;
 use vba_base::{OrMemory, Place};
+use vba_values::HostRef;
 use vba_words::Identifier;
 
 /// What Err tells, as a value.
@@ -116,6 +122,7 @@ fn behind_qualifier<'a>(
 
 /// A name behind a place, by its last node and its type; it is pushed.
 fn behind_place<'a>(
+    alloc: Global,
     draft: &mut Draft,
     env: Env<'a>,
     place: Place,
@@ -127,13 +134,56 @@ fn behind_place<'a>(
     requires named { NodeNamed (draft_view draft.old).tables at.kind }
     ensures { IfOk result (λ term. (bounded : Bool) → MakesBehind (env_view env.entry) place (Term.Place at.kind at.of bounded lends) member.now (draft_view draft.old) (draft_view draft.new) term) }
 {
-    let term = place_field(env, at.of, lends, member)?;
-    push_node(draft, at.kind, at.of, place)?;
-    Ok(term)
+    match user_type(at.of) {
+        None => {
+            let name = folded(alloc, member)?;
+            let found = behind_object_place(draft, place, at, name)?;
+            Ok(Term::HostMember(found))
+        }
+        Some(_) => {
+            let term = place_field(env, at.of, lends, member)?;
+            push_node(draft, at.kind, at.of, place)?;
+            Ok(term)
+        }
+    }
+}
+
+/// A name behind the workbook: its sheets are those of the host.
+fn behind_workbook<'a>(member: &Identifier) -> Result<Term<'a>, OrMemory<NotYet>>
+    ensures { IfOk result (λ term. IsSheets member.now term) }
+{
+    let text = member.name.units();
+    if is_either(text, b"worksheets", b"sheets") {
+        return Ok(sheets_value());
+    }
+    Err(OrMemory::Fault(NotYet))
+}
+
+/// A name behind a value that gives an object; that is pushed.
+fn behind_object<'a>(
+    alloc: Global,
+    draft: &mut Draft,
+    place: Place,
+    ending: Ending,
+    member: &Identifier,
+) -> Result<Term<'a>, OrMemory<NotYet>>
+    requires named { NodeNamed (draft_view draft.old).tables ending.kind }
+    requires other { user_type_in ending.of ≡ None }
+    ensures { IfOk result (λ term. (env : plain.Env) → MakesBehind env place (Term.Value ending) member.now (draft_view draft.old) (draft_view draft.new) term) }
+{
+    if let NodeKind::HostObject(reference) = ending.kind
+        && let HostRef::Workbook = reference
+    {
+        return behind_workbook(member);
+    }
+    let name = folded(alloc, member)?;
+    let found = behind_object_value(draft, place, ending, name)?;
+    Ok(Term::HostMember(found))
 }
 
 /// A name behind a value; it is pushed.
 fn behind_value<'a>(
+    alloc: Global,
     draft: &mut Draft,
     env: Env<'a>,
     place: Place,
@@ -144,9 +194,46 @@ fn behind_value<'a>(
     requires named { NodeNamed (draft_view draft.old).tables ending.kind }
     ensures { IfOk result (λ term. MakesBehind (env_view env.entry) place (Term.Value ending) member.now (draft_view draft.old) (draft_view draft.new) term) }
 {
-    let term = value_field(env, ending.of, member)?;
-    push_node(draft, ending.kind, ending.of, place)?;
-    Ok(term)
+    match user_type(ending.of) {
+        None => behind_object(alloc, draft, place, ending, member),
+        Some(_) => {
+            let term = value_field(env, ending.of, member)?;
+            push_node(draft, ending.kind, ending.of, place)?;
+            Ok(term)
+        }
+    }
+}
+
+/// A name behind a member of an object, which is read.
+fn behind_member<'a>(
+    alloc: Global,
+    draft: &mut Draft,
+    place: Place,
+    read: HostMember,
+    member: &Identifier,
+) -> Result<Term<'a>, OrMemory<NotYet>>
+    requires { read.name < length (draft_view draft.old).tables.constants }
+    ensures { IfOk result (λ made. (env : plain.Env) → MakesBehind env place (Term.HostMember read) member.now (draft_view draft.old) (draft_view draft.new) made) }
+{
+    let ending = member_ending(draft, read, place)?;
+    let name = folded(alloc, member)?;
+    let found = behind_object_value(draft, place, ending, name)?;
+    Ok(Term::HostMember(found))
+}
+
+/// A name behind a member of the active sheet, which is read.
+fn behind_sheet_member<'a>(
+    alloc: Global,
+    draft: &mut Draft,
+    place: Place,
+    read: HostMember,
+    member: &Identifier,
+) -> Result<Term<'a>, OrMemory<NotYet>>
+    requires { read.name < length (draft_view draft.old).tables.constants }
+    ensures { IfOk result (λ made. (env : plain.Env) → MakesBehind env place (Term.SheetMember read) member.now (draft_view draft.old) (draft_view draft.new) made) }
+{
+    push_sheet(draft)?;
+    behind_member(alloc, draft, place, read, member)
 }
 
 /// A name behind a procedure, which is called.
@@ -164,7 +251,7 @@ fn behind_routine<'a>(
     let Some(ending) = bare_call(alloc, draft, routine)? else {
         return Err(OrMemory::Fault(NotYet));
     };
-    behind_value(draft, env, place, ending, member)
+    behind_value(alloc, draft, env, place, ending, member)
 }
 
 /// A name behind a term.
@@ -186,9 +273,11 @@ fn behind_term<'a>(
             of,
             lends,
             ..
-        } => behind_place(draft, env, place, Ending { kind, of }, lends, member),
-        Term::Value(ending) => behind_value(draft, env, place, ending, member),
+        } => behind_place(alloc, draft, env, place, Ending { kind, of }, lends, member),
+        Term::Value(ending) => behind_value(alloc, draft, env, place, ending, member),
         Term::Routine(routine) => behind_routine(alloc, draft, env, place, routine, member),
+        Term::HostMember(read) => behind_member(alloc, draft, place, read, member),
+        Term::SheetMember(read) => behind_sheet_member(alloc, draft, place, read, member),
         Term::Err => Ok(err_member(member)),
         _ => Err(OrMemory::Fault(NotYet)),
     }

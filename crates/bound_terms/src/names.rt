@@ -1,4 +1,9 @@
-ghost use Rattle.std.specs.Prelude.{◌≡◌, false, IfOk, Some, bytes_eq, map, option_map, slice_get};
+ghost use Rattle.std.specs.Prelude.{◌≡◌, ◌||◌, false, IfOk, Some, bytes_eq, map, option_map, slice_get};
+ghost use Rattle.vba_values.specs.declared.object.HostRef.TheVariants as host;
+ghost use Rattle.bound_project.specs.declared.declared_type.DeclaredType.TheVariants.{Plain};
+ghost use Rattle.bound_project.specs.declared.declared_type.ElementType.TheVariants as element;
+ghost use Rattle.bound_project.specs.declared.node.NodeKind.TheVariants as kinds;
+ghost use Rattle.bound_project.specs.Expressions.{active_sheet, host_object};
 ghost use Rattle.vba_values.specs.Types as type;
 ghost use Rattle.bound_project.specs.DraftView.{draft_view};
 ghost use Rattle.bound_project.specs.Drafts.{Drafted};
@@ -16,27 +21,28 @@ ghost use Rattle.constant_values.specs.Tables.{AreConstants};
 ghost use Rattle.declared_names.specs.View.{entry_view, local_view, meant_view, scope_view, space_view, what_view, written_view};
 ghost use Rattle.vba_tree.specs.View.{parameter_view, type_clause_view, variable_view};
 ghost use Rattle.vba_words.specs.declared.identifier.Identifier as identifier;
-ghost use Rattle.bound_terms.specs.Owned.{IsShape, OwnShaped, SharedShape};
+ghost use Rattle.bound_terms.specs.Owned.{IsShape, OwnShaped, SharedShape, host_rest};
 ghost use Rattle.bound_calls.specs.Steps.{MakesLeaf};
 ghost use Rattle.bound_terms.specs.View.{EnvStands, env_view};
 
 use crate::env::Env;
 use crate::functions::function_term;
 use crate::routines::routine_of;
-use bound_calls::{Term, value_term};
+use bound_calls::{Ending, Term, value_term};
 use bound_declarations::{
     NotYet, arrayed, is_bounded, own_storage, parameter_type, result_type, variable_type,
 };
+use bound_members::{HostKind, find_member};
 use bound_project::{
     Declaration, Declarations, DeclaredType, Draft, ElementType, NodeKind, Storage, Variable,
 };
 use constant_values::{Constants, clause_type, meant_value};
 use declared_names::{Entry, Local, Meant, Own, Scope, Space, What, Written};
 use std::alloc::Global;
-use vba_base::OrMemory;
+use vba_base::{NoMemory, OrMemory, Units};
 use vba_lib::library_named;
 use vba_tree::{Parameter, TypeClause, Variable as WrittenVariable};
-use vba_values::copy_value;
+use vba_values::{HostRef, copy_value};
 use vba_words::Identifier;
 
 /// Has a text these ASCII characters?
@@ -52,15 +58,99 @@ pub fn is_word(text: &[u16], word: &[u8]) -> bool
     }
 }
 
-/// A name of the host: only Err is bound.
-fn host_term<'a>(name: &Identifier) -> Term<'a>
-    ensures { (env : plain.Env) (d : Drafted) → MakesLeaf env d d result (bound.host_term name.now) }
+/// An object of the host that is always there, as a value.
+fn host_value<'a>(reference: HostRef) -> Term<'a>
+    ensures { (env : plain.Env) (d : Drafted) → MakesLeaf env d d result (plain.a_value (host_object reference) type.object) }
 {
-    if is_word(name.name.units(), b"err") {
-        Term::Err
-    } else {
-        Term::Nothing
+    Term::Value(Ending {
+        kind: NodeKind::HostObject(reference),
+        of: DeclaredType::Plain(ElementType::Object),
+    })
+}
+
+/// The sheets of the workbook.
+pub fn sheets_value<'a>() -> Term<'a>
+    ensures { result ≡ Term.Value (record { kind = kinds.HostObject host.Sheets; of = Plain element.Object }) }
+{
+    Term::Value(Ending {
+        kind: NodeKind::HostObject(HostRef::Sheets),
+        of: DeclaredType::Plain(ElementType::Object),
+    })
+}
+
+/// The active sheet, as a value.
+fn active_sheet<'a>() -> Term<'a>
+    ensures { (env : plain.Env) (d : Drafted) → MakesLeaf env d d result (plain.a_value active_sheet type.worksheet) }
+{
+    Term::Value(Ending {
+        kind: NodeKind::ActiveSheet,
+        of: DeclaredType::Plain(ElementType::Worksheet),
+    })
+}
+
+/// A copy of the folded name.
+pub fn folded(alloc: Global, name: &Identifier) -> Result<Units, NoMemory>
+    ensures { IfOk result (λ text. text ≡ name.now.name) }
+{
+    Units::from_units(alloc, name.name.units())
+}
+
+/// A member of the active sheet, which is not pushed.
+fn sheet_member<'a>(
+    alloc: Global,
+    draft: &mut Draft,
+    name: &Identifier,
+) -> Result<Term<'a>, OrMemory<NotYet>>
+    ensures { IfOk result (λ term. (env : plain.Env) → MakesLeaf env (draft_view draft.old) (draft_view draft.new) term (bound.sheet_term name.now)) }
+{
+    let text = folded(alloc, name)?;
+    let member = find_member(draft, HostKind::Sheet, text)?;
+    Ok(Term::SheetMember(member))
+}
+
+/// Has a text the ASCII characters of one word or of another?
+pub fn is_either(text: &[u16], one: &[u8], other: &[u8]) -> bool
+    ensures { result ≡ (bytes_eq text.now one.now || bytes_eq text.now other.now) }
+{
+    is_word(text, one) || is_word(text, other)
+}
+
+/// The active sheet, the workbook or Application, by its name.
+fn host_object<'a>(name: &Identifier) -> Result<Term<'a>, OrMemory<NotYet>>
+    ensures { IfOk result (λ term. (env : plain.Env) (d : Drafted) → MakesLeaf env d d term (host_rest name.now)) }
+{
+    let text = name.name.units();
+    if is_word(text, b"activesheet") {
+        return Ok(active_sheet());
     }
+    if is_either(text, b"thisworkbook", b"activeworkbook") {
+        return Ok(host_value(HostRef::Workbook));
+    }
+    if is_word(text, b"application") {
+        return Ok(host_value(HostRef::Application));
+    }
+    Err(OrMemory::Fault(NotYet))
+}
+
+/// A name of the host.
+fn host_term<'a>(
+    alloc: Global,
+    draft: &mut Draft,
+    name: &Identifier,
+) -> Result<Term<'a>, OrMemory<NotYet>>
+    ensures { IfOk result (λ term. (env : plain.Env) → MakesLeaf env (draft_view draft.old) (draft_view draft.new) term (bound.host_term name.now)) }
+{
+    let text = name.name.units();
+    if is_word(text, b"err") {
+        return Ok(Term::Err);
+    }
+    if is_either(text, b"worksheets", b"sheets") {
+        return Ok(sheets_value());
+    }
+    if is_either(text, b"cells", b"range") {
+        return sheet_member(alloc, draft, name);
+    }
+    host_object(name)
 }
 
 /// A constant, by its value.
@@ -385,7 +475,7 @@ fn known_term<'a>(
     match meant {
         Meant::Module(_) => Ok(Term::Nothing),
         Meant::Library => Ok(Term::Nothing),
-        Meant::OfHost => Ok(host_term(name)),
+        Meant::OfHost => host_term(alloc, draft, name),
         Meant::OfLibrary => library_term(alloc, draft, env, name),
         Meant::OfProcedure { number, local } => own_term(alloc, draft, env, name, number, local),
         Meant::OfModule {

@@ -1,8 +1,8 @@
-ghost use Rattle.std.specs.Prelude.{◌≡◌, OnOk, IfOk, reverse};
+ghost use Rattle.std.specs.Prelude.{◌≡◌, OnOk, IfOk, Some, reverse};
 ghost use Rattle.vba_expression.specs.Nodes.{behind_node, behind_nodes, tree_in};
 ghost use Rattle.vba_expression.specs.View.{view as expression_view};
 ghost use Rattle.bound_project.specs.DraftView.{draft_view};
-ghost use Rattle.binder.specs.ExpressionsBound.{bound_operand, bound_value};
+ghost use Rattle.binder.specs.ExpressionsBound.{bound_as_given, bound_operand, bound_reference, bound_value};
 ghost use Rattle.bound_calls.specs.Standing.{AllNamed, TermNamed};
 ghost use Rattle.bound_calls.specs.Steps.{Binds, Goes, Leaves, PushesValue};
 ghost use Rattle.bound_terms.specs.View.{EnvStands, env_view};
@@ -13,20 +13,51 @@ use crate::fields::step_with_member;
 use crate::members::step_member;
 use crate::named::{step_index, step_named_argument};
 use crate::step::{step_binary, step_literal, step_name, step_parenthesised, step_unary};
-use bound_calls::{Item, Tree, push_ending, push_operand, take_item, value_ending};
+use bound_calls::{
+    Item, Tree, push_ending, push_given, push_operand, push_reference, take_item, value_ending,
+};
 use bound_declarations::NotYet;
 use bound_project::{DeclaredType, Draft};
 use std::alloc::Global;
 use vba_base::OrMemory;
 use vba_expression::{Expression, ExpressionNode};
 
-/// Reads one node.
+/// How many arguments there are behind the node with this number, with which they begin. No promise rests on it: where
+/// they end as many must have come.
+fn arguments_behind(nodes: &[ExpressionNode], number: usize) -> u32 {
+    let Some((_before, behind)) = nodes.split_at_checked(number) else {
+        return 0;
+    };
+    let mut count: u32 = 0;
+    let mut depth: usize = 0;
+    for node in behind {
+        match node {
+            ExpressionNode::NoArguments => depth = depth.saturating_add(1),
+            ExpressionNode::Index { .. } => {
+                if depth <= 1 {
+                    return count;
+                }
+                depth = depth.saturating_sub(1);
+            }
+            ExpressionNode::PlainArgument { .. } => {
+                if depth <= 1 {
+                    count = count.saturating_add(1);
+                }
+            }
+            _ => {}
+        }
+    }
+    count
+}
+
+/// Reads one node; where arguments begin, so many are to come.
 fn step<'a>(
     alloc: Global,
     draft: &mut Draft,
     env: Env<'a>,
     stack: &mut Vec<Item<'a>>,
     node: &'a ExpressionNode,
+    given: u32,
 ) -> Result<(), OrMemory<NotYet>>
     requires env { EnvStands env }
     requires named { AllNamed (draft_view draft.old).tables (reverse stack.old.items) }
@@ -48,7 +79,7 @@ fn step<'a>(
         ExpressionNode::Binary { operator, .. } => {
             step_binary(alloc, draft, env.compare, stack, *operator)
         }
-        ExpressionNode::NoArguments => step_no_arguments(alloc, draft, env, stack),
+        ExpressionNode::NoArguments => step_no_arguments(alloc, draft, env, stack, given),
         ExpressionNode::MissingArgument { .. } => step_missing_argument(alloc, draft, stack),
         ExpressionNode::PlainArgument { .. } => step_plain_argument(alloc, draft, stack),
         ExpressionNode::NamedArgument { name, .. } => {
@@ -56,6 +87,14 @@ fn step<'a>(
         }
         ExpressionNode::Index { .. } => step_index(alloc, draft, stack),
         _ => Err(OrMemory::Fault(NotYet)),
+    }
+}
+
+/// How many arguments are to come where a node begins them.
+pub fn given_at(nodes: &[ExpressionNode], node: &ExpressionNode, number: usize) -> u32 {
+    match node {
+        ExpressionNode::NoArguments => arguments_behind(nodes, number),
+        _ => 0,
     }
 }
 
@@ -71,8 +110,11 @@ pub fn run<'a>(
     requires named { AllNamed (draft_view draft.old).tables (reverse stack.old.items) }
     ensures { OnOk result (Goes (env_view env.entry) (draft_view draft.old) (reverse stack.old.items) (draft_view draft.new) (reverse stack.new.items) (λ is. behind_nodes is nodes.now)) }
 {
+    let mut number: usize = 0;
     for node in nodes {
-        step(alloc, draft, env, stack, node)?;
+        let given = given_at(nodes, node, number);
+        step(alloc, draft, env, stack, node, given)?;
+        number = number.saturating_add(1);
     }
     Ok(())
 }
@@ -141,4 +183,32 @@ pub fn bind_value<'a>(
     let tree = tree_of(alloc, draft, env, expression)?;
     let of = push_value(alloc, draft, tree)?;
     Ok(of)
+}
+
+/// Pushes the nodes of an expression as a reference to an object; answers its type.
+pub fn bind_reference<'a>(
+    alloc: Global,
+    draft: &mut Draft,
+    env: Env<'a>,
+    expression: &'a Expression,
+) -> Result<DeclaredType, OrMemory<NotYet>>
+    requires { EnvStands env }
+    ensures { IfOk result (λ of. Binds (bound_reference (env_view env.entry) (expression_view expression.now)) (draft_view draft.old) (draft_view draft.new) (Some of)) }
+{
+    let tree = tree_of(alloc, draft, env, expression)?;
+    push_reference(draft, tree)
+}
+
+/// Pushes the nodes of an expression as it is, a value or a reference; answers its type.
+pub fn bind_given<'a>(
+    alloc: Global,
+    draft: &mut Draft,
+    env: Env<'a>,
+    expression: &'a Expression,
+) -> Result<DeclaredType, OrMemory<NotYet>>
+    requires { EnvStands env }
+    ensures { IfOk result (λ of. Binds (bound_as_given (env_view env.entry) (expression_view expression.now)) (draft_view draft.old) (draft_view draft.new) (Some of)) }
+{
+    let tree = tree_of(alloc, draft, env, expression)?;
+    push_given(alloc, draft, tree)
 }

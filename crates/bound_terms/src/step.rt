@@ -6,7 +6,7 @@ ghost use Rattle.bound_project.specs.DraftView.{draft_view};
 ghost use Rattle.binder.specs.Constants.{compare_in};
 ghost use Rattle.binder.specs.Terms as plain;
 ghost use Rattle.bound_calls.specs.Standing.{AllNamed};
-ghost use Rattle.bound_calls.specs.Steps.{Goes, as_term};
+ghost use Rattle.bound_calls.specs.Steps.{Goes, as_term, is_same};
 ghost use Rattle.bound_terms.specs.View.{EnvStands, env_view};
 
 use crate::env::Env;
@@ -116,6 +116,16 @@ pub fn step_unary<'a>(
     Ok(())
 }
 
+/// Is it the operator Is, which isn't bound yet?
+fn is_same(operator: BinaryOperator) -> bool
+    ensures { result ≡ is_same operator }
+{
+    match operator {
+        BinaryOperator::Is => true,
+        _ => false,
+    }
+}
+
 /// An operator of two operands.
 pub fn step_binary<'a>(
     alloc: Global,
@@ -128,6 +138,9 @@ pub fn step_binary<'a>(
     ensures { OnOk result ((env : plain.Env) (token : Token) → compare ≡ compare_in env.scope
         → Goes env (draft_view draft.old) (reverse stack.old.items) (draft_view draft.new) (reverse stack.new.items) (behind_node (node.Binary operator token))) }
 {
+    if is_same(operator) {
+        return Err(OrMemory::Fault(NotYet));
+    }
     let Some(Item::Tree(right)) = take_item(stack) else {
         return Err(OrMemory::NoMemory);
     };

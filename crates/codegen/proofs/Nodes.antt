@@ -8,14 +8,14 @@ use Rattle.bound_project.specs.declared.node.NodeKind.TheVariants as node
 use Rattle.bound_project.specs.declared.node.Node.{Node}
 use Rattle.bound_project.specs.View.{declared_view}
 use Rattle.bound_project.specs.Expressions.{Expr, expr, operand_type}
-use Rattle.bound_project.specs.Pieces.{Piece, Tables, constant_in, order_in, as_operand, put_kind, put, read}
+use Rattle.bound_project.specs.Pieces.{Piece, Tables, constant_in, name_of, name_in, order_in, as_operand, put_kind, put, read}
 use Rattle.pcode.specs.Instructions as plain
 use Rattle.pcode.specs.Code.{expr_code, args_code, count as count_of}
 use Rattle.pcode.specs.View.{instr_view}
 use Rattle.codegen.specs.declared.node.Around.{Around}
 use Rattle.codegen.specs.declared.node.Added.{Added}
 use Rattle.codegen.specs.Emission.{constant_number, node_instrs, nodes_instrs}
-use Rattle.codegen.proofs.Pieces.{codes, Emits, append_none, value_emits, place_emits, both_emits, test_emits, range_emits, found_emits, args_emit, place_found_emits, value_found_emits}
+use Rattle.codegen.proofs.Pieces.{codes, Emits, append_none, value_emits, place_emits, both_emits, test_emits, range_emits, found_emits, args_emit, place_found_emits, value_found_emits, member_found_emits}
 
 -- the tables of the code are those of the project with two constants more
 pub record Grown (t u : Tables) (added : Added) : Type 0 where
@@ -71,6 +71,12 @@ node_emits t u added g around n node.DefaultIfAny st there = value_emits around 
 node_emits t u added g around n node.Same st there = both_emits around _ _ (λ a b. refl) st there
 node_emits t u added g around n (node.IsType of) st there = value_emits around _ _ (λ e. refl) st there
 node_emits t u added g around n (node.HostObject reference) st there = (refl, there.1)
+node_emits t u added g around n node.ActiveSheet st there = (refl, there.1)
+node_emits t u added g around n (node.MemberThere i given) st there =
+    value_emits around _ _ (λ e. ap (λ v. expr_code e ++ plain.MemberThere (name_of v) given ∷ []) (sym (g.constant i))) st there
+node_emits t u added g around n (node.HostMember i count) st there =
+    along around _ st _ _ (ap (λ v. plain.MemberOf (name_of v) count ∷ []) (sym (g.constant i)))
+    (member_found_emits around count st (name_in t i) _ (λ c. plain.MemberOf (name_in t i) c ∷ []) (λ e es. refl)) there
 node_emits t u added g around n node.ByPlace st there = place_emits around _ _ (λ x. refl) st there
 node_emits t u added g around n (node.ByCopy of) st there = value_emits around _ _ (λ e. refl) st there
 node_emits t u added g around n (node.ByDefault i) st there = (ap (λ v. codes around st ++ plain.Push v ∷ []) (sym (g.constant i)), there.1)

@@ -1,10 +1,13 @@
 -- The code of pieces, and that nothing is lost where no piece is.
-use Rattle.std.proofs.Common.{◌≡◌, ℕ, zero, suc, ◌+◌, List, [], ◌∷◌, ◌++◌, Option, Some, None, refl, sym, ap, ◌∙◌, arith, append_assoc}
+use Rattle.std.proofs.Common.{◌≡◌, Bool, true, false, cond, ℕ, zero, suc, ◌+◌, List, [], ◌∷◌, ◌++◌, Option, Some, None, refl, sym, ap, ◌∙◌, arith, append_assoc}
+use Rattle.std.specs.Prelude.{◌==◌, bytes_eq}
+use Rattle.std.proofs.lemmas.Bool.{and_parts, eqb-true}
+use Rattle.std.proofs.lemmas.Slice.Eq.{bytes_eq-Decides}
 use Rattle.vba_values.specs.Val.{empty}
 use Rattle.bound_project.specs.View.{declared_view}
-use Rattle.bound_project.specs.Expressions.{Expr, Exprs, no_exprs, also, Lvalue, Args, no_args, operand_type}
-use Rattle.bound_project.specs.Pieces.{Argument, place_lent, value_copied, default_taken, values_listed, Piece, nothing, an_expr, a_place, an_argument, a_value_shown, a_zone, a_test_begun, a_test_is, a_test_range, a_resize, an_erased, of_value, of_place, of_both, of_test, of_range, of_found, of_place_found, of_value_found, exprs_off, arguments_off, with_argument}
-use Rattle.pcode.specs.Instructions.{Instr, Push, Selected, Plain, Fit, Lend, Pack, ShowText, IfFits, IfBetween, Redim, EraseAt}
+use Rattle.bound_project.specs.Expressions.{Expr, Exprs, no_exprs, also, given_count, Lvalue, Args, no_args, operand_type}
+use Rattle.bound_project.specs.Pieces.{Argument, place_lent, value_copied, default_taken, values_listed, Piece, nothing, an_expr, a_place, an_argument, a_member, a_value_shown, a_zone, a_test_begun, a_test_is, a_test_range, a_resize, an_erased, of_value, of_place, of_both, of_test, of_range, of_found, of_place_found, of_value_found, is_member, misfit, of_member, of_member_found, exprs_off, arguments_off, with_argument}
+use Rattle.pcode.specs.Instructions.{Instr, Push, Selected, Plain, Fit, Lend, Pack, MemberThere, ShowText, IfFits, IfBetween, Redim, EraseAt}
 use Rattle.pcode.specs.Code.{count, list_count, expr_code, place_code, args_code, list_code}
 use Rattle.codegen.specs.declared.node.Around.{Around}
 
@@ -19,6 +22,7 @@ piece_code around nothing = []
 piece_code around (an_expr e) = expr_code e
 piece_code around (a_place x) = place_code x
 piece_code around (an_argument a) = argument_code a
+piece_code around (a_member e name given) = expr_code e ++ MemberThere name given ∷ []
 piece_code around (a_value_shown e) = expr_code e ++ ShowText ∷ []
 piece_code around a_zone = Push empty ∷ []
 piece_code around a_test_begun = Selected around.header ∷ Plain ∷ []
@@ -189,3 +193,48 @@ value_off around n st make is h (Some (es, rest)) off there =
 pub value_found_emits : (around : Around) (n : ℕ) (st : List Piece) (make : Expr → Exprs → Piece) (is : ℕ → List Instr)
     → ((x : Expr) (es : Exprs) → piece_code around (make x es) ≡ expr_code x ++ (list_code es ++ is (list_count es))) → Emits around (of_value_found make (exprs_off n st no_exprs)) st (is n)
 value_found_emits around n st make is h = value_off around n st make is h (exprs_off n st no_exprs) (exprs_are around n st no_exprs)
+
+-- ---- members of objects of the host
+
+-- a member that was looked for is the one that is meant
+pub member_is : (name other : List ℕ) (given : ℕ) (es : Exprs) → is_member name other given es ≡ true → (name ≡ other) × (given ≡ given_count es)
+member_is name other given es h =
+    let both = and_parts (bytes_eq name other) (given == given_count es) h in
+    ((bytes_eq-Decides name other).0 both.0, eqb-true given (given_count es) both.1)
+
+-- the code of an object whose member was looked for is the one of what is meant
+pub member_code : (name other : List ℕ) (given : ℕ) (es : Exprs) (e : Expr) → is_member name other given es ≡ true
+    → expr_code e ++ MemberThere name (given_count es) ∷ [] ≡ expr_code e ++ MemberThere other given ∷ []
+member_code name other given es e h =
+    let same = member_is name other given es h in
+    ap (λ l. expr_code e ++ MemberThere l (given_count es) ∷ []) same.0 ∙ ap (λ k. expr_code e ++ MemberThere other k ∷ []) (sym same.1)
+
+member_if : (around : Around) (name other : List ℕ) (given : ℕ) (make : Expr → Exprs → Piece) (es : Exprs) (e : Expr) (is : List Instr)
+    → piece_code around (make e es) ≡ expr_code e ++ MemberThere name (given_count es) ∷ is
+    → (st : List Piece) (b : Bool) → is_member name other given es ≡ b → Emits around (cond b (make e es ∷ st) misfit) (a_member e other given ∷ st) is
+member_if around name other given make es e is h st true k there =
+    let looked = MemberThere name (given_count es) ∷ [] in
+    let parted : expr_code e ++ (looked ++ is) ≡ (expr_code e ++ looked) ++ is = sym (append_assoc (expr_code e) looked is) in (
+      one (codes around st) (expr_code e ++ looked) is _ (h ∙ parted) ∙ ap (λ c. (codes around st ++ c) ++ is) (member_code name other given es e k),
+      (tt, there.1),
+    )
+member_if around name other given make es e is h st false k there = absurd there.0
+
+member_emits : (around : Around) (name : List ℕ) (make : Expr → Exprs → Piece) (es : Exprs) (is : List Instr)
+    → ((e : Expr) → piece_code around (make e es) ≡ expr_code e ++ MemberThere name (given_count es) ∷ is) → (st : List Piece) → Emits around (of_member name make es st) st is
+member_emits around name make es is h (a_member e other given ∷ st) there = member_if around name other given make es e is (h e) st (is_member name other given es) refl there
+member_emits around name make es is h st there = absurd there.0
+
+member_off : (around : Around) (n : ℕ) (st : List Piece) (name : List ℕ) (make : Expr → Exprs → Piece) (is : ℕ → List Instr)
+    → ((e : Expr) (es : Exprs) → piece_code around (make e es) ≡ expr_code e ++ MemberThere name (given_count es) ∷ (list_code es ++ is (list_count es)))
+    → (o : Option (Exprs × List Piece)) → ExprsOff around n st no_exprs o → Emits around (of_member_found name make o) st (is n)
+member_off around n st name make is h None off there = absurd there.0
+member_off around n st name make is h (Some (es, rest)) off there =
+    let k : list_count es ≡ n = omega (arith, off.1) in
+    let r = member_emits around name make es (list_code es ++ is (list_count es)) (λ e. h e es) rest there in
+    (r.0 ∙ sym (append_assoc (codes around rest) (list_code es) (is (list_count es))) ∙ ap (λ c. c ++ is (list_count es)) (off.0 ∙ append_none (codes around st)) ∙ ap (λ m. codes around st ++ is m) k, off.2 r.1)
+
+pub member_found_emits : (around : Around) (n : ℕ) (st : List Piece) (name : List ℕ) (make : Expr → Exprs → Piece) (is : ℕ → List Instr)
+    → ((e : Expr) (es : Exprs) → piece_code around (make e es) ≡ expr_code e ++ MemberThere name (given_count es) ∷ (list_code es ++ is (list_count es)))
+    → Emits around (of_member_found name make (exprs_off n st no_exprs)) st (is n)
+member_found_emits around n st name make is h = member_off around n st name make is h (exprs_off n st no_exprs) (exprs_are around n st no_exprs)

@@ -1,9 +1,10 @@
 -- The code of a statement is the instructions of what stands before its nodes, of its nodes, and of what stands behind.
-use Rattle.std.proofs.Common.{◌≡◌, ℕ, zero, suc, ◌+◌, true, false, List, [], ◌∷◌, ◌++◌, length, map, Option, Some, None, refl, sym, ap, subst, ◌∙◌, arith, append_assoc}
-use Rattle.std.specs.Prelude.{slice_index, IsSome}
+use Rattle.std.proofs.Common.{◌≡◌, Bool, ℕ, zero, suc, ◌+◌, true, false, List, [], ◌∷◌, ◌++◌, length, map, Option, Some, None, refl, sym, ap, subst, ◌∙◌, arith, append_assoc}
+use Rattle.std.specs.Prelude.{slice_index, IsSome, if◌then◌else◌}
 use Rattle.vba_values.specs.declared.types.Compare.{Compare}
 use Rattle.vba_values.specs.declared.types.OpKind.{OpKind}
 use Rattle.vba_values.specs.Types.{Declared}
+use Rattle.vba_values.specs.Val.{Val}
 use Rattle.bound_project.specs.declared.declared_type.DeclaredType.{DeclaredType}
 use Rattle.bound_project.specs.declared.statement.Handling.TheVariants.{PassedOn, Skipped, HandledAt}
 use Rattle.bound_project.specs.declared.statement.ActionKind.{ActionKind}
@@ -11,10 +12,10 @@ use Rattle.bound_project.specs.declared.statement.ActionKind.TheVariants as kind
 use Rattle.bound_project.specs.declared.statement.StatementNode.{StatementNode}
 use Rattle.bound_project.specs.declared.node.Node.{Node}
 use Rattle.bound_project.specs.View.{declared_view, variable_view}
-use Rattle.bound_project.specs.Expressions.{Expr, Exprs, Lvalue, Args, no_args, Prints, no_prints, shown, zone, operand_type}
-use Rattle.bound_project.specs.Statements.{Tests, no_tests, test_is, test_range, Resizes, no_resizes, resize, Arrays, no_arrays, an_array, Action}
-use Rattle.bound_project.specs.Pieces.{Piece, an_expr, a_place, a_value_shown, a_zone, a_test_is, a_test_range, a_resize, an_erased, Tables, order_in, prints_off, tests_off, resizes_off, arrays_off, arguments_off, pieces}
-use Rattle.bound_project.specs.Bodies.{whole, one_value, one_place, behind_value, alone, action_of, action_or, part, statement_view, StatementFits, AllFit, BodiesFit, body_view}
+use Rattle.bound_project.specs.Expressions.{Expr, Exprs, no_exprs, given_count, Lvalue, Args, no_args, Prints, no_prints, shown, zone, operand_type}
+use Rattle.bound_project.specs.Statements.{Tests, no_tests, test_is, test_range, Resizes, no_resizes, resize, Arrays, no_arrays, an_array, Action, assign_member}
+use Rattle.bound_project.specs.Pieces.{Piece, an_expr, a_place, a_member, is_member, name_of, name_in, exprs_off, a_value_shown, a_zone, a_test_is, a_test_range, a_resize, an_erased, Tables, order_in, prints_off, tests_off, resizes_off, arrays_off, arguments_off, pieces}
+use Rattle.bound_project.specs.Bodies.{whole, one_value, one_place, behind_value, member_found, alone, action_of, action_or, part, statement_view, StatementFits, AllFit, BodiesFit, body_view}
 use Rattle.bound_project.specs.declared.project.Body.{Body}
 use Rattle.std.proofs.lemmas.Bool.{false≢true}
 use Rattle.std.proofs.lemmas.List.{length-map}
@@ -25,7 +26,7 @@ use Rattle.pcode.specs.View.{instr_view}
 use Rattle.codegen.specs.declared.node.Around.{Around}
 use Rattle.codegen.specs.declared.node.Added.{Added}
 use Rattle.codegen.specs.Emission.{Row, around_of, before_instrs, work_instrs, end_instr, nodes_instrs, action_instrs, statement_instrs, statement_size, body_size, body_instrs, row_in, bodies_instrs, row_of, table_of}
-use Rattle.codegen.proofs.Pieces.{codes, AllThere, ArgsOff, args_are, append_none, one, two}
+use Rattle.codegen.proofs.Pieces.{codes, AllThere, ExprsOff, exprs_are, ArgsOff, args_are, append_none, one, two, member_code}
 use Rattle.codegen.proofs.Nodes.{Grown, same_two, map_append, nodes_emit}
 
 -- ---- lists of a statement off the stack
@@ -179,6 +180,28 @@ behind_made around code back go h n st (Some (args, an_expr e ∷ [])) off =
     (h args e ∙ all_there around st (expr_code e ++ args_code args) (back (count args)) off.0 ∙ ap (λ m. codes around st ++ back m) k, off.2 (tt, tt))
 behind_made around code back go h n st (Some (args, rest)) off = tt
 
+-- an assignment to a member: arguments behind the member that was looked for, behind a value
+assigned_if : (around : Around) (code : Action → List plain.Instr) (back : List plain.Instr) (name other : List ℕ) (given : ℕ) (es : Exprs) (base e : Expr)
+    → code (assign_member base name es e) ≡ expr_code e ++ (expr_code base ++ plain.MemberThere name (given_count es) ∷ (list_code es ++ back)) → (n : ℕ) (st : List Piece)
+    → ExprsOff around n st no_exprs (Some (es, a_member base other given ∷ an_expr e ∷ [])) → (b : Bool) → is_member name other given es ≡ b
+    → Made around code [] back st (if b then Some (assign_member base name es e) else None)
+assigned_if around code back name other given es base e h n st off true k =
+    let looked = plain.MemberThere name (given_count es) ∷ [] in
+    let parted : expr_code base ++ (looked ++ (list_code es ++ back)) ≡ (expr_code base ++ looked) ++ (list_code es ++ back) = sym (append_assoc (expr_code base) looked (list_code es ++ back)) in
+    let there : (expr_code e ++ (expr_code base ++ looked)) ++ list_code es ≡ codes around st ++ [] = ap (λ c. (expr_code e ++ c) ++ list_code es) (member_code name other given es base k) ∙ off.0 in
+    (h ∙ two (expr_code e) (expr_code base ++ looked) (list_code es) back _ parted ∙ all_there around st ((expr_code e ++ (expr_code base ++ looked)) ++ list_code es) back there, off.2 (tt, (tt, tt)))
+assigned_if around code back name other given es base e h n st off false k = tt
+
+member_made : (around : Around) (code : Action → List plain.Instr) (back : ℕ → List plain.Instr) (name : List ℕ)
+    → ((base e : Expr) (es : Exprs) → code (assign_member base name es e) ≡ expr_code e ++ (expr_code base ++ plain.MemberThere name (given_count es) ∷ (list_code es ++ back (list_count es))))
+    → (n : ℕ) (st : List Piece) (found : Option (Exprs × List Piece)) → ExprsOff around n st no_exprs found → Made around code [] (back n) st (member_found name found)
+member_made around code back name h n st None off = tt
+member_made around code back name h n st (Some (es, a_member base other given ∷ an_expr e ∷ [])) off =
+    let k : list_count es ≡ n = omega (arith, off.1) in
+    assigned_if around code (back n) name other given es base e (h base e es ∙ ap (λ m. expr_code e ++ (expr_code base ++ plain.MemberThere name (given_count es) ∷ (list_code es ++ back m))) k)
+    n st off (is_member name other given es) refl
+member_made around code back name h n st (Some (es, rest)) off = tt
+
 tests_made : (row : Row) (header : ℕ) (of : DeclaredType) (compare : Compare) (first other : ℕ) (code : Action → List plain.Instr) (go : Tests → Action)
     → ((ts : Tests) → code (go ts) ≡ tests_in row header of compare first other ts)
     → (st : List Piece) (found : Option (Tests × List Piece)) → TestsOff row header of compare first other st no_tests found
@@ -207,13 +230,13 @@ entry row i = slice_index row i
 abbrev front : Tables → ℕ → ActionKind → List plain.Instr
 front u i k = map (instr_view u) (before_instrs i k)
 
-abbrev back : Tables → Tables → Row → (p i next : ℕ) → ActionKind → List plain.Instr
-back t u row p i next k = map (instr_view u) (work_instrs t.orders i next k ++ end_instr t.orders row p next k ∷ [])
+abbrev back : Tables → Tables → Added → Row → (p i next : ℕ) → ActionKind → List plain.Instr
+back t u added row p i next k = map (instr_view u) (work_instrs added t.orders i next k ++ end_instr t.orders row p next k ∷ [])
 
-abbrev ActionMade : Tables → Tables → Row → (p i next : ℕ) → ActionKind → List Piece → Option Action → Type 0
-ActionMade t u row p i next k st o = Made (around_of row k) (action_code (entry row) p i next) (front u i k) (back t u row p i next k) st o
+abbrev ActionMade : Tables → Tables → Added → Row → (p i next : ℕ) → ActionKind → List Piece → Option Action → Type 0
+ActionMade t u added row p i next k st o = Made (around_of row k) (action_code (entry row) p i next) (front u i k) (back t u added row p i next k) st o
 
-action_made : (t u : Tables) (added : Added) → Grown t u added → (row : Row) (p i next : ℕ) (k : ActionKind) (st : List Piece) → ActionMade t u row p i next k st (action_of t k st)
+action_made : (t u : Tables) (added : Added) → Grown t u added → (row : Row) (p i next : ℕ) (k : ActionKind) (st : List Piece) → ActionMade t u added row p i next k st (action_of t k st)
 action_made t u added g row p i next kind.Assign (a_place x ∷ an_expr e ∷ []) = (sym (append_assoc (expr_code e) (place_code x) _), (tt, (tt, tt)))
 action_made t u added g row p i next kind.Assign st = tt
 action_made t u added g row p i next kind.AssignNone (an_expr x ∷ an_expr e ∷ []) = (sym (append_assoc (expr_code e) (expr_code x) _), (tt, (tt, tt)))
@@ -222,9 +245,14 @@ action_made t u added g row p i next kind.Set (a_place x ∷ an_expr e ∷ []) =
 action_made t u added g row p i next kind.Set st = tt
 action_made t u added g row p i next kind.AssignDefault (an_expr x ∷ an_expr e ∷ []) = (sym (append_assoc (expr_code e) (expr_code x) _), (tt, (tt, tt)))
 action_made t u added g row p i next kind.AssignDefault st = tt
+action_made t u added g row p i next (kind.AssignMember m count) st =
+    let k = kind.AssignMember m count in
+    subst (λ (v : Val). Made (around_of row k) (action_code (entry row) p i next) [] (plain.StoreMember (name_of v) count ∷ plain.Finish (slice_index row next) ∷ []) st (action_of t k st)) (sym (g.constant m))
+    (member_made (around_of row k) (action_code (entry row) p i next) (λ n. plain.StoreMember (name_in t m) n ∷ plain.Finish (slice_index row next) ∷ []) (name_in t m) (λ base e es. refl)
+    count st (exprs_off count st no_exprs) (exprs_are (around_of row k) count st no_exprs))
 action_made t u added g row p i next kind.Evaluate st = value_made (around_of row kind.Evaluate) (action_code (entry row) p i next) [] _ _ (λ e. refl) st
 action_made t u added g row p i next (kind.LetProperty q count of) st =
-    behind_made (around_of row (kind.LetProperty q count of)) (action_code (entry row) p i next) (λ n. back t u row p i next (kind.LetProperty q n of)) _ (λ args e. sym (append_assoc (expr_code e) (args_code args) _)) count st (arguments_off count st no_args) (args_are (around_of row (kind.LetProperty q count of)) count st no_args)
+    behind_made (around_of row (kind.LetProperty q count of)) (action_code (entry row) p i next) (λ n. back t u added row p i next (kind.LetProperty q n of)) _ (λ args e. sym (append_assoc (expr_code e) (args_code args) _)) count st (arguments_off count st no_args) (args_are (around_of row (kind.LetProperty q count of)) count st no_args)
 action_made t u added g row p i next (kind.LetPropertyInOrder q n order of) st =
     let k = kind.LetPropertyInOrder q n order of in
     let o = order_in t order in
@@ -234,7 +262,7 @@ action_made t u added g row p i next (kind.LetPropertyInOrder q n order of) st =
     (λ args e. ap (λ c. expr_code e ++ c) (append_assoc (args_code args) (plain.Reorder o (count args) ∷ []) after) ∙ sym (append_assoc (expr_code e) (args_code args) (plain.Reorder o (count args) ∷ after)))
     n st (arguments_off n st no_args) (args_are (around_of row (kind.LetPropertyInOrder q n order of)) n st no_args))
 action_made t u added g row p i next (kind.SetProperty q count of) st =
-    behind_made (around_of row (kind.SetProperty q count of)) (action_code (entry row) p i next) (λ n. back t u row p i next (kind.SetProperty q n of)) _ (λ args e. sym (append_assoc (expr_code e) (args_code args) _)) count st (arguments_off count st no_args) (args_are (around_of row (kind.SetProperty q count of)) count st no_args)
+    behind_made (around_of row (kind.SetProperty q count of)) (action_code (entry row) p i next) (λ n. back t u added row p i next (kind.SetProperty q n of)) _ (λ args e. sym (append_assoc (expr_code e) (args_code args) _)) count st (arguments_off count st no_args) (args_are (around_of row (kind.SetProperty q count of)) count st no_args)
 action_made t u added g row p i next (kind.SetPropertyInOrder q n order of) st =
     let k = kind.SetPropertyInOrder q n order of in
     let o = order_in t order in
@@ -244,9 +272,9 @@ action_made t u added g row p i next (kind.SetPropertyInOrder q n order of) st =
     (λ args e. ap (λ c. expr_code e ++ c) (append_assoc (args_code args) (plain.Reorder o (count args) ∷ []) after) ∙ sym (append_assoc (expr_code e) (args_code args) (plain.Reorder o (count args) ∷ after)))
     n st (arguments_off n st no_args) (args_are (around_of row (kind.SetPropertyInOrder q n order of)) n st no_args))
 action_made t u added g row p i next (kind.Print count ends) st =
-    prints_made (around_of row (kind.Print count ends)) (action_code (entry row) p i next) (λ n. back t u row p i next (kind.Print n ends)) _ (λ ps. refl) count st (prints_off count st no_prints) (prints_are (around_of row (kind.Print count ends)) count st no_prints)
+    prints_made (around_of row (kind.Print count ends)) (action_code (entry row) p i next) (λ n. back t u added row p i next (kind.Print n ends)) _ (λ ps. refl) count st (prints_off count st no_prints) (prints_are (around_of row (kind.Print count ends)) count st no_prints)
 action_made t u added g row p i next (kind.Raise count) st =
-    args_made (around_of row (kind.Raise count)) (action_code (entry row) p i next) (λ n. back t u row p i next (kind.Raise n)) _ (λ args. refl) count st (arguments_off count st no_args) (args_are (around_of row (kind.Raise count)) count st no_args)
+    args_made (around_of row (kind.Raise count)) (action_code (entry row) p i next) (λ n. back t u added row p i next (kind.Raise n)) _ (λ args. refl) count st (arguments_off count st no_args) (args_are (around_of row (kind.Raise count)) count st no_args)
 action_made t u added g row p i next (kind.RaiseInOrder n order) st =
     let k = kind.RaiseInOrder n order in
     let o = order_in t order in
@@ -291,11 +319,11 @@ action_seen : (t u : Tables) (added : Added) → Grown t u added → (row : Row)
     → map (instr_view u) (action_instrs added t.orders row p i next k ns) ≡ action_code (entry row) p i next (action_or o)
 action_seen t u added g row p i next k ns None e h = absurd (false≢true h)
 action_seen t u added g row p i next k ns (Some a) e h =
-    let m : ActionMade t u row p i next k (pieces t ns) (Some a) = subst (λ o. ActionMade t u row p i next k (pieces t ns) o) e (action_made t u added g row p i next k (pieces t ns)) in
+    let m : ActionMade t u added row p i next k (pieces t ns) (Some a) = subst (λ o. ActionMade t u added row p i next k (pieces t ns) o) e (action_made t u added g row p i next k (pieces t ns)) in
     let n = nodes_emit t u added g (around_of row k) ns [] m.1 in
     let mid = nodes_instrs added t.orders (around_of row k) ns in
-    let last = work_instrs t.orders i next k ++ end_instr t.orders row p next k ∷ [] in
-    map_append (instr_view u) (before_instrs i k) (mid ++ last) ∙ ap (λ c. front u i k ++ c) (map_append (instr_view u) mid last ∙ ap (λ c. c ++ back t u row p i next k) (sym n.0)) ∙ sym m.0
+    let last = work_instrs added t.orders i next k ++ end_instr t.orders row p next k ∷ [] in
+    map_append (instr_view u) (before_instrs i k) (mid ++ last) ∙ ap (λ c. front u i k ++ c) (map_append (instr_view u) mid last ∙ ap (λ c. c ++ back t u added row p i next k) (sym n.0)) ∙ sym m.0
 
 pub statement_seen : (t u : Tables) (added : Added) → Grown t u added → (row : Row) (p : ℕ) (ns : List Node) (i : ℕ) (s : StatementNode) → StatementFits t ns s
     → map (instr_view u) (statement_instrs added t.orders row p ns i s) ≡ statement_code (entry row) p i (statement_view t ns s)

@@ -68,6 +68,9 @@ last_instr added orders around node.DefaultIfAny = instr.PlainIfAny
 last_instr added orders around node.Same = instr.Same
 last_instr added orders around (node.IsType of) = instr.IsType of
 last_instr added orders around (node.HostObject reference) = instr.PushHost reference
+last_instr added orders around node.ActiveSheet = instr.FirstSheet
+last_instr added orders around (node.MemberThere i given) = instr.MemberThere (constant_number added i) given
+last_instr added orders around (node.HostMember i count) = instr.MemberOf (constant_number added i) count
 last_instr added orders around node.ByPlace = instr.Lend
 last_instr added orders around (node.ByCopy of) = instr.Fit of
 last_instr added orders around (node.ByDefault i) = instr.Push (constant_number added i)
@@ -118,34 +121,35 @@ abbrev pub object_property_instrs : (procedure arguments : ℕ) → DeclaredType
 object_property_instrs q count of = instr.Lift count ∷ instr.FitObject of ∷ instr.Call q (suc count) ∷ instr.Drop ∷ []
 
 -- what is done behind its nodes
-abbrev pub work_instrs : List (List ℕ) → (statement next : ℕ) → ActionKind → List Instr
-work_instrs orders i next kind.Assign = instr.Store ∷ []
-work_instrs orders i next kind.AssignNone = instr.Drop ∷ instr.Drop ∷ []
-work_instrs orders i next kind.Set = instr.SetAt ∷ []
-work_instrs orders i next kind.AssignDefault = instr.StoreDefault ∷ []
-work_instrs orders i next kind.Evaluate = instr.Drop ∷ []
-work_instrs orders i next (kind.LetProperty q count of) = property_instrs q count of
-work_instrs orders i next (kind.LetPropertyInOrder q count order of) = instr.Reorder order count ∷ property_instrs q (order_length orders order) of
-work_instrs orders i next (kind.SetProperty q count of) = object_property_instrs q count of
-work_instrs orders i next (kind.SetPropertyInOrder q count order of) = instr.Reorder order count ∷ object_property_instrs q (order_length orders order) of
-work_instrs orders i next (kind.RaiseInOrder count order) = instr.Reorder order count ∷ []
-work_instrs orders i next (kind.Print count ends) = instr.Show ends count ∷ []
-work_instrs orders i next (kind.For x compare last step first behind) = instr.LoopOn x i compare last step ∷ []
-work_instrs orders i next (kind.Next x header first) = instr.NextRound x header ∷ []
-work_instrs orders i next (kind.ForEach x first behind) = instr.EachOn i ∷ instr.NextItem x i ∷ []
-work_instrs orders i next (kind.NextEach x header first) = instr.NextItem x header ∷ []
-work_instrs orders i next (kind.ExitEach header to) = instr.DropKept header ∷ []
-work_instrs orders i next (kind.Select first) = instr.Keep i ∷ []
-work_instrs orders i next kind.WithPlace = instr.KeepPath i ∷ []
-work_instrs orders i next kind.WithValue = instr.Keep i ∷ []
-work_instrs orders i next (kind.EndWith header) = instr.DropKept header ∷ []
-work_instrs orders i next (kind.GoSub to) = instr.PutReturn next ∷ []
-work_instrs orders i next (kind.ExitTo end) = instr.ErrOff ∷ []
-work_instrs orders i next (kind.OnError handling) = instr.SetPolicy (policy_in handling) ∷ []
-work_instrs orders i next kind.EndHandler = instr.HandlerOff ∷ []
-work_instrs orders i next kind.ClearErr = instr.ErrOff ∷ []
-work_instrs orders i next kind.Stop = instr.StopHere ∷ []
-work_instrs orders i next k = []
+abbrev pub work_instrs : Added → List (List ℕ) → (statement next : ℕ) → ActionKind → List Instr
+work_instrs added orders i next kind.Assign = instr.Store ∷ []
+work_instrs added orders i next kind.AssignNone = instr.Drop ∷ instr.Drop ∷ []
+work_instrs added orders i next kind.Set = instr.SetAt ∷ []
+work_instrs added orders i next kind.AssignDefault = instr.StoreDefault ∷ []
+work_instrs added orders i next (kind.AssignMember n count) = instr.StoreMember (constant_number added n) count ∷ []
+work_instrs added orders i next kind.Evaluate = instr.Drop ∷ []
+work_instrs added orders i next (kind.LetProperty q count of) = property_instrs q count of
+work_instrs added orders i next (kind.LetPropertyInOrder q count order of) = instr.Reorder order count ∷ property_instrs q (order_length orders order) of
+work_instrs added orders i next (kind.SetProperty q count of) = object_property_instrs q count of
+work_instrs added orders i next (kind.SetPropertyInOrder q count order of) = instr.Reorder order count ∷ object_property_instrs q (order_length orders order) of
+work_instrs added orders i next (kind.RaiseInOrder count order) = instr.Reorder order count ∷ []
+work_instrs added orders i next (kind.Print count ends) = instr.Show ends count ∷ []
+work_instrs added orders i next (kind.For x compare last step first behind) = instr.LoopOn x i compare last step ∷ []
+work_instrs added orders i next (kind.Next x header first) = instr.NextRound x header ∷ []
+work_instrs added orders i next (kind.ForEach x first behind) = instr.EachOn i ∷ instr.NextItem x i ∷ []
+work_instrs added orders i next (kind.NextEach x header first) = instr.NextItem x header ∷ []
+work_instrs added orders i next (kind.ExitEach header to) = instr.DropKept header ∷ []
+work_instrs added orders i next (kind.Select first) = instr.Keep i ∷ []
+work_instrs added orders i next kind.WithPlace = instr.KeepPath i ∷ []
+work_instrs added orders i next kind.WithValue = instr.Keep i ∷ []
+work_instrs added orders i next (kind.EndWith header) = instr.DropKept header ∷ []
+work_instrs added orders i next (kind.GoSub to) = instr.PutReturn next ∷ []
+work_instrs added orders i next (kind.ExitTo end) = instr.ErrOff ∷ []
+work_instrs added orders i next (kind.OnError handling) = instr.SetPolicy (policy_in handling) ∷ []
+work_instrs added orders i next kind.EndHandler = instr.HandlerOff ∷ []
+work_instrs added orders i next kind.ClearErr = instr.ErrOff ∷ []
+work_instrs added orders i next kind.Stop = instr.StopHere ∷ []
+work_instrs added orders i next k = []
 
 -- where it goes on
 abbrev pub end_instr : List (List ℕ) → Row → (procedure next : ℕ) → ActionKind → Instr
@@ -172,7 +176,7 @@ end_instr orders row p next k = instr.Finish (slice_index row next)
 -- what stays the same for all statements of a project, and of a procedure
 abbrev pub action_instrs : Added → List (List ℕ) → Row → (procedure statement next : ℕ) → ActionKind → List Node → List Instr
 action_instrs added orders row p i next k ns =
-    before_instrs i k ++ (nodes_instrs added orders (around_of row k) ns ++ (work_instrs orders i next k ++ end_instr orders row p next k ∷ []))
+    before_instrs i k ++ (nodes_instrs added orders (around_of row k) ns ++ (work_instrs added orders i next k ++ end_instr orders row p next k ∷ []))
 
 abbrev pub statement_instrs : Added → List (List ℕ) → Row → (procedure : ℕ) → List Node → (statement : ℕ) → StatementNode → List Instr
 statement_instrs added orders row p ns i s = instr.Begin i ∷ action_instrs added orders row p i s.next s.action (part ns s.first_node s.nodes)

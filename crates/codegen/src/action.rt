@@ -1,7 +1,7 @@
 ghost use Rattle.std.specs.Prelude.{◌≡◌, suc, [], ◌∷◌, ◌++◌, IfOk, OnOk, slice_index};
-ghost use Rattle.codegen.specs.Emission.{action_instrs, around_of, before_instrs, end_instr, lists_of, object_property_instrs, order_length, policy_in, property_instrs, work_instrs};
+ghost use Rattle.codegen.specs.Emission.{action_instrs, around_of, before_instrs, constant_number, end_instr, lists_of, object_property_instrs, order_length, policy_in, property_instrs, work_instrs};
 
-use crate::node::{Added, Around, emit_nodes, order_length, put};
+use crate::node::{Added, Around, constant_number, emit_nodes, order_length, put};
 use bound_project::{ActionKind, DeclaredType, ElementType, Handling, Node, TooLong};
 use error_frames::{At, Policy};
 use pcode::Instr;
@@ -175,14 +175,28 @@ fn put_object_property_in_order(
     put_object_property(code, procedure, all, of)
 }
 
+// The assignment to a member of an object of the host.
+fn put_member(
+    code: &mut Vec<Instr>,
+    added: Added,
+    name: u32,
+    arguments: u32,
+) -> Result<(), OrMemory<TooLong>>
+    ensures { OnOk result (code.new.items ≡ code.old.items ++ Instr.StoreMember (constant_number added name) arguments ∷ []) }
+{
+    let name = constant_number(added, name);
+    put(code, Instr::StoreMember { name, arguments })
+}
+
 fn put_work(
     code: &mut Vec<Instr>,
+    added: Added,
     orders: &[Vec<u32>],
     statement: u32,
     next: u32,
     action: ActionKind,
 ) -> Result<(), OrMemory<TooLong>>
-    ensures { OnOk result (code.new.items ≡ code.old.items ++ work_instrs (lists_of orders.now) statement next action) }
+    ensures { OnOk result (code.new.items ≡ code.old.items ++ work_instrs added (lists_of orders.now) statement next action) }
 {
     let block = statement;
     match action {
@@ -190,6 +204,7 @@ fn put_work(
         ActionKind::AssignNone => put_two(code, Instr::Drop, Instr::Drop),
         ActionKind::Set => put(code, Instr::SetAt),
         ActionKind::AssignDefault => put(code, Instr::StoreDefault),
+        ActionKind::AssignMember { name, arguments } => put_member(code, added, name, arguments),
         ActionKind::Evaluate => put(code, Instr::Drop),
         ActionKind::LetProperty {
             procedure,
@@ -350,7 +365,7 @@ pub fn emit_action(
 {
     put_before(code, numbers.statement, action)?;
     emit_nodes(code, added, orders, around_of(row, action), nodes)?;
-    put_work(code, orders, numbers.statement, numbers.next, action)?;
+    put_work(code, added, orders, numbers.statement, numbers.next, action)?;
     let end = end_of(orders, row, numbers, action)?;
     put(code, end)
 }

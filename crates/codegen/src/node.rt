@@ -32,7 +32,7 @@ pub fn put(code: &mut Vec<Instr>, instr: Instr) -> Result<(), OrMemory<TooLong>>
     Ok(())
 }
 
-fn constant_number(added: Added, constant: u32) -> u32
+pub fn constant_number(added: Added, constant: u32) -> u32
     ensures { result ≡ constant_number added constant }
 {
     if constant < added.empty {
@@ -158,6 +158,15 @@ fn last_of(
         NodeKind::Same => Instr::Same,
         NodeKind::IsType(of) => Instr::IsType(of),
         NodeKind::HostObject(reference) => Instr::PushHost(reference),
+        NodeKind::ActiveSheet => Instr::FirstSheet,
+        NodeKind::MemberThere { name, given } => Instr::MemberThere {
+            name: constant_number(added, name),
+            given,
+        },
+        NodeKind::HostMember { name, arguments } => Instr::MemberOf {
+            name: constant_number(added, name),
+            arguments,
+        },
         NodeKind::ByPlace => Instr::Lend,
         NodeKind::ByCopy(of) => Instr::Fit(of),
         NodeKind::ByDefault { constant } => Instr::Push {

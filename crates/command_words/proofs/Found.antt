@@ -13,7 +13,7 @@ use Rattle.clap.specs.declared.parser.matches.ArgMatches.{ArgMatches}
 use Rattle.clap.specs.declared.parser.matches.Found.{Found}
 use Rattle.clap.proofs.WalkLemmas.{first_value-rows}
 use Rattle.clap.proofs.OnLiterals.{clap_on_literals}
-use Rattle.command_words.specs.Words.{check_app, found_rows, run_app}
+use Rattle.command_words.specs.Words.{check_app, code_app, found_rows, run_app}
 
 -- a value by the rows
 pub value_of_row : (found : Found) (id : List ℕ) (value : Option (List ℕ)) → value ≡ first_value found id → value ≡ first_of id (rows_of found)
@@ -46,8 +46,15 @@ check_simple : is_simple_and_free check_app ≡ true
 unfolding clap_on_literals
 check_simple = refl
 
+code_simple : is_simple_and_free code_app ≡ true
+unfolding clap_on_literals
+code_simple = refl
+
 pub run_is_simple : (app : App) → app ≡ run_app → is_simple_and_free app ≡ true
 run_is_simple app same = ap is_simple_and_free same ∙ run_simple
 
 pub check_is_simple : (app : App) → app ≡ check_app → is_simple_and_free app ≡ true
 check_is_simple app same = ap is_simple_and_free same ∙ check_simple
+
+pub code_is_simple : (app : App) → app ≡ code_app → is_simple_and_free app ≡ true
+code_is_simple app same = ap is_simple_and_free same ∙ code_simple

@@ -8,10 +8,12 @@ use Rattle.clap.specs.Simple.{App, matches_of, new_rule, new_shape}
 use Rattle.clap.specs.Faults.{fault_of}
 use Rattle.clap.specs.declared.builder.action.ArgAction.TheVariants.{SetTrue}
 
--- a command, with the path of its list: a run with its bound on turns and whether it is traced, or a check
+-- a command, with the path of its list: a run with its bound on turns, whether it is traced, and the suffix with which its
+-- sheets are saved, if they are; a check; or a listing of the code
 pub data Command : Type 0 where
-  run : (path : List ℕ) → (turns : ℕ) → (trace : Bool) → Command
+  run : (path : List ℕ) → (turns : ℕ) → (trace : Bool) → (save : Option (List ℕ)) → Command
   check : (path : List ℕ) → Command
+  code : (path : List ℕ) → Command
 
 -- the one positional word
 abbrev pub list_rule : Rule
@@ -24,6 +26,10 @@ turns_rule = record (new_rule (codes "turns")) { long = Some (codes "turns") }
 -- the flag `--trace`
 abbrev pub trace_rule : Rule
 trace_rule = record (new_rule (codes "trace")) { long = Some (codes "trace"); action = Some SetTrue }
+
+-- the option `--save SUFFIX`
+abbrev pub save_rule : Rule
+save_rule = record (new_rule (codes "save")) { long = Some (codes "save") }
 
 -- clap's simple command of a name and arguments, with help, version and the `help` subcommand switched off
 abbrev pub plain_app : Text → List Rule → App
@@ -39,11 +45,15 @@ plain_app name rules = record {
 
 -- the arguments of `run`
 abbrev pub run_app : App
-run_app = plain_app (codes "run") (list_rule ∷ turns_rule ∷ trace_rule ∷ [])
+run_app = plain_app (codes "run") (list_rule ∷ turns_rule ∷ trace_rule ∷ save_rule ∷ [])
 
 -- the argument of `check`
 abbrev pub check_app : App
 check_app = plain_app (codes "check") (list_rule ∷ [])
+
+-- the argument of `code`
+abbrev pub code_app : App
+code_app = plain_app (codes "code") (list_rule ∷ [])
 
 -- what clap's definition finds in the words of a command, of which the first is the command's name; none where it finds a fault in them
 unfoldable pub found_rows : App → List Text → Option (List Row)
@@ -87,19 +97,28 @@ turns_in rows = option_map_or turns_of (first_of (codes "turns") rows) (Some def
 abbrev pub trace_in : List Row → Bool
 trace_in rows = option_map_or (λ text. bytes_eq text (codes "true")) (first_of (codes "trace") rows) false
 
+-- the suffix with which a run saves its sheets, where one is given
+abbrev pub save_in : List Row → Option Text
+save_in rows = first_of (codes "save") rows
+
 -- a run of these arguments
 abbrev pub run_in : List Row → Option Command
-run_in rows = option_and_then (λ path. option_map (λ turns. run path turns (trace_in rows)) (turns_in rows)) (first_of (codes "list") rows)
+run_in rows = option_and_then (λ path. option_map (λ turns. run path turns (trace_in rows) (save_in rows)) (turns_in rows)) (first_of (codes "list") rows)
 
 -- a check of these arguments
 abbrev pub check_in : List Row → Option Command
 check_in rows = option_map (λ path. check path) (first_of (codes "list") rows)
+
+-- a listing of these arguments
+abbrev pub code_in : List Row → Option Command
+code_in rows = option_map (λ path. code path) (first_of (codes "list") rows)
 
 -- the command of this name whose words these are
 abbrev pub command_named : (name : Text) → (words : List Text) → Option Command
 command_named name words =
     if bytes_eq name (codes "run") then option_and_then run_in (found_rows run_app words)
     else if bytes_eq name (codes "check") then option_and_then check_in (found_rows check_app words)
+    else if bytes_eq name (codes "code") then option_and_then code_in (found_rows code_app words)
     else None
 
 -- the command that the words name, where they are a command form. The first word is its name

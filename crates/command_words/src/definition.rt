@@ -1,11 +1,11 @@
 //! The commands as clap defines them, and what these definitions find in the words.
 
-ghost use Rattle.std.specs.Prelude.{◌≡◌, true, [], ◌∷◌, map, string_bytes, option_map, IfOk};
+ghost use Rattle.std.specs.Prelude.{◌≡◌, true, [], ◌∷◌, codes, map, string_bytes, option_map, IfOk};
 ghost use Rattle.clap.specs.Faults.{is_simple_and_free};
 ghost use Rattle.clap.specs.Matches.{found_of};
 ghost use Rattle.clap.specs.Simple.{app_of};
 ghost use Rattle.clap.specs.Walk.{rows_of};
-ghost use Rattle.command_words.specs.Words.{check_app, found_rows, list_rule, plain_app, run_app};
+ghost use Rattle.command_words.specs.Words.{check_app, code_app, found_rows, list_rule, plain_app, run_app, trace_rule, turns_rule};
 
 use clap::error::ErrorKind;
 use clap::{Arg, ArgAction, ArgMatches, Command};
@@ -31,9 +31,24 @@ pub fn check_definition<'a>(alloc: Global) -> Result<Command<'a>, AllocError>
     plain_command(alloc, "check")
 }
 
-/// `run [--turns N] [--trace] LIST`.
+/// `code LIST`.
+pub fn code_definition<'a>(alloc: Global) -> Result<Command<'a>, AllocError>
+    ensures { IfOk result (λ made. app_of made ≡ code_app) }
+{
+    plain_command(alloc, "code")
+}
+
+/// `run [--turns N] [--trace] [--save SUFFIX] LIST`.
 pub fn run_definition<'a>(alloc: Global) -> Result<Command<'a>, AllocError>
     ensures { IfOk result (λ made. app_of made ≡ run_app) }
+{
+    let save = Arg::new(alloc, "save").long("save");
+    unsaved_command(alloc)?.arg(save)
+}
+
+// `run [--turns N] [--trace] LIST`.
+fn unsaved_command<'a>(alloc: Global) -> Result<Command<'a>, AllocError>
+    ensures { IfOk result (λ made. app_of made ≡ plain_app (codes "run") (list_rule ∷ turns_rule ∷ trace_rule ∷ [])) }
 {
     let turns = Arg::new(alloc, "turns").long("turns");
     let trace = Arg::new(alloc, "trace")

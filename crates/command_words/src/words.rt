@@ -4,10 +4,10 @@ ghost use Rattle.std.specs.Prelude.{◌≡◌, map, string_bytes, option_map, op
 ghost use Rattle.clap.specs.Matches.{found_of};
 ghost use Rattle.clap.specs.Walk.{rows_of};
 ghost use Rattle.command_words.specs.View.{command_view};
-ghost use Rattle.command_words.specs.Words.{check_app, check_in, command_named, command_of, found_rows, run_app, run_in, trace_in, turns_in};
+ghost use Rattle.command_words.specs.Words.{check_app, check_in, code_app, code_in, command_named, command_of, found_rows, run_app, run_in, save_in, trace_in, turns_in};
 
 use crate::command::Command;
-use crate::definition::{check_definition, found_in, run_definition};
+use crate::definition::{check_definition, code_definition, found_in, run_definition};
 use crate::turns::turns_named;
 use clap::ArgMatches;
 use std::alloc::Global;
@@ -17,7 +17,7 @@ use vba_base::NoMemory;
 const DEFAULT_TURNS: u64 = 10_000_000;
 
 /// The command that the words name, where they are a command form:
-/// `run [--turns N] [--trace] LIST` or `check LIST`.
+/// `run [--turns N] [--trace] [--save SUFFIX] LIST`, `check LIST` or `code LIST`.
 pub fn command_of<'a>(alloc: Global, words: &'a [String]) -> Result<Option<Command<'a>>, NoMemory>
     ensures { IfOk result (λ found. option_map command_view found ≡ command_of (map string_bytes words.entry.now)) }
 {
@@ -39,6 +39,8 @@ fn command_named<'a>(
         run_of(alloc, words)
     } else if name == "check" {
         check_of(alloc, words)
+    } else if name == "code" {
+        code_of(alloc, words)
     } else {
         Ok(None)
     }
@@ -68,6 +70,18 @@ fn check_of<'a>(alloc: Global, words: &'a [String]) -> Result<Option<Command<'a>
     }
 }
 
+// The listing that the words of `code` ask for.
+#[tactic(auto, using(crate::proofs::Found::code_is_simple))]
+fn code_of<'a>(alloc: Global, words: &'a [String]) -> Result<Option<Command<'a>>, NoMemory>
+    ensures { IfOk result (λ found. option_map command_view found ≡ option_and_then code_in (found_rows code_app (map string_bytes words.entry.now))) }
+{
+    let definition = code_definition(alloc)?;
+    match found_in(definition, words)? {
+        Some(matches) => Ok(code_in(&matches)),
+        None => Ok(None),
+    }
+}
+
 // A run of these arguments.
 #[tactic(auto, using(crate::proofs::Found::value_of_row))]
 fn run_in<'a>(matches: &ArgMatches<'a>) -> Option<Command<'a>>
@@ -76,7 +90,13 @@ fn run_in<'a>(matches: &ArgMatches<'a>) -> Option<Command<'a>>
     let file = matches.get_str("list")?;
     let turns = turns_in(matches)?;
     let trace = is_traced(matches);
-    Some(Command::Run { file, turns, trace })
+    let save = save_in(matches);
+    Some(Command::Run {
+        file,
+        turns,
+        trace,
+        save,
+    })
 }
 
 // A check of these arguments.
@@ -86,6 +106,15 @@ fn check_in<'a>(matches: &ArgMatches<'a>) -> Option<Command<'a>>
 {
     let file = matches.get_str("list")?;
     Some(Command::Check { file })
+}
+
+// A listing of these arguments.
+#[tactic(auto, using(crate::proofs::Found::value_of_row))]
+fn code_in<'a>(matches: &ArgMatches<'a>) -> Option<Command<'a>>
+    ensures { option_map command_view result ≡ code_in (rows_of (found_of matches.now)) }
+{
+    let file = matches.get_str("list")?;
+    Some(Command::Code { file })
 }
 
 // The bound on turns of a run.
@@ -108,4 +137,12 @@ fn is_traced(matches: &ArgMatches) -> bool
         Some(text) => text == "true",
         None => false,
     }
+}
+
+// The suffix with which a run saves its sheets.
+#[tactic(auto, using(crate::proofs::Found::value_of_row))]
+fn save_in<'a>(matches: &ArgMatches<'a>) -> Option<&'a str>
+    ensures { option_map (λ suffix. suffix.now) result ≡ save_in (rows_of (found_of matches.now)) }
+{
+    matches.get_str("save")
 }

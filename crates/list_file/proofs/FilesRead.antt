@@ -88,7 +88,7 @@ files_stopped files (name ∷ a) b = λ number taken reason stops.
 -- ---- what was read
 
 -- so many calls, and so many more
-ups_more : (a b n : ℕ) → ups (a + b) n ≡ ups b (ups a n)
+pub ups_more : (a b n : ℕ) → ups (a + b) n ≡ ups b (ups a n)
 ups_more a zero n = let e : a + zero ≡ a = omega arith in ap (λ k. ups k n) e
 ups_more a (suc b) n = let e : a + suc b ≡ suc (a + b) = omega arith in ap (λ k. ups k n) e ∙ ap up (ups_more a b n)
 
@@ -111,7 +111,7 @@ counted_joined ca cb xs (Err (stop.TooLong n)) old mid new p q =
     (q.0 ∙ ap (ups cb) p.0 ∙ sym (ups_more ca cb old.reads), q.1 ∙ p.1, subst (λ k. Rose k new.long_reads) p.2 q.2)
 counted_joined ca cb xs (Err stop.NoMemory) old mid new p q = q ∙ p.1
 
-names_joined : (names a b : List (List ℕ)) (ca cb : ℕ) → ca ≡ length a → (names ++ take ca a) ++ take cb b ≡ names ++ take (ca + cb) (a ++ b)
+pub names_joined : (names a b : List (List ℕ)) (ca cb : ℕ) → ca ≡ length a → (names ++ take ca a) ++ take cb b ≡ names ++ take (ca + cb) (a ++ b)
 names_joined names a b ca cb all =
     let whole : take (length a) a ≡ a = ap (take (length a)) (sym (append-nil a)) ∙ take-append_seam a [] in
     ap (λ k. (names ++ take k a) ++ take cb b) all
@@ -222,7 +222,7 @@ pub record FilesGoOn (all left : List (List ℕ)) (taken_first : ℕ) (xs : List
   pub read : ReadInOrder done 1 taken_first (Ok xs) old now
 
 -- nothing was read
-none_told : (number taken : ℕ) (told : Option Told) → FilesTold [] number taken (Ok []) 0 told told
+pub none_told : (number taken : ℕ) (told : Option Told) → FilesTold [] number taken (Ok []) 0 told told
 none_told number taken None = refl
 none_told number taken (Some told) = (ap (λ ns. Some (record told { names_read = ns })) (sym (append-nil told.names_read)), refl)
 

@@ -1,5 +1,6 @@
 -- Reading the lines of a list file.
-use Rattle.std.proofs.Common.{◌≡◌, ◌∙◌, ℕ, suc, ◌+◌, ◌≤◌, Bool, true, false, List, [], ◌∷◌, length, take, drop, map, refl, ap, sym, subst}
+use Rattle.std.proofs.Common.{◌≡◌, ◌∙◌, ℕ, suc, ◌+◌, ◌≤◌, Bool, true, false, List, [], ◌∷◌, ◌++◌, length, take, drop, map, refl, ap, sym, subst, append_assoc}
+use Rattle.std.proofs.lemmas.List.{append-nil, map-append}
 use Rattle.std.specs.Prelude.{bytes_eq, not, ◌||◌, if◌then◌else◌, string_bytes, Result, Ok, Err, Option, Some, None}
 use Rattle.std.specs.List.{list_any}
 use Rattle.vba_base.specs.Answer.{Fails}
@@ -11,12 +12,13 @@ use Rattle.vba_lexer.specs.Lines.{PhysicalLine, lines_of, is_last}
 use Rattle.vba_lexer.specs.FirstLine.{IsFirstLine, end_size, lines_behind}
 use Rattle.list_file.specs.declared.list.ModulePath.{ModulePath}
 use Rattle.list_file.specs.declared.list.Partial.{Partial}
+use Rattle.list_file.specs.declared.list.SheetPath.{SheetPath}
 use Rattle.list_file.specs.Lines.{entry_of}
-use Rattle.list_file.specs.Lists.{ModuleAt, SheetAt, Listed, is_listed, has_module, with_entry, listed_on, listed_from, nothing_listed, whole_list}
-use Rattle.list_file.specs.Plans.{first_other, lists_other}
+use Rattle.list_file.specs.Lists.{ModuleAt, SheetAt, Listed, HaveNewNames, is_listed, has_module, with_entry, listed_on, listed_from, nothing_listed, whole_list}
+use Rattle.list_file.specs.Plans.{first_class, lists_class}
 use Rattle.list_file.specs.Sources.{paths_view}
-use Rattle.list_file.specs.Seen.{HasFolds, folds_of}
-use Rattle.list_file.specs.View.{module_view, partial_view}
+use Rattle.list_file.specs.Seen.{HasFolds, count_of, folds_of}
+use Rattle.list_file.specs.View.{module_view, partial_view, sheet_view}
 
 -- a name is listed exactly where its fold is among those of the sheets
 pub among_folds : (name : List ℕ) (sheets : List SheetAt) → list_any (λ other. bytes_eq (folded name) other) (folds_of sheets) ≡ is_listed name sheets
@@ -29,6 +31,30 @@ pub unlisted : (name : List ℕ) (sheets : List SheetAt) (fold : List ℕ) (fold
 unlisted name sheets fold folds is are none =
     sym (among_folds name sheets)
     ∙ subst (λ f. list_any (λ other. bytes_eq f other) (folds_of sheets) ≡ false) is (subst (λ fs. list_any (λ other. bytes_eq fold other) fs ≡ false) are none)
+
+-- a name that is new behind others that are
+pub new_names_more : (before sheets : List SheetAt) (s : SheetAt) → HaveNewNames before sheets → is_listed s.name (before ++ sheets) ≡ false → HaveNewNames before (sheets ++ s ∷ [])
+new_names_more before [] s new unlisted = (subst (λ ss. is_listed s.name ss ≡ false) (append-nil before) unlisted, tt)
+new_names_more before (first ∷ sheets) s new unlisted =
+    (new.0, new_names_more (before ++ first ∷ []) sheets s new.1 (subst (λ ss. is_listed s.name ss ≡ false) (sym (append_assoc before (first ∷ []) sheets)) unlisted))
+
+-- one sheet more, with its fold
+pub folds_more : (old new : Partial) (added : SheetPath) (fold : List ℕ) → HasFolds old → fold ≡ folded added.name
+    → is_listed added.name (map sheet_view old.sheets.items) ≡ false → new.folds.items ≡ old.folds.items ++ fold ∷ []
+    → new.sheets.items ≡ old.sheets.items ++ added ∷ [] → HasFolds new
+folds_more old new added fold has is unlisted folds sheets =
+    let seen : map sheet_view new.sheets.items ≡ map sheet_view old.sheets.items ++ sheet_view added ∷ [] =
+    ap (map sheet_view) sheets ∙ map-append sheet_view old.sheets.items (added ∷ []) in
+    let all = map sheet_view old.sheets.items in
+    record {
+      folds =
+          folds
+          ∙ ap (λ fs. fs ++ fold ∷ []) has.folds
+          ∙ ap (λ f. folds_of all ++ f ∷ []) is
+          ∙ sym (map-append (λ (s : SheetAt). folded s.name) all (sheet_view added ∷ []))
+          ∙ ap folds_of (sym seen);
+      names = subst (λ ss. HaveNewNames [] ss) (sym seen) (new_names_more [] all (sheet_view added) has.names unlisted);
+    }
 
 pub has_module_views : (modules : List ModulePath) → list_any (λ (m : ModulePath). not m.is_class) modules ≡ has_module (map module_view modules)
 has_module_views [] = refl
@@ -43,7 +69,7 @@ fails_whole (Fault number) meant fails = ap whole_list fails
 pub record LinesGoOn (source rest : List ℕ) (number : ℕ) (partial : Partial) : Type 0 where
   pub folds : HasFolds partial
   pub counted : number + length rest ≤ length source + 1
-  pub few : length partial.modules.items + 1 ≤ number
+  pub few : count_of partial + 1 ≤ number
   pub goes_on : listed_from number (partial_view partial) (lines_of rest) ≡ listed_from 1 nothing_listed (lines_of source)
 
 -- one line more was added
@@ -70,33 +96,33 @@ line_wrong number l source size ending first wrong =
     ap (listed_from number l) first.lines
     ∙ ap (λ (o : Option Listed). listed_on number o (λ (l2 : Listed). listed_from (suc number) l2 (lines_behind ending (drop (size + end_size ending) source)))) wrong
 
--- the rest of the lines, behind those that list no class and no sheet
-pub record OthersGoOn (source rest : List ℕ) (number : ℕ) : Type 0 where
+-- the rest of the lines, behind those that list no class
+pub record ClassesGoOn (source rest : List ℕ) (number : ℕ) : Type 0 where
   pub counted : number + length rest ≤ length source + 1
-  pub goes_on : first_other number (lines_of rest) ≡ first_other 1 (lines_of source)
+  pub goes_on : first_class number (lines_of rest) ≡ first_class 1 (lines_of source)
 
--- a line lists neither
+-- a line lists no class
 pub line_passed : (number : ℕ) (source : List ℕ) (size : ℕ) (ending : Ending) → IsFirstLine source size ending → is_last ending ≡ false
-    → lists_other (take size source) ≡ false → first_other number (lines_of source) ≡ first_other (suc number) (lines_of (drop (size + end_size ending) source))
+    → lists_class (take size source) ≡ false → first_class number (lines_of source) ≡ first_class (suc number) (lines_of (drop (size + end_size ending) source))
 line_passed number source size ending first more passed =
     let e : lines_behind ending (drop (size + end_size ending) source) ≡ lines_of (drop (size + end_size ending) source) = rw more in
-    ap (first_other number) (first.lines ∙ ap (λ (lines : List PhysicalLine). record { text = take size source; ending = ending } ∷ lines) e)
-    ∙ ap (λ (b : Bool). if b then Some number else first_other (suc number) (lines_of (drop (size + end_size ending) source))) passed
+    ap (first_class number) (first.lines ∙ ap (λ (lines : List PhysicalLine). record { text = take size source; ending = ending } ∷ lines) e)
+    ∙ ap (λ (b : Bool). if b then Some number else first_class (suc number) (lines_of (drop (size + end_size ending) source))) passed
 
--- the last line lists neither
+-- the last line lists none
 pub last_passed : (number : ℕ) (source : List ℕ) (size : ℕ) (ending : Ending) → IsFirstLine source size ending → is_last ending ≡ true
-    → lists_other (take size source) ≡ false → first_other number (lines_of source) ≡ None
+    → lists_class (take size source) ≡ false → first_class number (lines_of source) ≡ None
 last_passed number source size ending first last passed =
     let e : lines_behind ending (drop (size + end_size ending) source) ≡ [] = rw last in
-    ap (first_other number) (first.lines ∙ ap (λ (lines : List PhysicalLine). record { text = take size source; ending = ending } ∷ lines) e)
+    ap (first_class number) (first.lines ∙ ap (λ (lines : List PhysicalLine). record { text = take size source; ending = ending } ∷ lines) e)
     ∙ ap (λ (b : Bool). if b then Some number else None) passed
 
--- a line lists one of them
+-- a line lists one
 pub line_found : (number : ℕ) (source : List ℕ) (size : ℕ) (ending : Ending) → IsFirstLine source size ending
-    → lists_other (take size source) ≡ true → first_other number (lines_of source) ≡ Some number
+    → lists_class (take size source) ≡ true → first_class number (lines_of source) ≡ Some number
 line_found number source size ending first found =
-    ap (first_other number) first.lines
-    ∙ ap (λ (b : Bool). if b then Some number else first_other (suc number) (lines_behind ending (drop (size + end_size ending) source))) found
+    ap (first_class number) first.lines
+    ∙ ap (λ (b : Bool). if b then Some number else first_class (suc number) (lines_behind ending (drop (size + end_size ending) source))) found
 
 -- the paths of modules are those of what they stand for
 pub paths_seen : (modules : List ModulePath) → paths_view modules ≡ map (λ (m : ModuleAt). m.path) (map module_view modules)

@@ -1,5 +1,5 @@
 -- What a list file says as a whole, or the number of the first line that breaks it.
-use Rattle.std.specs.Prelude.{ℕ, suc, Bool, not, List, [], ◌∷◌, ◌++◌, Option, Some, None, bytes_eq, Result, Ok, Err, if◌then◌else◌}
+use Rattle.std.specs.Prelude.{◌≡◌, ℕ, suc, Bool, false, not, List, [], ◌∷◌, ◌++◌, Option, Some, None, bytes_eq, Result, Ok, Err, if◌then◌else◌}
 use Rattle.std.specs.List.{list_any}
 use Rattle.vba_base.specs.Fold.{folded}
 use Rattle.vba_lexer.specs.Lines.{PhysicalLine, lines_of}
@@ -30,6 +30,11 @@ nothing_listed = record { modules = []; sheets = []; startup = None }
 -- names of sheets match without regard to case
 abbrev pub is_listed : List ℕ → List SheetAt → Bool
 is_listed name sheets = list_any (λ (s : SheetAt). bytes_eq (folded name) (folded s.name)) sheets
+
+-- each of these sheets has a name that none before it has
+abbrev pub HaveNewNames : (before sheets : List SheetAt) → Type 0
+HaveNewNames before [] = Unit {0}
+HaveNewNames before (s ∷ sheets) = (is_listed s.name before ≡ false) × HaveNewNames (before ++ s ∷ []) sheets
 
 -- one line more; none where it says nothing that may stand there
 abbrev pub with_entry : Listed → Entry → Option Listed

@@ -1,13 +1,16 @@
 -- Serves the code: what was read, without where it lies in memory.
-use Rattle.std.specs.Prelude.{ℕ, ◌≤◌, length, List, [], ◌∷◌, map, string_bytes, Result, Ok, Err, Vec}
+use Rattle.std.specs.Prelude.{ℕ, ◌+◌, ◌≤◌, length, List, [], ◌∷◌, map, string_bytes, Result, Ok, Err, Vec}
 use Rattle.std.specs.declared.alloc.Global.{Global}
 use Rattle.list_file.specs.declared.files.ReadStop.{ReadStop}
 use Rattle.list_file.specs.declared.bytes.FileBytes.{FileBytes}
 use Rattle.list_file.specs.declared.list.ModulePath.{ModulePath}
+use Rattle.list_file.specs.declared.list.SheetPath.{SheetPath}
+use Rattle.list_file.specs.declared.list.ListFile.{ListFile}
 use Rattle.list_file.specs.declared.plan.Plan.{Plan}
 use Rattle.list_file.specs.declared.plan.Plan.TheVariants as plan
 use Rattle.list_file.specs.Plans as plans
-use Rattle.list_file.specs.View.{start_view}
+use Rattle.list_file.specs.Lists.{SheetAt, HaveNewNames}
+use Rattle.list_file.specs.View.{sheet_view, start_view}
 
 abbrev pub bytes_view : List FileBytes → List (List ℕ)
 bytes_view files = map (λ (f : FileBytes). f.bytes.items) files
@@ -15,6 +18,10 @@ bytes_view files = map (λ (f : FileBytes). f.bytes.items) files
 -- the paths of modules
 abbrev pub paths_view : List ModulePath → List (List ℕ)
 paths_view modules = map (λ (m : ModulePath). string_bytes m.path) modules
+
+-- sheets by their names and paths
+abbrev pub sheets_view : List SheetPath → List SheetAt
+sheets_view sheets = map sheet_view sheets
 
 -- one file, and several, or why reading stopped
 abbrev pub outcome_of_one : Result FileBytes ReadStop → Result (List (List ℕ)) ReadStop
@@ -27,10 +34,14 @@ outcome (Err reason) = Err reason
 
 abbrev pub plan_view : Plan → plans.Plan
 plan_view (plan.BadLine line) = plans.bad_line line
-plan_view (plan.Other line) = plans.other_at line
-plan_view (plan.Modules list) = plans.modules_at (paths_view list.modules.items) (start_view list.startup)
+plan_view (plan.Class line) = plans.class_at line
+plan_view (plan.Project list) = plans.project_at (paths_view list.modules.items) (sheets_view list.sheets.items) (start_view list.startup)
 
--- the modules are so many as a text may list
-abbrev pub IsFew : Plan → Type 0
-IsFew (plan.Modules list) = length list.modules.items ≤ 67108865
-IsFew other = Unit {0}
+-- the modules and sheets are so many as a text may list, and the sheets have different names
+pub record IsListable (list : ListFile) : Type 0 where
+  pub few : length list.modules.items + length list.sheets.items ≤ 67108865
+  pub names : HaveNewNames [] (sheets_view list.sheets.items)
+
+abbrev pub IsProper : Plan → Type 0
+IsProper (plan.Project list) = IsListable list
+IsProper other = Unit {0}

@@ -1,9 +1,9 @@
 //! Reading the files of a call.
 
 ghost use Rattle.std.specs.Prelude.{◌≡◌, ◌≤◌, ◌<◌, ◌+◌, [], ◌∷◌, IfOk, Result, length};
-ghost use Rattle.list_file.specs.Files.{FilesAt, ReadInOrder, call_limit, room};
+ghost use Rattle.list_file.specs.Files.{FilesAt, ReadInOrder, call_limit, room, total};
 ghost use Rattle.list_file.specs.declared.files.ReadStop.TheVariants as stops;
-ghost use Rattle.list_file.specs.Sources.{outcome, outcome_of_one, paths_view};
+ghost use Rattle.list_file.specs.Sources.{bytes_view, outcome, outcome_of_one, paths_view};
 
 use crate::bytes::FileBytes;
 use crate::list::ModulePath;
@@ -66,6 +66,7 @@ pub fn read_modules<F: Files>(
     requires count { length modules.now ≤ 67108865 }
     requires within { taken ≤ call_limit }
     ensures count { IfOk result (λ files. length files.items ≡ length modules.now) }
+    ensures within { IfOk result (λ files. taken + total (bytes_view files.items) ≤ call_limit) }
     ensures read { let old : FilesAt = record { told = F.told files.old; counts = F.counts files.old } in
         let new : FilesAt = record { told = F.told files.new; counts = F.counts files.new } in
         ReadInOrder (paths_view modules.now) 1 taken (outcome result) old new }
@@ -82,6 +83,18 @@ pub fn read_modules<F: Files>(
         left = rest;
     }
     Ok(read)
+}
+
+/// How many bytes the files have together.
+pub fn size_of(files: &[FileBytes]) -> u64
+    requires { total (bytes_view files.now) ≤ call_limit }
+    ensures { result ≡ total (bytes_view files.now) }
+{
+    let mut size = 0;
+    for file in files {
+        size += file.bytes.len() as u64;
+    }
+    size
 }
 
 impl<T: Drop> From<AllocFailed<T>> for ReadStop {

@@ -10,7 +10,7 @@ mod plan;
 mod read;
 
 pub use bytes::FileBytes;
-pub use files::{ReadStop, read_file, read_modules};
+pub use files::{ReadStop, read_file, read_modules, size_of};
 pub use list::{ListFile, ModulePath, SheetPath, Startup};
 pub use plan::{Plan, plan_of};
 pub use read::read_list;

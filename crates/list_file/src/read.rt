@@ -1,12 +1,12 @@
 //! Reading a list file.
 
-ghost use Rattle.std.specs.Prelude.{◌≡◌, ◌≤◌, ◌+◌, not, Ok, IfOk, OnOk, Some, string_bytes, bytes_eq, length, map};
+ghost use Rattle.std.specs.Prelude.{◌≡◌, ◌≤◌, ◌+◌, [], not, Ok, IfOk, OnOk, Some, string_bytes, bytes_eq, length, map};
 ghost use Rattle.std.specs.List.{list_any};
 ghost use Rattle.vba_base.specs.Answer.{Gives};
 ghost use Rattle.vba_lexer.specs.Lines.{lines_of};
 ghost use Rattle.list_file.specs.Lines as lines;
 ghost use Rattle.list_file.specs.Lists as lists;
-ghost use Rattle.list_file.specs.Seen.{HasFolds, if_added};
+ghost use Rattle.list_file.specs.Seen.{HasFolds, count_of, if_added};
 ghost use Rattle.list_file.specs.View.{entry_view, module_view, sheet_view, start_view, partial_view, list_view};
 
 use crate::line::{Entry, entry_of};
@@ -32,7 +32,7 @@ fn add_sheet(
 ) -> Result<bool, NoMemory>
     requires { HasFolds partial.old }
     ensures folds { OnOk result (HasFolds partial.new) }
-    ensures count { OnOk result (length partial.new.modules.items ≡ length partial.old.modules.items) }
+    ensures count { OnOk result (count_of partial.new ≤ count_of partial.old + 1) }
     ensures added { IfOk result (λ was_added.
         lists.with_entry (partial_view partial.old) (lines.a_sheet name (string_bytes path)) ≡ if_added was_added (partial_view partial.new)) }
 {
@@ -49,7 +49,7 @@ fn add_sheet(
 fn add_module(partial: &mut Partial, added: ModulePath) -> Result<(), NoMemory>
     requires { HasFolds partial.old }
     ensures folds { OnOk result (HasFolds partial.new) }
-    ensures count { OnOk result (length partial.new.modules.items ≡ length partial.old.modules.items + 1) }
+    ensures count { OnOk result (count_of partial.new ≡ count_of partial.old + 1) }
     ensures added { OnOk result
         (lists.with_entry (partial_view partial.old) (lines.a_module added.is_class (string_bytes added.path)) ≡ Some (partial_view partial.new)) }
 {
@@ -61,7 +61,7 @@ fn add_module(partial: &mut Partial, added: ModulePath) -> Result<(), NoMemory>
 fn add_startup(partial: &mut Partial, startup: Startup) -> bool
     requires { HasFolds partial.old }
     ensures folds { HasFolds partial.new }
-    ensures count { length partial.new.modules.items ≡ length partial.old.modules.items }
+    ensures count { count_of partial.new ≡ count_of partial.old }
     ensures added { lists.with_entry (partial_view partial.old) (lines.a_startup startup.in_module startup.procedure) ≡ if_added result (partial_view partial.new) }
 {
     if partial.startup.is_some() {
@@ -75,7 +75,7 @@ fn add_startup(partial: &mut Partial, startup: Startup) -> bool
 fn add(alloc: Global, partial: &mut Partial, entry: Entry) -> Result<bool, NoMemory>
     requires { HasFolds partial.old }
     ensures folds { OnOk result (HasFolds partial.new) }
-    ensures count { OnOk result (length partial.new.modules.items ≤ length partial.old.modules.items + 1) }
+    ensures count { OnOk result (count_of partial.new ≤ count_of partial.old + 1) }
     ensures added { IfOk result (λ was_added.
         lists.with_entry (partial_view partial.old) (entry_view entry) ≡ if_added was_added (partial_view partial.new)) }
 {
@@ -104,7 +104,8 @@ fn add(alloc: Global, partial: &mut Partial, entry: Entry) -> Result<bool, NoMem
 fn read_lines(alloc: Global, source: &[u16]) -> Result<Partial, OrMemory<u32>>
     requires { length source.now ≤ 67108864 }
     ensures read { Gives partial_view result (lists.listed_from 1 lists.nothing_listed (lines_of source.now)) }
-    ensures count { IfOk result (λ partial. length partial.modules.items ≤ length source.now + 1) }
+    ensures count { IfOk result (λ partial. count_of partial ≤ length source.now + 1) }
+    ensures folds { IfOk result (λ partial. HasFolds partial) }
 {
     let mut partial = Partial {
         modules: Vec::new(alloc),
@@ -148,7 +149,8 @@ fn with_startup(
     sheets: Vec<SheetPath>,
     startup: Startup,
 ) -> Result<ListFile, OrMemory<u32>>
-    ensures count { IfOk result (λ list. length list.modules.items ≡ length modules.items) }
+    ensures modules { IfOk result (λ list. list.modules.items ≡ modules.items) }
+    ensures sheets { IfOk result (λ list. list.sheets.items ≡ sheets.items) }
     ensures whole { Gives list_view result (lists.whole_list (Ok (record {
       modules = map module_view modules.items;
       sheets = map sheet_view sheets.items;
@@ -167,7 +169,8 @@ fn with_startup(
 
 /// The list, where it is whole: it has a startup and a standard module.
 fn whole(partial: Partial) -> Result<ListFile, OrMemory<u32>>
-    ensures count { IfOk result (λ list. length list.modules.items ≡ length partial.modules.items) }
+    ensures modules { IfOk result (λ list. list.modules.items ≡ partial.modules.items) }
+    ensures sheets { IfOk result (λ list. list.sheets.items ≡ partial.sheets.items) }
     ensures whole { Gives list_view result (lists.whole_list (Ok (partial_view partial))) }
 {
     let Partial {
@@ -190,7 +193,8 @@ fn whole(partial: Partial) -> Result<ListFile, OrMemory<u32>>
 pub fn read_list(alloc: Global, text: &Units) -> Result<ListFile, OrMemory<u32>>
     requires { length text.now ≤ 67108864 }
     ensures list { Gives list_view result (lists.list_of text.now) }
-    ensures count { IfOk result (λ list. length list.modules.items ≤ length text.now + 1) }
+    ensures count { IfOk result (λ list. length list.modules.items + length list.sheets.items ≤ length text.now + 1) }
+    ensures names { IfOk result (λ list. lists.HaveNewNames [] (map sheet_view list.sheets.items)) }
 {
     match read_lines(alloc, text.units()) {
         Ok(partial) => whole(partial),

@@ -5,10 +5,10 @@ use Rattle.std.proofs.Math.Seq.{get_or-append_seam}
 use Rattle.std.proofs.lemmas.Option.{slice_get-get_or}
 use Rattle.vba_values.specs.declared.types.Compare.{Compare}
 use Rattle.vba_values.specs.Types.{Declared}
-use Rattle.bound_project.specs.Statements.{Tests, no_tests, test_is, test_range, Action, assign, assign_none, set, assign_default, evaluate, let_property, set_property, print, raise, test, go_to, for_to, next, for_each, next_each, exit_each, select, case_of, redim, erase, with_place, with_value, end_with, go_sub, return_sub, exit_to, on_error, end_handler, clear_err, resume_again, resume_next, resume_at, stop, end_run, Statement}
+use Rattle.bound_project.specs.Statements.{Tests, no_tests, test_is, test_range, Action, assign, assign_none, set, assign_default, assign_member, evaluate, let_property, set_property, print, raise, test, go_to, for_to, next, for_each, next_each, exit_each, select, case_of, redim, erase, with_place, with_value, end_with, go_sub, return_sub, exit_to, on_error, end_handler, clear_err, resume_again, resume_next, resume_at, stop, end_run, Statement}
 use Rattle.bound_project.specs.Project.{Project, Body, statements_or, next_or}
 use Rattle.pcode.specs.Instructions.{Instr, Leave, list_or, number_or}
-use Rattle.pcode.specs.Code.{Entry, expr_code, place_code, args_code, prints_code, resizes_code, erases_code, tests_code, action_code, statement_code}
+use Rattle.pcode.specs.Code.{Entry, expr_code, place_code, args_code, list_code, prints_code, resizes_code, erases_code, tests_code, action_code, statement_code}
 use Rattle.pcode.specs.Layout.{statement_length, body_length, addresses, entries_of, entry_in, body_code, bodies_code, starts_of, nexts_of, code_of, HasAt, HasStatement, Laid}
 use Rattle.pcode.proofs.Stands.{has_front, has_back}
 
@@ -31,6 +31,7 @@ len_action entry p i k (assign x e) = behind (expr_code e) _ _ (behind (place_co
 len_action entry p i k (assign_none x e) = behind (expr_code e) _ _ (behind (expr_code x) _ _ refl)
 len_action entry p i k (set x e) = behind (expr_code e) _ _ (behind (place_code x) _ _ refl)
 len_action entry p i k (assign_default x e) = behind (expr_code e) _ _ (behind (expr_code x) _ _ refl)
+len_action entry p i k (assign_member base name es e) = behind (expr_code e) _ _ (behind (expr_code base) _ _ (ap suc (behind (list_code es) _ _ refl)))
 len_action entry p i k (evaluate e) = behind (expr_code e) _ _ refl
 len_action entry p i k (let_property q args e of) = behind (expr_code e) _ _ (behind (args_code args) _ _ refl)
 len_action entry p i k (set_property q args e of) = behind (expr_code e) _ _ (behind (args_code args) _ _ refl)

@@ -9,6 +9,7 @@ use Rattle.vba_values.specs.declared.object.ObjRef.TheVariants.{Host}
 use Rattle.vba_values.specs.Val.{Val, boolean, empty, missing, object}
 use Rattle.error_frames.specs.declared.frame.Taken.{Taken}
 use Rattle.error_frames.specs.declared.frame.Taken.TheVariants as taken
+use Rattle.sheet_host.specs.Books.{Sheets}
 use Rattle.bound_project.specs.Whole.{All}
 use Rattle.bound_project.specs.Project.{class_at, first_values}
 use Rattle.vba_meaning.specs.Paths.{Path, field_path}
@@ -17,7 +18,7 @@ use Rattle.vba_meaning.specs.References.{objects_in, objects_in_values, hold, he
 use Rattle.vba_meaning.specs.Effects.{Event, Effect, Fine, Bad-at, Out, Tell, lent, packed, reordered, printed, loop_off, keep, selected, gone_sub, policy_on, handler_off, err_off, stop_here, taken_by, err_of}
 use Rattle.vba_meaning.specs.Arrays.{each_off, block_over, keep_path}
 use Rattle.vba_meaning.specs.Meaning.{State, with_memory, turned, left}
-use Rattle.pcode.specs.Instructions.{Instr, Begin, Push, PushHost, LoadErr, PathOf, ReadThrough, ElementOf, ElementIn, FieldOf, Dot, Index, PartOf, Operate, OperateAlone, Plain, PlainIfAny, Same, IsType, Library, BoundAt, Fit, FitObject, Drop, Lend, Pack, Reorder, Lift, Call, Store, SetAt, StoreDefault, ShowText, Show, Throw, LoopOff, LoopOn, NextRound, EachOff, EachOn, NextItem, Keep, Selected, IfFits, IfBetween, Redim, EraseAt, KeepPath, DropKept, PutReturn, TakeReturn, SetPolicy, HandlerOff, ErrOff, Again, Behind, Resumes, Finish, Branch, Halt, StopHere, Leave, Code, entry_of}
+use Rattle.pcode.specs.Instructions.{Instr, Begin, Push, PushHost, LoadErr, PathOf, ReadThrough, ElementOf, ElementIn, FieldOf, Dot, Index, PartOf, Operate, OperateAlone, Plain, PlainIfAny, FirstSheet, MemberThere, MemberOf, Same, IsType, Library, BoundAt, Fit, FitObject, Drop, Lend, Pack, Reorder, Lift, Call, Store, SetAt, StoreDefault, StoreMember, ShowText, Show, Throw, LoopOff, LoopOn, NextRound, EachOff, EachOn, NextItem, Keep, Selected, IfFits, IfBetween, Redim, EraseAt, KeepPath, DropKept, PutReturn, TakeReturn, SetPolicy, HandlerOff, ErrOff, Again, Behind, Resumes, Finish, Branch, Halt, StopHere, Leave, Code, entry_of}
 use Rattle.pcode.specs.Machine.{After, Goes-on, Decide, Return, Back-to, Pass, Close, Back, Caller, EndOf, Config, Move, Goes, Ends, Tells, Turns, at, failing, letting, lets_all, finishes, raised, done_then, then_at, then_push, then_branch, pops, pops_path, take_args, pushed, looking, act, finished_by, terminates_by, ends_by, closing, returned_by, passed_on, next_by, takes, comes_by, step, Fin, Done, Unfinished, Stuck, tells, follow, machine, first_move, run_code}
 use Rattle.pcode.specs.WellFormed.{Kind, a_value, a_path, Way, no_way, brings, value_off, path_off, taken_off as kinds_off, kinds_pushed, kinds_reordered, along, along_rest, along_all, Leads, Sound, SoundFrom, joined, Lands, begins, leaves, WellFormed}
 use Rattle.pcode.specs.Steady.{HasEnded, Steady}
@@ -341,6 +342,14 @@ module _ (code : Code) (well : WellFormed code) (bound : ℕ) where
           value_off_stops st _ _ u e (λ w st1 e1. value_off_stops st1 _ _ u e1 (λ v st2 e2. does _ bs s _ l.good good (λ x s1 g1. on (value x ∷ st2) s1 g1 e2)))
       acts Same pc st s u good after on e q h =
           value_off_stops st _ _ u e (λ w st1 e1. value_off_stops st1 _ _ u e1 (λ v st2 e2. does _ bs s _ l.good good (λ x s1 g1. on (value x ∷ st2) s1 g1 e2)))
+      acts FirstSheet pc st s u good after on e q h = does _ bs s _ l.good good (λ v s1 g1. on (value v ∷ st) s1 g1 e)
+      acts (MemberThere name k) pc st s u good after on e q h =
+          value_off_stops st _ _ u e (λ v st1 e1. does _ bs s _ l.good good (λ w s1 g1. on (value w ∷ value v ∷ st1) s1 g1 e1))
+      acts (MemberOf name k) pc st s u good after on e q h =
+          off_stops k st [] _ _ u e (λ xs st1 e1. value_off_stops st1 _ _ u e1 (λ w st2 e2. value_off_stops st2 _ _ u e2 (λ v st3 e3. does _ bs s _ l.good good (λ x s1 g1. on (value x ∷ st3) s1 g1 e3))))
+      acts (StoreMember name k) pc st s u good after on e q h =
+          off_stops k st [] _ _ u e (λ xs st1 e1.
+          value_off_stops st1 _ _ u e1 (λ x st2 e2. value_off_stops st2 _ _ u e2 (λ w st3 e3. value_off_stops st3 _ _ u e3 (λ v st4 e4. does _ bs s _ l.good good (λ t s1 g1. on st4 s1 g1 e4)))))
       acts (Library f text_form compare base k) pc st s u good after on e q h = off_stops k st [] _ _ u e (λ xs st1 e1. does _ bs s _ l.good good (λ v s1 g1. on (value v ∷ st1) s1 g1 e1))
       acts (BoundAt upper z) pc st s u good after on e q h = path_off_stops st _ _ u e (λ q st1 e1. does _ bs s _ l.good good (λ v s1 g1. on (value v ∷ st1) s1 g1 e1))
       acts Drop pc st s u good after on e q h = value_off_stops st _ _ u e (λ v st1 e1. on st1 s good e1)
@@ -457,8 +466,8 @@ module _ (code : Code) (well : WellFormed code) (bound : ℕ) where
   known_all zero = known_now 0 (λ m e. absurd cc)
   known_all (suc n) = known_now (suc n) (λ m e. (let k : n ≡ m = omega (arith, e) in subst (Known code bound) k (known_all n)))
 
-  first_stops : Stops code bound (first_move code)
-  first_stops = turning _ _ (λ lt. (known_all bound).start (slice_index code.starts code.startup) [] _ (start_lands code.startup) tt (omega arith))
+  first_stops : (book : Sheets) → Stops code bound (first_move code book)
+  first_stops book = turning _ _ (λ lt. (known_all bound).start (slice_index code.starts code.startup) [] _ (start_lands code.startup) tt (omega arith))
 
 ended_final : (x : Fin) → HasEnded x → Final x
 ended_final (Done e s es) h = tt
@@ -468,10 +477,10 @@ ended_final Stuck h = tt
 -- each run of a well-formed code ends, and none sticks
 pub steady : (code : Code) → WellFormed code → Steady code
 steady code well = record {
-  ends = λ bound. (let h = first_stops code well bound in (h.steps, h.ends));
-  never_stuck = λ bound k e. (
-      let h = first_stops code well bound in
-      let final = ended_final (run_code code bound h.steps) h.ends in
-      let same = one_end code bound h.steps k final (subst Final (sym e) tt) ∙ e in
+  ends = λ book bound. (let h = first_stops code well bound book in (h.steps, h.ends));
+  never_stuck = λ book bound k e. (
+      let h = first_stops code well bound book in
+      let final = ended_final (run_code code book bound h.steps) h.ends in
+      let same = one_end code book bound h.steps k final (subst Final (sym e) tt) ∙ e in
       subst HasEnded same h.ends);
 }

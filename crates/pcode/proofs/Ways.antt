@@ -3,8 +3,8 @@ use Rattle.std.proofs.Common.{◌≡◌, ℕ, suc, ◌+◌, Bool, List, [], ◌�
 use Rattle.std.proofs.lemmas.List.{append-nil}
 use Rattle.vba_values.specs.declared.types.Compare.{Compare}
 use Rattle.vba_values.specs.Types.{Declared}
-use Rattle.bound_project.specs.Expressions.{Expr, expr, Node, not_given, constant, load, element_value, field_value, unary, binary, call, err_value, default_of, default_if_any, same, is_type, library, bound_of, host_object, Lvalue, variable, item, element, field, kept_place, Args, no_args, by_place, by_copy, by_default, by_list, in_order, Exprs, no_exprs, also, Prints, no_prints, shown, zone}
-use Rattle.bound_project.specs.Statements.{Resizes, no_resizes, resize, Arrays, no_arrays, an_array, Tests, no_tests, test_is, test_range, Action, assign, assign_none, set, assign_default, evaluate, let_property, set_property, print, raise, test, go_to, for_to, next, for_each, next_each, exit_each, select, case_of, redim, erase, with_place, with_value, end_with, go_sub, return_sub, exit_to, on_error, end_handler, clear_err, resume_again, resume_next, resume_at, stop, end_run, Statement}
+use Rattle.bound_project.specs.Expressions.{Expr, expr, Node, not_given, constant, load, element_value, field_value, unary, binary, call, err_value, default_of, default_if_any, same, is_type, library, bound_of, host_object, active_sheet, host_member, Lvalue, variable, item, element, field, kept_place, Args, no_args, by_place, by_copy, by_default, by_list, in_order, Exprs, no_exprs, also, Prints, no_prints, shown, zone}
+use Rattle.bound_project.specs.Statements.{Resizes, no_resizes, resize, Arrays, no_arrays, an_array, Tests, no_tests, test_is, test_range, Action, assign, assign_none, set, assign_default, assign_member, evaluate, let_property, set_property, print, raise, test, go_to, for_to, next, for_each, next_each, exit_each, select, case_of, redim, erase, with_place, with_value, end_with, go_sub, return_sub, exit_to, on_error, end_handler, clear_err, resume_again, resume_next, resume_at, stop, end_run, Statement}
 use Rattle.bound_project.specs.Project.{Project, Body}
 use Rattle.pcode.specs.Instructions.{Instr, Plain, Fit, FitObject, Call, Drop, Finish}
 use Rattle.pcode.specs.Code.{count, list_count, prints_count, expr_code, node_code, place_code, args_code, list_code, prints_code, resizes_code, erases_code, Entry, tests_code, action_code, statement_code}
@@ -105,6 +105,9 @@ mutual
   node_gives (err_value member) ks = record { by = λ rest. refl }
   node_gives (default_of e) ks = then_gives (expr_code e) _ (expr_gives e ks) (record { by = λ rest. refl })
   node_gives (default_if_any e) ks = then_gives (expr_code e) _ (expr_gives e ks) (record { by = λ rest. refl })
+  node_gives active_sheet ks = record { by = λ rest. refl }
+  node_gives (host_member e name es) ks =
+      then_gives (expr_code e) _ (expr_gives e ks) (record { by = λ rest. (then_gives (list_code es) _ (list_gives es (a_value ∷ a_value ∷ ks)) (record { by = λ more. counts (list_kinds es) _ _ _ more _ (lists_count es) refl })).by rest })
   node_gives (same a b) ks = then_gives (expr_code a) _ (expr_gives a ks) (then_gives (expr_code b) _ (expr_gives b (a_value ∷ ks)) (record { by = λ rest. refl }))
   node_gives (is_type e of) ks = then_gives (expr_code e) _ (expr_gives e ks) (record { by = λ rest. refl })
   node_gives (library f text_form es compare base) ks = then_gives (list_code es) _ (list_gives es ks) (record { by = λ rest. counts (list_kinds es) _ _ _ rest _ (lists_count es) refl })
@@ -159,6 +162,10 @@ action_closes entry p i k (assign x e) = then_closes (expr_code e) _ (expr_gives
 action_closes entry p i k (assign_none x e) = then_closes (expr_code e) _ (expr_gives e []) (then_closes (expr_code x) _ (expr_gives x (a_value ∷ [])) (record { by = λ rest. refl }))
 action_closes entry p i k (set x e) = then_closes (expr_code e) _ (expr_gives e []) (then_closes (place_code x) _ (place_gives x (a_value ∷ [])) (record { by = λ rest. refl }))
 action_closes entry p i k (assign_default x e) = then_closes (expr_code e) _ (expr_gives e []) (then_closes (expr_code x) _ (expr_gives x (a_value ∷ [])) (record { by = λ rest. refl }))
+action_closes entry p i k (assign_member base name es e) =
+    then_closes (expr_code e) _ (expr_gives e []) (then_closes (expr_code base) _ (expr_gives base (a_value ∷ [])) (record {
+      by = λ rest. (then_closes (list_code es) _ (list_gives es (a_value ∷ a_value ∷ a_value ∷ [])) (record { by = λ more. counts (list_kinds es) _ _ _ (Finish (entry k) ∷ more) _ (lists_count es) refl })).by rest;
+    }))
 action_closes entry p i k (evaluate e) = then_closes (expr_code e) _ (expr_gives e []) (record { by = λ rest. refl })
 action_closes entry p i k (let_property q args e of) =
     then_closes (expr_code e) _ (expr_gives e []) (then_closes (args_code args) _ (args_give args (a_value ∷ []))

@@ -1,5 +1,6 @@
 -- What it is that a code runs to an end.
 use Rattle.std.specs.Prelude.{◌≡◌, ℕ}
+use Rattle.sheet_host.specs.Books.{Sheets}
 use Rattle.pcode.specs.Instructions.{Code}
 use Rattle.pcode.specs.Machine.{Fin, Done, Unfinished, Stuck, run_code}
 
@@ -8,7 +9,7 @@ HasEnded (Done e s es) = Unit {0}
 HasEnded Unfinished = ⊥
 HasEnded Stuck = ⊥
 
--- with each bound on turns the run of a code ends, and it never lacks an operand or an instruction
+-- over each book and with each bound on turns the run of a code ends, and it never lacks an operand or an instruction
 pub record Steady (code : Code) : Type 0 where
-  pub ends : (turns : ℕ) → (steps : ℕ) × HasEnded (run_code code turns steps)
-  pub never_stuck : (turns steps : ℕ) → run_code code turns steps ≡ Stuck → ⊥
+  pub ends : (book : Sheets) (turns : ℕ) → (steps : ℕ) × HasEnded (run_code code book turns steps)
+  pub never_stuck : (book : Sheets) (turns steps : ℕ) → run_code code book turns steps ≡ Stuck → ⊥

@@ -4,7 +4,7 @@ use Rattle.std.specs.Prelude.{◌≡◌, ℕ, zero, suc, ◌<◌, ◌≤◌, Lis
 use Rattle.error_frames.specs.declared.frame.Policy.{Policy}
 use Rattle.error_frames.specs.declared.frame.Policy.TheVariants as policy
 use Rattle.bound_project.specs.Whole.{All, IfThere, IsConstant, HasType, HasVariable, HasProcedure, WholeClass}
-use Rattle.pcode.specs.Instructions.{Instr, Begin, Push, PushHost, LoadErr, PathOf, ReadThrough, ElementOf, ElementIn, FieldOf, Dot, Index, PartOf, Operate, OperateAlone, Plain, PlainIfAny, Same, IsType, Library, BoundAt, Fit, FitObject, Drop, Lend, Pack, Reorder, Lift, Call, Store, SetAt, StoreDefault, ShowText, Show, Throw, LoopOff, LoopOn, NextRound, EachOff, EachOn, NextItem, Keep, Selected, IfFits, IfBetween, Redim, EraseAt, KeepPath, DropKept, PutReturn, TakeReturn, SetPolicy, Again, Behind, Resumes, Finish, Branch, Halt, Leave, Code, list_or, entry_of, next_statement}
+use Rattle.pcode.specs.Instructions.{Instr, Begin, Push, PushHost, LoadErr, PathOf, ReadThrough, ElementOf, ElementIn, FieldOf, Dot, Index, PartOf, Operate, OperateAlone, Plain, PlainIfAny, FirstSheet, MemberThere, MemberOf, Same, IsType, Library, BoundAt, Fit, FitObject, Drop, Lend, Pack, Reorder, Lift, Call, Store, SetAt, StoreDefault, StoreMember, ShowText, Show, Throw, LoopOff, LoopOn, NextRound, EachOff, EachOn, NextItem, Keep, Selected, IfFits, IfBetween, Redim, EraseAt, KeepPath, DropKept, PutReturn, TakeReturn, SetPolicy, Again, Behind, Resumes, Finish, Branch, Halt, Leave, Code, list_or, entry_of, next_statement}
 
 -- ---- operands
 
@@ -71,6 +71,10 @@ behind Plain ks = value_off ks brings_value
 behind PlainIfAny ks = value_off ks brings_value
 behind Same ks = value_off ks (λ js. value_off js brings_value)
 behind (IsType of) ks = value_off ks brings_value
+behind FirstSheet ks = brings_value ks
+behind (MemberThere name n) ks = value_off ks (λ js. brings_value (a_value ∷ js))
+behind (MemberOf name n) ks = taken_off n ks [] (λ xs js. value_off js (λ is. value_off is brings_value))
+behind (StoreMember name n) ks = taken_off n ks [] (λ xs js. value_off js (λ is. value_off is (λ hs. value_off hs (λ gs. Some (brings gs)))))
 behind (Library f text_form compare base n) ks = taken_off n ks [] (λ xs js. brings_value js)
 behind (BoundAt upper z) ks = path_off ks brings_value
 behind (Fit of) ks = value_off ks brings_value

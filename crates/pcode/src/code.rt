@@ -1,6 +1,6 @@
 ghost use Rattle.std.specs.Prelude.{◌≡◌, ◌+◌, ◌<◌, ◌^◌, IfOk, IfSome, option_map, slice_get, slice_index};
 ghost use Rattle.vba_values.specs.View.{view};
-ghost use Rattle.bound_project.specs.Pieces.{constant_in, order_in};
+ghost use Rattle.bound_project.specs.Pieces.{constant_in, name_in, order_in};
 ghost use Rattle.pcode.specs.Instructions.{next_statement, entry_of};
 ghost use Rattle.pcode.specs.View.{instr_view, tables_of, code_view};
 
@@ -43,6 +43,16 @@ impl Code {
             Some(value) => copy_value(alloc, value),
             None => Ok(Value::Empty),
         }
+    }
+
+    /// A name, which is a text constant, or no units where there is none with that number.
+    pub fn name(&self, number: u32) -> &[u16]
+        ensures { result.now ≡ name_in (tables_of self.now) number }
+    {
+        let Some(Value::Text(text)) = self.constants.get(number as usize) else {
+            return &[];
+        };
+        text.units()
     }
 
     /// An order of arguments, or none of them where there is no order with that number.

@@ -58,6 +58,17 @@ pub enum Instr {
     Plain,
     /// The same, but an object without such a value stays.
     PlainIfAny,
+    FirstSheet,
+    /// Whether the object on top has a member of this name that takes so many arguments, with what they index put above
+    /// it; and that member, with so many arguments above both. The name is a text constant, folded.
+    MemberThere {
+        name: u32,
+        given: u32,
+    },
+    MemberOf {
+        name: u32,
+        arguments: u32,
+    },
     /// Is and TypeOf.
     Same,
     IsType(DeclaredType),
@@ -100,6 +111,11 @@ pub enum Instr {
     SetAt,
     /// The default member of an object is written with the value below it.
     StoreDefault,
+    /// The same, but the member is assigned the value below the object.
+    StoreMember {
+        name: u32,
+        arguments: u32,
+    },
     ShowText,
     Show {
         ends: bool,

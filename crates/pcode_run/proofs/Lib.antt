@@ -1,7 +1,7 @@
 pub mod Moves
 pub mod Shown
 pub mod Running
-pub mod Tellings
+pub mod Names
 pub mod Waiting
 pub mod Plainly
 pub mod Stepped
@@ -10,3 +10,7 @@ pub mod Reached
 pub mod Loops
 pub mod Tops
 pub mod Apart
+pub mod Chained
+pub mod Placed
+pub mod Uses
+pub mod Appended

@@ -1,5 +1,9 @@
 pub mod Runs
 pub mod Moving
 pub mod AtOnce
+pub mod Appends
 pub mod Plain
 pub mod Reaching
+pub mod Chains
+pub mod Elements
+pub mod Scalars

@@ -2,7 +2,8 @@
 ghost use Rattle.std.specs.Prelude.{◌≡◌, IfOk};
 ghost use Rattle.pcode.specs.Machine.{comes_by, go_on_by, looking, At, Letting, step as machine_step};
 ghost use Rattle.pcode.specs.View.{code_view};
-ghost use Rattle.pcode_vm.specs.View.{after_view, mode_view, operands_view, backs_view, state_view, config_view, told_view};
+ghost use Rattle.pcode_vm.specs.View.{after_view, mode_view, operands_view, backs_view, state_view, config_view};
+ghost use Rattle.run_host.specs.View.{told_view};
 ghost use Rattle.pcode_vm.specs.Does.{Does};
 
 use crate::frames::{close, decide, pass_on, returns};

@@ -3,4 +3,5 @@ pub mod Odd
 pub mod Given
 pub mod Waiting
 pub mod Carried
+pub mod Tellings
 mod Popped

@@ -8,7 +8,8 @@ ghost use Rattle.run_memory.specs.View.{slot_view, memory_view};
 ghost use Rattle.pcode.specs.Instructions as plain;
 ghost use Rattle.pcode.specs.Machine.{Caller, calls, enters};
 ghost use Rattle.pcode.specs.View.{code_view};
-ghost use Rattle.pcode_vm.specs.View.{operands_view, back_view, backs_view, state_view, told_view};
+ghost use Rattle.pcode_vm.specs.View.{operands_view, back_view, backs_view, state_view};
+ghost use Rattle.run_host.specs.View.{told_view};
 ghost use Rattle.pcode_vm.specs.Does.{Does, Acted};
 
 use crate::backs::Back;

@@ -50,6 +50,13 @@ impl Machine {
             ),
             Instr::Plain => self.plain(alloc, code, turns, pc),
             Instr::PlainIfAny => self.plain_if_any(alloc, code, turns, pc),
+            Instr::FirstSheet => self.first_sheet(alloc, code, turns, pc),
+            Instr::MemberThere { name, given } => self.member_there(
+                alloc, code, turns, pc, name, given,
+            ),
+            Instr::MemberOf { name, arguments } => self.member_of(
+                alloc, code, turns, pc, name, arguments,
+            ),
             Instr::Same => self.same(alloc, code, turns, pc),
             Instr::IsType(of) => self.is_type(alloc, code, turns, pc, of),
             Instr::Library {
@@ -89,6 +96,9 @@ impl Machine {
             Instr::Store => self.store(alloc, code, turns, pc),
             Instr::SetAt => self.set_at(alloc, code, turns, pc),
             Instr::StoreDefault => self.store_default(alloc, code, turns, pc),
+            Instr::StoreMember { name, arguments } => self.store_member(
+                alloc, code, turns, pc, name, arguments,
+            ),
             Instr::ShowText => self.show_text(alloc, code, turns, pc),
             Instr::Show { ends, items } => self.show(alloc, code, turns, pc, ends, items),
             Instr::Throw { arguments } => self.throw(alloc, code, turns, pc, arguments),

@@ -23,6 +23,7 @@ mod blocks;
 mod calls;
 mod control;
 mod dispatch;
+mod host;
 mod library;
 mod loops;
 mod machine;
@@ -35,6 +36,7 @@ mod telling;
 mod values;
 
 pub use backs::{After, Back, Backs, Mode};
-pub use machine::{Machine, Told};
+pub use machine::Machine;
 pub use operands::Operands;
-pub use step::{Ending, Event, Step, Why};
+pub use run_host::{Event, Told};
+pub use step::{Ending, Step, Why};

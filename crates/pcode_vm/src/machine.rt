@@ -1,32 +1,18 @@
-ghost use Rattle.std.specs.Prelude.{◌≡◌, ◌∷◌, ◌++◌, [], ℕ, OnOk, IfOk, ◌+◌, ◌<◌, ◌^◌};
+ghost use Rattle.std.specs.Prelude.{◌≡◌, [], ℕ, OnOk, IfOk, ◌+◌, ◌<◌, ◌^◌};
 ghost use Rattle.vba_meaning.specs.Memory.{error_here};
 ghost use Rattle.run_memory.specs.View.{error_view, memory_view};
 ghost use Rattle.pcode.specs.Machine.{Fin, tells, raised, lets, lets_all, finishes, then_jump, letting, Goes, Back-to};
-ghost use Rattle.pcode_vm.specs.View.{told_view, event_view, operands_view, backs_view, state_view, after_view, ending_view, why_view};
+ghost use Rattle.pcode_vm.specs.View.{operands_view, backs_view, state_view, after_view, ending_view, why_view};
 ghost use Rattle.pcode_vm.specs.Does.{Does, Comes, stopped_at};
 
 use crate::backs::{After, Back, Backs, Mode};
 use crate::operands::Operands;
-use crate::step::{Ending, Event, Step, Why};
+use crate::step::{Ending, Step, Why};
+use run_host::{Event, Told};
 use run_memory::{Memory, RunError};
 use std::alloc::Global;
 use std::mem;
 use vba_base::NoMemory;
-
-/// The events that were told and not taken yet.
-#[derive(Drop)]
-pub struct Told {
-    pub events: Vec<Event>,
-}
-
-impl Told {
-    pub fn push(&mut self, event: Event) -> Result<(), NoMemory>
-        ensures { OnOk result (told_view self.new ≡ told_view self.old ++ event_view event ∷ []) }
-    {
-        self.events.push(event)?;
-        Ok(())
-    }
-}
 
 /// The machine.
 pub struct Machine {

@@ -46,7 +46,7 @@ impl Machine {
         let Some(value) = self.operands.pop_value() else {
             return Ok(Step::Stuck);
         };
-        let value = attempt!(self, turns, self.memory.plain_if_any(value));
+        let value = attempt!(self, turns, self.memory.plain_if_any(alloc, value));
         self.operands.push_value(value)?;
         self.go_on(pc + 1);
         Ok(Step::On)
@@ -137,28 +137,6 @@ impl Machine {
             return Ok(Step::Stuck);
         };
         attempt!(self, turns, self.memory.set_at(alloc, &path, value));
-        self.go_on(pc + 1);
-        Ok(Step::On)
-    }
-
-    // The default member of an object is written with the value below it.
-    pub fn store_default(
-        &mut self,
-        alloc: Global,
-        code: &Code,
-        turns: u64,
-        pc: usize,
-    ) -> Result<Step, NoMemory>
-        requires { pc + 1 < 2 ^ 64 }
-        ensures { IfOk result (λ step. Acted turns (code_view code.now) (plain.StoreDefault) pc self.old self.new step) }
-    {
-        let Some(target) = self.operands.pop_value() else {
-            return Ok(Step::Stuck);
-        };
-        if self.operands.pop_value().is_none() {
-            return Ok(Step::Stuck);
-        }
-        attempt!(self, turns, self.memory.default_written(&target));
         self.go_on(pc + 1);
         Ok(Step::On)
     }

@@ -7,8 +7,9 @@ ghost use Rattle.pcode_vm.specs.Does.{Acted};
 
 use crate::arguments::{packed, reordered};
 use crate::machine::Machine;
-use crate::step::{Event, Step};
+use crate::step::Step;
 use pcode::Code;
+use run_host::Event;
 use std::alloc::Global;
 use vba_base::NoMemory;
 

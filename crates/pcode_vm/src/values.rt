@@ -172,7 +172,7 @@ impl Machine {
         let Some(value) = self.operands.pop_value() else {
             return Ok(Step::Stuck);
         };
-        let value = attempt!(self, turns, self.memory.plain(value));
+        let value = attempt!(self, turns, self.memory.plain(alloc, value));
         self.operands.push_value(value)?;
         self.go_on(pc + 1);
         Ok(Step::On)

@@ -17,6 +17,7 @@ use codegen::compile;
 use pcode::Code;
 use pcode_run::{Cut, Shows, run};
 use pcode_vm::Ending;
+use sheet_host::Book;
 use std::alloc::Global;
 use vba_base::{NoMemory, Sink};
 
@@ -55,24 +56,26 @@ fn compiled(alloc: Global, project: Project) -> Result<(Places, Code), NoMemory>
     }
 }
 
-/// Runs a project with a bound on its turns, and puts what it shows to the sink: what it prints, or its trace. More
-/// instructions than a number of 32 bits counts are answered by NoMemory.
+/// Runs a project over a book and with a bound on its turns, and puts what it shows to the sink: what it prints, or its
+/// trace. The book that is left is given back. More instructions than a number of 32 bits counts are answered by
+/// NoMemory.
 pub fn run_project<S: Sink>(
     alloc: Global,
     project: Project,
+    book: Book,
     turns: u64,
     shows: Shows,
     sink: &mut S,
-) -> Result<Outcome, RunFault>
+) -> Result<(Outcome, Book), RunFault>
     requires { Fits project }
-    ensures meant { RunsAsMeant (project_view project) turns shows result (S.taken sink.old) (S.taken sink.new) }
+    ensures meant { RunsAsMeant (project_view project) book turns shows result (S.taken sink.old) (S.taken sink.new) }
     ensures faults { RoseOnly (is_write_fault result) (S.faults sink.old) (S.faults sink.new) }
 {
     let Ok((places, code)) = compiled(alloc, project) else {
         return Err(RunFault::NoMemory);
     };
-    match run(alloc, &code, turns, shows, sink) {
-        Ok(ending) => Ok(outcome(&places, &ending)),
+    match run(alloc, &code, book, turns, shows, sink) {
+        Ok((ending, left)) => Ok((outcome(&places, &ending), left)),
         Err(Cut::WriteFault) => Err(RunFault::WriteFault),
         Err(Cut::NoMemory) => Err(RunFault::NoMemory),
         Err(Cut::Stuck) => Err(RunFault::NoMemory),

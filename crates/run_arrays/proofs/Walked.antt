@@ -99,7 +99,7 @@ next_off (Some (at_path p)) x i k m e = refl
 next_off (Some (walk false v j)) x i k m e = refl
 next_off (Some (walk true v j)) x i k m e = let no : true ≡ false = ap begun_or e in cc
 
-pub next_last : (o : Option plain.Kept) (x : Variable) (i k : ℕ) (m : plain.Memory) → walk_of o ≡ Some (true, k) → item_walked o ≡ None
+pub next_last : (o : Option plain.Kept) (x : Variable) (i k : ℕ) (m : plain.Memory) → walk_of o ≡ Some (true, k) → item_walked o m ≡ None
     → each_by x i o m ≡ on_fine (block_over i m) (λ u m1. Fine false m1)
 next_last None x i k m e f = cc
 next_last (Some (only v)) x i k m e f = cc
@@ -107,7 +107,7 @@ next_last (Some (at_path p)) x i k m e f = cc
 next_last (Some (walk false v j)) x i k m e f = let no : false ≡ true = ap begun_or e in cc
 next_last (Some (walk true v j)) x i k m e f = ap (λ w. next_item x i v j w m) f
 
-pub next_more : (o : Option plain.Kept) (x : Variable) (i k n : ℕ) (w : Val) (m : plain.Memory) → walk_of o ≡ Some (true, k) → item_walked o ≡ Some w → n ≡ suc k
+pub next_more : (o : Option plain.Kept) (x : Variable) (i k n : ℕ) (w : Val) (m : plain.Memory) → walk_of o ≡ Some (true, k) → item_walked o m ≡ Some w → n ≡ suc k
     → each_by x i o m ≡ on_fine (item_stored x w (walk_set i true n o m)) (λ u m1. Fine true m1)
 next_more None x i k n w m e f g = cc
 next_more (Some (only v)) x i k n w m e f g = cc

@@ -1,22 +1,24 @@
 -- Serves the code: what a For Each walks, by what its block keeps.
-use Rattle.std.specs.Prelude.{ℕ, List, [], ◌∷◌, Bool, true, Option, Some, None}
+use Rattle.std.specs.Prelude.{ℕ, ◌+◌, ◌*◌, ◌/◌, ◌%◌, nat_lt, if◌then◌else◌, List, Bool, true, Option, Some, None}
 use Rattle.vba_values.specs.Val.{Val}
-use Rattle.arrays_udt.specs.declared.paths.PathStep.TheVariants.{Element}
-use Rattle.arrays_udt.specs.Paths.{path_value}
 use Rattle.bound_project.specs.Expressions.{Variable}
 use Rattle.vba_meaning.specs.Memory.{Kept, walk, Memory, top, with_top, found, put}
-use Rattle.vba_meaning.specs.Effects.{Effect, Fine, on_fine}
-use Rattle.vba_meaning.specs.Arrays.{item_stored}
+use Rattle.vba_meaning.specs.Effects.{Effect, Fine, on_fine, area_in, range_value}
+use Rattle.vba_meaning.specs.Arrays.{item_of, item_stored}
 
 -- whether the loop counts as begun, and the number of its next item
 abbrev pub walk_of : Option Kept → Option (Bool × ℕ)
 walk_of (Some (walk begun v k)) = Some (begun, k)
 walk_of _ = None
 
+-- a cell of an area, counted by rows from 0, where there is one
+abbrev pub cell_at : (sheet top left rows columns k : ℕ) → Option Val
+cell_at s t l r c k = if nat_lt k (r * c) then Some (range_value (area_in s (t + k / c) (l + k % c) 1 1)) else None
+
 -- its next item
-abbrev pub item_walked : Option Kept → Option Val
-item_walked (Some (walk begun v k)) = path_value v (Element k ∷ [])
-item_walked _ = None
+abbrev pub item_walked : Option Kept → Memory → Option Val
+item_walked (Some (walk begun v k)) m = item_of v k m
+item_walked _ m = None
 
 -- the same walk with another next item
 abbrev pub rewalked : (begun : Bool) → (next : ℕ) → Kept → Kept

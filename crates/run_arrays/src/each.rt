@@ -16,7 +16,7 @@ use bound_project::Variable;
 use run_memory::{Kept, Memory};
 use std::alloc::Global;
 use vba_base::{NoMemory, OrMemory};
-use vba_values::{Bad, ObjRef, Value};
+use vba_values::{Bad, HostRef, ObjRef, Value};
 
 /// The header of a For Each begins: the loop counts as not begun.
 pub fn each_off(memory: &mut Memory, alloc: Global, header: u32) -> Result<(), NoMemory>
@@ -51,14 +51,15 @@ pub fn each_begun(
     Ok(count)
 }
 
-/// What can be walked: an array.
+/// What can be walked: an array, the sheets, the cells of a range.
 fn walkable(value: &Value) -> Result<(), OrMemory<Bad>>
     ensures { (m : PlainMemory) → Acts (λ done. done) result m (walkable (view value.now) m) }
 {
     let number = match value {
         Value::Array(_) => return Ok(()),
+        Value::Object(ObjRef::Host(HostRef::Sheets | HostRef::Area { .. })) => return Ok(()),
         Value::Object(ObjRef::Nothing) => 91,
-        Value::Object(ObjRef::Heap(_) | ObjRef::Host(_)) => 438,
+        Value::Object(_) => 438,
         Value::Empty
         | Value::Null
         | Value::Missing

@@ -15,3 +15,4 @@ mod walks;
 pub use arrays::{erased, redimmed};
 pub use each::{each_begun, each_next, each_off};
 pub use elements::indexed;
+pub use numbers::long_of;

@@ -1,17 +1,23 @@
 // What the For Each of a header walks.
-ghost use Rattle.std.specs.Prelude.{◌≡◌, ◌<◌, ◌≤◌, IfOk, OnOk, length, map, option_map, true};
+ghost use Rattle.std.specs.Prelude.{◌≡◌, ◌<◌, ◌≤◌, [], ◌∷◌, IfOk, OnOk, length, map, option_map, true};
+ghost use Rattle.vba_values.specs.declared.object.HostRef.TheVariants.{Sheets};
+ghost use Rattle.vba_values.specs.declared.object.ObjRef.TheVariants.{Host};
+ghost use Rattle.vba_values.specs.Val.{object};
 ghost use Rattle.vba_values.specs.View.{view};
+ghost use Rattle.arrays_udt.specs.declared.paths.PathStep.TheVariants.{Element};
+ghost use Rattle.arrays_udt.specs.Paths.{path_value};
+ghost use Rattle.vba_meaning.specs.Arrays.{item_of};
 ghost use Rattle.vba_meaning.specs.Memory.{found, put, top, with_top};
 ghost use Rattle.run_memory.specs.Keeps.{is_kept, place_in};
 ghost use Rattle.run_memory.specs.View.{kept_at_view, kept_view, memory_view};
-ghost use Rattle.run_arrays.specs.Walks.{item_walked, rewalked, walk_of, walk_set, walks_set};
+ghost use Rattle.run_arrays.specs.Walks.{cell_at, item_walked, rewalked, walk_of, walk_set, walks_set};
 
 use crate::exchange::inner_value;
 use arrays_udt::PathStep;
 use run_memory::{Kept, Memory};
 use std::alloc::Global;
 use vba_base::NoMemory;
-use vba_values::{Value, copy_value};
+use vba_values::{HostRef, ObjRef, Value, copy_value};
 
 /// Whether the loop of a header counts as begun, and the number of its next item, where it walks something.
 pub fn walk_at(memory: &Memory, header: u32) -> Option<(bool, usize)>
@@ -34,7 +40,7 @@ pub fn walk_at(memory: &Memory, header: u32) -> Option<(bool, usize)>
 
 /// The next item of the loop of a header, where there is a further one.
 pub fn item_walked(memory: &Memory, alloc: Global, header: u32) -> Result<Option<Value>, NoMemory>
-    ensures { IfOk result (λ item. option_map view item ≡ item_walked (found (top (memory_view memory.now)).keeps header)) }
+    ensures { IfOk result (λ item. option_map view item ≡ item_walked (found (top (memory_view memory.now)).keeps header) (memory_view memory.now)) }
 {
     if !memory.stands {
         return Ok(None);
@@ -46,14 +52,88 @@ pub fn item_walked(memory: &Memory, alloc: Global, header: u32) -> Result<Option
                 value,
                 next,
             },
-        ) => {
-            let steps = [PathStep::Element(*next)];
-            match inner_value(value, &steps) {
-                Some(item) => Ok(Some(copy_value(alloc, item)?)),
-                None => Ok(None),
-            }
-        }
+        ) => item_of(memory, alloc, value, *next),
         _ => Ok(None),
+    }
+}
+
+/// An item of what is walked, where there is one: of the sheets a sheet, of a range a cell by rows, of an array an
+/// element.
+fn item_of(
+    memory: &Memory,
+    alloc: Global,
+    value: &Value,
+    number: usize,
+) -> Result<Option<Value>, NoMemory>
+    ensures { IfOk result (λ item. option_map view item ≡ item_of (view value.now) number (memory_view memory.now)) }
+{
+    match value {
+        Value::Object(ObjRef::Host(HostRef::Sheets)) => Ok(sheet_item(memory, number)),
+        Value::Object(
+            ObjRef::Host(
+                HostRef::Area {
+                    sheet,
+                    top,
+                    left,
+                    rows,
+                    columns,
+                },
+            ),
+        ) => cell_item(*sheet, *top, *left, *rows, *columns, number),
+        _ => element_item(alloc, value, number),
+    }
+}
+
+/// A sheet of the book, counted from 0.
+fn sheet_item(memory: &Memory, number: usize) -> Option<Value>
+    ensures { option_map view result ≡ item_of (object (Host Sheets)) number (memory_view memory.now) }
+{
+    if memory.book.sheets() as usize <= number {
+        return None;
+    }
+    let sheet = number as u32 + 1;
+    Some(Value::Object(ObjRef::Host(HostRef::Sheet { sheet })))
+}
+
+/// A cell of an area, counted by rows from 0.
+fn cell_item(
+    sheet: u32,
+    top: u32,
+    left: u32,
+    rows: u32,
+    columns: u32,
+    number: usize,
+) -> Result<Option<Value>, NoMemory>
+    ensures { IfOk result (λ item. option_map view item ≡ cell_at sheet top left rows columns number) }
+{
+    let number = number as u64;
+    let columns = u64::from(columns);
+    if u64::from(rows) * columns <= number {
+        return Ok(None);
+    }
+    let (Ok(top), Ok(left)) = (
+        u32::try_from(u64::from(top) + number / columns),
+        u32::try_from(u64::from(left) + number % columns),
+    ) else {
+        return Err(NoMemory);
+    };
+    Ok(Some(Value::Object(ObjRef::Host(HostRef::Area {
+        sheet,
+        top,
+        left,
+        rows: 1,
+        columns: 1,
+    }))))
+}
+
+/// An element of an array, counted from 0.
+fn element_item(alloc: Global, value: &Value, number: usize) -> Result<Option<Value>, NoMemory>
+    ensures { IfOk result (λ item. option_map view item ≡ path_value (view value.now) (Element number ∷ [])) }
+{
+    let steps = [PathStep::Element(number)];
+    match inner_value(value, &steps) {
+        Some(item) => Ok(Some(copy_value(alloc, item)?)),
+        None => Ok(None),
     }
 }
 

@@ -91,4 +91,8 @@ memory_view m = record {
   waiting = reverse m.waiting.items;
   err = error_view m.err;
   column = m.column;
+  book = m.book;
+  events_on = m.events_on;
+  updates_screen = m.updates_screen;
+  shows_alerts = m.shows_alerts;
 }

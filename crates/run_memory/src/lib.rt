@@ -1,6 +1,7 @@
 //! What a run remembers, and what a statement does in one go. The definitions stand in `specs/` of vba_meaning.
 #![tactic(auto)]
 
+mod area;
 mod blocks;
 mod calls;
 mod elements;
@@ -28,6 +29,7 @@ mod standing;
 mod values;
 mod variables;
 
+pub use area::{area_in, has_area, has_sheet, is_area_inside};
 pub use frame::{Frame, Kept, Loop, Slot, Typed};
 pub use initial::{first_value, first_values, own_slots, shared_values};
 pub use loops::{fits, fits_between};

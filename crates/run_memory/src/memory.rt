@@ -1,4 +1,5 @@
 use crate::frame::Frame;
+use sheet_host::Book;
 use vba_base::Units;
 use vba_values::Value;
 
@@ -41,7 +42,7 @@ impl Drop for Object {
     }
 }
 
-/// What a run remembers: frames, variables, objects and Err.
+/// What a run remembers: frames, variables, objects, Err, the book and what Application is set to.
 pub struct Memory {
     /// Whether a call stands: then it is the frame that runs, and the others called.
     pub stands: bool,
@@ -55,6 +56,11 @@ pub struct Memory {
     pub err: RunError,
     /// The units on the open line of Debug.Print.
     pub column: usize,
+    /// The book, and what EnableEvents, ScreenUpdating and DisplayAlerts of Application are.
+    pub book: Book,
+    pub events_on: bool,
+    pub updates_screen: bool,
+    pub shows_alerts: bool,
 }
 
 impl Drop for Memory {
@@ -68,6 +74,10 @@ impl Drop for Memory {
             waiting: _waiting,
             err: _err,
             column: _column,
+            book: _book,
+            events_on: _events_on,
+            updates_screen: _updates_screen,
+            shows_alerts: _shows_alerts,
         } = self;
     }
 }

@@ -8,13 +8,14 @@ use crate::frame::Frame;
 use crate::initial::shared_values;
 use crate::memory::{Memory, RunError};
 use bound_project::Declarations;
+use sheet_host::Book;
 use std::alloc::Global;
 use vba_base::NoMemory;
 
 impl Memory {
-    /// The memory with which a run begins.
-    pub fn opening(alloc: Global, declared: &Declarations) -> Result<Memory, NoMemory>
-        ensures { IfOk result (λ memory. memory_view memory ≡ opening (declarations_view declared.now)) }
+    /// The memory with which a run over a book begins.
+    pub fn opening(alloc: Global, declared: &Declarations, book: Book) -> Result<Memory, NoMemory>
+        ensures { IfOk result (λ memory. memory_view memory ≡ opening (declarations_view declared.now) book) }
     {
         let shared = shared_values(alloc, declared)?;
         let mut objects = Vec::new(alloc);
@@ -28,6 +29,10 @@ impl Memory {
             waiting: Vec::new(alloc),
             err: RunError::none(),
             column: 0,
+            book,
+            events_on: true,
+            updates_screen: true,
+            shows_alerts: true,
         })
     }
 }

@@ -1,11 +1,12 @@
 // What is done in one go with references to objects.
 ghost use Rattle.vba_values.specs.Types.{declared};
 ghost use Rattle.vba_values.specs.View.{view};
-ghost use Rattle.vba_meaning.specs.Objects.{compared, default_written, set_at, typed_as};
+ghost use Rattle.vba_meaning.specs.Objects.{compared, set_at, typed_as};
 ghost use Rattle.vba_meaning.specs.Library.{plain_if_any};
 ghost use Rattle.run_memory.specs.Acts.{Acts};
 ghost use Rattle.run_memory.specs.View.{memory_view, path_view};
 
+use crate::area::area_in;
 use crate::memory::Memory;
 use crate::path::Path;
 use std::alloc::Global;
@@ -44,23 +45,23 @@ impl Memory {
 
     /// An object gives way to the value of its default member, but where that needs an argument the object stays, and so
     /// does Nothing.
-    pub fn plain_if_any(&self, value: Value) -> Result<Value, OrMemory<Bad>>
+    pub fn plain_if_any(&self, alloc: Global, value: Value) -> Result<Value, OrMemory<Bad>>
         ensures { Acts view result (memory_view self.now) (plain_if_any (view value) (memory_view self.now)) }
     {
         match value {
             Value::Object(ObjRef::Host(HostRef::ErrObject)) => Ok(Value::Long(self.err.number)),
+            Value::Object(
+                ObjRef::Host(
+                    HostRef::Area {
+                        sheet,
+                        top,
+                        left,
+                        rows,
+                        columns,
+                    },
+                ),
+            ) => self.value_in_area(alloc, area_in(sheet, top, left, rows, columns)),
             other => Ok(other),
-        }
-    }
-
-    /// An assignment without Set to an object writes its default member: none here has one to write ([MS-VBAL] 5.4.3.8).
-    pub fn default_written(&self, target: &Value) -> Result<(), OrMemory<Bad>>
-        ensures { Acts (λ done. done) result (memory_view self.now) (default_written (view target.now) (memory_view self.now)) }
-    {
-        match target {
-            Value::Object(ObjRef::Nothing) => Err(OrMemory::Fault(Bad::Raise(91))),
-            Value::Object(_) => Err(OrMemory::Fault(Bad::Raise(438))),
-            _ => Err(OrMemory::Fault(Bad::Raise(424))),
         }
     }
 }

@@ -5,10 +5,11 @@ ghost use Rattle.vba_values.specs.Types.{declared};
 ghost use Rattle.vba_values.specs.View.{view};
 ghost use Rattle.bound_project.specs.View.{declared_view};
 ghost use Rattle.vba_meaning.specs.Memory.{Memory as PlainMemory};
-ghost use Rattle.vba_meaning.specs.Effects.{class_of, condition, fitted, is_area, is_true, operated, operated_alone, plain, set_object, set_reference, takes_object};
+ghost use Rattle.vba_meaning.specs.Effects.{class_of, condition, fitted, is_area, is_true, operated, operated_alone, plain, plain_reference, set_object, set_reference, takes_object};
 ghost use Rattle.run_memory.specs.Acts.{Acts};
 ghost use Rattle.run_memory.specs.View.{memory_view};
 
+use crate::area::area_in;
 use crate::memory::Memory;
 use bound_project::DeclaredType;
 use std::alloc::Global;
@@ -157,14 +158,32 @@ impl Memory {
     }
 
     /// An operand: an object gives way to the value of its default member ([MS-VBAL] 5.6.2.3).
-    pub fn plain(&self, value: Value) -> Result<Value, OrMemory<Bad>>
+    pub fn plain(&self, alloc: Global, value: Value) -> Result<Value, OrMemory<Bad>>
         ensures { Acts view result (memory_view self.now) (plain (view value) (memory_view self.now)) }
     {
         match value {
-            Value::Object(ObjRef::Nothing) => Err(OrMemory::Fault(Bad::Raise(91))),
-            Value::Object(ObjRef::Host(HostRef::ErrObject)) => Ok(Value::Long(self.err.number)),
-            Value::Object(_) => Err(OrMemory::Fault(Bad::Raise(438))),
+            Value::Object(reference) => self.plain_reference(alloc, reference),
             other => Ok(other),
+        }
+    }
+
+    pub fn plain_reference(&self, alloc: Global, reference: ObjRef) -> Result<Value, OrMemory<Bad>>
+        ensures { Acts view result (memory_view self.now) (plain_reference reference (memory_view self.now)) }
+    {
+        match reference {
+            ObjRef::Nothing => Err(OrMemory::Fault(Bad::Raise(91))),
+            ObjRef::Host(HostRef::ErrObject) => Ok(Value::Long(self.err.number)),
+            ObjRef::Host(
+                HostRef::Area {
+                    sheet,
+                    top,
+                    left,
+                    rows,
+                    columns,
+                },
+            ) => self.value_in_area(alloc, area_in(sheet, top, left, rows, columns)),
+            ObjRef::Host(HostRef::Sheets) => Err(OrMemory::Fault(Bad::Raise(449))),
+            _ => Err(OrMemory::Fault(Bad::Raise(438))),
         }
     }
 }

@@ -71,7 +71,14 @@ const ROWS_OR_COLUMNS: Members = &[(b"count", HostMember::Read(0))];
 pub fn member(of: &HostRef, name: &Name) -> Result<HostMember, Bad>
     ensures { result ≡ member_of of.now name.now }
 {
-    first_named(name.units(), members_of(of))
+    member_named(of, name.units())
+}
+
+/// The member of an object with these units as its folded name. 438 exactly where there is none.
+pub fn member_named(of: &HostRef, name: &[u16]) -> Result<HostMember, Bad>
+    ensures { result ≡ member_of of.now name.now }
+{
+    first_named(name, members_of(of))
 }
 
 fn members_of(of: &HostRef) -> Members

@@ -1,7 +1,7 @@
 // Areas as addresses.
-ghost use Rattle.std.specs.Prelude.{◌≡◌, ◌+◌, ◌≤◌, [], ◌∷◌, ◌++◌, IfOk, OnOk};
+ghost use Rattle.std.specs.Prelude.{◌≡◌, ◌+◌, [], ◌∷◌, ◌++◌, IfOk, OnOk};
 ghost use Rattle.std.specs.Fmt.{decimal};
-ghost use Rattle.sheet_host.specs.Size.{IsAreaInside, IsInside};
+ghost use Rattle.sheet_host.specs.Size.{IsAreaInside};
 ghost use Rattle.sheet_host.specs.Address.{address_of, cell_text, column_letters, letter};
 
 use crate::addresses::COLON;
@@ -32,8 +32,16 @@ pub fn address(alloc: Global, area: Area) -> Result<Units, NoMemory>
     Ok(text)
 }
 
+/// The address of a cell, by its row and its column from 1: `$A$1`.
+pub fn cell_address(alloc: Global, row: u32, column: u32) -> Result<Units, NoMemory>
+    ensures { IfOk result (λ text. text ≡ cell_text row column) }
+{
+    let mut text = Units::new(alloc);
+    push_cell(&mut text, row, column)?;
+    Ok(text)
+}
+
 fn push_cell(text: &mut Units, row: u32, column: u32) -> Result<(), NoMemory>
-    requires { IsInside row column }
     ensures { OnOk result (text.new ≡ text.old ++ cell_text row column) }
 {
     text.push(DOLLAR)?;
@@ -44,7 +52,6 @@ fn push_cell(text: &mut Units, row: u32, column: u32) -> Result<(), NoMemory>
 
 /// One letter for the first 26 columns, two for the next 26 * 26, three for the rest.
 fn push_column(text: &mut Units, column: u32) -> Result<(), NoMemory>
-    requires { 1 ≤ column }
     ensures { OnOk result (text.new ≡ text.old ++ column_letters column) }
 {
     if column > 702 {
@@ -53,7 +60,7 @@ fn push_column(text: &mut Units, column: u32) -> Result<(), NoMemory>
     if column > 26 {
         push_letter(text, (column - 27) / 26)?;
     }
-    push_letter(text, column - 1)
+    push_letter(text, column.saturating_sub(1))
 }
 
 fn push_letter(text: &mut Units, place: u32) -> Result<(), NoMemory>

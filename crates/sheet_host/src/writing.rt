@@ -30,8 +30,8 @@ pub fn cells_of(alloc: Global, value: &Value, area: Area) -> Result<Vec<CellValu
     }
 }
 
-/// What one value writes to a cell.
-fn cell_of(alloc: Global, value: &Value) -> Result<CellValue, OrMemory<Bad>>
+/// What one value writes to a cell. 1004 exactly for Missing, an object, an array and a user-defined value.
+pub fn cell_of(alloc: Global, value: &Value) -> Result<CellValue, OrMemory<Bad>>
     ensures { Gives (λ cell. cell) result (cell_of (view value.now)) }
 {
     match value {

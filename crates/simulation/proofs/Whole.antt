@@ -3,6 +3,7 @@
 use Rattle.std.proofs.Common.{◌≡◌, ℕ, zero, suc, ◌+◌, ◌≤◌, Bool, true, false, List, [], ◌++◌, refl, sym, ap, ◌∙◌, subst, arith, append_assoc}
 use Rattle.std.specs.Prelude.{nat_lt, if◌then◌else◌}
 use Rattle.std.proofs.lemmas.Bool.{ltb-true}
+use Rattle.sheet_host.specs.Books.{Sheets}
 use Rattle.bound_project.specs.Project.{Project}
 use Rattle.vba_meaning.specs.Memory.{Ending, Going}
 use Rattle.vba_meaning.specs.Effects.{Event}
@@ -15,20 +16,20 @@ use Rattle.pcode.proofs.Lays.{laid}
 use Rattle.simulation.specs.Meant.{fin_of, Means, Begins}
 use Rattle.simulation.proofs.Runs.{simulates}
 
-pub ends : (pr : Project) (bound : ℕ) → (j : ℕ) × (run_code (code_of pr) bound j ≡ fin_of (meaning pr bound))
-ends pr bound = simulates pr (code_of pr) (entry_in (entries_of 1 pr.bodies)) (laid pr) bound
+pub ends : (pr : Project) (book : Sheets) (bound : ℕ) → (j : ℕ) × (run_code (code_of pr) book bound j ≡ fin_of (meaning pr book bound))
+ends pr book bound = simulates pr (code_of pr) (entry_in (entries_of 1 pr.bodies)) (laid pr) bound book
 
 -- whenever the code's run has ended, it has ended so
-ended_so : (pr : Project) (bound k : ℕ) → Final (run_code (code_of pr) bound k) → run_code (code_of pr) bound k ≡ fin_of (meaning pr bound)
-ended_so pr bound k final =
-    let e = ends pr bound in
-    one_end (code_of pr) bound k e.0 final (is_final (run_code (code_of pr) bound e.0) (fin_of (meaning pr bound)) tt e.1) ∙ e.1
+ended_so : (pr : Project) (book : Sheets) (bound k : ℕ) → Final (run_code (code_of pr) book bound k) → run_code (code_of pr) book bound k ≡ fin_of (meaning pr book bound)
+ended_so pr book bound k final =
+    let e = ends pr book bound in
+    one_end (code_of pr) book bound k e.0 final (is_final (run_code (code_of pr) book bound e.0) (fin_of (meaning pr book bound)) tt e.1) ∙ e.1
 
-pub means : (pr : Project) (bound : ℕ) → Means pr bound (code_of pr)
-means pr bound = record {
-  ends = ends pr bound;
-  only = λ k e s es h. sym h ∙ ended_so pr bound k (is_final (run_code (code_of pr) bound k) (Done e s es) tt h);
-  never_stuck = λ k h. (let e = sym h ∙ ended_so pr bound k (is_final (run_code (code_of pr) bound k) Stuck tt h) in absurd cc);
+pub means : (pr : Project) (book : Sheets) (bound : ℕ) → Means pr book bound (code_of pr)
+means pr book bound = record {
+  ends = ends pr book bound;
+  only = λ k e s es h. sym h ∙ ended_so pr book bound k (is_final (run_code (code_of pr) book bound k) (Done e s es) tt h);
+  never_stuck = λ k h. (let e = sym h ∙ ended_so pr book bound k (is_final (run_code (code_of pr) book bound k) Stuck tt h) in absurd cc);
 }
 
 -- ---- fewer turns
@@ -72,14 +73,14 @@ fronts : (code : Code) (n m : ℕ) → n ≤ m → (k : ℕ) (c : Config) → Fr
 fronts code n m le zero c = tt
 fronts code n m le (suc k) c = front n m le (step code c) (machine code n k) (machine code m k) (λ d. fronts code n m le k d)
 
-pub prefix : (pr : Project) (turns more-turns : ℕ) → turns ≤ more-turns → Begins (meaning pr turns).events (meaning pr more-turns).events
-prefix pr n m le =
+pub prefix : (pr : Project) (book : Sheets) (turns more-turns : ℕ) → turns ≤ more-turns → Begins (meaning pr book turns).events (meaning pr book more-turns).events
+prefix pr book n m le =
     let code = code_of pr in
-    let a = ends pr n in
-    let b = ends pr m in
+    let a = ends pr book n in
+    let b = ends pr book m in
     let k : ℕ = a.0 + b.0 in
-    let final-a = is_final (run_code code n a.0) (fin_of (meaning pr n)) tt a.1 in
-    let final-b = is_final (run_code code m b.0) (fin_of (meaning pr m)) tt b.1 in
-    let x : run_code code n k ≡ fin_of (meaning pr n) = more_steps code n a.0 k (omega arith) final-a ∙ a.1 in
-    let y : run_code code m k ≡ fin_of (meaning pr m) = more_steps code m b.0 k (omega arith) final-b ∙ b.1 in
-    subst (λ u. Front u (fin_of (meaning pr m))) x (subst (λ u. Front (run_code code n k) u) y (front n m le (first_move code) (machine code n k) (machine code m k) (λ c. fronts code n m le k c)))
+    let final-a = is_final (run_code code book n a.0) (fin_of (meaning pr book n)) tt a.1 in
+    let final-b = is_final (run_code code book m b.0) (fin_of (meaning pr book m)) tt b.1 in
+    let x : run_code code book n k ≡ fin_of (meaning pr book n) = more_steps code book n a.0 k (omega arith) final-a ∙ a.1 in
+    let y : run_code code book m k ≡ fin_of (meaning pr book m) = more_steps code book m b.0 k (omega arith) final-b ∙ b.1 in
+    subst (λ u. Front u (fin_of (meaning pr book m))) x (subst (λ u. Front (run_code code book n k) u) y (front n m le (first_move code book) (machine code n k) (machine code m k) (λ c. fronts code n m le k c)))

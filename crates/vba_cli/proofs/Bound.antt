@@ -1,8 +1,7 @@
 -- Modules that are bound are the program of their files.
 use Rattle.std.proofs.Common.{◌≡◌, ℕ, List, [], ◌∷◌, ◌++◌, refl, sym, ap, ◌∙◌, subst}
 use Rattle.std.proofs.lemmas.List.{map-append}
-use Rattle.vba_cli.specs.declared.status.Status.{Status}
-use Rattle.std.specs.Prelude.{Bool, codes, map, Option, Some, None, Result, Ok, Err}
+use Rattle.std.specs.Prelude.{codes, map, Option, Some, None, Result, Ok, Err}
 use Rattle.std.specs.Result.{IsErrAnd}
 use Rattle.vba_base.specs.Answer.{Fails}
 use Rattle.vba_base.specs.declared.fault.OrMemory.{OrMemory}
@@ -14,24 +13,18 @@ use Rattle.binder.specs.Sources.{Source}
 use Rattle.binder.specs.Scopes.{Space, spaces_from}
 use Rattle.binder.specs.Names.{scope_of}
 use Rattle.binder.specs.Violations.{violations, first_broken}
-use Rattle.binder.specs.Bind.{Answer, refused, not_built_at, bound_as, answer_by, not_built, project_of}
+use Rattle.binder.specs.Bind.{Answer, refused, answer_by, not_built, project_of}
 use Rattle.constant_values.specs.Rounds.{AreNumbered}
 use Rattle.constant_values.proofs.Looked.{spaces_from_numbered}
 use Rattle.declared_names.specs.Outside.{the_outside}
 use Rattle.bind_project.specs.Bound.{IsBound}
 use Rattle.bind_project.specs.declared.bound.Bound.{Bound}
 use Rattle.bind_project.specs.declared.bound.Bound.TheVariants as bound
-use Rattle.vba_base.proofs.Causes.{adds_none}
-use Rattle.command_words.specs.Words.{run, check}
-use Rattle.vba_cli.specs.Answer.{shown_of_program, shown_of_check, shows_of, all_right, refused as refused_as}
-use Rattle.pcode_run.specs.declared.texts.Shows.{Shows}
-use Rattle.vba_cli.specs.declared.status.Status.TheVariants as status
 use Rattle.list_file.specs.Lists.{Start}
 use Rattle.declared_names.specs.View.{source_view}
 use Rattle.declared_names.specs.declared.space.Source as declared_names
 use Rattle.vba_cli.specs.Program.{Kept, begins_at, bound_kept, bound_modules, bound_sources, each, kept_of, main_of, module_of, program_of}
 use Rattle.vba_cli.specs.Programs.{IsProgram, IsUnbroken, first_fold}
-use Rattle.vba_cli.specs.Steps.{Ran, RanProgram}
 
 -- modules are numbered
 pub modules_numbered : (ms : List Source) (spaces : List Space) → spaces ≡ spaces_from 0 ms → AreNumbered spaces
@@ -103,43 +96,6 @@ program_unread start files ks r e is kept fails =
     subst (λ k. IsProgram (bound_kept start k) r) (sym kept)
     (fails_by (bound_sources start (each module_of 1 ks)) r e is
     (λ refusal fault. ap (bound_sources start) (fault_meant e (each module_of 1 ks) refusal fails fault)))
-
--- what isn't built yet shows that alone
-pub shown_left : (turns : ℕ) (shows : Shows) (answer : Answer) (place : Place) → IsUnbroken answer → refused_as (status.NotBuilt place) ≡ shown_of_program (Some place) turns shows answer
-shown_left turns shows (refused refusal) place h = absurd h
-shown_left turns shows (not_built_at other) place h = refl
-shown_left turns shows (bound_as pr) place h = refl
-
--- and nothing is put
-pub ran_left : (path : List ℕ) (turns : ℕ) (trace : Bool) (answer : Answer) (place : Place) (taken : Option (List ℕ)) (faults : ℕ) → IsUnbroken answer
-    → RanProgram (run path turns trace) answer (status.NotBuilt place) taken taken faults faults
-ran_left path turns trace answer place taken faults h = record {
-  left = Some place;
-  ran = subst (λ s. Ran s (status.NotBuilt place) taken taken faults faults) (shown_left turns (shows_of trace) answer place h) (record {
-    leaves = (refl, refl);
-    meets = (refl, adds_none taken);
-    of_run = tt;
-  });
-}
-
--- a check of what breaks no rule shows that all is right
-pub all_right_of : (answer : Answer) → IsUnbroken answer → shown_of_check answer ≡ all_right
-all_right_of (refused refusal) h = absurd h
-all_right_of (not_built_at place) h = refl
-all_right_of (bound_as pr) h = refl
-
--- of a project that is read no rule is broken
-pub read_unbroken : (answer : Answer) (b : Bound) → IsProgram answer (Ok b) → IsUnbroken answer
-read_unbroken answer (bound.NotBuilt place) h = h
-read_unbroken answer (bound.Runs pr) h = subst IsUnbroken (sym h.1) tt
-
--- what was put is what the check shows
-pub checked : (path : List ℕ) (answer : Answer) (b : Bound) (result : Status) (old new : Option (List ℕ)) (faults_old faults_new : ℕ) → IsProgram answer (Ok b)
-    → Ran all_right result old new faults_old faults_new → RanProgram (check path) answer result old new faults_old faults_new
-checked path answer b result old new faults_old faults_new h ran = record {
-  left = None;
-  ran = subst (λ s. Ran s result old new faults_old faults_new) (sym (all_right_of answer (read_unbroken answer b h))) ran;
-}
 
 -- the fold by which the macro to begin with is looked up, where a list names none
 first_of : (ms : List Source) → first_fold (spaces_from 0 ms) ≡ (main_of ms).module_fold

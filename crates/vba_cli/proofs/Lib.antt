@@ -1,8 +1,10 @@
 pub mod SameText
 pub mod Paths
 pub mod Steps
+pub mod Shown
 pub mod Promise
 pub mod Taken
+pub mod Performed
 pub mod Bound
 pub mod Each
 pub mod Rows

@@ -3,7 +3,8 @@ use Rattle.std.specs.Prelude.{◌≡◌, ℕ, List, [], ◌∷◌, codes, true, 
 use Rattle.std.proofs.Common.{refl}
 use Rattle.vba_cli.specs.declared.status.Status.TheVariants as status
 use Rattle.vba_cli.specs.Command.{ends_in_bas}
-use Rattle.vba_cli.specs.Messages.{path_at, status_text}
+use Rattle.vba_cli.specs.Messages.{path_at, sheet_name, status_text}
+use Rattle.vba_cli.specs.Named.{Named}
 
 -- one standard module, and lists
 row_module : ends_in_bas (codes "dir/M.BaS") ≡ true
@@ -27,6 +28,17 @@ row_alone : path_at (codes "m.bas") [] 1 ≡ codes "m.bas"
 row_alone = refl
 
 -- the text names the file that can't be read
-row_unread : status_text (codes "p.txt") paths 0 (status.ReadFault 1) ≡ codes "vbarun: cannot read a.bas"
-unfolding paths
+named : Named
+named = record { modules = paths; sheets = record { name = codes "S"; path = codes "s.csv" } ∷ [] }
+
+row_unread : status_text (codes "p.txt") named 0 (status.ReadFault 1) ≡ codes "vbarun: cannot read a.bas"
+unfolding paths named
 row_unread = refl
+
+row_sheet : status_text (codes "p.txt") named 0 (status.TooLong 3) ≡ codes "vbarun: too long: s.csv"
+unfolding paths named
+row_sheet = refl
+
+row_book : sheet_name named.sheets 1 ≡ codes "S"
+unfolding paths named
+row_book = refl

@@ -1,400 +1,403 @@
--- What reading the files of a command does to what a command promises.
-use Rattle.std.proofs.Common.{◌≡◌, ◌∙◌, ℕ, suc, ◌+◌, true, false, List, [], ◌∷◌, ◌++◌, length, take, refl, sym, ap, subst, arith, inl, inr}
-use Rattle.std.specs.Prelude.{Result, Ok, Err, Option, Some, None, IfSome, IsSomeAnd, if◌then◌else◌}
-use Rattle.std.proofs.Math.Seq.{take-length}
-use Rattle.vba_base.specs.Causes.{Adds}
-use Rattle.vba_base.proofs.Causes.{adds_none}
-use Rattle.vba_base.specs.Decode.{decoded}
+-- What reading and writing the files of a command does to what its steps promise.
+use Rattle.std.proofs.Common.{◌≡◌, ◌∙◌, ℕ, List, [], refl, sym, ap, subst, arith, inl, inr}
+use Rattle.std.specs.Prelude.{Bool, Result, Ok, Err, Option, Some, None, IfSome}
+use Rattle.std.proofs.lemmas.List.{append-nil}
+use Rattle.vba_base.specs.Causes.{Rose, Adds}
+use Rattle.vba_base.proofs.Causes.{adds_none, adds_prefix_none, adds_prefix_whole}
 use Rattle.vba_base.specs.Map.{FileMap}
-use Rattle.vba_base.specs.Outside.{Told, Counts}
+use Rattle.vba_base.specs.Outside.{Told}
+use Rattle.vba_base.specs.declared.outside.WriteAnswer.TheVariants as write
 use Rattle.vba_base.specs.declared.place.Place.{Place}
-use Rattle.command_words.specs.Words.{Command}
+use Rattle.vba_base.specs.declared.place.Refusal.{Refusal}
+use Rattle.sheet_host.specs.Books.{Sheets}
+use Rattle.bound_project.specs.Project.{Project}
+use Rattle.binder.specs.Bind as bind
+use Rattle.project_run.specs.declared.outcome.Outcome.{Outcome}
+use Rattle.project_run.specs.declared.outcome.Outcome.TheVariants as outcome
+use Rattle.command_words.specs.Words.{Command, run}
 use Rattle.list_file.specs.declared.files.ReadStop.{ReadStop}
-use Rattle.list_file.specs.declared.files.ReadStop.TheVariants as stop
-use Rattle.list_file.specs.Files.{files_of, followed_by, onto, total, ups, FilesAt, IsCount, Counted, IsMeant, FilesTold, ReadInOrder}
-use Rattle.list_file.specs.Lists.{Start}
-use Rattle.list_file.specs.Plans.{Plan, bad_line, other_at, modules_at, plan_of, paths_of}
-use Rattle.list_file.proofs.FilesRead.{joined}
+use Rattle.list_file.specs.declared.files.ReadStop.TheVariants as read
+use Rattle.list_file.specs.Files.{FilesAt, FilesTold, ReadInOrder}
+use Rattle.list_file.specs.Lists.{SheetAt}
+use Rattle.list_file.proofs.FilesRead.{none_told, wanted}
+use Rattle.book_files.specs.declared.stop.BookStop.{BookStop}
+use Rattle.book_files.specs.declared.stop.BookStop.TheVariants as stop
+use Rattle.book_files.specs.Book.{ReadsAll, ReadsBook, book_of, sheet_paths}
+use Rattle.book_files.specs.Saves.{Save, Written}
+use Rattle.book_files.proofs.BooksSaved.{none_written}
 use Rattle.vba_cli.specs.declared.status.Status.{Status}
-use Rattle.vba_cli.specs.declared.status.Status.TheVariants.{Ended, Faulted, Usage, Refused, Stopped, Going, ReadFault, WriteFault, BadList, TooLong, NotBuilt, NoMemory}
-use Rattle.vba_cli.specs.Command.{ends_in_bas, path_in}
-use Rattle.vba_cli.specs.Program.{program_of}
-use Rattle.vba_cli.specs.Answer.{Shown, refused, unread, line_of_list, shown_of_source, shown_of_files, shown_of_plan, shown_of_first, shown_of_command, first_file, paths_in, module_paths}
-use Rattle.vba_cli.specs.Contract.{World, NamesRead, ReadsOnly, AreListed, IsAlone}
-use Rattle.vba_cli.specs.Steps.{Leaves, Meets, IsOfRun, RanProgram, Reads, Performs, IsListOf, GoesOn, files_in, with_files}
-use Rattle.vba_cli.proofs.Steps.{none_prefix}
+use Rattle.vba_cli.specs.declared.status.Status.TheVariants.{Ended, Faulted, Usage, Refused, Stopped, Going, ReadFault, WriteFault, BadList, TooLong, BadBook, NotBuilt, NoMemory}
+use Rattle.vba_cli.specs.Answer.{Shown, no_book, refused, shown_of_book, shown_of_program, saved_by, shown_of_source, shows_of, status_of}
+use Rattle.vba_cli.specs.Contract.{World, book_paths}
+use Rattle.vba_cli.specs.Programs.{IsUnbroken}
+use Rattle.vba_cli.specs.Steps.{Does, EndsSaved, IsOfRun, Leaves, LeavesOut, Meets, RanAlone, RanOver, RanProject, RanSources, ReadsTo, Stores, WritesFor, files_in, with_files}
+use Rattle.vba_cli.proofs.Shown.{shown_bound, shown_left, shown_refused}
 
--- ---- statuses behind files that were read
+-- ---- files that were read
 
--- no read failed, and the words are a command
-abbrev IsRead : Status → Type 0
-IsRead Usage = ⊥
-IsRead (ReadFault number) = ⊥
-IsRead (TooLong number) = ⊥
-IsRead status = Unit {0}
+-- nothing was read
+pub reads_none : (number taken : ℕ) (at : FilesAt) → ReadsAll [] number taken at at
+reads_none number taken at = record {
+  files = [];
+  read = record { count = 0; is_count = refl; counted = (refl, refl, refl); told = none_told number taken at.told; writes = refl; write_faults = refl };
+}
 
-of_run_read : (status : Status) → IsOfRun status → IsRead status
-of_run_read Ended is = tt
-of_run_read (Faulted number place) is = tt
-of_run_read Usage is = is
-of_run_read Going is = tt
-of_run_read (ReadFault number) is = is
-of_run_read WriteFault is = tt
-of_run_read (BadList line) is = tt
-of_run_read (TooLong number) is = is
-of_run_read (Refused refusal) is = tt
-of_run_read (Stopped why place) is = tt
-of_run_read (NotBuilt place) is = tt
-of_run_read NoMemory is = tt
+want_told : (names : List (List ℕ)) (number taken : ℕ) (told : Option Told) → FilesTold names number taken (Err read.NoMemory) 0 told told
+want_told names number taken None = refl
+want_told names number taken (Some told) = (ap (λ ns. Some (record told { names_read = ns })) (sym (append-nil told.names_read)), tt)
 
--- all names were read
-names_whole : (status : Status) (names old new : List (List ℕ)) → IsRead status → new ≡ old ++ names → NamesRead status names old new
-names_whole Ended names old new is whole = whole
-names_whole (Faulted number place) names old new is whole = whole
-names_whole Usage names old new is whole = absurd is
-names_whole Going names old new is whole = whole
-names_whole (ReadFault number) names old new is whole = absurd is
-names_whole WriteFault names old new is whole = record { count = length names; read = whole ∙ ap (λ ns. old ++ ns) (sym (take-length names)) }
-names_whole (BadList line) names old new is whole = whole
-names_whole (TooLong number) names old new is whole = absurd is
-names_whole (Refused refusal) names old new is whole = whole
-names_whole (Stopped why place) names old new is whole = whole
-names_whole (NotBuilt place) names old new is whole = whole
-names_whole NoMemory names old new is whole = record { count = length names; read = whole ∙ ap (λ ns. old ++ ns) (sym (take-length names)) }
+-- memory ran out before anything was read
+pub wants_none : (names : List (List ℕ)) (number taken : ℕ) (at : FilesAt) → ReadInOrder names number taken (Err read.NoMemory) at at
+wants_none names number taken at = record { count = 0; is_count = omega arith; counted = refl; told = want_told names number taken at.told; writes = refl; write_faults = refl }
 
-reads_whole : (command : Command) (modules : List (List ℕ)) (status : Status) (old new : Counts) → IsRead status → new.read_faults ≡ old.read_faults → Reads (Some command) modules status old new
-reads_whole command modules Ended old new is same = same
-reads_whole command modules (Faulted number place) old new is same = same
-reads_whole command modules Usage old new is same = absurd is
-reads_whole command modules Going old new is same = same
-reads_whole command modules (ReadFault number) old new is same = absurd is
-reads_whole command modules WriteFault old new is same = same
-reads_whole command modules (BadList line) old new is same = same
-reads_whole command modules (TooLong number) old new is same = absurd is
-reads_whole command modules (Refused refusal) old new is same = same
-reads_whole command modules (Stopped why place) old new is same = same
-reads_whole command modules (NotBuilt place) old new is same = same
-reads_whole command modules NoMemory old new is same = same
+-- what is told behind files that were read was told before, as far as it speaks of the map
+pub told_back : (P : FileMap → Type 0) (names : List (List ℕ)) (number taken count : ℕ) (r : Result (List (List ℕ)) ReadStop) (old new : Option Told) → FilesTold names number taken r count old new
+    → IfSome new (λ (t : Told). P t.files) → IfSome old (λ (t : Told). P t.files)
+told_back P names number taken count r None new p h = tt
+told_back P names number taken count r (Some told) new p h = subst (λ m. IfSome m (λ (t : Told). P t.files)) p.0 h
 
--- paths that are the list's
-listed_as : (status : Status) (modules all : List (List ℕ)) → modules ≡ all → AreListed status modules all
-listed_as Ended modules all same = same
-listed_as (Faulted number place) modules all same = same
-listed_as Usage modules all same = same
-listed_as Going modules all same = same
-listed_as (ReadFault number) modules all same = inr same
-listed_as WriteFault modules all same = inr same
-listed_as (BadList line) modules all same = same
-listed_as (TooLong number) modules all same = same
-listed_as (Refused refusal) modules all same = same
-listed_as (Stopped why place) modules all same = same
-listed_as (NotBuilt place) modules all same = same
-listed_as NoMemory modules all same = inr same
-
--- ---- the names that were read
-
--- what is told behind all names
-only_whole : (status : Status) (names xs : List (List ℕ)) (number taken count : ℕ) (old new : Option Told) → IsRead status → count ≡ length names
-    → FilesTold names number taken (Ok xs) count old new → IfSome old (λ before. IsSomeAnd new (λ after. ReadsOnly status names before after))
-only_whole status names xs number taken count None new is all tells = tt
-only_whole status names xs number taken count (Some told) new is all tells =
-    subst (λ n. IsSomeAnd n (λ after. ReadsOnly status names told after)) (sym tells.0)
-    (record {
-      files = refl;
-      names_written = refl;
-      names_read = names_whole status names told.names_read (told.names_read ++ take count names) is (ap (λ k. told.names_read ++ take k names) all ∙ ap (λ ns. told.names_read ++ ns) (take-length names));
-    })
-
-names_stopped : (reason : ReadStop) (names old : List (List ℕ)) (count : ℕ) → IsCount 0 (length names) (Err reason) count → NamesRead (unread reason) names old (old ++ take count names)
-names_stopped (stop.Failed n) names old count is = let e : count ≡ suc n = omega (arith, is.1) in ap (λ k. old ++ take k names) e
-names_stopped (stop.TooLong n) names old count is = let e : count ≡ suc n = omega (arith, is.1) in ap (λ k. old ++ take k names) e
-names_stopped stop.NoMemory names old count is = record { count = count; read = refl }
-
--- what is told behind the names up to one that stopped the reading
-only_stopped : (reason : ReadStop) (names : List (List ℕ)) (taken count : ℕ) (old new : Option Told) → IsCount 0 (length names) (Err reason) count
-    → FilesTold names 0 taken (Err reason) count old new → IfSome old (λ before. IsSomeAnd new (λ after. ReadsOnly (unread reason) names before after))
-only_stopped reason names taken count None new is tells = tt
-only_stopped reason names taken count (Some told) new is tells =
-    subst (λ n. IsSomeAnd n (λ after. ReadsOnly (unread reason) names told after)) (sym tells.0)
-    (record { files = refl; names_written = refl; names_read = names_stopped reason names told.names_read count is })
-
-reads_stopped : (command : Command) (modules : List (List ℕ)) (reason : ReadStop) (count : ℕ) (old new : Counts) → IsCount 0 (suc (length modules)) (Err reason) count
-    → Counted (Err reason) count old new → Reads (Some command) modules (unread reason) old new
-reads_stopped command modules (stop.Failed n) count old new is counted =
-    let e : count ≡ suc n = omega (arith, is.1) in
-    ((omega (arith, is.2, e), counted.0 ∙ ap (λ k. ups k old.reads) e), counted.1)
-reads_stopped command modules (stop.TooLong n) count old new is counted =
-    let e : count ≡ suc n = omega (arith, is.1) in
-    ((omega (arith, is.2, e), counted.0 ∙ ap (λ k. ups k old.reads) e), counted.2, counted.1)
-reads_stopped command modules stop.NoMemory count old new is counted = counted
-
--- ---- the file that a command names
-
-first_is : (bytes : List ℕ) (r : Result (List ℕ) ReadStop) → followed_by r (λ b. Ok []) ≡ Ok (bytes ∷ []) → r ≡ Ok bytes
-first_is bytes (Ok other) is = cc
-first_is bytes (Err reason) is = cc
-
-first_stops : (reason : ReadStop) (r : Result (List ℕ) ReadStop) → followed_by r (λ b. Ok []) ≡ Err reason → r ≡ Err reason
-first_stops reason (Ok other) is = cc
-first_stops reason (Err other) is = cc
-
--- both the file that a command names and the modules of its list were read, or not
-record Both (command : Command) (bytes : List ℕ) (modules : List (List ℕ)) (r : Result (List (List ℕ)) ReadStop) (told : Told) : Type 0 where
-  pub first : first_file told.files command ≡ Ok bytes
-  pub others : IsMeant r (files_of told.files 1 (length bytes) modules)
-
-both_told : (command : Command) (bytes : List ℕ) (modules : List (List ℕ)) (r : Result (List (List ℕ)) ReadStop) (ca cb : ℕ) (old mid new : Option Told)
-    → FilesTold (path_in command ∷ []) 0 0 (Ok (bytes ∷ [])) ca old mid → FilesTold modules 1 (length bytes) r cb mid new → IfSome old (Both command bytes modules r)
-both_told command bytes modules r ca cb None mid new p q = tt
-both_told command bytes modules r ca cb (Some told) mid new p q =
-    let there = subst (λ m. FilesTold modules 1 (length bytes) r cb m new) p.0 q in
-    record { first = first_is bytes (first_file told.files command) p.1; others = there.1 }
-
-first_told : (command : Command) (bytes : List ℕ) (count : ℕ) (old new : Option Told) → FilesTold (path_in command ∷ []) 0 0 (Ok (bytes ∷ [])) count old new
-    → IfSome old (λ told. first_file told.files command ≡ Ok bytes)
-first_told command bytes count None new p = tt
-first_told command bytes count (Some told) new p = first_is bytes (first_file told.files command) p.1
-
-whole_read : (command : Command) (bytes : List ℕ) (modules : List (List ℕ)) (r : Result (List (List ℕ)) ReadStop) (old mid new : FilesAt)
-    → ReadInOrder (path_in command ∷ []) 0 0 (Ok (bytes ∷ [])) old mid → ReadInOrder modules 1 (length bytes) r mid new
-    → ReadInOrder (path_in command ∷ modules) 0 0 (onto (bytes ∷ []) r) old new
-whole_read command bytes modules r old mid new p q =
-    let e : length bytes ≡ 0 + total (bytes ∷ []) = omega arith in
-    joined (path_in command ∷ []) modules 0 0 (bytes ∷ []) r old mid new p (subst (λ k. ReadInOrder modules 1 k r mid new) e q)
-
-map_told : {P Q : Told → Type 0} (told : Option Told) → ((t : Told) → P t → Q t) → IfSome told P → IfSome told Q
+pub map_told : {P Q : Told → Type 0} (told : Option Told) → ((t : Told) → P t → Q t) → IfSome told P → IfSome told Q
 map_told None f h = tt
 map_told (Some t) f h = f t h
 
--- ---- a command that was performed
+pub map_any : {P : Told → Type 0} (told : Option Told) → ((t : Told) → P t) → IfSome told P
+map_any None f = tt
+map_any (Some t) f = f t
 
--- a world whose files changed
-abbrev moved : World → FilesAt → Option (List ℕ) → ℕ → World
-moved w files out out_faults = record w { told = files.told; counts = files.counts; out = out; out_faults = out_faults }
+pub map_both : {P Q R : Told → Type 0} (told : Option Told) → ((t : Told) → P t → Q t → R t) → IfSome told P → IfSome told Q → IfSome told R
+map_both None f h k = tt
+map_both (Some t) f h k = f t h k
 
--- all files were read
-performed_whole : (command : Command) (modules xs : List (List ℕ)) (status : Status) (left : Option Place) (old : World) (first last : FilesAt) (out : Option (List ℕ)) (out_faults : ℕ)
-    → IsRead status → Leaves status old.out out old.out_faults out_faults → IsAlone (Some command) modules
-    → IfSome first.told (λ told. Meets (shown_of_command left told.files (Some command)) status old.out out)
-    → IfSome first.told (λ told. modules ≡ module_paths told.files (Some command))
-    → ReadInOrder (path_in command ∷ modules) 0 0 (Ok xs) first last
-    → Performs (Some command) modules status (with_files old first) (moved old last out out_faults)
-performed_whole command modules xs status left old first last out out_faults is leaves alone meets lists p = record {
-  leaves = leaves;
-  left = left;
-  meets = meets;
-  alone = alone;
-  listed = map_told first.told (λ told same. listed_as status modules (module_paths told.files (Some command)) same) lists;
-  reads = let c = p.counted in reads_whole command modules status first.counts last.counts is c.1;
-  usage = λ none. absurd cc;
-  writes = p.writes;
-  write_faults = p.write_faults;
-  reads_only = only_whole status (path_in command ∷ modules) xs 0 0 p.count first.told last.told is p.is_count p.told;
+-- ---- statuses and what they leave
+
+-- a world with files of which no write failed leaves the same
+pub leaves_before : (result : Status) (old : World) (mid : FilesAt) (new : World) → mid.counts.write_faults ≡ old.counts.write_faults → Leaves result (with_files old mid) new → Leaves result old new
+leaves_before Ended old mid new same l = record { out_faults = l.out_faults; write_faults = l.write_faults ∙ same }
+leaves_before (Faulted number place) old mid new same l = record { out_faults = l.out_faults; write_faults = l.write_faults ∙ same }
+leaves_before Usage old mid new same l = let u = l.unspoilt in record { unspoilt = record { out_faults = u.out_faults; write_faults = u.write_faults ∙ same }; out = l.out }
+leaves_before (Refused refusal) old mid new same l = let u = l.unspoilt in record { unspoilt = record { out_faults = u.out_faults; write_faults = u.write_faults ∙ same }; out = l.out }
+leaves_before (Stopped why place) old mid new same l = record { out_faults = l.out_faults; write_faults = l.write_faults ∙ same }
+leaves_before Going old mid new same l = record { out_faults = l.out_faults; write_faults = l.write_faults ∙ same }
+leaves_before (ReadFault number) old mid new same l = let u = l.unspoilt in record { unspoilt = record { out_faults = u.out_faults; write_faults = u.write_faults ∙ same }; out = l.out }
+leaves_before WriteFault old mid new same l = elim l [ inl put ↦ inl put | inr written ↦ inr (subst (λ k. Rose k new.counts.write_faults) same written) ]
+leaves_before (BadList line) old mid new same l = let u = l.unspoilt in record { unspoilt = record { out_faults = u.out_faults; write_faults = u.write_faults ∙ same }; out = l.out }
+leaves_before (TooLong number) old mid new same l = let u = l.unspoilt in record { unspoilt = record { out_faults = u.out_faults; write_faults = u.write_faults ∙ same }; out = l.out }
+leaves_before (BadBook sheet fault) old mid new same l = let u = l.unspoilt in record { unspoilt = record { out_faults = u.out_faults; write_faults = u.write_faults ∙ same }; out = l.out }
+leaves_before (NotBuilt place) old mid new same l = let u = l.unspoilt in record { unspoilt = record { out_faults = u.out_faults; write_faults = u.write_faults ∙ same }; out = l.out }
+leaves_before NoMemory old mid new same l = record { out_faults = l.out_faults; write_faults = l.write_faults ∙ same }
+
+-- what was stored by what is meant otherwise
+stores_as : (meant other : Told → List Save) (told told_other : Option Told) (outcome : Written) (old new : FilesAt)
+    → ((saves : List Save) → IfSome told (λ t. saves ≡ meant t) → IfSome told_other (λ t. saves ≡ other t)) → Stores meant told outcome old new → Stores other told_other outcome old new
+stores_as meant other told told_other outcome old new f s = record { saves = s.saves; are_meant = f s.saves s.are_meant; written = s.written }
+
+pub writes_as : (result : Status) (meant other : Told → List Save) (told told_other : Option Told) (old new : FilesAt)
+    → ((saves : List Save) → IfSome told (λ t. saves ≡ meant t) → IfSome told_other (λ t. saves ≡ other t)) → WritesFor result meant told old new → WritesFor result other told_other old new
+writes_as Ended meant other told told_other old new f w = stores_as meant other told told_other (Ok tt) old new f w
+writes_as (Faulted number place) meant other told told_other old new f w = w
+writes_as Usage meant other told told_other old new f w = w
+writes_as (Refused refusal) meant other told told_other old new f w = w
+writes_as (Stopped why place) meant other told told_other old new f w = w
+writes_as Going meant other told told_other old new f w = w
+writes_as (ReadFault number) meant other told told_other old new f w = w
+writes_as WriteFault meant other told told_other old new f w =
+    elim w [ inl none ↦ inl none | inr some ↦ inr (stores_as meant other told told_other (Err write.Failed) old new f some) ]
+writes_as (BadList line) meant other told told_other old new f w = w
+writes_as (TooLong number) meant other told told_other old new f w = w
+writes_as (BadBook sheet fault) meant other told told_other old new f w = w
+writes_as (NotBuilt place) meant other told told_other old new f w = w
+writes_as NoMemory meant other told told_other old new f w =
+    elim w [ inl none ↦ inl none | inr some ↦ inr (stores_as meant other told told_other (Err write.NoMemory) old new f some) ]
+
+-- ---- running behind the reading of sources
+
+-- what is to be shown, told otherwise
+does_as : (meant other : Told → Shown) (names : List (List ℕ)) (number taken : ℕ) (result : Status) (old new : World) → ((told : Told) → meant told ≡ other told)
+    → Does meant names number taken result old new → Does other names number taken result old new
+does_as meant other names number taken result old new same d = record {
+  leaves = d.leaves;
+  meets = map_told old.told (λ told m. subst (λ s. Meets s result old.out new.out) (same told) m) d.meets;
+  mid = d.mid;
+  read = d.read;
+  written =
+      writes_as result (λ told. (meant told).saves) (λ told. (other told).saves) old.told old.told d.mid (files_in new)
+      (λ saves h. map_told old.told (λ told is. is ∙ ap (λ (s : Shown). s.saves) (same told)) h) d.written;
 }
 
-leaves_unread : (reason : ReadStop) (out : Option (List ℕ)) (faults : ℕ) → Leaves (unread reason) out out faults faults
-leaves_unread (stop.Failed n) out faults = (refl, refl)
-leaves_unread (stop.TooLong n) out faults = (refl, refl)
-leaves_unread stop.NoMemory out faults = refl
-
--- reading them stopped
-performed_stopped : (command : Command) (modules : List (List ℕ)) (reason : ReadStop) (old : World) (first last : FilesAt)
-    → IsAlone (Some command) modules
-    → IfSome first.told (λ told. Meets (shown_of_command None told.files (Some command)) (unread reason) old.out old.out)
-    → IfSome first.told (λ told. AreListed (unread reason) modules (module_paths told.files (Some command)))
-    → ReadInOrder (path_in command ∷ modules) 0 0 (Err reason) first last
-    → Performs (Some command) modules (unread reason) (with_files old first) (with_files old last)
-performed_stopped command modules (stop.Failed n) old first last alone meets lists p = record {
-  leaves = (refl, refl);
-  left = None;
-  meets = meets;
-  alone = alone;
-  listed = lists;
-  reads = reads_stopped command modules (stop.Failed n) p.count first.counts last.counts p.is_count p.counted;
-  usage = λ none. absurd cc;
-  writes = p.writes;
-  write_faults = p.write_faults;
-  reads_only = only_stopped (stop.Failed n) (path_in command ∷ modules) 0 p.count first.told last.told p.is_count p.told;
-}
-performed_stopped command modules (stop.TooLong n) old first last alone meets lists p = record {
-  leaves = (refl, refl);
-  left = None;
-  meets = meets;
-  alone = alone;
-  listed = lists;
-  reads = reads_stopped command modules (stop.TooLong n) p.count first.counts last.counts p.is_count p.counted;
-  usage = λ none. absurd cc;
-  writes = p.writes;
-  write_faults = p.write_faults;
-  reads_only = only_stopped (stop.TooLong n) (path_in command ∷ modules) 0 p.count first.told last.told p.is_count p.told;
-}
-performed_stopped command modules stop.NoMemory old first last alone meets lists p = record {
-  leaves = refl;
-  left = None;
-  meets = meets;
-  alone = alone;
-  listed = lists;
-  reads = reads_stopped command modules stop.NoMemory p.count first.counts last.counts p.is_count p.counted;
-  usage = λ none. absurd cc;
-  writes = p.writes;
-  write_faults = p.write_faults;
-  reads_only = only_stopped stop.NoMemory (path_in command ∷ modules) 0 p.count first.told last.told p.is_count p.told;
+-- nothing was done, and memory ran out
+pub does_wanting : (meant : Told → Shown) (names : List (List ℕ)) (number taken : ℕ) (old : World) → Does meant names number taken NoMemory old old
+does_wanting meant names number taken old = record {
+  leaves = record { out_faults = refl; write_faults = refl };
+  meets = map_any old.told (λ told. adds_prefix_none old.out (meant told).out);
+  mid = files_in old;
+  read = wants_none names number taken (files_in old);
+  written = inl refl;
 }
 
--- what is shown of a read that stopped
-abbrev Unshown : ReadStop → Shown → Type 0
-Unshown (stop.Failed n) shown = Unit {0}
-Unshown (stop.TooLong n) shown = shown ≡ refused (TooLong n)
-Unshown stop.NoMemory shown = Unit {0}
-
-meets_unread : (shown : Shown) (reason : ReadStop) (out : Option (List ℕ)) → Unshown reason shown → Meets shown (unread reason) out out
-meets_unread shown (stop.Failed n) out is = refl
-meets_unread shown (stop.TooLong n) out is = (sym (ap (λ (s : Shown). s.status) is), subst (λ (s : Shown). Adds out out s.out) (sym is) (adds_none out))
-meets_unread shown stop.NoMemory out is = none_prefix out out shown.out refl
-
--- ---- the steps
-
-meant_unshown : (command : Command) (files : FileMap) (reason : ReadStop) → IsMeant (Err reason) (files_of files 0 0 (path_in command ∷ [])) → Unshown reason (shown_of_command None files (Some command))
-meant_unshown command files (stop.Failed n) is = tt
-meant_unshown command files (stop.TooLong n) is = ap (shown_of_first None command files) (first_stops (stop.TooLong n) (first_file files command) is)
-meant_unshown command files stop.NoMemory is = tt
-
-meets_first : (command : Command) (reason : ReadStop) (out : Option (List ℕ)) (count : ℕ) (old new : Option Told) → FilesTold (path_in command ∷ []) 0 0 (Err reason) count old new
-    → IfSome old (λ told. Meets (shown_of_command None told.files (Some command)) (unread reason) out out)
-meets_first command reason out count None new p = tt
-meets_first command reason out count (Some told) new p =
-    meets_unread (shown_of_command None told.files (Some command)) reason out (meant_unshown command told.files reason p.1)
-
-lists_first_at : (command : Command) (files : FileMap) (reason : ReadStop) → IsMeant (Err reason) (files_of files 0 0 (path_in command ∷ [])) → AreListed (unread reason) [] (module_paths files (Some command))
-lists_first_at command files (stop.Failed n) is = inl refl
-lists_first_at command files (stop.TooLong n) is = sym (ap (paths_in command) (first_stops (stop.TooLong n) (first_file files command) is))
-lists_first_at command files stop.NoMemory is = inl refl
-
-lists_first : (command : Command) (reason : ReadStop) (count : ℕ) (old new : Option Told) → FilesTold (path_in command ∷ []) 0 0 (Err reason) count old new
-    → IfSome old (λ told. AreListed (unread reason) [] (module_paths told.files (Some command)))
-lists_first command reason count None new p = tt
-lists_first command reason count (Some told) new p = lists_first_at command told.files reason p.1
-
--- the file that a command names can't be read, or is too long
-pub first_stopped : (command : Command) (reason : ReadStop) (old : World) (first last : FilesAt) → ReadInOrder (path_in command ∷ []) 0 0 (Err reason) first last
-    → Performs (Some command) [] (unread reason) (with_files old first) (with_files old last)
-first_stopped command reason old first last p =
-    performed_stopped command [] reason old first last (λ bas. refl) (meets_first command reason old.out p.count first.told last.told p.told)
-    (lists_first command reason p.count first.told last.told p.told) p
-
--- what a command shows of a file that is one standard module, or a list
-shown_alone : (left : Option Place) (command : Command) (files : FileMap) (bytes : List ℕ) → ends_in_bas (path_in command) ≡ true → first_file files command ≡ Ok bytes
-    → shown_of_command left files (Some command) ≡ shown_of_source left command (program_of None (bytes ∷ []))
-shown_alone left command files bytes bas is =
-    ap (shown_of_first left command files) is
-    ∙ ap (λ b. if b then shown_of_source left command (program_of None (bytes ∷ [])) else shown_of_plan left command files (length bytes) (plan_of (decoded bytes))) bas
-
-shown_listed : (left : Option Place) (command : Command) (files : FileMap) (bytes : List ℕ) (plan : Plan) → ends_in_bas (path_in command) ≡ false → plan_of (decoded bytes) ≡ plan
-    → first_file files command ≡ Ok bytes → shown_of_command left files (Some command) ≡ shown_of_plan left command files (length bytes) plan
-shown_listed left command files bytes plan list planned is =
-    ap (shown_of_first left command files) is
-    ∙ ap (λ b. if b then shown_of_source left command (program_of None (bytes ∷ [])) else shown_of_plan left command files (length bytes) (plan_of (decoded bytes))) list
-    ∙ ap (shown_of_plan left command files (length bytes)) planned
-
-paths_alone : (command : Command) (files : FileMap) (bytes : List ℕ) → ends_in_bas (path_in command) ≡ true → first_file files command ≡ Ok bytes → [] ≡ module_paths files (Some command)
-paths_alone command files bytes bas is =
-    sym (ap (paths_in command) is ∙ ap (λ b. if b then [] else paths_of (plan_of (decoded bytes))) bas)
-
-paths_listed : (command : Command) (files : FileMap) (bytes : List ℕ) (plan : Plan) → ends_in_bas (path_in command) ≡ false → plan_of (decoded bytes) ≡ plan → first_file files command ≡ Ok bytes
-    → paths_of plan ≡ module_paths files (Some command)
-paths_listed command files bytes plan list planned is =
-    sym (ap (paths_in command) is ∙ ap (λ b. if b then [] else paths_of (plan_of (decoded bytes))) list ∙ ap paths_of planned)
-
--- one standard module was run or checked
-pub went_alone : (command : Command) (bytes : List ℕ) (status : Status) (old : World) (out : Option (List ℕ)) (out_faults : ℕ) → ends_in_bas (path_in command) ≡ true
-    → RanProgram command (program_of None (bytes ∷ [])) status old.out out old.out_faults out_faults
-    → GoesOn command bytes [] status old (record old { out = out; out_faults = out_faults })
-went_alone command bytes status old out out_faults bas ran = λ first p.
-    performed_whole command [] (bytes ∷ []) status ran.left old first (files_in old) out out_faults (of_run_read status ran.ran.of_run) ran.ran.leaves (λ is. refl)
-    (map_told first.told (λ told is. subst (λ shown. Meets shown status old.out out) (sym (shown_alone ran.left command told.files bytes bas is)) ran.ran.meets)
-    (first_told command bytes p.count first.told old.told p.told))
-    (map_told first.told (λ told is. paths_alone command told.files bytes bas is) (first_told command bytes p.count first.told old.told p.told)) p
-
--- a list that shows a status alone
-pub went_listed : (command : Command) (bytes : List ℕ) (plan : Plan) (status : Status) (old : World) → ends_in_bas (path_in command) ≡ false → plan_of (decoded bytes) ≡ plan
-    → paths_of plan ≡ [] → ((files : FileMap) → shown_of_plan None command files (length bytes) plan ≡ refused status) → IsRead status → Leaves status old.out old.out old.out_faults old.out_faults
-    → Meets (refused status) status old.out old.out → GoesOn command bytes [] status old old
-went_listed command bytes plan status old list planned none shows is leaves meets = λ first p.
-    performed_whole command [] (bytes ∷ []) status None old first (files_in old) old.out old.out_faults is leaves (λ bas. refl)
-    (map_told first.told (λ told there. subst (λ shown. Meets shown status old.out old.out) (sym (shown_listed None command told.files bytes plan list planned there ∙ shows told.files)) meets)
-    (first_told command bytes p.count first.told old.told p.told))
-    (map_told first.told (λ told there. sym none ∙ paths_listed command told.files bytes plan list planned there) (first_told command bytes p.count first.told old.told p.told)) p
-
--- a line breaks the list
-pub went_bad : (command : Command) (bytes : List ℕ) (line : ℕ) (old : World) → ends_in_bas (path_in command) ≡ false → plan_of (decoded bytes) ≡ bad_line line
-    → GoesOn command bytes [] (BadList line) old old
-went_bad command bytes line old list planned =
-    went_listed command bytes (bad_line line) (BadList line) old list planned refl (λ files. refl) tt (refl, refl) (refl, adds_none old.out)
-
--- a line lists a class or a sheet
-pub went_other : (command : Command) (bytes : List ℕ) (line : ℕ) (old : World) → ends_in_bas (path_in command) ≡ false → plan_of (decoded bytes) ≡ other_at line
-    → GoesOn command bytes [] (NotBuilt (line_of_list line)) old old
-went_other command bytes line old list planned =
-    went_listed command bytes (other_at line) (NotBuilt (line_of_list line)) old list planned refl (λ files. refl) tt (refl, refl) (refl, adds_none old.out)
-
--- memory ran out while the list was read
-pub went_wanting : (command : Command) (bytes : List ℕ) (old : World) → GoesOn command bytes [] NoMemory old old
-went_wanting command bytes old = λ first p. record {
-  leaves = refl;
-  left = None;
-  meets = map_told first.told (λ told is. none_prefix old.out old.out (shown_of_command None told.files (Some command)).out refl) (first_told command bytes p.count first.told old.told p.told);
-  alone = λ bas. refl;
-  listed = map_told first.told (λ told is. inl refl) (first_told command bytes p.count first.told old.told p.told);
-  reads = let c = p.counted in c.1;
-  usage = λ none. absurd cc;
-  writes = p.writes;
-  write_faults = p.write_faults;
-  reads_only = only_whole NoMemory (path_in command ∷ []) (bytes ∷ []) 0 0 p.count first.told old.told tt p.is_count p.told;
+-- a program breaks a rule, and nothing was done
+does_refused : (meant : Told → Shown) (names : List (List ℕ)) (number taken : ℕ) (refusal : Refusal) (old : World) → ((told : Told) → refused (Refused refusal) ≡ meant told)
+    → Does meant names number taken (Refused refusal) old old
+does_refused meant names number taken refusal old is = record {
+  leaves = record { unspoilt = record { out_faults = refl; write_faults = refl }; out = refl };
+  meets = map_any old.told (λ told. subst (λ s. Meets s (Refused refusal) old.out old.out) (is told) (refl, adds_none old.out));
+  mid = files_in old;
+  read = reads_none number taken (files_in old);
+  written = refl;
 }
 
-not_alone : (command : Command) (modules : List (List ℕ)) → ends_in_bas (path_in command) ≡ false → IsAlone (Some command) modules
-not_alone command modules list = λ bas. absurd cc
+-- or it has a part that isn't built
+does_left : (meant : Told → Shown) (names : List (List ℕ)) (number taken : ℕ) (place : Place) (old : World) → ((told : Told) → refused (NotBuilt place) ≡ meant told)
+    → Does meant names number taken (NotBuilt place) old old
+does_left meant names number taken place old is = record {
+  leaves = record { unspoilt = record { out_faults = refl; write_faults = refl }; out = refl };
+  meets = map_any old.told (λ told. subst (λ s. Meets s (NotBuilt place) old.out old.out) (is told) (refl, adds_none old.out));
+  mid = files_in old;
+  read = reads_none number taken (files_in old);
+  written = refl;
+}
 
--- the modules of a list were read, and run or checked
-went_on : (command : Command) (bytes : List ℕ) (paths : List (List ℕ)) (start : Start) (xs : List (List ℕ)) (status : Status) (old : World) (last : FilesAt) (out : Option (List ℕ)) (out_faults : ℕ)
-    → ends_in_bas (path_in command) ≡ false → plan_of (decoded bytes) ≡ modules_at paths start → ReadInOrder paths 1 (length bytes) (Ok xs) (files_in old) last
-    → RanProgram command (program_of (Some start) xs) status old.out out old.out_faults out_faults
-    → GoesOn command bytes paths status old (moved old last out out_faults)
-went_on command bytes paths start xs status old last out out_faults list planned read ran = λ first p.
-    let both = both_told command bytes paths (Ok xs) p.count read.count first.told old.told last.told p.told read.told in
-    performed_whole command paths (bytes ∷ xs) status ran.left old first last out out_faults (of_run_read status ran.ran.of_run) ran.ran.leaves (not_alone command paths list)
-    (map_told first.told (λ told (b : Both command bytes paths (Ok xs) told). subst (λ shown. Meets shown status old.out out)
-    (sym (shown_listed ran.left command told.files bytes (modules_at paths start) list planned b.first ∙ ap (shown_of_files ran.left command (Some start)) b.others)) ran.ran.meets) both)
-    (map_told first.told (λ told (b : Both command bytes paths (Ok xs) told). paths_listed command told.files bytes (modules_at paths start) list planned b.first) both)
-    (whole_read command bytes paths (Ok xs) first (files_in old) last p read)
+-- ---- a project over its sheets
 
-stopped_shown : (command : Command) (bytes : List ℕ) (paths : List (List ℕ)) (start : Start) (reason : ReadStop) (told : Told) → ends_in_bas (path_in command) ≡ false
-    → plan_of (decoded bytes) ≡ modules_at paths start → Both command bytes paths (Err reason) told → Unshown reason (shown_of_command None told.files (Some command))
-stopped_shown command bytes paths start (stop.Failed n) told list planned b = tt
-stopped_shown command bytes paths start (stop.TooLong n) told list planned b =
-    shown_listed None command told.files bytes (modules_at paths start) list planned b.first ∙ ap (shown_of_files None command (Some start)) b.others
-stopped_shown command bytes paths start stop.NoMemory told list planned b = tt
+reads_run : (result : Status) (names : List (List ℕ)) (number taken : ℕ) (old new : FilesAt) → IsOfRun result → ReadsAll names number taken old new → ReadsTo result names number taken old new
+reads_run Ended names number taken old new is r = r
+reads_run (Faulted n place) names number taken old new is r = r
+reads_run Usage names number taken old new is r = absurd is
+reads_run (Refused refusal) names number taken old new is r = absurd is
+reads_run (Stopped why place) names number taken old new is r = r
+reads_run Going names number taken old new is r = r
+reads_run (ReadFault n) names number taken old new is r = absurd is
+reads_run WriteFault names number taken old new is r = r
+reads_run (BadList line) names number taken old new is r = absurd is
+reads_run (TooLong n) names number taken old new is r = absurd is
+reads_run (BadBook sheet fault) names number taken old new is r = absurd is
+reads_run (NotBuilt place) names number taken old new is r = absurd is
+reads_run NoMemory names number taken old new is r = wanted names number taken r.files old new r.read
 
--- one of the modules of a list can't be read, or is too long
-went_stopped : (command : Command) (bytes : List ℕ) (paths : List (List ℕ)) (start : Start) (reason : ReadStop) (old : World) (last : FilesAt)
-    → ends_in_bas (path_in command) ≡ false → plan_of (decoded bytes) ≡ modules_at paths start → ReadInOrder paths 1 (length bytes) (Err reason) (files_in old) last
-    → GoesOn command bytes paths (unread reason) old (with_files old last)
-went_stopped command bytes paths start reason old last list planned read = λ first p.
-    let both = both_told command bytes paths (Err reason) p.count read.count first.told old.told last.told p.told read.told in
-    performed_stopped command paths reason old first last (not_alone command paths list)
-    (map_told first.told (λ told (b : Both command bytes paths (Err reason) told). meets_unread (shown_of_command None told.files (Some command)) reason old.out (stopped_shown command bytes paths start reason told list planned b)) both)
-    (map_told first.told (λ told (b : Both command bytes paths (Err reason) told). listed_as (unread reason) paths (module_paths told.files (Some command)) (paths_listed command told.files bytes (modules_at paths start) list planned b.first)) both)
-    (whole_read command bytes paths (Err reason) first (files_in old) last p read)
+-- what comes of reading the sheets shows this
+module _ (f : Result Sheets BookStop → Shown) (sheets : List SheetAt) (number taken : ℕ) where
+  abbrev shown_over : Told → Shown
+  shown_over told = f (book_of told.files number taken sheets)
 
-pub list_went_on : (command : Command) (bytes : List ℕ) (taken : ℕ) (paths : List (List ℕ)) (start : Start) (xs : List (List ℕ)) (status : Status) (old : World) (last : FilesAt) (out : Option (List ℕ)) (out_faults : ℕ)
-    → IsListOf command bytes taken paths start → ReadInOrder paths 1 taken (Ok xs) (files_in old) last
-    → RanProgram command (program_of (Some start) xs) status old.out out old.out_faults out_faults
-    → GoesOn command bytes paths status old (moved old last out out_faults)
-list_went_on command bytes taken paths start xs status old last out out_faults is read ran =
-    went_on command bytes paths start xs status old last out out_faults is.list is.planned (subst (λ k. ReadInOrder paths 1 k (Ok xs) (files_in old) last) is.taken_is read) ran
+  -- the sheets were read, and a project ran over them
+  pub ran_over : (book : Sheets) (shown : Shown) (result : Status) (old : World) (mid : FilesAt) (new : World) → f (Ok book) ≡ shown → ReadsBook sheets number taken (Ok book) (files_in old) mid
+      → RanOver shown result (with_files old mid) new → Does shown_over (sheet_paths sheets) number taken result old new
+  ran_over book shown result old mid new shows r ran =
+      let all = r.read in
+      let told = all.read in
+      record {
+        leaves = leaves_before result old mid new told.write_faults ran.leaves;
+        meets = map_told old.told (λ t is. subst (λ s. Meets s result old.out new.out) (sym (ap f is ∙ shows)) ran.meets) r.meant;
+        mid = mid;
+        read = reads_run result (sheet_paths sheets) number taken (files_in old) mid ran.of_run all;
+        written =
+            writes_as result (λ t. shown.saves) (λ t. (shown_over t).saves) mid.told old.told mid (files_in new)
+            (λ saves h.
+            map_both old.told (λ t is same. same ∙ sym (ap (λ (s : Shown). s.saves) (ap f is ∙ shows))) r.meant
+            (told_back (λ m. saves ≡ shown.saves) (sheet_paths sheets) number taken told.count (Ok all.files) old.told mid.told told.told h))
+            ran.written;
+      }
 
-pub list_went_stopped : (command : Command) (bytes : List ℕ) (taken : ℕ) (paths : List (List ℕ)) (start : Start) (reason : ReadStop) (old : World) (last : FilesAt)
-    → IsListOf command bytes taken paths start → ReadInOrder paths 1 taken (Err reason) (files_in old) last
-    → GoesOn command bytes paths (unread reason) old (with_files old last)
-list_went_stopped command bytes taken paths start reason old last is read =
-    went_stopped command bytes paths start reason old last is.list is.planned (subst (λ k. ReadInOrder paths 1 k (Err reason) (files_in old) last) is.taken_is read)
+  -- one of the sheets can't be read, or is none
+  pub ran_no_book : ((reason : BookStop) → f (Err reason) ≡ refused (no_book reason)) → (reason : BookStop) (old : World) (mid : FilesAt) → ReadsBook sheets number taken (Err reason) (files_in old) mid
+      → Does shown_over (sheet_paths sheets) number taken (no_book reason) old (with_files old mid)
+  ran_no_book shows (stop.Unread (read.Failed n)) old mid r =
+      let told = r.read in
+      record {
+        leaves = record { unspoilt = record { out_faults = refl; write_faults = told.write_faults }; out = refl };
+        meets = map_any old.told (λ t. refl);
+        mid = mid;
+        read = r.read;
+        written = refl;
+      }
+  ran_no_book shows (stop.Unread (read.TooLong n)) old mid r =
+      let told = r.read in
+      let reason = stop.Unread (read.TooLong n) in
+      record {
+        leaves = record { unspoilt = record { out_faults = refl; write_faults = told.write_faults }; out = refl };
+        meets = map_told old.told (λ t is. subst (λ s. Meets s (TooLong n) old.out old.out) (sym (ap f is ∙ shows reason)) (refl, adds_none old.out)) r.meant;
+        mid = mid;
+        read = r.read;
+        written = refl;
+      }
+  ran_no_book shows (stop.Unread read.NoMemory) old mid r =
+      let told = r.read in
+      record {
+        leaves = record { out_faults = refl; write_faults = told.write_faults };
+        meets = map_any old.told (λ t. adds_prefix_none old.out (shown_over t).out);
+        mid = mid;
+        read = r.read;
+        written = inl refl;
+      }
+  ran_no_book shows (stop.BadSheet sheet fault) old mid r =
+      let all = r.read in
+      let some = all.2 in
+      let told = some.read in
+      let reason = stop.BadSheet sheet fault in
+      record {
+        leaves = record { unspoilt = record { out_faults = refl; write_faults = told.write_faults }; out = refl };
+        meets = map_told old.told (λ t is. subst (λ s. Meets s (BadBook sheet fault) old.out old.out) (sym (ap f is ∙ shows reason)) (refl, adds_none old.out)) r.meant;
+        mid = mid;
+        read = r.read;
+        written = refl;
+      }
+
+-- a run that came to its end as is meant, and saved its sheets
+pub ran_saved : (save : Option (List ℕ)) (sheets : List SheetAt) (o : Outcome) (left meant_left : Sheets) (text : List ℕ) (result : Status) (old new : World) → outcome.Ended ≡ o → left ≡ meant_left
+    → Adds old.out new.out text → new.out_faults ≡ old.out_faults → EndsSaved (saved_by save outcome.Ended sheets left) result (files_in old) (files_in new)
+    → RanOver (record { status = status_of o; out = text; saves = saved_by save o sheets meant_left }) result old new
+ran_saved save sheets o left meant_left text Ended old new ends is added faults w = record {
+  of_run = tt;
+  leaves = record { out_faults = faults; write_faults = let c = w.counted in c.1 };
+  meets = (ap status_of ends, added);
+  written = record {
+    saves = saved_by save outcome.Ended sheets left;
+    are_meant = map_any old.told (λ t. ap (λ k. saved_by save k sheets left) ends ∙ ap (λ b. saved_by save o sheets b) is);
+    written = w;
+  };
+}
+ran_saved save sheets o left meant_left text WriteFault old new ends is added faults w = record {
+  of_run = tt;
+  leaves = inr (let c = w.counted in c.1);
+  meets = adds_prefix_whole old.out new.out text added;
+  written = inr (record {
+    saves = saved_by save outcome.Ended sheets left;
+    are_meant = map_any old.told (λ t. ap (λ k. saved_by save k sheets left) ends ∙ ap (λ b. saved_by save o sheets b) is);
+    written = w;
+  });
+}
+ran_saved save sheets o left meant_left text NoMemory old new ends is added faults w = record {
+  of_run = tt;
+  leaves = record { out_faults = faults; write_faults = w.counted };
+  meets = adds_prefix_whole old.out new.out text added;
+  written = inr (record {
+    saves = saved_by save outcome.Ended sheets left;
+    are_meant = map_any old.told (λ t. ap (λ k. saved_by save k sheets left) ends ∙ ap (λ b. saved_by save o sheets b) is);
+    written = w;
+  });
+}
+ran_saved save sheets o left meant_left text (Faulted n place) old new ends is added faults w = absurd w
+ran_saved save sheets o left meant_left text Usage old new ends is added faults w = absurd w
+ran_saved save sheets o left meant_left text (Refused refusal) old new ends is added faults w = absurd w
+ran_saved save sheets o left meant_left text (Stopped why place) old new ends is added faults w = absurd w
+ran_saved save sheets o left meant_left text Going old new ends is added faults w = absurd w
+ran_saved save sheets o left meant_left text (ReadFault n) old new ends is added faults w = absurd w
+ran_saved save sheets o left meant_left text (BadList line) old new ends is added faults w = absurd w
+ran_saved save sheets o left meant_left text (TooLong n) old new ends is added faults w = absurd w
+ran_saved save sheets o left meant_left text (BadBook sheet fault) old new ends is added faults w = absurd w
+ran_saved save sheets o left meant_left text (NotBuilt place) old new ends is added faults w = absurd w
+
+-- ---- sources
+
+module _ (shown : Told → Project → Shown) (answer : bind.Answer) (names : List (List ℕ)) (number taken : ℕ) where
+  bound_does : (pr : Project) (result : Status) (old new : World) → answer ≡ bind.bound_as pr → Does (λ told. shown told pr) names number taken result old new
+      → Does (λ told. shown_of_program None (shown told) answer) names number taken result old new
+  bound_does pr result old new is d =
+      does_as (λ told. shown told pr) (λ told. shown_of_program None (shown told) answer) names number taken result old new (λ told. sym (shown_bound (shown told) answer pr is)) d
+
+  left_does : (place : Place) (old : World) → IsUnbroken answer → Does (λ told. shown_of_program (Some place) (shown told) answer) names number taken (NotBuilt place) old old
+  left_does place old h =
+      does_left (λ told. shown_of_program (Some place) (shown told) answer) names number taken place old (λ told. sym (shown_left (shown told) answer place h))
+
+  refused_does : (refusal : Refusal) (old : World) → answer ≡ bind.refused refusal → Does (λ told. shown_of_program None (shown told) answer) names number taken (Refused refusal) old old
+  refused_does refusal old is =
+      does_refused (λ told. shown_of_program None (shown told) answer) names number taken refusal old (λ told. sym (shown_refused None (shown told) answer refusal is))
+
+module _ (path : List ℕ) (turns : ℕ) (trace : Bool) (save : Option (List ℕ)) (sheets : List SheetAt) (number taken : ℕ) (answer : bind.Answer) where
+  abbrev shown_by : Told → Project → Shown
+  shown_by told pr = shown_of_book turns (shows_of trace) save sheets (book_of told.files number taken sheets) pr
+
+  -- a project that the sources are was run
+  pub sources_ran : (pr : Project) (result : Status) (old new : World) → answer ≡ bind.bound_as pr → RanProject turns (shows_of trace) save sheets number taken pr result old new
+      → RanSources (run path turns trace save) sheets number taken answer result old new
+  sources_ran pr result old new is d = record {
+    left = None;
+    does = bound_does shown_by answer (sheet_paths sheets) number taken pr result old new is d;
+  }
+
+  pub sources_left : (place : Place) (old : World) → IsUnbroken answer → RanSources (run path turns trace save) sheets number taken answer (NotBuilt place) old old
+  sources_left place old h = record {
+    left = Some place;
+    does = left_does shown_by answer (sheet_paths sheets) number taken place old h;
+  }
+
+  pub sources_refused : (refusal : Refusal) (old : World) → answer ≡ bind.refused refusal → RanSources (run path turns trace save) sheets number taken answer (Refused refusal) old old
+  sources_refused refusal old is = record {
+    left = None;
+    does = refused_does shown_by answer (sheet_paths sheets) number taken refusal old is;
+  }
+
+  pub sources_wanting : (old : World) → RanSources (run path turns trace save) sheets number taken answer NoMemory old old
+  sources_wanting old = record {
+    left = None;
+    does = does_wanting (λ told. shown_of_program None (shown_by told) answer) (sheet_paths sheets) number taken old;
+  }
+
+-- a world whose `out` changed
+abbrev pub put_on : World → Option (List ℕ) → ℕ → World
+put_on w out out_faults = record w { out = out; out_faults = out_faults }
+
+module _ (command : Command) (sheets : List SheetAt) (number taken : ℕ) (answer : bind.Answer) (old : World) (out : Option (List ℕ)) (out_faults : ℕ) where
+  abbrev meant_alone : Option Place → Told → Shown
+  meant_alone left told = shown_of_source left command sheets (book_of told.files number taken sheets) answer
+
+  none_stored : (left : Option Place) (shown : Shown) → ((book : Result Sheets BookStop) → shown_of_source left command sheets book answer ≡ shown) → shown.saves ≡ []
+      → Stores (λ told. (meant_alone left told).saves) old.told (Ok tt) (files_in old) (files_in old)
+  none_stored left shown is none = record {
+    saves = [];
+    are_meant = map_any old.told (λ told. sym (ap (λ (s : Shown). s.saves) (is (book_of told.files number taken sheets)) ∙ none));
+    written = none_written tt (files_in old);
+  }
+
+  alone_by : (result : Status) (left : Option Place) (shown : Shown) → ((book : Result Sheets BookStop) → shown_of_source left command sheets book answer ≡ shown) → shown.saves ≡ []
+      → book_paths command sheets ≡ [] → LeavesOut result old.out out old.out_faults out_faults → Meets shown result old.out out
+      → Does (meant_alone left) (book_paths command sheets) number taken result old (put_on old out out_faults)
+  alone_by Ended left shown is none names l m = record {
+    leaves = record { out_faults = l; write_faults = refl };
+    meets = map_any old.told (λ told. subst (λ s. Meets s Ended old.out out) (sym (is (book_of told.files number taken sheets))) m);
+    mid = files_in old;
+    read = subst (λ ns. ReadsAll ns number taken (files_in old) (files_in old)) (sym names) (reads_none number taken (files_in old));
+    written = none_stored left shown is none;
+  }
+  alone_by WriteFault left shown is none names l m = record {
+    leaves = inl l;
+    meets = map_any old.told (λ told. subst (λ s. Meets s WriteFault old.out out) (sym (is (book_of told.files number taken sheets))) m);
+    mid = files_in old;
+    read = subst (λ ns. ReadsAll ns number taken (files_in old) (files_in old)) (sym names) (reads_none number taken (files_in old));
+    written = inl refl;
+  }
+  alone_by NoMemory left shown is none names l m = record {
+    leaves = record { out_faults = l; write_faults = refl };
+    meets = map_any old.told (λ told. subst (λ s. Meets s NoMemory old.out out) (sym (is (book_of told.files number taken sheets))) m);
+    mid = files_in old;
+    read = wants_none (book_paths command sheets) number taken (files_in old);
+    written = inl refl;
+  }
+  alone_by (Refused refusal) left shown is none names l m = record {
+    leaves = record { unspoilt = record { out_faults = l.0; write_faults = refl }; out = l.1 };
+    meets = map_any old.told (λ told. subst (λ s. Meets s (Refused refusal) old.out out) (sym (is (book_of told.files number taken sheets))) m);
+    mid = files_in old;
+    read = reads_none number taken (files_in old);
+    written = refl;
+  }
+  alone_by (NotBuilt place) left shown is none names l m = record {
+    leaves = record { unspoilt = record { out_faults = l.0; write_faults = refl }; out = l.1 };
+    meets = map_any old.told (λ told. subst (λ s. Meets s (NotBuilt place) old.out out) (sym (is (book_of told.files number taken sheets))) m);
+    mid = files_in old;
+    read = reads_none number taken (files_in old);
+    written = refl;
+  }
+  alone_by (Faulted n place) left shown is none names l m = absurd l
+  alone_by Usage left shown is none names l m = absurd l
+  alone_by (Stopped why place) left shown is none names l m = absurd l
+  alone_by Going left shown is none names l m = absurd l
+  alone_by (ReadFault n) left shown is none names l m = absurd l
+  alone_by (BadList line) left shown is none names l m = absurd l
+  alone_by (TooLong n) left shown is none names l m = absurd l
+  alone_by (BadBook sheet fault) left shown is none names l m = absurd l
+
+  -- a command that touches no file
+  pub sources_alone : (result : Status) → RanAlone command answer result old.out out old.out_faults out_faults → RanSources command sheets number taken answer result old (put_on old out out_faults)
+  sources_alone result a = record {
+    left = a.left;
+    does = let r = a.ran in alone_by result a.left a.shown (λ book. a.is_shown sheets book) a.saves (a.none_read sheets) r.leaves r.meets;
+  }

@@ -1,31 +1,40 @@
 -- The answer to a command: a function of its words and of what the files hold, but for what isn't built yet.
-use Rattle.std.specs.Prelude.{ℕ, Bool, true, false, List, [], ◌∷◌, ◌++◌, length, codes, Option, Some, None, Result, Ok, Err, if◌then◌else◌}
+use Rattle.std.specs.Prelude.{ℕ, suc, ◌+◌, Bool, true, false, List, [], ◌∷◌, ◌++◌, length, codes, Option, Some, None, Result, Ok, Err, if◌then◌else◌}
 use Rattle.vba_base.specs.Decode.{decoded}
 use Rattle.vba_base.specs.declared.place.Place.{Place}
 use Rattle.vba_base.specs.Map.{FileMap, bytes_of}
+use Rattle.sheet_host.specs.Books.{Sheets}
 use Rattle.bound_project.specs.Project.{Project}
 use Rattle.binder.specs.Bind as bind
+use Rattle.pcode.specs.Layout.{code_of}
+use Rattle.code_listing.specs.Listing.{listing_of}
 use Rattle.pcode_run.specs.declared.texts.Shows.{Shows}
 use Rattle.pcode_run.specs.declared.texts.Shows.TheVariants.{Plain, Trace}
 use Rattle.project_run.specs.declared.outcome.Outcome.{Outcome}
 use Rattle.project_run.specs.declared.outcome.Outcome.TheVariants as outcome
-use Rattle.project_run.specs.Meant.{meant_outcome, meant_text}
+use Rattle.project_run.specs.Meant.{meant_book, meant_outcome, meant_text}
 use Rattle.vba_cli.specs.declared.status.Status.{Status}
 use Rattle.vba_cli.specs.declared.status.Status.TheVariants as status
-use Rattle.command_words.specs.Words.{Command, run, check}
+use Rattle.command_words.specs.Words.{Command, run, check, code}
 use Rattle.list_file.specs.declared.files.ReadStop.{ReadStop}
-use Rattle.list_file.specs.declared.files.ReadStop.TheVariants as stop
-use Rattle.list_file.specs.Files.{file_of, files_of}
-use Rattle.list_file.specs.Lists.{Start}
-use Rattle.list_file.specs.Plans.{Plan, bad_line, other_at, modules_at, plan_of, paths_of}
+use Rattle.list_file.specs.declared.files.ReadStop.TheVariants as read_stop
+use Rattle.list_file.specs.Files.{file_of, files_of, total}
+use Rattle.list_file.specs.Lists.{SheetAt, Start}
+use Rattle.list_file.specs.Plans.{Plan, bad_line, class_at, project_at, plan_of}
+use Rattle.book_files.specs.declared.stop.BookStop.{BookStop}
+use Rattle.book_files.specs.declared.stop.BookStop.TheVariants as book_stop
+use Rattle.book_files.specs.Book.{book_of}
+use Rattle.book_files.specs.Saves.{Save, saves_of, with_saves}
 use Rattle.vba_cli.specs.Command.{command_in, ends_in_bas, path_in, turns_in}
+use Rattle.vba_cli.specs.Named.{Named, named_by, nothing_named}
 use Rattle.vba_cli.specs.Program.{program_of}
 use Rattle.vba_cli.specs.Messages.{status_text, error_line}
 
--- a status, and the bytes on `out`
+-- a status, the bytes on `out`, and what is written to files
 pub record Shown : Type 0 where
   pub status : Status
   pub out : List ℕ
+  pub saves : List Save
 
 -- the status, the bytes on `out` and on `err`, and the files afterwards
 pub record Answer : Type 0 where
@@ -43,9 +52,9 @@ abbrev pub turns_of : Option Command → ℕ
 turns_of None = 0
 turns_of (Some command) = turns_in command
 
--- what is written on `err` for the status of a command, where the modules of its list have these paths
-abbrev pub err_of : Option Command → List (List ℕ) → Status → List ℕ
-err_of command modules status = error_line (status_text (path_of command) modules (turns_of command) status)
+-- what is written on `err` for the status of a command, where its list names these files
+abbrev pub err_of : Option Command → Named → Status → List ℕ
+err_of command l status = error_line (status_text (path_of command) l (turns_of command) status)
 
 -- the status of a run that ended so
 abbrev pub status_of : Outcome → Status
@@ -54,65 +63,94 @@ status_of (outcome.Faulted number place) = status.Faulted number place
 status_of (outcome.Stopped why place) = status.Stopped why place
 status_of outcome.Going = status.Going
 
--- a refusal shows nothing on `out`
+-- a refusal shows nothing on `out` and writes nothing
 abbrev pub refused : Status → Shown
-refused status = record { status = status; out = [] }
+refused status = record { status = status; out = []; saves = [] }
 
 -- whether a run shows what it prints alone, or is traced
 abbrev pub shows_of : (trace : Bool) → Shows
 shows_of false = Plain
 shows_of true = Trace
 
--- a run shows how it ends and what it prints, or its trace, as its project means with this bound on turns
-abbrev pub shown_of_run : (turns : ℕ) → Shows → Project → Shown
-shown_of_run turns shows pr = record { status = status_of (meant_outcome pr turns); out = meant_text pr turns shows }
+-- what a run saves that ended so and left this book: its sheets, where it came to its end and a suffix is given
+abbrev pub saved_by : (save : Option (List ℕ)) → Outcome → List SheetAt → Sheets → List Save
+saved_by None ending sheets book = []
+saved_by (Some suffix) outcome.Ended sheets book = saves_of suffix sheets book
+saved_by (Some suffix) ending sheets book = []
 
--- a source that breaks a rule is refused; where vbarun tells that a part isn't built yet, it shows nothing else; any other is run
-abbrev pub shown_of_program : (left : Option Place) → (turns : ℕ) → Shows → bind.Answer → Shown
-shown_of_program left turns shows (bind.refused refusal) = refused (status.Refused refusal)
-shown_of_program (Some place) turns shows (bind.not_built_at other) = refused (status.NotBuilt place)
-shown_of_program (Some place) turns shows (bind.bound_as pr) = refused (status.NotBuilt place)
-shown_of_program None turns shows (bind.not_built_at place) = refused (status.NotBuilt place)
-shown_of_program None turns shows (bind.bound_as pr) = shown_of_run turns shows pr
+-- a run shows how it ends and what it prints, or its trace, as its project means over this book with this bound on turns
+abbrev pub shown_of_run : (turns : ℕ) → Shows → (save : Option (List ℕ)) → List SheetAt → Sheets → Project → Shown
+shown_of_run turns shows save sheets book pr = record {
+  status = status_of (meant_outcome pr book turns);
+  out = meant_text pr book turns shows;
+  saves = saved_by save (meant_outcome pr book turns) sheets (meant_book pr book turns);
+}
+
+-- the status where a file can't be read, or has more bytes than it may
+abbrev pub unread : ReadStop → Status
+unread (read_stop.Failed number) = status.ReadFault number
+unread (read_stop.TooLong number) = status.TooLong number
+unread read_stop.NoMemory = status.NoMemory
+
+-- the status where the file of a sheet can't be read, or is no sheet
+abbrev pub no_book : BookStop → Status
+no_book (book_stop.Unread reason) = unread reason
+no_book (book_stop.BadSheet sheet fault) = status.BadBook sheet fault
+
+-- a run wants its sheets first
+abbrev pub shown_of_book : (turns : ℕ) → Shows → (save : Option (List ℕ)) → List SheetAt → Result Sheets BookStop → Project → Shown
+shown_of_book turns shows save sheets (Err reason) pr = refused (no_book reason)
+shown_of_book turns shows save sheets (Ok book) pr = shown_of_run turns shows save sheets book pr
+
+-- a source that breaks a rule is refused; where vbarun tells that a part isn't built yet, it shows nothing else; any other shows
+-- what its project does
+abbrev pub shown_of_program : (left : Option Place) → (Project → Shown) → bind.Answer → Shown
+shown_of_program left shown (bind.refused refusal) = refused (status.Refused refusal)
+shown_of_program (Some place) shown (bind.not_built_at other) = refused (status.NotBuilt place)
+shown_of_program (Some place) shown (bind.bound_as pr) = refused (status.NotBuilt place)
+shown_of_program None shown (bind.not_built_at place) = refused (status.NotBuilt place)
+shown_of_program None shown (bind.bound_as pr) = shown pr
 
 -- a check shows `ok` and a line end where no rule is broken
 abbrev pub all_right : Shown
-all_right = record { status = status.Ended; out = codes "ok" ++ 10 ∷ [] }
+all_right = record { status = status.Ended; out = codes "ok" ++ 10 ∷ []; saves = [] }
 
 abbrev pub shown_of_check : bind.Answer → Shown
 shown_of_check (bind.refused refusal) = refused (status.Refused refusal)
 shown_of_check answer = all_right
 
--- what a command shows of a source
-abbrev pub shown_of_source : (left : Option Place) → Command → bind.Answer → Shown
-shown_of_source left (run path turns trace) answer = shown_of_program left turns (shows_of trace) answer
-shown_of_source left (check path) answer = shown_of_check answer
+-- the listing of a project's code
+abbrev pub shown_of_code : Project → Shown
+shown_of_code pr = record { status = status.Ended; out = listing_of (code_of pr); saves = [] }
 
--- the status where a file can't be read, or has more bytes than it may
-abbrev pub unread : ReadStop → Status
-unread (stop.Failed number) = status.ReadFault number
-unread (stop.TooLong number) = status.TooLong number
-unread stop.NoMemory = status.NoMemory
+-- what a command shows of sources, where its list names these sheets, and this comes of reading them
+abbrev pub shown_of_source : (left : Option Place) → Command → List SheetAt → Result Sheets BookStop → bind.Answer → Shown
+shown_of_source left (run path turns trace save) sheets book answer =
+    shown_of_program left (shown_of_book turns (shows_of trace) save sheets book) answer
+shown_of_source left (check path) sheets book answer = shown_of_check answer
+shown_of_source left (code path) sheets book answer = shown_of_program left shown_of_code answer
 
--- what a command shows of the files of standard modules, with the startup of its list
-abbrev pub shown_of_files : (left : Option Place) → Command → Option Start → Result (List (List ℕ)) ReadStop → Shown
-shown_of_files left command start (Err reason) = refused (unread reason)
-shown_of_files left command start (Ok files) = shown_of_source left command (program_of start files)
+-- what a command shows of the files of standard modules, with the sheets and the startup of its list, which has so many bytes
+abbrev pub shown_of_files : (left : Option Place) → Command → FileMap → (taken : ℕ) → List SheetAt → Start → Result (List (List ℕ)) ReadStop → Shown
+shown_of_files left command files taken sheets start (Err reason) = refused (unread reason)
+shown_of_files left command files taken sheets start (Ok sources) =
+    shown_of_source left command sheets (book_of files (suc (length sources)) (taken + total sources) sheets) (program_of (Some start) sources)
 
 -- the place of a line of the list
 abbrev pub line_of_list : ℕ → Place
 line_of_list line = record { «module» = 0; line = line; column = 1 }
 
--- what a command shows of its list, which has so many bytes; lists of classes and sheets aren't built yet
+-- what a command shows of its list, which has so many bytes; lists of classes aren't built yet
 abbrev pub shown_of_plan : (left : Option Place) → Command → FileMap → (taken : ℕ) → Plan → Shown
 shown_of_plan left command files taken (bad_line line) = refused (status.BadList line)
-shown_of_plan left command files taken (other_at line) = refused (status.NotBuilt (line_of_list line))
-shown_of_plan left command files taken (modules_at paths start) = shown_of_files left command (Some start) (files_of files 1 taken paths)
+shown_of_plan left command files taken (class_at line) = refused (status.NotBuilt (line_of_list line))
+shown_of_plan left command files taken (project_at paths sheets start) =
+    shown_of_files left command files taken sheets start (files_of files 1 taken paths)
 
 -- the file that a command names: one standard module, or a list
 abbrev pub shown_of_bytes : (left : Option Place) → Command → FileMap → List ℕ → Shown
 shown_of_bytes left command files bytes =
-    if ends_in_bas (path_in command) then shown_of_source left command (program_of None (bytes ∷ []))
+    if ends_in_bas (path_in command) then shown_of_source left command [] (Ok []) (program_of None (bytes ∷ []))
     else shown_of_plan left command files (length bytes) (plan_of (decoded bytes))
 
 abbrev pub shown_of_first : (left : Option Place) → Command → FileMap → Result (List ℕ) ReadStop → Shown
@@ -128,19 +166,23 @@ abbrev pub shown_of_command : (left : Option Place) → FileMap → Option Comma
 shown_of_command left files None = refused status.Usage
 shown_of_command left files (Some command) = shown_of_first left command files (first_file files command)
 
--- the paths of the modules of a command's list, where it has one
-abbrev pub paths_in : Command → Result (List ℕ) ReadStop → List (List ℕ)
-paths_in command (Err reason) = []
-paths_in command (Ok bytes) = if ends_in_bas (path_in command) then [] else paths_of (plan_of (decoded bytes))
+-- what the list of a command names, where it has one
+abbrev pub named_in : Command → Result (List ℕ) ReadStop → Named
+named_in command (Err reason) = nothing_named
+named_in command (Ok bytes) = if ends_in_bas (path_in command) then nothing_named else named_by (plan_of (decoded bytes))
 
-abbrev pub module_paths : FileMap → Option Command → List (List ℕ)
-module_paths files None = []
-module_paths files (Some command) = paths_in command (first_file files command)
+abbrev pub what_is_named : FileMap → Option Command → Named
+what_is_named files None = nothing_named
+what_is_named files (Some command) = named_in command (first_file files command)
 
--- what is shown, with its text on `err`, and the files as they are
+-- what is shown, with its text on `err`, and the files with what is written to them
 abbrev pub answer_with : Option Command → FileMap → Shown → Answer
-answer_with command files shown =
-    record { status = shown.status; out = shown.out; err = err_of command (module_paths files command) shown.status; files = files }
+answer_with command files shown = record {
+  status = shown.status;
+  out = shown.out;
+  err = err_of command (what_is_named files command) shown.status;
+  files = with_saves files shown.saves;
+}
 
 -- the answer to these words. Which forms vbarun builds grows from version to version and isn't told here: `left` is the place of a part
 -- of a module that it doesn't build yet, or none where it builds all

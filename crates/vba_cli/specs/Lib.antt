@@ -1,10 +1,12 @@
 pub mod Command
+pub mod Named
 pub mod Messages
 pub mod Program
 pub mod Programs
 pub mod Answer
 pub mod Contract
 pub mod Steps
+pub mod Told
 pub use Rattle.vba_base.specs.Causes
 pub use Rattle.vba_base.specs.Map
 pub use Rattle.vba_base.specs.Outside

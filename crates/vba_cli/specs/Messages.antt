@@ -1,13 +1,18 @@
 -- The texts that are written on `err`.
-use Rattle.std.specs.Prelude.{ℕ, zero, suc, ℤ, ◌==◌, List, [], ◌∷◌, ◌++◌, codes, slice_get, unwrap_or, if◌then◌else◌}
+use Rattle.std.specs.Prelude.{ℕ, zero, suc, ℤ, ◌==◌, List, [], ◌∷◌, ◌++◌, codes, option_map, slice_get, unwrap_or, if◌then◌else◌}
 use Rattle.std.specs.Fmt.{decimal, signed_decimal}
+use Rattle.vba_base.specs.Text.{encoded}
 use Rattle.vba_base.specs.declared.place.Place.{Place}
+use Rattle.csv_book.specs.declared.fault.BookFault.{BookFault}
+use Rattle.csv_book.specs.declared.fault.BookFault.TheVariants.{NotUtf8, TooManyRows, TooManyColumns}
+use Rattle.list_file.specs.Lists.{SheetAt}
 use Rattle.vba_values.specs.Messages.{message_of}
 use Rattle.vba_values.specs.declared.fault.OutKind.TheVariants as out
 use Rattle.pcode_vm.specs.declared.step.Why.{Why}
 use Rattle.pcode_vm.specs.declared.step.Why.TheVariants as why
 use Rattle.vba_cli.specs.declared.status.Status.{Status}
 use Rattle.vba_cli.specs.declared.status.Status.TheVariants as status
+use Rattle.vba_cli.specs.Named.{Named, paths_named}
 
 -- PATH:LINE:COLUMN
 abbrev pub place_text : List ℕ → Place → List ℕ
@@ -65,28 +70,44 @@ abbrev pub refusal_text : List ℕ → ℕ → Place → List ℕ
 refusal_text path rule place =
     codes "vbarun: refused S" ++ decimal rule ++ codes " at " ++ place_text path place ++ codes ": " ++ rule_word rule
 
--- the path of a file by its number: 0 is the file that a command names, and behind it come the modules of its list; a
+-- the path of a file by its number: 0 is the file that a command names, and behind it come those that its list names; a
 -- file that is one standard module has its own path besides
 abbrev pub path_at : List ℕ → List (List ℕ) → ℕ → List ℕ
-path_at path modules zero = path
-path_at path modules (suc number) = unwrap_or (slice_get modules number) path
+path_at path others zero = path
+path_at path others (suc number) = unwrap_or (slice_get others number) path
 
--- the text of a status of a command that names the file with this path, a list of modules with these paths, and has this
+-- the name of a sheet by its number, from 1
+abbrev pub sheet_name : List SheetAt → ℕ → List ℕ
+sheet_name sheets zero = []
+sheet_name sheets (suc number) = unwrap_or (option_map (λ (s : SheetAt). s.name) (slice_get sheets number)) []
+
+-- why the file of a sheet is none
+abbrev pub sheet_fault : BookFault → List ℕ
+sheet_fault (NotUtf8 row) = codes "row " ++ decimal row ++ codes ": " ++ codes "not UTF-8"
+sheet_fault TooManyRows = codes "too many rows"
+sheet_fault (TooManyColumns row) = codes "row " ++ decimal row ++ codes ": " ++ codes "too many columns"
+
+-- the text of a sheet whose file is none: sheet NAME: WHY
+abbrev pub sheet_text : (name : List ℕ) → BookFault → List ℕ
+sheet_text name fault = codes "vbarun: sheet " ++ encoded name ++ codes ": " ++ sheet_fault fault
+
+-- the text of a status of a command that names the file with this path, whose list names these files, and which has this
 -- bound on its turns
-abbrev pub status_text : List ℕ → List (List ℕ) → ℕ → Status → List ℕ
-status_text path modules turns status.Ended = []
-status_text path modules turns (status.Faulted number place) = fault_text (path_at path modules place.«module») number place
-status_text path modules turns status.Usage =
+abbrev pub status_text : List ℕ → Named → ℕ → Status → List ℕ
+status_text path l turns status.Ended = []
+status_text path l turns (status.Faulted number place) = fault_text (path_at path (paths_named l) place.«module») number place
+status_text path l turns status.Usage =
     codes "vbarun: usage: run [--turns N] [--trace] [--save SUFFIX] LIST, check LIST, code LIST, gen N"
-status_text path modules turns (status.Refused refusal) = refusal_text (path_at path modules refusal.place.«module») refusal.rule refusal.place
-status_text path modules turns (status.Stopped why place) = stop_text (path_at path modules place.«module») why place
-status_text path modules turns status.Going = codes "vbarun: going after " ++ decimal turns ++ codes " turns"
-status_text path modules turns (status.ReadFault number) = codes "vbarun: cannot read " ++ path_at path modules number
-status_text path modules turns status.WriteFault = codes "vbarun: cannot write"
-status_text path modules turns (status.BadList line) = codes "vbarun: bad list line " ++ decimal line ++ codes " in " ++ path
-status_text path modules turns (status.TooLong number) = codes "vbarun: too long: " ++ path_at path modules number
-status_text path modules turns (status.NotBuilt place) = codes "vbarun: not built at " ++ place_text (path_at path modules place.«module») place
-status_text path modules turns status.NoMemory = codes "vbarun: out of memory"
+status_text path l turns (status.Refused refusal) = refusal_text (path_at path (paths_named l) refusal.place.«module») refusal.rule refusal.place
+status_text path l turns (status.Stopped why place) = stop_text (path_at path (paths_named l) place.«module») why place
+status_text path l turns status.Going = codes "vbarun: going after " ++ decimal turns ++ codes " turns"
+status_text path l turns (status.ReadFault number) = codes "vbarun: cannot read " ++ path_at path (paths_named l) number
+status_text path l turns status.WriteFault = codes "vbarun: cannot write"
+status_text path l turns (status.BadList line) = codes "vbarun: bad list line " ++ decimal line ++ codes " in " ++ path
+status_text path l turns (status.TooLong number) = codes "vbarun: too long: " ++ path_at path (paths_named l) number
+status_text path l turns (status.BadBook sheet fault) = sheet_text (sheet_name l.sheets sheet) fault
+status_text path l turns (status.NotBuilt place) = codes "vbarun: not built at " ++ place_text (path_at path (paths_named l) place.«module») place
+status_text path l turns status.NoMemory = codes "vbarun: out of memory"
 
 -- what is written on `err`: the text and a line end, or nothing where there is no text
 abbrev pub error_line : List ℕ → List ℕ

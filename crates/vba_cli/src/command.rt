@@ -20,6 +20,7 @@ pub fn path_in<'a>(command: Command<'a>) -> &'a str
     match command {
         Command::Run { file, .. } => file,
         Command::Check { file } => file,
+        Command::Code { file } => file,
     }
 }
 
@@ -30,6 +31,7 @@ fn turns_in(command: Command) -> u64
     match command {
         Command::Run { turns, .. } => turns,
         Command::Check { .. } => 0,
+        Command::Code { .. } => 0,
     }
 }
 

@@ -10,6 +10,7 @@ mod modules;
 mod phases;
 mod reading;
 mod running;
+mod sheets;
 mod status;
 
 pub use cli::run_cli;

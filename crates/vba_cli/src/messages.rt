@@ -1,10 +1,15 @@
-ghost use Rattle.std.specs.Prelude.{◌≡◌, ◌++◌, IfOk, slice_get, string_bytes, codes, unwrap_or};
+ghost use Rattle.std.specs.Prelude.{◌≡◌, ◌++◌, IfOk, slice_get, suc, string_bytes, codes, unwrap_or};
 ghost use Rattle.std.specs.Fmt.{decimal, signed_decimal};
-ghost use Rattle.list_file.specs.Sources.{paths_view};
-ghost use Rattle.vba_cli.specs.Messages.{path_at, place_text, fault_text, rule_word, refusal_text, why_text, stop_text, status_text, error_line};
+ghost use Rattle.vba_base.specs.Text.{encoded};
+ghost use Rattle.list_file.specs.Sources.{paths_view, sheets_view};
+ghost use Rattle.book_files.specs.Book.{sheet_paths};
+ghost use Rattle.vba_cli.specs.Messages.{path_at, place_text, fault_text, rule_word, refusal_text, sheet_fault, sheet_name, sheet_text, why_text, stop_text, status_text, error_line};
+ghost use Rattle.vba_cli.specs.Named.{paths_named};
+ghost use Rattle.vba_cli.specs.Told.{named_of};
 
 use crate::status::Status;
-use list_file::ModulePath;
+use csv_book::BookFault;
+use list_file::{ModulePath, SheetPath};
 use pcode_vm::Why;
 use std::alloc::{AllocError, Global};
 use vba_base::{NoMemory, Place};
@@ -123,86 +128,134 @@ fn refusal_rule(alloc: Global, rule: u8) -> Result<String, AllocError>
     format!(in alloc; "vbarun: refused S{rule}")
 }
 
-// The path of a file by its number: 0 is the file that the command names, and behind it come the modules of its list.
-#[tactic(auto, using(crate::proofs::Paths::path_behind))]
-fn path_at<'a>(path: &'a str, modules: &'a [ModulePath], number: u32) -> &'a str
-    ensures { result.now ≡ path_at path.now (paths_view modules.now) number }
-{
-    match number.checked_sub(1) {
-        Some(place) => path_in(path, modules, place as usize),
-        None => path,
-    }
-}
-
-// The path of the module at a place in a list, or the other path where none is there.
-#[tactic(auto, using(crate::proofs::Paths::path_there))]
-fn path_in<'a>(path: &'a str, modules: &'a [ModulePath], place: usize) -> &'a str
-    ensures { result.now ≡ unwrap_or (slice_get (paths_view modules.now) place) path.now }
-{
-    match modules.get(place) {
-        Some(module) => module.path.as_str(),
-        None => path,
-    }
-}
-
-/// What the texts of a command tell of it: the path of the file that it names, the modules of its list, and the bound
-/// on its turns.
+/// What the texts of a command tell of it: the path of the file that it names, the modules and sheets of its list, and
+/// the bound on its turns.
 #[derive(Clone, Copy)]
 pub struct Told<'a> {
     pub path: &'a str,
     pub modules: &'a [ModulePath],
+    pub sheets: &'a [SheetPath],
     pub turns: u64,
+}
+
+// The path of a file by its number: 0 is the file that the command names, and behind it come the modules and the sheets
+// of its list.
+#[tactic(auto, using(crate::proofs::Paths::path_behind))]
+fn path_at<'a>(told: Told<'a>, number: u32) -> &'a str
+    ensures { result.now ≡ path_at told.entry.path.now (paths_named (named_of told.entry.modules.now told.entry.sheets.now)) number }
+{
+    match number.checked_sub(1) {
+        Some(place) => path_behind(told, place as usize),
+        None => told.path,
+    }
+}
+
+// The path of the file at a place behind the one that the command names, or that one's where none is there.
+fn path_behind<'a>(told: Told<'a>, place: usize) -> &'a str
+    ensures { result.now ≡ unwrap_or (slice_get (paths_named (named_of told.entry.modules.now told.entry.sheets.now)) place) told.entry.path.now }
+{
+    match told.modules.get(place) {
+        Some(module) => module.path.as_str(),
+        None => sheet_path(told, place - told.modules.len()),
+    }
+}
+
+// The path of the sheet at a place, or the path that the command names where none is there.
+fn sheet_path<'a>(told: Told<'a>, place: usize) -> &'a str
+    ensures { result.now ≡ unwrap_or (slice_get (sheet_paths (sheets_view told.entry.sheets.now)) place) told.entry.path.now }
+{
+    match told.sheets.get(place) {
+        Some(sheet) => sheet.path.as_str(),
+        None => told.path,
+    }
+}
+
+// The name of a sheet by its number, from 1.
+fn sheet_name<'a>(sheets: &'a [SheetPath], number: u32) -> &'a [u16]
+    ensures { result.now ≡ sheet_name (sheets_view sheets.now) number }
+{
+    match number.checked_sub(1) {
+        Some(place) => name_there(sheets, place as usize),
+        None => &[],
+    }
+}
+
+// The name of the sheet at a place, or no units where none is there.
+fn name_there<'a>(sheets: &'a [SheetPath], place: usize) -> &'a [u16]
+    ensures { result.now ≡ sheet_name (sheets_view sheets.now) (suc place) }
+{
+    match sheets.get(place) {
+        Some(sheet) => sheet.name.units(),
+        None => &[],
+    }
+}
+
+// Why the file of a sheet is none.
+fn sheet_fault(alloc: Global, fault: BookFault) -> Result<String, AllocError>
+    ensures { IfOk result (λ text. string_bytes text ≡ sheet_fault fault) }
+{
+    match fault {
+        BookFault::NotUtf8(row) => row_fault(alloc, row, "not UTF-8"),
+        BookFault::TooManyRows => String::from_str(alloc, "too many rows"),
+        BookFault::TooManyColumns(row) => row_fault(alloc, row, "too many columns"),
+    }
+}
+
+// The fault of a row.
+fn row_fault(alloc: Global, row: u32, fault: &str) -> Result<String, AllocError>
+    ensures { IfOk result (λ text. string_bytes text ≡ codes "row " ++ decimal row ++ codes ": " ++ fault.now) }
+{
+    let row = row_number(alloc, row)?;
+    joined(alloc, row.as_str(), ": ", fault)
+}
+
+// The number of a row.
+fn row_number(alloc: Global, row: u32) -> Result<String, AllocError>
+    ensures { IfOk result (λ text. string_bytes text ≡ codes "row " ++ decimal row) }
+{
+    format!(in alloc; "row {row}")
+}
+
+// The text of a sheet whose file is none.
+fn sheet_message(alloc: Global, name: &[u16], fault: BookFault) -> Result<String, AllocError>
+    ensures { IfOk result (λ text. string_bytes text ≡ sheet_text name.now fault) }
+{
+    let name = String::from_utf16_lossy(alloc, name)?;
+    let sheet = joined(alloc, "vbarun: sheet ", "", name.as_str())?;
+    let fault = sheet_fault(alloc, fault)?;
+    joined(alloc, sheet.as_str(), ": ", fault.as_str())
 }
 
 /// The text of a status of a command.
 pub fn status_message(alloc: Global, told: Told, status: Status) -> Result<String, AllocError>
-    ensures { IfOk result (λ text. string_bytes text ≡ status_text told.entry.path.now (paths_view told.entry.modules.now) told.entry.turns status) }
+    ensures { IfOk result (λ text. string_bytes text ≡ status_text told.entry.path.now (named_of told.entry.modules.now told.entry.sheets.now) told.entry.turns status) }
 {
     match status {
         Status::Ended => Ok(String::new(alloc)),
         Status::Faulted(number, place) => {
-            fault_message(
-                alloc,
-                path_at(told.path, told.modules, place.module),
-                number,
-                place,
-            )
+            fault_message(alloc, path_at(told, place.module), number, place)
         }
         Status::Usage => String::from_str(alloc, USAGE),
         Status::Refused(refusal) => {
-            let path = path_at(told.path, told.modules, refusal.place.module);
+            let path = path_at(told, refusal.place.module);
             refusal_message(alloc, path, refusal.rule, refusal.place)
         }
         Status::Stopped(why, place) => {
-            stop_message(
-                alloc,
-                path_at(told.path, told.modules, place.module),
-                why,
-                place,
-            )
+            stop_message(alloc, path_at(told, place.module), why, place)
         }
         Status::Going => going_message(alloc, told.turns),
         Status::ReadFault(number) => {
-            joined(
-                alloc,
-                "vbarun: cannot read ",
-                "",
-                path_at(told.path, told.modules, number),
-            )
+            joined(alloc, "vbarun: cannot read ", "", path_at(told, number))
         }
         Status::WriteFault => String::from_str(alloc, "vbarun: cannot write"),
         Status::BadList(line) => bad_list_message(alloc, told.path, line),
         Status::TooLong(number) => {
-            joined(
-                alloc,
-                "vbarun: too long: ",
-                "",
-                path_at(told.path, told.modules, number),
-            )
+            joined(alloc, "vbarun: too long: ", "", path_at(told, number))
         }
-        Status::NotBuilt(place) => {
-            not_built_message(alloc, path_at(told.path, told.modules, place.module), place)
+        Status::BadBook(sheet, fault) => {
+            sheet_message(alloc, sheet_name(told.sheets, sheet), fault)
         }
+        Status::NotBuilt(place) => { not_built_message(alloc, path_at(told, place.module), place) }
         Status::NoMemory => String::from_str(alloc, OUT_OF_MEMORY),
     }
 }
@@ -237,7 +290,7 @@ const OUT_OF_MEMORY: &str = "vbarun: out of memory";
 
 /// What is written on `err` for a status: its text and a line end, or nothing where it has no text.
 pub fn status_line(alloc: Global, told: Told, status: Status) -> Result<String, NoMemory>
-    ensures { IfOk result (λ line. string_bytes line ≡ error_line (status_text told.entry.path.now (paths_view told.entry.modules.now) told.entry.turns status)) }
+    ensures { IfOk result (λ line. string_bytes line ≡ error_line (status_text told.entry.path.now (named_of told.entry.modules.now told.entry.sheets.now) told.entry.turns status)) }
 {
     let mut line = status_message(alloc, told, status)?;
     if !line.is_empty() {

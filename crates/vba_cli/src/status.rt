@@ -1,11 +1,12 @@
 ghost use Rattle.std.specs.Prelude.{◌≡◌};
 ghost use Rattle.vba_cli.specs.Contract.{code_of};
 
+use csv_book::BookFault;
 use pcode_vm::Why;
 use vba_base::{Place, Refusal};
 
 /// How a command ended. The numbers in `ReadFault` and `TooLong` tell which file it was: 0 is the file that the command
-/// names, and behind it come the modules of its list.
+/// names, and behind it come the modules of its list and then its sheets.
 #[derive(Clone, Copy, Debug, PartialEq, Eq)]
 pub enum Status {
     /// The command is done.
@@ -28,6 +29,8 @@ pub enum Status {
     BadList(u32),
     /// A file has more bytes than the limit.
     TooLong(u32),
+    /// The file of the sheet with this number, from 1 in the order of the list, has this fault, and none before it has one.
+    BadBook(u32, BookFault),
     /// The source has a part that isn't built yet, at this place; the list has where the place's module is 0.
     NotBuilt(Place),
     /// Memory ran out.
@@ -50,6 +53,7 @@ impl Status {
             Status::WriteFault => 7,
             Status::BadList(_) => 8,
             Status::TooLong(_) => 9,
+            Status::BadBook(_, _) => 10,
             Status::NotBuilt(_) => 69,
             Status::NoMemory => 70,
         }

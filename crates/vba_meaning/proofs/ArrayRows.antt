@@ -9,8 +9,7 @@ use Rattle.bound_project.specs.Statements.{skipped, assign, assign_none, print, 
 use Rattle.bound_project.specs.Project.{Project, Declaration}
 use Rattle.vba_meaning.specs.Memory.{Ended, Stopped, outside}
 use Rattle.vba_meaning.specs.Effects.{Raised}
-use Rattle.vba_meaning.specs.Meaning.{meaning}
-use Rattle.vba_meaning.proofs.Programs.{e, n, words, plus, long, any, global, v, err, show, becomes, declare, sub, flat, jumping, program, main, told, line, fault, longs, shared_longs, of_type, fixed, up_to, declared_array, one, from_0, at_place, el, el_becomes, redim_to, do_call, with_types}
+use Rattle.vba_meaning.proofs.Programs.{meaning, e, n, words, plus, long, any, global, v, err, show, becomes, declare, sub, flat, jumping, program, main, told, line, fault, longs, shared_longs, of_type, fixed, up_to, declared_array, one, from_0, at_place, el, el_becomes, redim_to, do_call, with_types}
 
 abbrev pub long_array : type.Declared
 long_array = type.array_of type.long

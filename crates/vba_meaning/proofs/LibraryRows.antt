@@ -21,8 +21,7 @@ use Rattle.bound_project.specs.Statements.{Action, skipped, assign, set, assign_
 use Rattle.bound_project.specs.Project.{Project}
 use Rattle.vba_meaning.specs.Memory.{Ended, Stopped, outside}
 use Rattle.vba_meaning.specs.Effects.{Event, Raised}
-use Rattle.vba_meaning.specs.Meaning.{meaning}
-use Rattle.vba_meaning.proofs.Programs.{e, n, words, two, byte, any, v, err, show, becomes, declare, sub, flat, jumping, program, main, told, line, fault, longs, shared_longs, of_type, one, redim_to, do_call, with_types}
+use Rattle.vba_meaning.proofs.Programs.{meaning, e, n, words, two, byte, any, v, err, show, becomes, declare, sub, flat, jumping, program, main, told, line, fault, longs, shared_longs, of_type, one, redim_to, do_call, with_types}
 use Rattle.vba_meaning.proofs.ArrayRows.{long_array, p_array, x_of}
 
 -- a call of a function of the library

@@ -13,6 +13,7 @@ use Rattle.bound_project.specs.Statements.{Action, assign, evaluate, redim, no_r
 use Rattle.bound_project.specs.Project.{Project, Declaration, Procedure, UserType, Body, is_sub, no_name, nowhere, no_declaration}
 use Rattle.vba_meaning.specs.Memory.{Ending, Faulted}
 use Rattle.vba_meaning.specs.Effects.{Event, Printed}
+use Rattle.vba_meaning.specs.Meaning as over_a_book
 use Rattle.vba_meaning.specs.Meaning.{Run}
 
 abbrev pub e : Declared → Node → Expr
@@ -95,6 +96,10 @@ program globals procedures = record {
 
 abbrev pub main : List Declared → List Statement → Project
 main locals statements = program [] ((sub locals, statements) ∷ [])
+
+-- a run without sheets
+abbrev pub meaning : Project → ℕ → Run
+meaning pr n = over_a_book.meaning pr [] n
 
 abbrev pub told : Run → Ending × List Event
 told r = (r.ending, r.events)

@@ -14,8 +14,7 @@ use Rattle.bound_project.specs.Statements.{no_tests, test_is, test_range, skippe
 use Rattle.bound_project.specs.Project.{Project}
 use Rattle.vba_meaning.specs.Memory.{Ended, Stopped, Going, stop_said, outside}
 use Rattle.vba_meaning.specs.Effects.{Raised}
-use Rattle.vba_meaning.specs.Meaning.{meaning}
-use Rattle.vba_meaning.proofs.Programs.{e, n, words, two, plus, half, long, byte, any, global, v, err, show, becomes, declare, sub, flat, jumping, program, main, told, line, fault}
+use Rattle.vba_meaning.proofs.Programs.{meaning, e, n, words, two, plus, half, long, byte, any, global, v, err, show, becomes, declare, sub, flat, jumping, program, main, told, line, fault}
 
 -- Debug.Print 2 + 3: entering is the first turn, printing the second
 abbrev sum : Project

@@ -1,8 +1,8 @@
 -- What is done in one go with arrays, Types and With blocks.
-use Rattle.std.specs.Prelude.{ℕ, suc, ℤ, pos, List, [], ◌∷◌, length, Bool, true, false, if◌then◌else◌, Option, Some, None}
+use Rattle.std.specs.Prelude.{ℕ, suc, ◌+◌, ◌*◌, ◌/◌, ◌%◌, nat_lt, ℤ, pos, List, [], ◌∷◌, length, Bool, true, false, if◌then◌else◌, Option, Some, None}
 use Rattle.vba_values.specs.declared.object.ObjRef.{ObjRef}
 use Rattle.vba_values.specs.declared.object.ObjRef.TheVariants.{Nothing, Host}
-use Rattle.vba_values.specs.declared.object.HostRef.TheVariants.{ErrObject}
+use Rattle.vba_values.specs.declared.object.HostRef.TheVariants.{ErrObject, Sheet, Sheets, Area}
 use Rattle.vba_values.specs.declared.value.Bound.{Bound}
 use Rattle.vba_values.specs.Types.{Declared}
 use Rattle.vba_values.specs.Types as type
@@ -18,7 +18,7 @@ use Rattle.bound_project.specs.Project.{Declarations, types_of}
 use Rattle.vba_meaning.specs.Paths.{in_block, Path, element_path}
 use Rattle.vba_meaning.specs.Memory.{Kept, only, at_path, walk, Memory, top, with_top, rest, found, without, put, value_at, with_value, path_of}
 use Rattle.vba_meaning.specs.References.{objects_in, displaced, waits}
-use Rattle.vba_meaning.specs.Effects.{Effect, Fine, Bad-at, on_fine, done, answered, fitted, read_value, replaceable, assignable, stored, kept_at}
+use Rattle.vba_meaning.specs.Effects.{Effect, Fine, Bad-at, on_fine, done, answered, fitted, read_value, replaceable, assignable, stored, kept_at, area_in, range_value}
 
 -- ---- elements and fields ([MS-VBAL] 5.6.12, 5.6.13)
 
@@ -157,10 +157,12 @@ not_walking i other m = m
 abbrev pub each_off : ℕ → Memory → Effect (Unit {0})
 each_off i m = done (not_walking i (found (top m).keeps i) m)
 
--- what can be walked: an array
+-- what can be walked: an array, the sheets, the cells of a range by rows
 abbrev pub walkable : Val → Memory → Effect (Unit {0})
 walkable (array bounds of items) m = done m
 walkable (object Nothing) m = Bad-at 91 m
+walkable (object (Host Sheets)) m = done m
+walkable (object (Host (Area s t l r c))) m = done m
 walkable (object o) m = Bad-at 438 m
 walkable v m = Bad-at 13 m
 
@@ -177,8 +179,14 @@ abbrev pub next_item : Variable → ℕ → Val → (next : ℕ) → Option Val 
 next_item x i v k None m = on_fine (block_over i m) (λ u m1. Fine false m1)
 next_item x i v k (Some w) m = on_fine (item_stored x w (walking i true v (suc k) m)) (λ u m1. Fine true m1)
 
+-- the k-th item of what is walked, where there is one
+abbrev pub item_of : Val → ℕ → Memory → Option Val
+item_of (object (Host Sheets)) k m = if nat_lt k (length m.book) then Some (object (Host (Sheet (suc k)))) else None
+item_of (object (Host (Area s t l r c))) k m = if nat_lt k (r * c) then Some (range_value (area_in s (t + k / c) (l + k % c) 1 1)) else None
+item_of v k m = path_value v (Element k ∷ [])
+
 abbrev pub each_by : Variable → ℕ → Option Kept → Memory → Effect Bool
-each_by x i (Some (walk true v k)) m = next_item x i v k (path_value v (Element k ∷ [])) m
+each_by x i (Some (walk true v k)) m = next_item x i v k (item_of v k m) m
 each_by x i other m = Bad-at 92 m
 
 -- whether there was a further item

@@ -6,7 +6,7 @@ use Rattle.vba_values.specs.declared.fault.Bad.{Bad}
 use Rattle.vba_values.specs.declared.fault.Bad.TheVariants.{Raise, Outside}
 use Rattle.vba_values.specs.declared.object.ObjRef.{ObjRef}
 use Rattle.vba_values.specs.declared.object.ObjRef.TheVariants.{Nothing, Heap, Host}
-use Rattle.vba_values.specs.declared.object.HostRef.TheVariants.{ErrObject, Sheet, Area}
+use Rattle.vba_values.specs.declared.object.HostRef.TheVariants.{ErrObject, Sheet, Sheets, Area}
 use Rattle.vba_values.specs.declared.types.OpKind.{OpKind}
 use Rattle.vba_values.specs.declared.types.OpKind.TheVariants as op
 use Rattle.vba_values.specs.declared.types.Compare.{Compare}
@@ -17,6 +17,9 @@ use Rattle.vba_values.specs.Types as type
 use Rattle.vba_values.specs.Val.{Val, empty, null, missing, boolean, whole, currency, text, object, array, udt, vals_of}
 use Rattle.vba_values.specs.Coerce.{coerce_of, text_of, to_boolean}
 use Rattle.vba_values.specs.Operators.{binary_of, unary_of}
+use Rattle.sheet_host.specs.declared.area.Area as cells
+use Rattle.sheet_host.specs.declared.cell.CellValue.{CellValue}
+use Rattle.sheet_host.specs.Reading.{area_value}
 use Rattle.error_frames.specs.declared.frame.At.{At}
 use Rattle.error_frames.specs.declared.frame.Policy.{Policy}
 use Rattle.error_frames.specs.declared.frame.Policy.TheVariants as policy
@@ -35,6 +38,7 @@ use Rattle.vba_values.specs.Messages.{message_of}
 -- what a run tells ([MS-VBAL] has no trace; Debug.Print is the host's)
 pub data Event : Type 0 where
   Printed : List ℕ → (ends : Bool) → Event
+  Cell : (sheet row column : ℕ) → CellValue → Event
   Raised : ℤ → Event
   Init : (class number : ℕ) → Event
   Term : (class number : ℕ) → Event
@@ -112,10 +116,19 @@ fitted type.worksheet v m = set_object type.worksheet v m
 fitted type.range v m = set_object type.range v m
 fitted of v m = answered (coerce_of v of) m
 
+-- an area of a sheet, and the reference to it
+abbrev pub area_in : (sheet top left rows columns : ℕ) → cells.Area
+area_in s t l r c = record { sheet = record { 0 = s }; top = t; left = l; rows = r; columns = c }
+
+abbrev pub range_value : cells.Area → Val
+range_value a = object (Host (Area a.sheet.0 a.top a.left a.rows a.columns))
+
 -- an operand: an object gives way to the value of its default member ([MS-VBAL] 5.6.2.3)
 abbrev pub plain_reference : ObjRef → Memory → Effect Val
 plain_reference Nothing m = Bad-at 91 m
 plain_reference (Host ErrObject) m = Fine (whole kind.Long m.err.number) m
+plain_reference (Host (Area s t l r c)) m = answered (area_value m.book (area_in s t l r c)) m
+plain_reference (Host Sheets) m = Bad-at 449 m
 plain_reference o m = Bad-at 438 m
 
 abbrev pub plain : Val → Memory → Effect Val

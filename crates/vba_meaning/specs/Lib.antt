@@ -5,4 +5,5 @@ pub mod Effects
 pub mod Arrays
 pub mod Objects
 pub mod Library
+pub mod Host
 pub mod Meaning

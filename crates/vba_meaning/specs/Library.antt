@@ -2,7 +2,7 @@
 use Rattle.std.specs.Prelude.{ℕ, zero, suc, ℤ, pos, List, [], ◌∷◌, ◌++◌, codes, Bool, false, if◌then◌else◌, Option, Some, None, Result, Ok, slice_index_or}
 use Rattle.vba_values.specs.declared.fault.Bad.{Bad}
 use Rattle.vba_values.specs.declared.object.ObjRef.TheVariants.{Heap, Host}
-use Rattle.vba_values.specs.declared.object.HostRef.TheVariants.{ErrObject}
+use Rattle.vba_values.specs.declared.object.HostRef.TheVariants.{ErrObject, Area}
 use Rattle.vba_values.specs.declared.types.Compare.{Compare}
 use Rattle.vba_values.specs.declared.types.Compare.TheVariants.{Binary}
 use Rattle.vba_values.specs.declared.types.WholeKind.TheVariants as kind
@@ -12,10 +12,11 @@ use Rattle.vba_lib.specs.declared.function.LibraryFunction.{LibraryFunction}
 use Rattle.vba_lib.specs.declared.function.LibraryFunction.TheVariants as function
 use Rattle.vba_lib.specs.Kinds.{type_name}
 use Rattle.vba_lib.specs.Library.{library_of}
+use Rattle.sheet_host.specs.Reading.{area_value}
 use Rattle.bound_project.specs.Project.{Declarations, class_at, no_name}
 use Rattle.vba_meaning.specs.Paths.{Path}
 use Rattle.vba_meaning.specs.Memory.{Memory, value_at}
-use Rattle.vba_meaning.specs.Effects.{Effect, Fine, Bad-at, on_fine, answered, class_of, read_value}
+use Rattle.vba_meaning.specs.Effects.{Effect, Fine, Bad-at, on_fine, answered, class_of, read_value, area_in}
 
 -- a class by its number: 0 is that of Collection
 abbrev pub class_name : Declarations → ℕ → List ℕ
@@ -50,4 +51,5 @@ bound_at upper z p m = bound_in upper z (value_at m p) m
 -- an object whose default member needs no argument gives way to the value of that: Number of Err
 abbrev pub plain_if_any : Val → Memory → Effect Val
 plain_if_any (object (Host ErrObject)) m = Fine (whole kind.Long m.err.number) m
+plain_if_any (object (Host (Area s t l r c))) m = answered (area_value m.book (area_in s t l r c)) m
 plain_if_any v m = Fine v m

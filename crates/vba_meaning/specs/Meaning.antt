@@ -8,15 +8,17 @@ use Rattle.vba_values.specs.Val.{Val, empty, missing, object}
 use Rattle.error_frames.specs.declared.frame.ResumeKind.TheVariants as kind
 use Rattle.error_frames.specs.declared.frame.Taken.{Taken}
 use Rattle.error_frames.specs.declared.frame.Taken.TheVariants as taken
-use Rattle.bound_project.specs.Expressions.{Expr, expr, Node, not_given, constant, load, element_value, field_value, unary, binary, call, err_value, default_of, default_if_any, same, is_type, library, bound_of, host_object, Lvalue, variable, item, element, field, kept_place, Args, no_args, by_place, by_copy, by_default, by_list, in_order, Exprs, no_exprs, also, Prints, no_prints, shown, zone, operand_type}
-use Rattle.bound_project.specs.Statements.{Resizes, no_resizes, resize, Arrays, no_arrays, an_array, Tests, no_tests, test_is, test_range, Action, assign, assign_none, set, assign_default, evaluate, let_property, set_property, print, raise, test, go_to, for_to, next, for_each, next_each, exit_each, select, case_of, redim, erase, with_place, with_value, end_with, go_sub, return_sub, exit_to, on_error, end_handler, clear_err, resume_again, resume_next, resume_at, stop, end_run, Statement}
+use Rattle.bound_project.specs.Expressions.{Expr, expr, Node, not_given, constant, load, element_value, field_value, unary, binary, call, err_value, default_of, default_if_any, same, is_type, library, bound_of, host_object, active_sheet, host_member, Lvalue, variable, item, element, field, kept_place, Args, no_args, by_place, by_copy, by_default, by_list, in_order, Exprs, no_exprs, also, given_count, Prints, no_prints, shown, zone, operand_type}
+use Rattle.bound_project.specs.Statements.{Resizes, no_resizes, resize, Arrays, no_arrays, an_array, Tests, no_tests, test_is, test_range, Action, assign, assign_none, set, assign_default, assign_member, evaluate, let_property, set_property, print, raise, test, go_to, for_to, next, for_each, next_each, exit_each, select, case_of, redim, erase, with_place, with_value, end_with, go_sub, return_sub, exit_to, on_error, end_handler, clear_err, resume_again, resume_next, resume_at, stop, end_run, Statement}
+use Rattle.sheet_host.specs.Books.{Sheets}
 use Rattle.bound_project.specs.Project.{Project, class_at, statement_at, next_of, first_values}
 use Rattle.vba_meaning.specs.Paths.{Path, field_path}
 use Rattle.vba_meaning.specs.Memory.{Error, Ending, Ended, Faulted, Stopped, Going, Slot, value, path, Memory, Object, top, at_statement, frame_left, path_of, result, entered, error_here, number_or, opening}
 use Rattle.vba_meaning.specs.References.{objects_in, objects_in_values, is_last, hold, next_waiting, taken_off, let_held, held_by, let_frame, object_at, as_told, gone, closed}
 use Rattle.vba_meaning.specs.Effects.{Event, Raised, Term, Effect, Fine, Bad-at, Out, Tell, operated, operated_alone, fitted, plain, condition, read_path, assigned, lent, unlent, slot_values, packed, reordered, show_value, printed, loop_off, loop_on, next_round, keep, selected, fits, fits_between, gone_sub, returned_sub, policy_of, err_off, policy_on, handler_off, failed_statement, resumed, taken_by, with_taken, raised_by, err_of, set_object, stop_here}
 use Rattle.vba_meaning.specs.Arrays.{indexed, part_of, element_at, redimmed, erased, keep_path, block_over, dot_at, each_off, each_begun, each_next}
-use Rattle.vba_meaning.specs.Objects.{compared, typed_as, set_at, default_written}
+use Rattle.vba_meaning.specs.Objects.{compared, typed_as, set_at}
+use Rattle.vba_meaning.specs.Host.{first_sheet, member_there, member_called, written_default, member_assigned}
 use Rattle.vba_meaning.specs.Library.{library_called, bound_at, plain_if_any}
 
 -- the memory, and how many turns were begun
@@ -99,6 +101,11 @@ abbrev mutual
   eval_node (default_of e) callee pr s = eval e callee pr s >>= λ v s1. perform (plain v) s1
   eval_node (default_if_any e) callee pr s = eval e callee pr s >>= λ v s1. perform (plain_if_any v) s1
   eval_node (host_object reference) callee pr s = Got (object (Host reference)) s
+  eval_node active_sheet callee pr s = perform first_sheet s
+  -- whether there is such a member is asked before its arguments are evaluated, and what they index is read
+  eval_node (host_member e name es) callee pr s =
+      eval e callee pr s >>= λ v s1. perform (member_there pr.declared name (given_count es) v) s1 >>= λ w s2. eval_list es callee pr s2 >>= λ xs s3.
+      perform (member_called pr.declared name (slot_values xs) v w) s3
   eval_node (same a b) callee pr s = eval a callee pr s >>= λ v s1. eval b callee pr s1 >>= λ w s2. perform (compared v w) s2
   eval_node (is_type e of) callee pr s = eval e callee pr s >>= λ v s1. perform (typed_as of v) s1
   eval_node (library f text_form es compare base) callee pr s = eval_list es callee pr s >>= λ xs s1. perform (library_called pr.declared f text_form compare base (slot_values xs)) s1
@@ -166,7 +173,10 @@ abbrev pub exec : Action → Callee → Project → (procedure statement followi
 exec (assign x e) callee pr p i k s = eval e callee pr s >>= λ v s1. eval_place x callee pr s1 >>= λ q s2. perform (assigned q v) s2 >>= λ u s3. Got k s3
 exec (assign_none x e) callee pr p i k s = eval e callee pr s >>= λ v s1. eval x callee pr s1 >>= λ w s2. Got k s2
 exec (set x e) callee pr p i k s = eval e callee pr s >>= λ v s1. eval_place x callee pr s1 >>= λ q s2. perform (set_at q v) s2 >>= λ u s3. Got k s3
-exec (assign_default x e) callee pr p i k s = eval e callee pr s >>= λ v s1. eval x callee pr s1 >>= λ w s2. perform (default_written w) s2 >>= λ u s3. Got k s3
+exec (assign_default x e) callee pr p i k s = eval e callee pr s >>= λ v s1. eval x callee pr s1 >>= λ w s2. perform (written_default w v) s2 >>= λ u s3. Got k s3
+exec (assign_member base name es e) callee pr p i k s =
+    eval e callee pr s >>= λ v s1. eval base callee pr s1 >>= λ w s2. perform (member_there pr.declared name (given_count es) w) s2 >>= λ x s3. eval_list es callee pr s3 >>= λ xs s4.
+    perform (member_assigned pr.declared name (slot_values xs) w x v) s4 >>= λ u s5. Got k s5
 exec (evaluate e) callee pr p i k s = eval e callee pr s >>= λ v s1. Got k s1
 exec (let_property q args e of) callee pr p i k s =
     eval e callee pr s >>= λ v s1. evals args callee pr s1 >>= λ xs s2. perform (plain v) s2 >>= λ w s3. perform (fitted of w) s3 >>= λ x s4. callee.call q empty (xs ++ value x ∷ []) s4 >>= λ r s5. Got k s5
@@ -339,10 +349,10 @@ run_of n (Over x s) = record { ending = x; state = s; events = [] }
 run_of n (Told es r) = told_before es (run_of n r)
 run_of n (Turn s r) = if nat_lt s.begun n then run_of n r else record { ending = Going; state = s; events = [] }
 
-abbrev pub first_state : Project → State
-first_state pr = record { memory = opening pr.declared; begun = 0 }
+abbrev pub first_state : Project → Sheets → State
+first_state pr book = record { memory = opening pr.declared book; begun = 0 }
 
--- the run of a project with a bound on its turns
-abbrev pub meaning : Project → ℕ → Run
-meaning pr n =
-    run_of n (enter pr (doing pr n) false pr.startup empty [] (first_state pr) >>= λ v s. close (doing pr n) (first_values pr.declared pr.declared.shared) 0 s)
+-- the run of a project over a book with a bound on its turns
+abbrev pub meaning : Project → Sheets → ℕ → Run
+meaning pr book n =
+    run_of n (enter pr (doing pr n) false pr.startup empty [] (first_state pr book) >>= λ v s. close (doing pr n) (first_values pr.declared pr.declared.shared) 0 s)

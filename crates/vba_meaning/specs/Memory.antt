@@ -7,6 +7,7 @@ use Rattle.vba_values.specs.Val.{Val, empty}
 use Rattle.arrays_udt.specs.declared.paths.PathStep.{PathStep}
 use Rattle.arrays_udt.specs.Paths.{path_value, with_path}
 use Rattle.error_frames.specs.declared.frame.FrameErrors.{FrameErrors}
+use Rattle.sheet_host.specs.Books.{Sheets}
 use Rattle.error_frames.specs.Decision as decision
 use Rattle.bound_project.specs.Expressions.{Storage, local, shared, Variable}
 use Rattle.vba_meaning.specs.Paths.{Root, in_frame, in_project, in_block, Path, plain_steps, any_below}
@@ -96,6 +97,11 @@ pub record Memory : Type 0 where
   pub err : Error
   -- the units on the open line of Debug.Print
   pub column : ℕ
+  -- the book, and what EnableEvents, ScreenUpdating and DisplayAlerts of Application are
+  pub book : Sheets
+  pub events_on : Bool
+  pub updates_screen : Bool
+  pub shows_alerts : Bool
 
 -- ---- frames
 
@@ -267,5 +273,16 @@ error_here n m = record { number = pos n; source = None; description = None; pro
 
 -- ---- the memory with which a run begins
 
-abbrev pub opening : Declarations → Memory
-opening d = record { frames = []; shared = first_values d d.shared; objects = None ∷ []; waiting = []; err = no_error; column = 0 }
+abbrev pub opening : Declarations → Sheets → Memory
+opening d book = record {
+  frames = [];
+  shared = first_values d d.shared;
+  objects = None ∷ [];
+  waiting = [];
+  err = no_error;
+  column = 0;
+  book = book;
+  events_on = true;
+  updates_screen = true;
+  shows_alerts = true;
+}

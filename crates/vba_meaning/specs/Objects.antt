@@ -20,9 +20,3 @@ typed_as of v m = Bad-at 424 m
 -- Set: the test of Set by the declared type at the place, and the object is stored ([MS-VBAL] 5.4.3.9)
 abbrev pub set_at : Path → Val → Memory → Effect (Unit {0})
 set_at p v m = on_fine (set_object p.of v m) (λ w m1. stored p w m1)
-
--- an assignment without Set to an object writes its default member: none here has one to write ([MS-VBAL] 5.4.3.8)
-abbrev pub default_written : (target : Val) → Memory → Effect (Unit {0})
-default_written (object Nothing) m = Bad-at 91 m
-default_written (object o) m = Bad-at 438 m
-default_written v m = Bad-at 424 m

@@ -2,8 +2,9 @@ use Rattle.std.proofs.lemmas.Result.{IfOk-weaker}
 use Rattle.bound_project.specs.DraftView.{draft_view}
 use Rattle.vba_expression.specs.Nodes.{tree_in}
 use Rattle.bound_actions.specs.Called.{AssignsTo, LetsOn}
+use Rattle.bound_actions.specs.Members.{AssignsItem}
 use Rattle.bound_terms.specs.View.{env_view}
-use Rattle.bound_actions.proofs.Assigned.{assigns_split, assigns_place}
+use Rattle.bound_actions.proofs.Assigned.{assigns_member, assigns_split, assigns_place}
 use Rattle.bound_actions.proofs.NodeTrees.{continued, still_named}
 use Rattle.bound_actions.proofs.assigning.assign_split.Goals as goal
 
@@ -38,3 +39,16 @@ returns-in_ok-assign-in-None c =
     let h = draft_view c.continue_tree.new.draft in
     let leaves = continued env c.args.split.target.now c.args.split.closed.now ns x y d f g h c.requires.split.is c.in_ok-tree.ensures c.in_ok-term.ensures.grown c.in_ok-term.ensures.pieces c.in_ok-more-in-None.ensures in
     assigns_place env (tree_in ns) y d h (draft_view c.assign.new.draft) leaves c.in_ok-assign-in-None.ensures
+
+pub returns-then-takes_item : goal.returns-then-takes_item
+returns-then-takes_item c =
+    let env = env_view c.args.env in
+    let ns = c.args.nodes.now in
+    let x = c.in_ok-tree.tree in
+    let y = c.in_ok-term.term in
+    let d = draft_view c.args.draft.now in
+    let f = draft_view c.nodes_tree.new.draft in
+    let g = draft_view c.callee_term.new.draft in
+    let e = draft_view c.assign_item.new.draft in
+    IfOk-weaker c.assign_item.result (λ k. AssignsItem env x.place y c.args.split.arguments.now g e k) (λ k. AssignsTo env (tree_in ns) d e k)
+    (λ k h. assigns_member env c.args.split ns x y d f g e k c.requires.split c.in_ok-tree.ensures c.in_ok-term.ensures h) c.assign_item.ensures

@@ -1,15 +1,16 @@
-use Rattle.std.proofs.lemmas.Result.{IfOk-weaker}
+use Rattle.std.proofs.Common.{Option, subst}
 use Rattle.bound_project.specs.DraftView.{draft_view}
-use Rattle.bound_calls.specs.Taking.{TakesOperand, TakesValue}
+use Rattle.bound_calls.specs.declared.term.Ending.{Ending}
+use Rattle.bound_calls.specs.Taking.{TakesValue}
 use Rattle.bound_calls.proofs.Taking.{takes_operand, takes_err}
 use Rattle.bound_calls.proofs.take.operand_ending.Goals as goal
 
 pub returns-in-Err : goal.returns-in-Err
 returns-in-Err c = takes_err c.args.term c.in-Err.is (draft_view c.args.draft.now)
 
-pub returns-in_default : goal.returns-in_default
-returns-in_default c =
+pub returns-in-Some : goal.returns-in-Some
+returns-in-Some c =
     let d = draft_view c.args.draft.now in
     let e = draft_view c.value_ending.new.draft in
-    IfOk-weaker c.value_ending.result (λ ending. TakesValue c.args.term d e ending) (λ ending. TakesOperand c.args.term d e ending)
-    (λ ending h. takes_operand c.args.term c.in_default.not-Err d e ending h) c.value_ending.ensures
+    let P : Option Ending → Type 0 = λ o. TakesValue c.args.term d e o in
+    takes_operand c.args.term c.in_default.not-Err d e c.in-Some.ending (subst P c.in-Some.is c.in_ok-ending-in_default.ensures)

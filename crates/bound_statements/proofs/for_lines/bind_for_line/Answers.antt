@@ -15,3 +15,9 @@ returns-in-For c =
     let P : BlockLine → Type 0 =
     λ (line : BlockLine). IfOk c.bind_for.result (λ kind. ActionPushed kind (block_in (env_view c.args.around.env) (around_view c.args.around) (standing_view c.args.standing) (block_line_view line)) (draft_view c.args.draft.now) (draft_view c.bind_for.new.draft)) in
     subst P (sym c.in-For.is) c.bind_for.ensures
+
+pub returns-in-ForEach : goal.returns-in-ForEach
+returns-in-ForEach c =
+    let P : BlockLine → Type 0 =
+    λ (line : BlockLine). IfOk c.bind_for_each.result (λ kind. ActionPushed kind (block_in (env_view c.args.around.env) (around_view c.args.around) (standing_view c.args.standing) (block_line_view line)) (draft_view c.args.draft.now) (draft_view c.bind_for_each.new.draft)) in
+    subst P (sym c.in-ForEach.is) c.bind_for_each.ensures

@@ -1,7 +1,7 @@
 use Rattle.std.proofs.lemmas.Result.{IfOk-weaker}
 use Rattle.bound_project.specs.DraftView.{draft_view}
 use Rattle.bound_terms.specs.View.{env_view}
-use Rattle.bound_terms.proofs.Elements.{opens}
+use Rattle.bound_terms.proofs.Elements.{opens, opens_item}
 use Rattle.bound_terms.proofs.indexing.begin_arguments.Goals as goal
 
 pub open_term-requires : goal.open_term-requires
@@ -14,3 +14,11 @@ returns c =
     let e = draft_view c.callee_term.new.draft in
     let f = draft_view c.open_term.new.draft in
     IfOk-weaker c.open_term.result _ _ (λ i o. opens env c.args.tree c.in_ok-term.term i d e f c.in_ok-term.ensures (o env)) c.open_term.ensures
+
+pub item_member-requires-clause-named : goal.item_member-requires-clause-named
+item_member-requires-clause-named c = c.in_ok-term.ensures.named
+
+pub returns-then-takes_item : goal.returns-then-takes_item
+returns-then-takes_item c =
+    opens_item (env_view c.args.env) c.args.tree c.in_ok-term.term c.in_ok-member.member c.in_ok-call.call (draft_view c.args.draft.now) (draft_view c.callee_term.new.draft) (draft_view c.item_member.new.draft) (draft_view c.open_member.new.draft)
+    c.in_ok-term.ensures c.in_ok-member.ensures c.in_ok-call.ensures

@@ -29,3 +29,13 @@ returns-in-Err c =
     let d = draft_view c.args.draft.now in
     let A : Term → Type 0 = λ (t : Term). MakesBehind env c.args.place t c.args.member.now d d c.err_member.result in
     subst A (sym c.in-Err.is) (behind_err env c.args.place c.args.member.now d c.err_member.result (c.err_member.ensures env d))
+
+pub returns-in-HostMember : goal.returns-in-HostMember
+returns-in-HostMember c =
+    let A : Term → Type 0 = λ (t : Term). IfOk c.behind_member.result (λ made. MakesBehind (env_view c.args.env) c.args.place t c.args.member.now (draft_view c.args.draft.now) (draft_view c.behind_member.new.draft) made) in
+    subst A (sym c.in-HostMember.is) (IfOk-weaker c.behind_member.result _ _ (λ made m. m (env_view c.args.env)) c.behind_member.ensures)
+
+pub returns-in-SheetMember : goal.returns-in-SheetMember
+returns-in-SheetMember c =
+    let A : Term → Type 0 = λ (t : Term). IfOk c.behind_sheet_member.result (λ made. MakesBehind (env_view c.args.env) c.args.place t c.args.member.now (draft_view c.args.draft.now) (draft_view c.behind_sheet_member.new.draft) made) in
+    subst A (sym c.in-SheetMember.is) (IfOk-weaker c.behind_sheet_member.result _ _ (λ made m. m (env_view c.args.env)) c.behind_sheet_member.ensures)

@@ -1,5 +1,6 @@
 use Rattle.std.proofs.Common.{Some, sym, subst}
 use Rattle.std.specs.Prelude.{IfOk}
+use Rattle.std.proofs.lemmas.Result.{IfOk-weaker}
 use Rattle.bound_project.specs.DraftView.{draft_view}
 use Rattle.binder.specs.ExpressionsBound.{meant_term}
 use Rattle.constant_values.specs.Rounds.{IsThere}
@@ -13,8 +14,9 @@ pub returns-in-OfHost : goal.returns-in-OfHost
 returns-in-OfHost c =
     let env = env_view c.args.env in
     let d = draft_view c.args.draft.now in
-    let A : Meant → Type 0 = λ (m : Meant). MakesLeaf env d d c.host_term.result (meant_term env c.args.name.now (Some (meant_view m))) in
-    subst A (sym c.in-OfHost.is) (c.host_term.ensures env d)
+    let e = draft_view c.host_term.new.draft in
+    let A : Meant → Type 0 = λ (m : Meant). IfOk c.host_term.result (λ t. MakesLeaf env d e t (meant_term env c.args.name.now (Some (meant_view m)))) in
+    subst A (sym c.in-OfHost.is) (IfOk-weaker c.host_term.result _ _ (λ t m. m env) c.host_term.ensures)
 
 pub returns-in-OfLibrary : goal.returns-in-OfLibrary
 returns-in-OfLibrary c =

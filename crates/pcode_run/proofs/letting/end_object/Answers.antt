@@ -3,7 +3,8 @@ use Rattle.bound_project.specs.Project.{class_at}
 use Rattle.bound_project.specs.View.{declarations_view}
 use Rattle.pcode.specs.Machine.{terminates_by, ends_by, looking}
 use Rattle.pcode.specs.View.{code_view}
-use Rattle.pcode_vm.specs.View.{after_view, backs_view, state_view, told_view}
+use Rattle.pcode_vm.specs.View.{after_view, backs_view, state_view}
+use Rattle.run_host.specs.View.{told_view}
 use Rattle.pcode_vm.proofs.Carried.{carried}
 use Rattle.pcode_run.proofs.Moves.{ends_untold}
 use Rattle.pcode_run.proofs.letting.end_object.Goals as goal

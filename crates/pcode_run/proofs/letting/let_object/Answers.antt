@@ -6,7 +6,8 @@ use Rattle.vba_meaning.specs.Meaning.{with_memory, turned}
 use Rattle.run_memory.specs.View.{memory_view}
 use Rattle.pcode.specs.Machine.{lets_one_by, ends_by, looking, tells}
 use Rattle.pcode.specs.View.{code_view}
-use Rattle.pcode_vm.specs.View.{after_view, backs_view, state_view, told_view}
+use Rattle.pcode_vm.specs.View.{after_view, backs_view, state_view}
+use Rattle.run_host.specs.View.{told_view}
 use Rattle.pcode_vm.proofs.Carried.{carried}
 use Rattle.pcode_run.proofs.Moves.{last_let}
 use Rattle.pcode_run.proofs.letting.let_object.Goals as goal

@@ -17,7 +17,7 @@ returns c =
     let P : Effect Bool → Type 0 = λ e. Acts (λ (further : Bool). further) c.item_taken.result (memory_view c.item_taken.new.memory) e in
     let walked : walk_of kept ≡ Some (true, c.in-Some-true-default.next) =
     sym (ap (λ (b : Bool). Some (b, c.in-Some-true-default.next)) (sym c.in-Some-true-default.field-0-0-test) ∙ c.in-Some-true-default.ensures.walk) in
-    let item : item_walked kept ≡ Some (view c.in-Some.item) = sym c.in_ok-item.ensures ∙ ap (option_map view) c.in-Some.is in
+    let item : item_walked kept m ≡ Some (view c.in-Some.item) = sym c.in_ok-item.ensures ∙ ap (option_map view) c.in-Some.is in
     let behind : c.in-Some-checked_add.behind ≡ suc c.in-Some-true-default.next =
     let sum = c.in-Some-checked_add.ensures {u = tt} in omega arith in
     subst P (sym (next_more kept (variable_view c.args.control) c.args.header c.in-Some-true-default.next c.in-Some-checked_add.behind (view c.in-Some.item) m walked item behind)) c.item_taken.ensures

@@ -1,0 +1,28 @@
+-- Worked rows: macros on sheets, by what they then tell.
+use Rattle.std.specs.Prelude.{◌≡◌, pos, true, [], ◌∷◌, refl, codes}
+use Rattle.std.specs.Fmt.{digits}
+use Rattle.caseless.proofs.Computing.{caseless}
+use Rattle.currency.specs.HalfEven.{nearest}
+use Rattle.currency.specs.NumberText.{read, read_digits}
+use Rattle.vba_base.specs.Fold.{folded}
+use Rattle.vba_values.specs.Arithmetic.{division}
+use Rattle.vba_values.specs.Operators.{join}
+use Rattle.vba_meaning.specs.Effects.{Printed, Raised}
+use Rattle.binder.proofs.Reading.{ran_over, ends, left_at}
+
+-- variables of object types are set, With keeps an object, and two are the same object or not
+objects : ran_over (codes "Sub Main()\nDim w As Worksheet, o As Object, r As Range\nSet w = Worksheets(\"t\"): Set o = w\nDebug.Print w Is o; r Is Nothing\nWith w\nSet r = .Range(.Cells(1, 1), .Cells(2, 2))\nEnd With\nDebug.Print r.Address; r.Count; o.Name\nEnd Sub")
+    ≡ ends (Printed (codes "TrueTrue") true ∷ Printed (codes "$A$1:$B$2 4 T") true ∷ [])
+unfolding ran_over folded caseless digits division join nearest read read_digits
+objects = refl
+
+-- what isn't there
+none : ran_over (codes "Sub Main()\nOn Error Resume Next\nDim r As Range, o As Object\nDebug.Print r.Row\nDebug.Print Err.Number\nSet o = Worksheets(1)\nDebug.Print o.Nothing\nDebug.Print Err.Number\nSet o = Worksheets(\"X\")\nDebug.Print Err.Number\nEnd Sub")
+    ≡ ends (Raised (pos 91) ∷ Printed (codes " 91 ") true ∷ Raised (pos 438) ∷ Printed (codes " 438 ") true ∷ Raised (pos 9) ∷ Printed (codes " 9 ") true ∷ [])
+unfolding ran_over folded caseless digits division join nearest read read_digits
+none = refl
+
+-- an early-bound member that there isn't, and a value of a sheet, are not built
+unknown : ran_over (codes "Sub Main()\nDebug.Print 1\nCells(1, 1).Foo = 1\nEnd Sub") ≡ left_at 1 3 1
+unfolding ran_over folded caseless digits division join nearest read read_digits
+unknown = refl

@@ -1,0 +1,2 @@
+pub mod BooksRead
+pub mod BooksSaved

@@ -1,0 +1,4 @@
+pub mod Book
+pub mod Made
+pub mod One
+pub mod Saves

@@ -1,0 +1,26 @@
+use Rattle.vba_expression.specs.View.{view as expression_view}
+use Rattle.std.proofs.Common.{refl}
+use Rattle.std.proofs.lemmas.Result.{on_ok_weaker}
+use Rattle.bound_project.specs.DraftView.{draft_view}
+use Rattle.binder.specs.StatementsBound.{is_given_with}
+use Rattle.bound_terms.specs.View.{env_view}
+use Rattle.bound_actions.proofs.GivenValues.{value_bound}
+use Rattle.bound_actions.proofs.assigned_values.bind_assigned.Goals as goal
+
+pub returns : goal.returns
+returns c =
+    let env = env_view c.args.env in
+    let place = expression_view c.args.place.now in
+    let value = expression_view c.args.value.now in
+    let d = draft_view c.args.draft.now in
+    let f = draft_view c.tree_of.new.draft in
+    let e = draft_view c.push_object.new.draft in
+    on_ok_weaker c.push_object.result (λ h. value_bound env place value c.in_ok-tree.tree c.in_ok-given.given d f e c.in_ok-given.ensures c.in_ok-tree.ensures h) c.push_object.ensures
+
+pub returns-then-not-refers : goal.returns-then-not-refers
+returns-then-not-refers c =
+    let env = env_view c.args.env in
+    let place = expression_view c.args.place.now in
+    let value = expression_view c.args.value.now in
+    let b = is_given_with env place in
+    on_ok_weaker c.push_plain.result (λ h. value_bound env place value c.in_ok-tree.tree b (draft_view c.args.draft.now) (draft_view c.tree_of.new.draft) (draft_view c.push_plain.new.draft) refl c.in_ok-tree.ensures h) (c.push_plain.ensures b)

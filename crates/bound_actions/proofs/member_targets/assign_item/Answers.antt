@@ -1,0 +1,16 @@
+use Rattle.std.proofs.lemmas.Result.{IfOk-weaker}
+use Rattle.bound_project.specs.DraftView.{draft_view}
+use Rattle.bound_terms.specs.View.{env_view}
+use Rattle.bound_actions.specs.Members.{AssignsItem, WritesCall}
+use Rattle.bound_actions.proofs.WrittenMembers.{item_assigned}
+use Rattle.bound_actions.proofs.member_targets.assign_item.Goals as goal
+
+pub returns : goal.returns
+returns c =
+    let env = env_view c.args.env in
+    let d = draft_view c.args.draft.now in
+    let h = draft_view c.item_member.new.draft in
+    let i = draft_view c.open_member.new.draft in
+    let e = draft_view c.read_member.new.draft in
+    IfOk-weaker c.written_call.result (λ k. WritesCall c.in_ok-call.call k) (λ k. AssignsItem env c.args.place c.args.term c.args.nodes.now d e k)
+    (λ k w. item_assigned env c.args.place c.args.term c.in_ok-member.member c.in_ok-opened.opened c.in_ok-call.call c.args.nodes.now k d h i e c.in_ok-member.ensures c.in_ok-opened.ensures c.in_ok-call.ensures w) c.written_call.ensures

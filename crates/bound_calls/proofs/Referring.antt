@@ -1,0 +1,251 @@
+-- How terms are taken as references, and operands that are objects.
+use Rattle.std.proofs.Common.{◌≡◌, Bool, true, false, List, ◌∷◌, Some, None, refl, sym, ap, subst, ◌∙◌}
+use Rattle.std.specs.Prelude.{◌==◌, if◌then◌else◌, option_and_then}
+use Rattle.vba_base.specs.declared.place.Place.{Place}
+use Rattle.vba_values.specs.declared.object.HostRef.TheVariants as host
+use Rattle.vba_values.specs.Types.{Declared}
+use Rattle.vba_values.specs.Types as type
+use Rattle.bound_project.specs.declared.declared_type.DeclaredType.{DeclaredType}
+use Rattle.bound_project.specs.declared.declared_type.DeclaredType.TheVariants.{Plain}
+use Rattle.bound_project.specs.declared.declared_type.ElementType.TheVariants as element
+use Rattle.bound_project.specs.declared.node.NodeKind.{NodeKind}
+use Rattle.bound_project.specs.declared.node.NodeKind.TheVariants as node
+use Rattle.bound_project.specs.View.{declared_view}
+use Rattle.bound_project.specs.Expressions.{load, host_object, host_member, default_of, no_exprs}
+use Rattle.bound_project.specs.Expressions as bound
+use Rattle.bound_project.specs.Pieces.{Piece, Tables, name_in, of_place, of_value, expr_of, put}
+use Rattle.bound_project.specs.Drafts.{Drafted, NodeNamed}
+use Rattle.binder.specs.Options.{or_else}
+use Rattle.binder.specs.Types.{is_object}
+use Rattle.binder.specs.Constants.{place_of_expression}
+use Rattle.binder.specs.Terms.{Env, expression_of, typed_value}
+use Rattle.binder.specs.Terms as plain
+use Rattle.binder.specs.ExpressionsBound.{is_host_type, has_default, default_value, typed_reference, value_of, reference_of, given_as, term_of}
+use Rattle.bound_calls.specs.declared.term.Ending.{Ending}
+use Rattle.bound_calls.specs.declared.term.HostMember.{HostMember}
+use Rattle.bound_calls.specs.declared.term.Term.{Term}
+use Rattle.bound_calls.specs.declared.term.Term.TheVariants as term
+use Rattle.bound_calls.specs.declared.term.Tree.{Tree}
+use Rattle.bound_calls.specs.Standing.{TermStands, EndingIs}
+use Rattle.bound_calls.specs.Steps.{PushesOperand}
+use Rattle.bound_calls.specs.Taking.{PushesSheet, ReadsMember, TakesValue, sheet_expression}
+use Rattle.bound_calls.specs.References.{refers, gives_way, TakesReference, PushesReference, TakesGiven, PushesGiven}
+use Rattle.bound_calls.proofs.Growing.{grown_same, grown_pieces, grown_twice}
+use Rattle.bound_calls.proofs.Taking.{node_of, operand_split, not_err, sheet_stands}
+
+-- what is taken as a reference is no value
+object_too : (of : Declared) → is_host_type of ≡ true → is_object of ≡ true
+object_too type.object h = refl
+object_too type.worksheet h = refl
+object_too type.range h = refl
+object_too (type.class n) h = refl
+object_too type.collection h = refl
+object_too type.boolean h = h
+object_too type.byte h = h
+object_too type.integer h = h
+object_too type.long h = h
+object_too type.long_long h = h
+object_too type.currency h = h
+object_too type.text h = h
+object_too (type.fixed_text n) h = h
+object_too type.variant h = h
+object_too (type.udt n) h = h
+object_too (type.array_of of) h = h
+
+no_value_typed : (made : bound.Node) (place : Place) (of : Declared) → is_host_type of ≡ true → typed_value made place of ≡ None
+no_value_typed made place of h = ap (λ b. if b then None else Some (expression_of made place of)) (object_too of h)
+
+referred : (made : bound.Node) (place : Place) (of : Declared) → is_host_type of ≡ true → typed_reference made place of ≡ Some (expression_of made place of)
+referred made place of h = ap (λ b. if b then Some (expression_of made place of) else None) h
+
+no_member_value : (b : Bool) (made : bound.Node) (place : Place) (of : Declared) → is_host_type of ≡ true → (if b then typed_value made place of else None) ≡ None
+no_member_value true made place of h = no_value_typed made place of h
+no_member_value false made place of h = refl
+
+-- what is taken as a reference is no value
+pub no_value_there : (env : Env) (t : Tables) (x : Term) (y : plain.Term) (ps below : List Piece) → refers x ≡ true → TermStands env t x y ps below → (place : Place) → value_of env y place ≡ None
+no_value_there env t (term.Place kind of bounded lends) y ps below r h place = ap (λ z. value_of env z place) h.is ∙ no_value_typed (load h.at) place (declared_view of) r
+no_value_there env t (term.Value e) y ps below r h place = ap (λ z. value_of env z place) h.is ∙ no_value_typed h.made place (declared_view e.of) r
+no_value_there env t (term.HostMember m) y ps below r h place =
+    ap (λ z. value_of env z place) h.is ∙ no_member_value (m.least == 0) (host_member h.object (name_in t m.name) no_exprs) place (declared_view m.of) r
+no_value_there env t (term.SheetMember m) y ps below r h place =
+    ap (λ z. value_of env z place) h.0 ∙ no_member_value (m.least == 0) (host_member sheet_expression (name_in t m.name) no_exprs) place (declared_view m.of) r
+no_value_there env t (term.Routine s) y ps below r h place = let e : false ≡ true = r in absurd cc
+no_value_there env t (term.Function f) y ps below r h place = let e : false ≡ true = r in absurd cc
+no_value_there env t term.Err y ps below r h place = ap (λ z. value_of env z place) h.0
+no_value_there env t term.ErrRaise y ps below r h place = let e : false ≡ true = r in absurd cc
+no_value_there env t term.ErrClear y ps below r h place = let e : false ≡ true = r in absurd cc
+no_value_there env t term.ErrorWord y ps below r h place = let e : false ≡ true = r in absurd cc
+no_value_there env t term.Nothing y ps below r h place = let e : false ≡ true = r in absurd cc
+
+-- ---- references
+
+place_referred : (kind : NodeKind) (of : DeclaredType) (bounded lends : Bool) (at : Place) (d : Drafted) → is_host_type (declared_view of) ≡ true → (env : Env) (y : plain.Term) (below : List Piece)
+    → TermStands env d.tables (term.Place kind of bounded lends) y d.pieces below
+    → EndingIs d.tables (record { kind = node.Load; of = of }) (λ place. reference_of env y place) (put d.tables (node_of kind at of) d.pieces) below
+place_referred kind of bounded lends at d r env y below k = record {
+  made = load k.at;
+  is = λ place. ap (λ z. reference_of env z place) k.is ∙ referred (load k.at) place (declared_view of) r;
+  ends = λ n. ap (λ st. of_place (λ x. expr_of n (load x)) st) (k.ends (node_of kind at of));
+}
+
+pub takes_place : (kind : NodeKind) (of : DeclaredType) (bounded lends : Bool) (at : Place) (d e : Drafted) → is_host_type (declared_view of) ≡ true → e ≡ record d { pieces = put d.tables (node_of kind at of) d.pieces }
+    → TakesReference (term.Place kind of bounded lends) d e (record { kind = node.Load; of = of })
+takes_place kind of bounded lends at d e r eq =
+    let P : Drafted → Type 0 = λ x. TakesReference (term.Place kind of bounded lends) d x (record { kind = node.Load; of = of }) in
+    subst P (sym eq) (record { grown = grown_pieces d (put d.tables (node_of kind at of) d.pieces); named = tt; stands = place_referred kind of bounded lends at d r })
+
+pub takes_value : (v : Ending) (d : Drafted) → is_host_type (declared_view v.of) ≡ true → NodeNamed d.tables v.kind → TakesReference (term.Value v) d d v
+takes_value v d r n = record {
+  grown = grown_same d;
+  named = n;
+  stands = λ env y below k. record {
+    made = k.made;
+    is = λ place. ap (λ z. reference_of env z place) k.is ∙ referred k.made place (declared_view v.of) r;
+    ends = k.ends;
+  };
+}
+
+read_when : (b : Bool) (made : bound.Node) (place : Place) (of : Declared) → b ≡ true → is_host_type of ≡ true → (if b then typed_reference made place of else None) ≡ Some (expression_of made place of)
+read_when b made place of eq h = ap (λ c. if c then typed_reference made place of else None) eq ∙ referred made place of h
+
+member_referred : (m : HostMember) (d e : Drafted) (v : Ending) → is_host_type (declared_view m.of) ≡ true → ReadsMember m d e v → (env : Env) (y : plain.Term) (below : List Piece)
+    → TermStands env d.tables (term.HostMember m) y d.pieces below → EndingIs e.tables v (λ place. reference_of env y place) e.pieces below
+member_referred m d e v r h env y below k =
+    let made = host_member k.object (name_in d.tables m.name) no_exprs in
+    let P : DeclaredType → Type 0 = λ of. (place : Place) → reference_of env y place ≡ Some (expression_of made place (declared_view of)) in
+    record {
+      made = made;
+      is = subst P (sym h.of_is) (λ place. ap (λ z. reference_of env z place) k.is ∙ read_when (m.least == 0) made place (declared_view m.of) (ap (λ n. n == 0) h.least_is) r);
+      ends = h.ends k.object below k.on_top;
+    }
+
+pub takes_member : (m : HostMember) (d e : Drafted) (v : Ending) → is_host_type (declared_view m.of) ≡ true → ReadsMember m d e v → TakesReference (term.HostMember m) d e v
+takes_member m d e v r h = record { grown = h.grown; named = h.named; stands = member_referred m d e v r h }
+
+pub takes_sheet_member : (m : HostMember) (d s e : Drafted) (v : Ending) → is_host_type (declared_view m.of) ≡ true → PushesSheet d s → ReadsMember m s e v → TakesReference (term.SheetMember m) d e v
+takes_sheet_member m d s e v r p h =
+    let t = takes_member m s e v r h in
+    record { grown = grown_twice d s e p.grown t.grown; named = t.named; stands = λ env y below k. t.stands env y below (sheet_stands m d s p env y below k) }
+
+abbrev pub err_reference : Ending
+err_reference = record { kind = node.HostObject host.ErrObject; of = Plain element.Object }
+
+pub takes_err : (d : Drafted) → TakesReference term.Err d d err_reference
+takes_err d = record {
+  grown = grown_same d;
+  named = tt;
+  stands = λ env y below k. record {
+    made = host_object host.ErrObject;
+    is = λ place. ap (λ z. reference_of env z place) k.0;
+    ends = λ n. ap (λ st. expr_of n (host_object host.ErrObject) ∷ st) k.1;
+  };
+}
+
+-- ---- what is pushed
+
+pub pushes_reference : (x : Tree) (d m e : Drafted) (v : Ending) → refers x.term ≡ true → TakesReference x.term d m v → e ≡ record m { pieces = put m.tables (node_of v.kind x.place v.of) m.pieces } → PushesReference x d e v.of
+pushes_reference x d m e v r t eq =
+    let P : Drafted → Type 0 = λ z. PushesReference x d z v.of in
+    subst P (sym eq) (record {
+      grown = grown_twice d m (record m { pieces = put m.tables (node_of v.kind x.place v.of) m.pieces }) t.grown (grown_pieces m (put m.tables (node_of v.kind x.place v.of) m.pieces));
+      refers = r;
+      stands = λ env tree below k.
+          let h = t.stands env (term_of env tree) below k.term_is in
+          let A : Place → Type 0 = λ place. reference_of env (term_of env tree) place ≡ Some (expression_of h.made x.place (declared_view v.of)) in
+          record { made = h.made; place = x.place; is = subst A k.place_is (h.is x.place); on_top = h.ends (node_of v.kind x.place v.of) };
+    })
+
+pub given_reference : (x : Term) (d e : Drafted) (v : Ending) → refers x ≡ true → TakesReference x d e v → TakesGiven x d e v
+given_reference x d e v r t = record {
+  grown = t.grown;
+  named = t.named;
+  stands = λ env y below k.
+      let h = t.stands env y below k in
+      record {
+        made = h.made;
+        is = λ place. ap (λ o. or_else o (reference_of env y place)) (no_value_there env d.tables x y d.pieces below r k place) ∙ h.is place;
+        ends = h.ends;
+      };
+}
+
+-- a value is given as it is
+pub given_value : (x : Term) (d e : Drafted) (v : Ending) → TakesValue x d e (Some v) → TakesGiven x d e v
+given_value x d e v t = record {
+  grown = t.grown;
+  named = t.named;
+  stands = λ env y below k.
+      let h = t.stands env y below k in
+      record { made = h.made; is = λ place. ap (λ o. or_else o (reference_of env y place)) (h.is place); ends = h.ends };
+}
+
+pub pushes_given : (x : Tree) (d m e : Drafted) (v : Ending) → TakesGiven x.term d m v → e ≡ record m { pieces = put m.tables (node_of v.kind x.place v.of) m.pieces } → PushesGiven x d e v.of
+pushes_given x d m e v t eq =
+    let P : Drafted → Type 0 = λ z. PushesGiven x d z v.of in
+    subst P (sym eq) (record {
+      grown = grown_twice d m (record m { pieces = put m.tables (node_of v.kind x.place v.of) m.pieces }) t.grown (grown_pieces m (put m.tables (node_of v.kind x.place v.of) m.pieces));
+      stands = λ env tree below k.
+          let h = t.stands env (term_of env tree) below k.term_is in
+          let A : Place → Type 0 = λ place. given_as env (term_of env tree) place ≡ Some (expression_of h.made x.place (declared_view v.of)) in
+          record { made = expression_of h.made x.place (declared_view v.of); is = subst A k.place_is (h.is x.place); operand = refl; on_top = h.ends (node_of v.kind x.place v.of) };
+    })
+
+-- ---- operands
+
+gives_refers : (x : Term) → gives_way x ≡ true → refers x ≡ true
+gives_refers (term.Place kind of bounded lends) h = h
+gives_refers (term.Value e) h = h
+gives_refers (term.HostMember m) h = h
+gives_refers (term.SheetMember m) h = h
+gives_refers (term.Routine s) h = h
+gives_refers (term.Function f) h = h
+gives_refers term.Err h = refl
+gives_refers term.ErrRaise h = h
+gives_refers term.ErrClear h = h
+gives_refers term.ErrorWord h = h
+gives_refers term.Nothing h = h
+
+gives_no_err : (x : Term) → gives_way x ≡ true → not_err x
+gives_no_err (term.Place kind of bounded lends) h = unfold not_err in tt
+gives_no_err (term.Value e) h = unfold not_err in tt
+gives_no_err (term.HostMember m) h = unfold not_err in tt
+gives_no_err (term.SheetMember m) h = unfold not_err in tt
+gives_no_err (term.Routine s) h = unfold not_err in tt
+gives_no_err (term.Function f) h = unfold not_err in tt
+gives_no_err term.Err h = let e : false ≡ true = h in absurd cc
+gives_no_err term.ErrRaise h = unfold not_err in tt
+gives_no_err term.ErrClear h = unfold not_err in tt
+gives_no_err term.ErrorWord h = unfold not_err in tt
+gives_no_err term.Nothing h = unfold not_err in tt
+
+pub refers_too : (x : Term) → gives_way x ≡ true → refers x ≡ true
+refers_too x h = gives_refers x h
+
+abbrev variant : DeclaredType
+variant = Plain element.Variant
+
+default_found : (place : Place) (made : bound.Node) (at : Place) (of : Declared) → has_default of ≡ true
+    → default_value place (expression_of made at of) ≡ Some (expression_of (default_of (expression_of made at of)) place type.variant)
+default_found place made at of h = ap (λ b. if b then Some (expression_of (default_of (expression_of made at of)) place type.variant) else None) h
+
+pub pushes_default : (x : Tree) (d m e : Drafted) (of : DeclaredType) → gives_way x.term ≡ true → PushesReference x d m of → has_default (declared_view of) ≡ true
+    → e ≡ record m { pieces = put m.tables (node_of node.DefaultOf x.place variant) m.pieces } → PushesOperand x d e (Some variant)
+pushes_default x d m e of w p has eq =
+    let P : Drafted → Type 0 = λ z. PushesOperand x d z (Some variant) in
+    subst P (sym eq) (record {
+      grown = grown_twice d m (record m { pieces = put m.tables (node_of node.DefaultOf x.place variant) m.pieces }) p.grown (grown_pieces m (put m.tables (node_of node.DefaultOf x.place variant) m.pieces));
+      stands = λ env tree below k.
+          let h = p.stands env tree below k in
+          let place = place_of_expression tree in
+          let y = term_of env tree in
+          let reference = expression_of h.made h.place (declared_view of) in
+          record {
+            made = expression_of (default_of reference) x.place type.variant;
+            is = operand_split env d.tables x.term (gives_no_err x.term w) y d.pieces below k.term_is place
+                ∙ ap (λ o. or_else o (option_and_then (default_value place) (reference_of env y place))) (no_value_there env d.tables x.term y d.pieces below p.refers k.term_is place)
+                ∙ ap (λ o. option_and_then (default_value place) o) h.is ∙ default_found place h.made h.place (declared_view of) has
+                ∙ ap (λ (q : Place). Some (expression_of (default_of reference) q type.variant)) (sym k.place_is);
+            operand = refl;
+            on_top = ap (λ st. of_value (λ v. expr_of (node_of node.DefaultOf x.place variant) (default_of v)) st) h.on_top;
+          };
+    })

@@ -1,0 +1,5 @@
+pub mod Counting
+pub mod Kinding
+pub mod Finding
+pub mod Listing
+pub mod MemberSteps

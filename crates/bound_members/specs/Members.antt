@@ -1,0 +1,36 @@
+-- Serves the code: members of objects, as the binder says them.
+use Rattle.std.specs.Prelude.{◌≡◌, ℕ, ◌<◌, length, List, []}
+use Rattle.bound_project.specs.Expressions as bound
+use Rattle.bound_project.specs.Drafts.{Drafted}
+use Rattle.bound_project.specs.View.{element_view}
+use Rattle.binder.specs.Terms.{a_host_member}
+use Rattle.binder.specs.Terms as terms
+use Rattle.binder.specs.ExpressionsBound.{HostKind, application, workbook, sheets, sheet, area, any_object, mark_members, sheets_members, sheet_members, area_members, member_of_kind}
+use Rattle.bound_calls.specs.declared.term.HostMember.{HostMember}
+use Rattle.bound_calls.specs.Standing.{Grown, member_is}
+use Rattle.bound_members.specs.declared.kinds.HostKind as declared
+use Rattle.bound_members.specs.declared.members.Known.{Known}
+use Rattle.bound_members.specs.Kinds.{kind_view}
+
+-- a member by a name and what is known of it
+abbrev pub found_member : List ℕ → Known → terms.HostMember
+found_member fold k = record { name = fold; of = element_view k.of; least = k.least; greatest = k.greatest }
+
+abbrev pub entry_member : List ℕ × Known → terms.HostMember
+entry_member m = found_member m.0 m.1
+
+-- the members that are listed of a kind
+abbrev pub listed : HostKind → List terms.HostMember
+listed application = mark_members
+listed workbook = []
+listed sheets = sheets_members
+listed sheet = sheet_members
+listed area = area_members
+listed any_object = []
+
+-- a member was found; its name is one more constant, and nothing is pushed
+pub record FindsMember (k : declared.HostKind) (fold : List ℕ) (d e : Drafted) (m : HostMember) : Type 0 where
+  pub grown : Grown d e
+  pub pieces : e.pieces ≡ d.pieces
+  pub named : m.name < length e.tables.constants
+  pub is : (object : bound.Expr) → member_of_kind (kind_view k) object fold ≡ a_host_member object (member_is e.tables m)

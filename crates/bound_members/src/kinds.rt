@@ -1,0 +1,57 @@
+//! What an object is, where that is known before the run.
+
+ghost use Rattle.std.specs.Prelude.{◌≡◌, IfSome, option_map};
+ghost use Rattle.bound_project.specs.View.{declared_view};
+ghost use Rattle.binder.specs.ExpressionsBound.{kind_by_type, kind_of_object};
+ghost use Rattle.bound_members.specs.Kinds.{EndingOfKind, kind_view};
+
+use bound_calls::Ending;
+use bound_project::{DeclaredType, ElementType, NodeKind};
+use vba_values::HostRef;
+
+/// What an object is: Application, the workbook, its sheets, a sheet, a range, or what the run decides.
+#[derive(Clone, Copy)]
+pub enum HostKind {
+    Application,
+    Workbook,
+    Sheets,
+    Sheet,
+    Area,
+    AnyObject,
+}
+
+/// What an object of a declared type is; none where the type isn't one of the host's.
+pub fn kind_of_type(of: DeclaredType) -> Option<HostKind>
+    ensures { option_map kind_view result ≡ kind_by_type (declared_view of) }
+{
+    match of {
+        DeclaredType::Plain(ElementType::Worksheet) => Some(HostKind::Sheet),
+        DeclaredType::Plain(ElementType::Range) => Some(HostKind::Area),
+        DeclaredType::Plain(ElementType::Object) => Some(HostKind::AnyObject),
+        _ => None,
+    }
+}
+
+fn kind_of_object(reference: HostRef) -> Option<HostKind>
+    ensures { option_map kind_view result ≡ kind_of_object reference }
+{
+    match reference {
+        HostRef::Application => Some(HostKind::Application),
+        HostRef::Workbook => Some(HostKind::Workbook),
+        HostRef::Sheets => Some(HostKind::Sheets),
+        _ => None,
+    }
+}
+
+/// What the object is that a value gives whose last node isn't pushed yet.
+pub fn kind_of_ending(ending: Ending) -> Option<HostKind>
+    ensures { IfSome result (λ kind. EndingOfKind ending kind) }
+{
+    match ending.kind {
+        NodeKind::HostObject(reference) => kind_of_object(reference),
+        NodeKind::ActiveSheet => kind_of_type(ending.of),
+        NodeKind::HostMember { .. } => kind_of_type(ending.of),
+        NodeKind::Call { .. } => kind_of_type(ending.of),
+        _ => None,
+    }
+}

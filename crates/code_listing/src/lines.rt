@@ -1,0 +1,239 @@
+ghost use Rattle.std.specs.Prelude.{◌≡◌, ◌++◌, IfOk, length, string_bytes, if◌then◌else◌};
+ghost use Rattle.std.specs.Fmt.{decimal};
+ghost use Rattle.vba_values.specs.View.{view};
+ghost use Rattle.bound_project.specs.Pieces.{constant_in, name_in};
+ghost use Rattle.pcode.specs.View.{code_view, instr_view, tables_of};
+ghost use Rattle.code_listing.specs.Listing as lists;
+ghost use Rattle.code_listing.specs.Numbers as numbers;
+ghost use Rattle.code_listing.specs.View.{line_view};
+
+use crate::numbers::{
+    bit_of, compare_number, function_number, handler_number, host_detail, host_number,
+    member_number, operator_number, policy_number, storage_number, type_detail, type_number,
+    value_number, value_size, variable_number,
+};
+use pcode::{Code, Instr};
+use std::alloc::{AllocError, Global};
+use vba_base::NoMemory;
+use vba_values::Value;
+
+/// An instruction as a line tells it: the number of its kind, and two numbers, which are 0 where it has none.
+#[derive(Clone, Copy)]
+struct Line {
+    op: u32,
+    first: u64,
+    second: u64,
+}
+
+fn listed_as(op: u32, first: u64, second: u64) -> Line
+    ensures { line_view result ≡ lists.listed_as op first second }
+{
+    Line { op, first, second }
+}
+
+// A number of 32 bits.
+fn number(small: u32) -> u64
+    ensures { result ≡ small }
+{
+    u64::from(small)
+}
+
+// The kind and the size of a constant of a code.
+fn constant_line(op: u32, code: &Code, constant: u32) -> Line
+    ensures { let value = constant_in (tables_of code.now) constant in line_view result ≡ lists.listed_as op (numbers.value_number value) (numbers.value_size value) }
+{
+    match code.constants.get(constant as usize) {
+        Some(value) => value_line(op, value),
+        None => value_line(op, &Value::Empty),
+    }
+}
+
+// The kind and the size of a value.
+fn value_line(op: u32, value: &Value) -> Line
+    ensures { line_view result ≡ lists.listed_as op (numbers.value_number (view value.now)) (numbers.value_size (view value.now)) }
+{
+    listed_as(op, value_number(value), value_size(value))
+}
+
+// The length of a name of a code, and a number.
+fn name_line(op: u32, code: &Code, name: u32, count: u32) -> Line
+    ensures { line_view result ≡ lists.listed_as op (length (name_in (tables_of code.now) name)) count }
+{
+    listed_as(op, code.name(name).len() as u64, number(count))
+}
+
+// Where a branch leads for True, and for False.
+fn branch_line(op: u32, sense: bool, to: u32, other: u32) -> Line
+    ensures { line_view result ≡ lists.listed_as op (if sense then to else other) (if sense then other else to) }
+{
+    if sense {
+        listed_as(op, number(to), number(other))
+    } else {
+        listed_as(op, number(other), number(to))
+    }
+}
+
+// An instruction of a code as a line tells it.
+fn listed(code: &Code, instr: Instr) -> Line
+    ensures { line_view result ≡ lists.listed (instr_view (tables_of code.now) instr) }
+{
+    match instr {
+        Instr::Begin { statement } => listed_as(0, number(statement), 0),
+        Instr::Push { constant } => constant_line(1, code, constant),
+        Instr::PushHost(reference) => listed_as(2, host_number(reference), host_detail(reference)),
+        Instr::LoadErr(member) => listed_as(3, member_number(member), 0),
+        Instr::PathOf(variable) => listed_as(
+            4,
+            variable_number(variable),
+            storage_number(variable),
+        ),
+        Instr::ReadThrough => listed_as(5, 0, 0),
+        Instr::ElementOf { numbers } => listed_as(6, number(numbers), 0),
+        Instr::ElementIn { numbers } => listed_as(7, number(numbers), 0),
+        Instr::FieldOf {
+            field,
+            is_bounded,
+            ..
+        } => listed_as(8, number(field), bit_of(is_bounded)),
+        Instr::Dot { block } => listed_as(9, number(block), 0),
+        Instr::Index { numbers } => listed_as(10, number(numbers), 0),
+        Instr::PartOf { field } => listed_as(11, number(field), 0),
+        Instr::Operate {
+            operator,
+            compare,
+            ..
+        } => listed_as(12, operator_number(operator), compare_number(compare)),
+        Instr::OperateAlone { operator, .. } => listed_as(13, operator_number(operator), 0),
+        Instr::Plain => listed_as(14, 0, 0),
+        Instr::PlainIfAny => listed_as(15, 0, 0),
+        Instr::FirstSheet => listed_as(16, 0, 0),
+        Instr::MemberThere { name, given } => name_line(17, code, name, given),
+        Instr::MemberOf { name, arguments } => name_line(18, code, name, arguments),
+        Instr::Same => listed_as(19, 0, 0),
+        Instr::IsType(of) => listed_as(20, type_number(of), type_detail(of)),
+        Instr::Library {
+            function,
+            arguments,
+            ..
+        } => listed_as(21, function_number(function), number(arguments)),
+        Instr::BoundAt {
+            is_upper,
+            dimension,
+        } => listed_as(22, bit_of(is_upper), number(dimension.unsigned_abs())),
+        Instr::Fit(of) => listed_as(23, type_number(of), type_detail(of)),
+        Instr::FitObject(of) => listed_as(24, type_number(of), type_detail(of)),
+        Instr::Drop => listed_as(25, 0, 0),
+        Instr::Lend => listed_as(26, 0, 0),
+        Instr::Pack { arguments } => listed_as(27, number(arguments), 0),
+        Instr::Reorder { order, arguments } => listed_as(
+            28,
+            code.order(order).len() as u64,
+            number(arguments),
+        ),
+        Instr::Lift { arguments } => listed_as(29, number(arguments), 0),
+        Instr::Call {
+            procedure,
+            arguments,
+        } => listed_as(30, number(procedure), number(arguments)),
+        Instr::Store => listed_as(31, 0, 0),
+        Instr::SetAt => listed_as(32, 0, 0),
+        Instr::StoreDefault => listed_as(33, 0, 0),
+        Instr::StoreMember { name, arguments } => name_line(34, code, name, arguments),
+        Instr::ShowText => listed_as(35, 0, 0),
+        Instr::Show { ends, items } => listed_as(36, number(items), bit_of(ends)),
+        Instr::Throw { arguments } => listed_as(37, number(arguments), 0),
+        Instr::LoopOff { block } => listed_as(38, number(block), 0),
+        Instr::LoopOn { counter, block, .. } => listed_as(
+            39,
+            variable_number(counter),
+            number(block),
+        ),
+        Instr::NextRound { counter, block } => listed_as(
+            40,
+            variable_number(counter),
+            number(block),
+        ),
+        Instr::EachOff { block } => listed_as(41, number(block), 0),
+        Instr::EachOn { block } => listed_as(42, number(block), 0),
+        Instr::NextItem { control, block } => listed_as(
+            43,
+            variable_number(control),
+            number(block),
+        ),
+        Instr::Keep { block } => listed_as(44, number(block), 0),
+        Instr::Selected { block } => listed_as(45, number(block), 0),
+        Instr::IfFits { operator, to, .. } => listed_as(46, operator_number(operator), number(to)),
+        Instr::IfBetween { compare, to, .. } => listed_as(47, compare_number(compare), number(to)),
+        Instr::Redim {
+            preserve,
+            bounds,
+            ..
+        } => listed_as(48, number(bounds), bit_of(preserve)),
+        Instr::EraseAt => listed_as(49, 0, 0),
+        Instr::KeepPath { block } => listed_as(50, number(block), 0),
+        Instr::DropKept { block } => listed_as(51, number(block), 0),
+        Instr::PutReturn { statement } => listed_as(52, number(statement), 0),
+        Instr::TakeReturn { procedure } => listed_as(53, number(procedure), 0),
+        Instr::SetPolicy(policy) => listed_as(54, policy_number(policy), handler_number(policy)),
+        Instr::HandlerOff => listed_as(55, 0, 0),
+        Instr::ErrOff => listed_as(56, 0, 0),
+        Instr::Again { procedure } => listed_as(57, number(procedure), 0),
+        Instr::Behind { procedure } => listed_as(58, number(procedure), 0),
+        Instr::Resumes {
+            procedure,
+            statement,
+        } => listed_as(59, number(procedure), number(statement)),
+        Instr::Finish { to } => listed_as(60, number(to), 0),
+        Instr::Branch { sense, to, other } => branch_line(61, sense, to, other),
+        Instr::Halt => listed_as(62, 0, 0),
+        Instr::StopHere => listed_as(63, 0, 0),
+        Instr::Leave => listed_as(64, 0, 0),
+    }
+}
+
+// A number in decimal.
+fn decimal_text(alloc: Global, number: u64) -> Result<String, AllocError>
+    ensures { IfOk result (λ text. string_bytes text ≡ decimal number) }
+{
+    format!(in alloc; "{number}")
+}
+
+// Two texts with a third between them.
+fn joined(alloc: Global, left: &str, between: &str, right: &str) -> Result<String, AllocError>
+    ensures { IfOk result (λ text. string_bytes text ≡ left.now ++ between.now ++ right.now) }
+{
+    format!(in alloc; "{left}{between}{right}")
+}
+
+// Two numbers with a blank between them.
+fn both(alloc: Global, left: u64, right: u64) -> Result<String, AllocError>
+    ensures { IfOk result (λ text. string_bytes text ≡ lists.both left right) }
+{
+    let left = decimal_text(alloc, left)?;
+    let right = decimal_text(alloc, right)?;
+    joined(alloc, left.as_str(), " ", right.as_str())
+}
+
+// The text of a line.
+fn line_text(alloc: Global, address: usize, line: Line) -> Result<String, AllocError>
+    ensures { IfOk result (λ text. string_bytes text ≡ lists.line_of address (line_view line)) }
+{
+    let head = both(alloc, address as u64, u64::from(line.op))?;
+    let tail = both(alloc, line.first, line.second)?;
+    let mut text = joined(alloc, head.as_str(), " ", tail.as_str())?;
+    text.push('\n')?;
+    Ok(text)
+}
+
+/// The listing of a code: a line for each instruction, in the order of addresses, with its address, the number of its
+/// kind and two numbers, all in decimal with a blank between two.
+pub fn listing(alloc: Global, code: &Code) -> Result<Vec<u8>, NoMemory>
+    ensures { IfOk result (λ bytes. bytes.items ≡ lists.listing_of (code_view code.now)) }
+{
+    let mut bytes = Vec::new(alloc);
+    for (address, instr) in code.instrs.iter().enumerate() {
+        let text = line_text(alloc, address, listed(code, *instr))?;
+        bytes.extend_from_slice(text.as_bytes())?;
+    }
+    Ok(bytes)
+}

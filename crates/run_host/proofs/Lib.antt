@@ -1,0 +1,6 @@
+pub mod Telling
+pub mod Parts
+pub mod Assigned
+pub mod Written
+pub mod Cells
+pub mod Clears

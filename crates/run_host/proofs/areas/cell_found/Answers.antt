@@ -1,0 +1,16 @@
+use Rattle.std.proofs.Common.{◌≡◌, arith, map, w64, to_z, of_z, pos, ◌-ℤ◌}
+use Rattle.std.proofs.lemmas.Int.{ints}
+use Rattle.sheet_host.specs.Area.{offset_of}
+use Rattle.vba_meaning.specs.Effects.{slot_values}
+use Rattle.run_memory.specs.View.{memory_view, slot_view}
+use Rattle.run_host.proofs.Parts.{by_two_fine}
+use Rattle.run_host.proofs.areas.cell_found.Goals as goal
+
+pub returns : goal.returns
+returns c =
+    let m = memory_view c.args.memory.now in
+    let y : to_z w64 (of_z w64 (to_z w64 (of_z w64 c.from.result) -ℤ pos 1)) ≡ c.in_ok-row.row -ℤ pos 1 = omega (arith, ints) in
+    let x : to_z w64 (of_z w64 (to_z w64 (of_z w64 c.from-2.result) -ℤ pos 1)) ≡ c.in_ok-row.column -ℤ pos 1 = omega (arith, ints) in
+    rw (by_two_fine (λ y x. offset_of (record c.args.area { rows = 1; columns = 1 }) (y -ℤ pos 1) (x -ℤ pos 1)) (slot_values (map slot_view
+    c.args.slots.now)) m c.in_ok-row.row c.in_ok-row.column c.in_ok-row.ensures)
+    (rw (rw (y, x) at c.offset.ensures.area) at (c.area_found.ensures m))

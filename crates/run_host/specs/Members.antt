@@ -1,0 +1,83 @@
+-- Serves the code: members of the host, in the parts that its functions do.
+use Rattle.std.specs.Prelude.{ℕ, zero, ◌==◌, ◌&&◌, ℤ, List, [], ◌∷◌, length, Bool, true, false, Option, Some, None, if◌then◌else◌}
+use Rattle.vba_values.specs.declared.object.HostRef.{HostRef}
+use Rattle.vba_values.specs.declared.object.HostRef.TheVariants as host
+use Rattle.vba_values.specs.declared.object.ObjRef.{ObjRef}
+use Rattle.vba_values.specs.Types as type
+use Rattle.vba_values.specs.Val.{Val, array, missing, object}
+use Rattle.vba_values.specs.Coerce.{coerce_of}
+use Rattle.sheet_host.specs.declared.area.Area.{Area}
+use Rattle.sheet_host.specs.declared.members.HostMember.{HostMember}
+use Rattle.sheet_host.specs.declared.members.HostMember.TheVariants.{Write, Call}
+use Rattle.sheet_host.specs.AddressText.{area_of_text}
+use Rattle.sheet_host.specs.Writing.{cell_of, cells_of}
+use Rattle.bound_project.specs.Project.{Declarations}
+use Rattle.vba_meaning.specs.Memory.{Memory}
+use Rattle.vba_meaning.specs.Effects.{Effect, Fine, Bad-at, on_fine, answered, plain, range_value, area_in}
+use Rattle.vba_meaning.specs.Host.{are_places, area_found, assigned_through, cells_put, long_of, member_by, sheet_by, spanned, text_of, units_in}
+use Rattle.run_host.specs.declared.assigning.Writes.{Writes}
+use Rattle.run_host.specs.declared.assigning.Writes.TheVariants as writes
+
+-- the numbers that two arguments are
+abbrev pub two_numbers : List Val → Memory → Effect (ℤ × ℤ)
+two_numbers (r ∷ c ∷ []) m = on_fine (long_of r m) (λ y m1. on_fine (long_of c m1) (λ x m2. Fine (y, x) m2))
+two_numbers [] m = Bad-at 449 m
+two_numbers (v ∷ []) m = Bad-at 449 m
+two_numbers vs m = Bad-at 450 m
+
+-- the object that a value is
+abbrev pub object_in : Val → Option ObjRef
+object_in (object o) = Some o
+object_in v = None
+
+-- a value that is no object as a text
+abbrev pub text_by : Val → Memory → Effect (List ℕ)
+text_by v m = on_fine (answered (coerce_of v type.text) m) (λ w m1. Fine (units_in w) m1)
+
+abbrev pub is_missing : Val → Bool
+is_missing missing = true
+is_missing v = false
+
+-- a sheet by a value
+abbrev pub sheet_at : Val → Memory → Effect Val
+sheet_at v m = on_fine (plain v m) (λ w m1. sheet_by w m1)
+
+-- Range of an address
+abbrev pub range_at : (sheet : ℕ) → Val → Memory → Effect Val
+range_at s v m = on_fine (text_of v m) (λ address m1. area_found (area_of_text (record { 0 = s }) address) m1)
+
+-- the smallest range that holds two areas of a sheet
+abbrev pub around : (sheet : ℕ) → Area → Area → Memory → Effect Val
+around s a b m = if a.sheet.0 == s && b.sheet.0 == s then Fine (range_value (spanned a b)) m else Bad-at 1004 m
+
+-- how a member is assigned to
+abbrev pub written_at_once : HostRef → (number : ℕ) → Writes
+written_at_once host.Application n = writes.Mark n
+written_at_once (host.Area s t l r c) n = writes.Cells (area_in s t l r c)
+written_at_once r n = writes.Through
+
+abbrev pub way_of : HostRef → HostMember → List Val → Writes
+way_of r (Call n) vs = writes.Nothing
+way_of r (Write n) [] = written_at_once r n
+way_of r how vs = writes.Through
+
+-- what a member gives is written to
+abbrev pub set_through : Declarations → HostRef → HostMember → List Val → (begun : Val) → Val → Memory → Effect (Unit {0})
+set_through d r how vs begun v m = on_fine (member_by d r how vs begun m) (λ w m1. assigned_through (are_places r how (length vs)) w v m1)
+
+-- the cells that a value writes to an area are put there
+abbrev pub value_put : Area → Val → Memory → Effect (Unit {0})
+value_put a w m = on_fine (answered (cells_of w a.rows a.columns) m) (λ cs m1. cells_put a cs m1)
+
+abbrev pub is_array : Val → Bool
+is_array (array bounds of items) = true
+is_array v = false
+
+-- the same of a value that is no array and one cell
+abbrev pub one_put : Area → Val → Memory → Effect (Unit {0})
+one_put a w m = on_fine (answered (cell_of w) m) (λ c m1. cells_put a (c ∷ []) m1)
+
+-- whether a member takes no arguments, by how many it may have
+abbrev pub takes_none : List ℕ → Bool
+takes_none (zero ∷ []) = true
+takes_none ns = false

@@ -1,0 +1,227 @@
+// Members that are assigned to ([MS-VBAL] 5.4.3.8).
+ghost use Rattle.std.specs.Prelude.{◌≡◌, map};
+ghost use Rattle.vba_values.specs.View.{view};
+ghost use Rattle.bound_project.specs.View.{declarations_view};
+ghost use Rattle.vba_meaning.specs.Effects.{slot_values};
+ghost use Rattle.vba_meaning.specs.Host.{assigned_through, mark_set, member_assigned, member_set, with_mark, written_default};
+ghost use Rattle.run_memory.specs.Acts.{Acts};
+ghost use Rattle.run_memory.specs.View.{memory_view, slot_view};
+ghost use Rattle.run_host.specs.Members.{set_through, way_of, written_at_once};
+ghost use Rattle.run_host.specs.Tells.{Tells};
+ghost use Rattle.run_host.specs.View.{told_view};
+
+use crate::arguments::as_given;
+use crate::counts::are_places;
+use crate::events::Told;
+use crate::members::member_by;
+use crate::writing::area_written;
+use bound_project::Declarations;
+use run_memory::{Memory, Slot, area_in, is_true};
+use sheet_host::{Area, HostMember, member_named};
+use std::alloc::Global;
+use vba_base::OrMemory;
+use vba_values::{Bad, HostRef, ObjRef, VType, Value, coerce};
+
+/// How a member is assigned to: it can't be, or it is a mark of Application by its number, the cells of a range, or what it
+/// gives is written to.
+#[derive(Clone, Copy)]
+pub enum Writes {
+    Nothing,
+    Mark(u16),
+    Cells(Area),
+    Through,
+}
+
+/// The default member of an object is written: Value of a range, and no other. 91 for Nothing, 449 for the sheets, 438 for
+/// other objects, 424 for what is no object.
+pub fn written_default(
+    memory: &mut Memory,
+    alloc: Global,
+    target: &Value,
+    value: Value,
+    told: &mut Told,
+) -> Result<(), OrMemory<Bad>>
+    ensures { Tells (λ done. done) result (told_view told.old) (told_view told.new) (memory_view memory.new) (written_default (view target.now) (view value) (memory_view memory.old)) }
+{
+    match target {
+        Value::Object(ObjRef::Nothing) => Err(OrMemory::Fault(Bad::Raise(91))),
+        Value::Object(
+            ObjRef::Host(
+                HostRef::Area {
+                    sheet,
+                    top,
+                    left,
+                    rows,
+                    columns,
+                },
+            ),
+        ) => {
+            let area = area_in(*sheet, *top, *left, *rows, *columns);
+            area_written(memory, alloc, area, value, told)
+        }
+        Value::Object(ObjRef::Host(HostRef::Sheets)) => Err(OrMemory::Fault(Bad::Raise(449))),
+        Value::Object(_) => Err(OrMemory::Fault(Bad::Raise(438))),
+        _ => Err(OrMemory::Fault(Bad::Raise(424))),
+    }
+}
+
+/// A member of a host object is assigned to, by its folded name, with its arguments and with what was given when that
+/// began: 438 where there is no such one or it can't be written, 424 for what is no host object.
+pub fn member_assigned(
+    memory: &mut Memory,
+    alloc: Global,
+    declared: &Declarations,
+    name: &[u16],
+    slots: &[Slot],
+    base: &Value,
+    begun: &Value,
+    value: Value,
+    told: &mut Told,
+) -> Result<(), OrMemory<Bad>>
+    ensures { Tells (λ done. done) result (told_view told.old) (told_view told.new) (memory_view memory.new) (member_assigned (declarations_view declared.now) name.now (slot_values (map slot_view slots.now)) (view base.now) (view begun.now) (view value) (memory_view memory.old)) }
+{
+    match base {
+        Value::Object(ObjRef::Host(of)) => {
+            let how = member_named(of, name)?;
+            member_set(
+                memory,
+                alloc,
+                declared,
+                *of,
+                how,
+                as_given(slots),
+                begun,
+                value,
+                told,
+            )
+        }
+        _ => Err(OrMemory::Fault(Bad::Raise(424))),
+    }
+}
+
+/// A member is assigned to.
+fn member_set(
+    memory: &mut Memory,
+    alloc: Global,
+    declared: &Declarations,
+    of: HostRef,
+    how: HostMember,
+    slots: &[Slot],
+    begun: &Value,
+    value: Value,
+    told: &mut Told,
+) -> Result<(), OrMemory<Bad>>
+    ensures { Tells (λ done. done) result (told_view told.old) (told_view told.new) (memory_view memory.new) (member_set (declarations_view declared.now) of how (slot_values (map slot_view slots.now)) (view begun.now) (view value) (memory_view memory.old)) }
+{
+    match way_of(of, how, slots) {
+        Writes::Nothing => Err(OrMemory::Fault(Bad::Raise(438))),
+        Writes::Mark(number) => mark_set(memory, alloc, number, value),
+        Writes::Cells(area) => area_written(memory, alloc, area, value, told),
+        Writes::Through => set_through(memory, alloc, declared, of, how, slots, begun, value, told),
+    }
+}
+
+fn way_of(of: HostRef, how: HostMember, slots: &[Slot]) -> Writes
+    ensures { result ≡ way_of of how (slot_values (map slot_view slots.now)) }
+{
+    let number = match how {
+        HostMember::Call(_) => return Writes::Nothing,
+        HostMember::Read(_) => return Writes::Through,
+        HostMember::Write(number) => number,
+    };
+    match slots {
+        [] => written_at_once(of, number),
+        [_, ..] => Writes::Through,
+    }
+}
+
+/// How a member that can be written is assigned to, without arguments.
+fn written_at_once(of: HostRef, number: u16) -> Writes
+    ensures { result ≡ written_at_once of number }
+{
+    match of {
+        HostRef::Application => Writes::Mark(number),
+        HostRef::Area {
+            sheet,
+            top,
+            left,
+            rows,
+            columns,
+        } => Writes::Cells(area_in(sheet, top, left, rows, columns)),
+        HostRef::Workbook
+        | HostRef::Sheets
+        | HostRef::ErrObject
+        | HostRef::Sheet { .. }
+        | HostRef::RowsOf { .. }
+        | HostRef::ColumnsOf { .. } => Writes::Through,
+    }
+}
+
+/// What a member gives is written to.
+fn set_through(
+    memory: &mut Memory,
+    alloc: Global,
+    declared: &Declarations,
+    of: HostRef,
+    how: HostMember,
+    slots: &[Slot],
+    begun: &Value,
+    value: Value,
+    told: &mut Told,
+) -> Result<(), OrMemory<Bad>>
+    ensures { Tells (λ done. done) result (told_view told.old) (told_view told.new) (memory_view memory.new) (set_through (declarations_view declared.now) of how (slot_values (map slot_view slots.now)) (view begun.now) (view value) (memory_view memory.old)) }
+{
+    let target = member_by(memory, alloc, declared, of, how, slots, begun, told)?;
+    let is_place = are_places(&of, how, slots.len());
+    assigned_through(memory, alloc, is_place, &target, value, told)
+}
+
+/// Of an object the default member is written; an element of an array that nothing keeps takes the value for nothing, and
+/// any other value can't be written.
+fn assigned_through(
+    memory: &mut Memory,
+    alloc: Global,
+    is_place: bool,
+    target: &Value,
+    value: Value,
+    told: &mut Told,
+) -> Result<(), OrMemory<Bad>>
+    ensures { Tells (λ done. done) result (told_view told.old) (told_view told.new) (memory_view memory.new) (assigned_through is_place (view target.now) (view value) (memory_view memory.old)) }
+{
+    match target {
+        Value::Object(_) => written_default(memory, alloc, target, value, told),
+        _ => {
+            if is_place {
+                Ok(())
+            } else {
+                Err(OrMemory::Fault(Bad::Raise(438)))
+            }
+        }
+    }
+}
+
+/// A mark of Application becomes what a value is as a Boolean.
+#[tactic(auto, using(run_memory::proofs::Refused::refused_then))]
+fn mark_set(
+    memory: &mut Memory,
+    alloc: Global,
+    number: u16,
+    value: Value,
+) -> Result<(), OrMemory<Bad>>
+    ensures { Acts (λ done. done) result (memory_view memory.new) (mark_set number (view value) (memory_view memory.old)) }
+{
+    let value = memory.plain(alloc, value)?;
+    let truth = coerce(alloc, &value, &VType::Boolean)?;
+    set_mark(memory, number, is_true(&truth));
+    Ok(())
+}
+
+fn set_mark(memory: &mut Memory, number: u16, truth: bool)
+    ensures { memory_view memory.new ≡ with_mark number truth (memory_view memory.old) }
+{
+    match number {
+        0 => memory.events_on = truth,
+        1 => memory.updates_screen = truth,
+        _ => memory.shows_alerts = truth,
+    }
+}

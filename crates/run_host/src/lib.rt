@@ -1,0 +1,22 @@
+//! What a statement does in one go with the host: members of its objects, and what writes cells. The definitions stand in
+//! `specs/` of vba_meaning.
+#![tactic(auto)]
+
+mod areas;
+mod arguments;
+mod assigning;
+mod cell_events;
+mod clearing;
+mod counts;
+mod events;
+mod indexing;
+mod members;
+mod ranges;
+mod reading;
+mod sheets;
+mod writing;
+
+pub use assigning::{member_assigned, written_default};
+pub use events::{Event, Told};
+pub use members::{member_called, member_there};
+pub use sheets::first_sheet;
