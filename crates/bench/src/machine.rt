@@ -22,6 +22,8 @@ enum Pattern {
     Tests,
     /// A text that grows by one unit.
     Texts,
+    /// A cell that is written and read.
+    Cells,
 }
 
 impl Pattern {
@@ -33,13 +35,14 @@ impl Pattern {
             Pattern::Grids => "run grids",
             Pattern::Tests => "run tests",
             Pattern::Texts => "run texts",
+            Pattern::Cells => "run cells",
         }
     }
 
     /// The text before the number of rounds.
     fn front(self) -> &'static str {
         match self {
-            Pattern::Sums | Pattern::Elements | Pattern::Tests => {
+            Pattern::Sums | Pattern::Elements | Pattern::Tests | Pattern::Cells => {
                 "Sub Main()\nDim i As Long, s As Long, a(9) As Long\nFor i = 1 To "
             }
             Pattern::Grids => {
@@ -62,6 +65,10 @@ impl Pattern {
             Pattern::Grids => "\nk = i Mod 10\na(k, 3) = a(3, k) + 1\nNext\nEnd Sub\n",
             Pattern::Tests => "\nIf i Mod 3 = 0 Then s = s Xor i\nNext\nEnd Sub\n",
             Pattern::Texts => "\ns = s & \"a\"\nNext\nEnd Sub\n",
+            Pattern::Cells => {
+                "\nCells(i Mod 1000 + 1, 1).Value = i\ns = s Xor Cells(i Mod 1000 + 1, 1).Value\n\
+                 Next\nEnd Sub\n"
+            }
         }
     }
 }
@@ -78,6 +85,7 @@ pub fn bench_machine(rt: &(impl Print + CpuClock + AllocGlobal), size: u32) -> i
         Pattern::Grids,
         Pattern::Tests,
         Pattern::Texts,
+        Pattern::Cells,
     ] {
         let size = match pattern {
             Pattern::Texts => size.min(MOST_UNITS),
@@ -110,22 +118,31 @@ fn time_run(rt: &(impl CpuClock + AllocGlobal), pattern: Pattern, size: u32) -> 
 // The words of a run that may take all turns.
 fn words(alloc: Global) -> Result<Vec<String>, AllocError> {
     let mut words = Vec::new(alloc);
-    for word in ["run", "--turns", "1000000000000", "m.bas"] {
+    for word in ["run", "--turns", "1000000000000", "p.txt"] {
         words.push(String::from_str(alloc, word)?)?;
     }
     Ok(words)
 }
 
-// The one file that is run.
+/// The list that is run.
+const LIST: &[u8] = b"Module=m.bas\nSheet=S;s.csv\nStartup=Module1.Main\n";
+
+// The list, its module and its sheet, which is empty.
 fn files(alloc: Global, pattern: Pattern, size: u32) -> Result<MemFiles, NoMemory> {
     let front = pattern.front();
     let back = pattern.back();
     let source = format!(in alloc; "{front}{size}{back}")?;
     let mut held = Vec::new(alloc);
-    held.push((
-        String::from_str(alloc, "m.bas")?,
-        Vec::from_slice(alloc, source.as_bytes())?,
-    ))?;
+    for (name, bytes) in [
+        ("p.txt", LIST),
+        ("m.bas", source.as_bytes()),
+        ("s.csv", b"".as_slice()),
+    ] {
+        held.push((
+            String::from_str(alloc, name)?,
+            Vec::from_slice(alloc, bytes)?,
+        ))?;
+    }
     if !MemFiles::are_different(held.as_slice()) {
         return Err(NoMemory);
     }

@@ -26,3 +26,15 @@ none = refl
 unknown : ran_over (codes "Sub Main()\nDebug.Print 1\nCells(1, 1).Foo = 1\nEnd Sub") ≡ left_at 1 3 1
 unfolding ran_over folded caseless digits division join nearest read read_digits
 unknown = refl
+
+-- a Variant has a range: its members and items are found in the run
+variants : ran_over (codes "Sub Main()\nDim v\nSet v = Range(\"B2:C3\")\nDebug.Print v(2, 1).Address; v.Count; v Is Nothing\nEnd Sub")
+    ≡ ends (Printed (codes "$B$3 4 False") true ∷ [])
+unfolding ran_over folded caseless digits division join nearest read read_digits
+variants = refl
+
+-- what a parameter without a type is given, and Set through it
+given : ran_over (codes "Sub Main()\nDim r As Range\nSet r = Range(\"A1\")\nMove r\nDebug.Print r.Address\nEnd Sub\nSub Move(x)\nSet x = x.Offset(1, 0)\nEnd Sub")
+    ≡ ends (Printed (codes "$A$2") true ∷ [])
+unfolding ran_over folded caseless digits division join nearest read read_digits
+given = refl

@@ -124,6 +124,6 @@ unfolding ran folded caseless digits division join
 loop_failed = refl
 
 -- an element of the array that a Function gives, read and written
-element_of_call : ran (codes "Sub Main()\nArr()(1) = 5\nDebug.Print Arr()(1)\nEnd Sub\nFunction Arr()\nReDim a(1)\na(1) = 3\nArr = a\nEnd Function") ≡ ends (Printed (codes " 3 ") true ∷ [])
+element_of_call : ran (codes "Sub Main()\nArr()(1) = 5\nDebug.Print Arr()(1)\nEnd Sub\nFunction Arr() As Long()\nReDim a(1) As Long\na(1) = 3\nArr = a\nEnd Function") ≡ ends (Printed (codes " 3 ") true ∷ [])
 unfolding ran folded caseless digits division join
 element_of_call = refl

@@ -1,5 +1,5 @@
 -- Expressions as terms ([MS-VBAL] 5.6).
-use Rattle.std.specs.Prelude.{ℕ, zero, ◌==◌, Bool, true, false, ◌&&◌, ◌||◌, not, pos, List, [], ◌∷◌, ◌++◌, length, codes, Option, Some, None, is_some, option_map, option_and_then, bytes_eq, if◌then◌else◌, unwrap_or, nat_le, slice_index_or}
+use Rattle.std.specs.Prelude.{ℕ, zero, suc, ◌==◌, Bool, true, false, ◌&&◌, ◌||◌, not, pos, List, [], ◌∷◌, ◌++◌, length, codes, Option, Some, None, is_some, option_map, option_and_then, bytes_eq, if◌then◌else◌, unwrap_or, nat_le, slice_index_or}
 use Rattle.vba_base.specs.declared.place.Place.{Place}
 use Rattle.vba_values.specs.declared.types.OpKind.{OpKind}
 use Rattle.vba_values.specs.StaticTypes.{static_of}
@@ -16,7 +16,7 @@ use Rattle.vba_lib.specs.declared.function.LibraryFunction.{LibraryFunction}
 use Rattle.vba_lib.specs.declared.function.LibraryFunction.TheVariants as function
 use Rattle.vba_lib.specs.Library.{arity_of, declared_of}
 use Rattle.vba_lib.specs.Names.{function_named}
-use Rattle.bound_project.specs.Expressions.{Storage, Variable, err_number, err_source, err_description, Node, constant, load, element_value, field_value, err_value, default_of, host_object, active_sheet, host_member, Lvalue, variable, item, element, field, kept_place, Exprs, no_exprs}
+use Rattle.bound_project.specs.Expressions.{Storage, Variable, err_number, err_source, err_description, Node, constant, load, element_value, field_value, err_value, default_of, host_object, active_sheet, host_member, Lvalue, variable, item, element, field, kept_place, Exprs, no_exprs, also}
 use Rattle.bound_project.specs.Expressions as bound
 use Rattle.vba_values.specs.declared.object.HostRef.{HostRef}
 use Rattle.vba_values.specs.declared.object.HostRef.TheVariants as host
@@ -26,7 +26,8 @@ use Rattle.binder.specs.Sources.{base_of}
 use Rattle.binder.specs.Declarations.{Written, What, a_variable, a_constant, a_member, a_procedure, Entry, Own, the_result, a_parameter, a_local_constant, Local}
 use Rattle.binder.specs.Scopes.{Space, Scope, plainly, called, Meant, of_procedure, of_module, of_host, of_library, Qualifier, declares, behind, qualifier_of, is_named, first_at, seen_from, has_dollar}
 use Rattle.binder.specs.Names.{scope_in}
-use Rattle.binder.specs.Constants.{literal_meant, value_type, operator_kind, unary_kind, compare_in, meant_by, names_in, home, place_of_expression}
+use Rattle.binder.specs.Types.{is_object}
+use Rattle.binder.specs.Constants.{is_variant, literal_meant, value_type, operator_kind, unary_kind, compare_in, meant_by, names_in, home, place_of_expression}
 use Rattle.binder.specs.Storage.{parameter_type, result_type, parameters_of, own_declaration, declared_variable, user_types, module_storage, own_storage, procedure_number, gives_value}
 use Rattle.binder.specs.Terms.{Within, Env, HostMember, Term, a_place, a_value, a_routine, a_function, a_host_member, err_object, err_raise, err_clear, error_word, no_term, expression_of, value_with, Given, listed_values, bound_arguments, has_names}
 
@@ -117,18 +118,18 @@ abbrev pub node_or : Term → (Node → Declared → Term) → Term
 node_or (a_value node of) term = term node of
 node_or other term = no_term
 
-abbrev pub call_with : (Term → Place → Option bound.Expr) → Env → Place → List Given → Space → ℕ → Written → Term
+abbrev pub call_with : (Declared → Term → Place → Option bound.Expr) → Env → Place → List Given → Space → ℕ → Written → Term
 call_with value env place gs space number p = if_there (option_map called_as (reader env.scope space number p))
   where
     called_as : ℕ × Written → Term
     called_as f =
         if indexes_value f.1 gs
-        then node_or (call_value env space f.0 f.1 (Some bound.no_args)) (λ node of. indexed_value place node of (numbers_of value gs))
+        then node_or (call_value env space f.0 f.1 (Some bound.no_args)) (λ node of. indexed_value place node of (numbers_of (value type.long) gs))
         else call_value env space f.0 f.1 (bound_arguments value (parameters_in env.scope space f.1) gs)
 
 -- a call without arguments
 abbrev pub bare_call : Env → Space → ℕ → Written → Term
-bare_call env space number p = call_with (λ t place. None) env p.place [] space number p
+bare_call env space number p = call_with (λ of t place. None) env p.place [] space number p
 
 abbrev pub value_of : Env → Term → Place → Option bound.Expr
 value_of env t place = value_with (bare_call env) t place
@@ -142,10 +143,11 @@ is_host_type type.worksheet = true
 is_host_type type.range = true
 is_host_type other = false
 
+-- a Variant may have an object: whether it has one the run decides
 abbrev pub typed_reference : Node → Place → Declared → Option bound.Expr
-typed_reference node place of = if is_host_type of then Some (expression_of node place of) else None
+typed_reference node place of = if is_host_type of || is_variant of then Some (expression_of node place of) else None
 
--- a term as a reference to an object
+-- a term as a reference to an object, or as what may be one
 abbrev pub reference_of : Env → Term → Place → Option bound.Expr
 reference_of env (a_place x of bounded lends) place = typed_reference (load x) place of
 reference_of env (a_value node of) place = typed_reference node place of
@@ -170,10 +172,38 @@ has_default other = true
 abbrev pub default_value : Place → bound.Expr → Option bound.Expr
 default_value place (bound.expr node at of operand) = if has_default of then Some (expression_of (default_of (bound.expr node at of operand)) place type.variant) else None
 
+-- whether a function of the library may give an object: one of its arguments
+abbrev pub may_give_object : LibraryFunction → Bool
+may_give_object function.IIf = true
+may_give_object function.CVar = true
+may_give_object f = false
+
+-- whether a Variant may be an object: what variables, elements and calls give
+abbrev pub may_be_object : Node → Bool
+may_be_object (load x) = true
+may_be_object (element_value e es) = true
+may_be_object (field_value e i) = true
+may_be_object (bound.call procedure args) = true
+may_be_object (host_member e member_name es) = true
+may_be_object (bound.library f text_form es compare base) = may_give_object f
+may_be_object node = false
+
+abbrev pub has_object : Node → Declared → Bool
+has_object node of = is_variant of && may_be_object node
+
+-- a value as an operand: an object that a Variant has gives way to the value of its default member
+abbrev pub plain_operand : bound.Expr → bound.Expr
+plain_operand (bound.expr node at of operand) =
+    if has_object node of then expression_of (default_of (bound.expr node at of operand)) at type.variant else bound.expr node at of operand
+
 -- a term as an operand: Err is its number, and another object gives way to the value of its default member
 abbrev pub operand_of : Env → Term → Place → Option bound.Expr
 operand_of env err_object place = Some (expression_of (err_value err_number) place type.long)
-operand_of env t place = or_else (value_of env t place) (option_and_then (default_value place) (reference_of env t place))
+operand_of env t place = or_else (option_map plain_operand (value_of env t place)) (option_and_then (default_value place) (reference_of env t place))
+
+-- a term as an argument for a parameter: a Variant and a variable of an object type take an object as it is
+abbrev pub argument_of : Env → Declared → Term → Place → Option bound.Expr
+argument_of env of t place = if is_variant of || is_object of then given_as env t place else operand_of env t place
 
 -- what an object is, where that is known before the run
 pub data HostKind : Type 0 where
@@ -188,6 +218,7 @@ abbrev pub kind_by_type : Declared → Option HostKind
 kind_by_type type.worksheet = Some sheet
 kind_by_type type.range = Some area
 kind_by_type type.object = Some any_object
+kind_by_type type.variant = Some any_object
 kind_by_type other = None
 
 abbrev pub kind_of_object : HostRef → Option HostKind
@@ -229,14 +260,14 @@ abbrev pub listed_member : List HostMember → List ℕ → Option HostMember
 listed_member [] fold = None
 listed_member (m ∷ ms) fold = if bytes_eq fold m.name then Some (record m { name = fold }) else listed_member ms fold
 
--- a member of a kind of objects: of an object of an unknown kind the run decides
+-- a member of a kind of objects: of an object of an unknown kind the run decides, and so of what a Variant has
 abbrev pub member_in : HostKind → List ℕ → Option HostMember
 member_in application fold = listed_member mark_members fold
 member_in workbook fold = None
 member_in sheets fold = listed_member sheets_members fold
 member_in sheet fold = listed_member sheet_members fold
 member_in area fold = listed_member area_members fold
-member_in any_object fold = Some (record { name = fold; of = type.object; least = 0; greatest = None })
+member_in any_object fold = Some (record { name = fold; of = type.variant; least = 0; greatest = None })
 
 abbrev pub sheets_value : Term
 sheets_value = a_value (host_object host.Sheets) type.object
@@ -307,8 +338,51 @@ is_user_type other = false
 abbrev pub plain_value : bound.Expr → Option bound.Expr
 plain_value e = if is_user_type (bound.operand_type e) then None else Some e
 
-abbrev pub function_value : (Term → Place → Option bound.Expr) → Term → Place → Option bound.Expr
-function_value value t place = option_and_then plain_value (value t place)
+-- how a function takes an argument: an object as it is; its default value where it has one; or its default value
+pub data Taking : Type 0 where
+  as_it_is : Taking
+  default_if_any : Taking
+  by_default : Taking
+
+-- by the number of the argument, from 0
+abbrev pub first_as_it_is : ℕ → Taking
+first_as_it_is zero = as_it_is
+first_as_it_is i = by_default
+
+abbrev pub taking : LibraryFunction → ℕ → Taking
+taking function.IsEmpty i = default_if_any
+taking function.IsNull i = default_if_any
+taking function.IsArray i = default_if_any
+taking function.VarType i = default_if_any
+taking function.IsObject i = as_it_is
+taking function.IsMissing i = as_it_is
+taking function.TypeName i = as_it_is
+taking function.Array i = as_it_is
+taking function.CVar i = as_it_is
+taking function.Join i = first_as_it_is i
+taking function.UBound i = first_as_it_is i
+taking function.LBound i = first_as_it_is i
+taking function.IIf zero = by_default
+taking function.IIf i = as_it_is
+taking f i = by_default
+
+-- the value of an object's default member where that needs no argument
+abbrev pub if_any : bound.Expr → bound.Expr
+if_any (bound.expr node at of operand) =
+    if is_object of || has_object node of then expression_of (bound.default_if_any (bound.expr node at of operand)) at type.variant
+    else bound.expr node at of operand
+
+abbrev pub taken_as : Env → Taking → Term → Place → Option bound.Expr
+taken_as env as_it_is t place = given_as env t place
+taken_as env default_if_any t place = option_map if_any (given_as env t place)
+taken_as env by_default t place = operand_of env t place
+
+abbrev pub function_values : Env → LibraryFunction → ℕ → List Given → Option Exprs
+function_values env f i [] = Some no_exprs
+function_values env f i (g ∷ gs) = from_two also (option_and_then value g.term) (function_values env f (suc i) gs)
+  where
+    value : Term → Option bound.Expr
+    value t = option_and_then plain_value (taken_as env (taking f i) t g.place)
 
 -- its arguments: each is given, and none by a name
 abbrev pub all_given : List Given → Bool
@@ -325,7 +399,7 @@ takes_count f count = at (arity_of f)
 abbrev pub function_called : Env → LibraryFunction → (text_form : Bool) → (base : ℕ) → List Given → Term
 function_called env f text_form base gs =
     if all_given gs && takes_count f (length gs)
-    then if_there (option_map (λ es. a_value (bound.library f text_form es (compare_in env.scope) (pos base)) (declared_of f text_form)) (listed_values (function_value (value_of env)) gs))
+    then if_there (option_map (λ es. a_value (bound.library f text_form es (compare_in env.scope) (pos base)) (declared_of f text_form)) (function_values env f 0 gs))
     else no_term
 
 -- the arguments of a member: each is given, and none by a name
@@ -352,9 +426,9 @@ host_called env e m gs =
 
 -- what arguments in brackets make of a term
 abbrev pub indexed : Env → Place → Term → List Given → Term
-indexed env place (a_place x of bounded lends) gs = with_type (element_type of) (numbers_of (value_of env) gs) (λ u es. a_place (element_place x es) u false lends)
-indexed env place (a_value node of) gs = indexed_value place node of (numbers_of (value_of env) gs)
-indexed env place (a_routine space number p) gs = call_with (value_of env) env place gs space number p
+indexed env place (a_place x of bounded lends) gs = with_type (element_type of) (numbers_of (operand_of env) gs) (λ u es. a_place (element_place x es) u false lends)
+indexed env place (a_value node of) gs = indexed_value place node of (numbers_of (operand_of env) gs)
+indexed env place (a_routine space number p) gs = call_with (argument_of env) env place gs space number p
 indexed env place (a_function f text_form base) gs = function_called env f text_form base gs
 indexed env place (a_host_member e m) gs = host_called env e m gs
 indexed env place other gs = no_term
@@ -462,12 +536,12 @@ binary_term env kind left right =
 abbrev pub same_term : (left right : Option bound.Expr) → Term
 same_term left right = if_there (from_two (λ a b. a_value (bound.same a b) type.boolean) left right)
 
--- a parenthesised expression is a value
+-- a parenthesised expression is a value, and an object as it is
 abbrev pub value_term : bound.Expr → Term
 value_term (bound.expr node place of operand) = a_value node of
 
 abbrev pub as_value : Env → Term → Place → Term
-as_value env t place = if_there (option_map value_term (value_of env t place))
+as_value env t place = if_there (option_map value_term (given_as env t place))
 
 abbrev pub literal_term : Val → Term
 literal_term v = a_value (constant v) (value_type v)

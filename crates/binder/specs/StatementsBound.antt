@@ -26,7 +26,7 @@ use Rattle.vba_module.specs.Parts.{Part, label, statement, place_of}
 use Rattle.vba_module.specs.Blocks.{for_loop, do_loop, select, same_kind, Role, opens, divides, closes, role_of}
 use Rattle.vba_module.specs.Headers.{all_of}
 use Rattle.vba_module.specs.Misplaced.{statement_place}
-use Rattle.bound_project.specs.Expressions.{Variable, Node, constant, load, Lvalue, variable, Exprs, no_exprs, also, Prints, no_prints, shown, zone}
+use Rattle.bound_project.specs.Expressions.{Variable, Node, constant, load, element_value, Lvalue, variable, Exprs, no_exprs, also, Prints, no_prints, shown, zone}
 use Rattle.bound_project.specs.Expressions as bound
 use Rattle.bound_project.specs.Statements as to
 use Rattle.bound_project.specs.Statements.{Statement, Block, Action, Tests, no_tests, test_is, test_range, Handling, passed_on, skipped, handled_at, Resizes, no_resizes, resize, Arrays, no_arrays, an_array}
@@ -35,14 +35,14 @@ use Rattle.binder.specs.Sources.{base_of}
 use Rattle.binder.specs.Options.{or_else, from_two, from_three}
 use Rattle.binder.specs.Declarations.{Written}
 use Rattle.binder.specs.Scopes.{Space}
-use Rattle.binder.specs.Constants.{operator_kind, compare_in, place_of_expression}
+use Rattle.binder.specs.Constants.{is_variant, operator_kind, compare_in, place_of_expression}
 use Rattle.binder.specs.Storage.{procedure_number}
 use Rattle.binder.specs.Types.{written_type, is_object}
 use Rattle.binder.specs.Constants.{known_length}
 use Rattle.binder.specs.Numbering.{count, count_list, simple_count, part_count, here, an_arm, behind_block, behind_kind, Opened, Standing, sought_behind}
 use Rattle.binder.specs.Violations.{same_label_name}
 use Rattle.binder.specs.Terms.{Within, Env, HostMember, Term, a_place, a_value, a_routine, a_host_member, err_raise, err_clear, error_word, expression_of, Given, bound_arguments, has_names}
-use Rattle.binder.specs.ExpressionsBound.{writer, bare_call, parameters_in, value_of, reference_of, given_as, mark_members, item_of, host_arguments, takes_arguments, indexed, callee, term_of, givens, bound_value, bound_reference, bound_as_given, bound_operand}
+use Rattle.binder.specs.ExpressionsBound.{writer, bare_call, parameters_in, given_as, argument_of, has_object, mark_members, item_of, host_arguments, takes_arguments, indexed, callee, term_of, givens, bound_reference, bound_as_given, bound_operand}
 
 -- ---- the procedure round a statement
 
@@ -108,7 +108,7 @@ raise_parameters =
     ∷ raise_parameter (codes "description") type.text (Some missing) ∷ []
 
 abbrev pub raised : Env → List Given → Option Action
-raised env gs = option_map to.raise (bound_arguments (value_of env) raise_parameters gs)
+raised env gs = option_map to.raise (bound_arguments (argument_of env) raise_parameters gs)
 
 -- Error has the number alone
 abbrev pub is_one : List Given → Bool
@@ -118,7 +118,7 @@ abbrev pub called_term : Env → Place → Term → List Given → Option Action
 called_term env place err_raise gs = raised env gs
 called_term env place err_clear [] = Some to.clear_err
 called_term env place error_word gs = if is_one gs then raised env gs else None
-called_term env place (a_routine space number p) gs = option_map to.evaluate (value_of env (indexed env place (a_routine space number p) gs) place)
+called_term env place (a_routine space number p) gs = option_map to.evaluate (given_as env (indexed env place (a_routine space number p) gs) place)
 called_term env place t [] = option_map to.evaluate (given_as env t place)
 called_term env place t gs = option_map to.evaluate (given_as env (indexed env place (item_of place t) gs) place)
 
@@ -144,22 +144,28 @@ let_to env space gs v f = at (parameters_in env.scope space f.1)
     value_type (p ∷ []) = p.of
     value_type (p ∷ ps) = value_type ps
 
-    at : List Parameter → Option Action
-    at ps = option_map (λ args. to.let_property (procedure_number env.scope space f.0) args v (value_type ps)) (bound_arguments (value_of env) (but_last ps) gs)
+    -- a value parameter of an object type is given the object itself
+    with_value_of : Declared → ℕ → bound.Args → Action
+    with_value_of of number args = if is_object of then to.set_property number args v of else to.let_property number args v of
 
--- the default member of an object is written: that of a range is Value, and a sheet has none
+    at : List Parameter → Option Action
+    at ps = option_map (λ args. with_value_of (value_type ps) (procedure_number env.scope space f.0) args) (bound_arguments (argument_of env) (but_last ps) gs)
+
+-- the default member of an object is written: that of a range is Value, a sheet has none, and of a Variant the run decides
 abbrev pub has_written_default : Declared → Bool
 has_written_default type.range = true
 has_written_default type.object = true
+has_written_default type.variant = true
 has_written_default other = false
 
 abbrev pub default_written : bound.Expr → Declared → bound.Expr → Option Action
 default_written target of v = if has_written_default of then Some (to.assign_default target v) else None
 
--- a member of an object is written: one that can be, or the default member of the object that it gives
+-- a member of an object is written: one that can be, or the default member of the object that it gives; of an object of an
+-- unknown kind the run decides
 abbrev pub is_written_member : HostMember → Bool
 is_written_member m =
-    bytes_eq m.name (codes "value") || has_written_default m.of || list_any (λ (w : HostMember). bytes_eq m.name w.name) mark_members
+    not (is_some m.greatest) || bytes_eq m.name (codes "value") || (is_object m.of && has_written_default m.of) || list_any (λ (w : HostMember). bytes_eq m.name w.name) mark_members
 
 -- arguments behind a member that takes none would index its value, of which nothing is kept
 abbrev pub fits_written : HostMember → List Given → Bool
@@ -170,13 +176,20 @@ abbrev pub member_written : Env → bound.Expr → HostMember → List Given →
 member_written env e m gs v =
     if is_written_member m && fits_written m gs then option_map (λ es. to.assign_member e m.name es v) (host_arguments env gs) else None
 
--- an element that nothing has is read and left
+-- an element that nothing has is read and left, where it is one of an array, and isn't built where it may be an object's
+-- item; of another value the default member is written
+abbrev pub value_written : Place → bound.Expr → Node → Declared → Option Action
+value_written place v (element_value e es) of =
+    if is_variant (bound.operand_type e) then None
+    else if is_object of then default_written (expression_of (element_value e es) place of) of v
+    else Some (to.assign_none (expression_of (element_value e es) place of) v)
+value_written place v node of = if is_object of || has_object node of then default_written (expression_of node place of) of v else None
+
 abbrev pub assigned : Env → Place → bound.Expr → List Given → Term → Option Action
 assigned env place v gs (a_place x of bounded lends) = if is_object of then default_written (expression_of (load x) place of) of v else Some (to.assign x v)
 assigned env place v gs (a_routine space number p) = option_and_then (let_to env space gs v) (writer env.scope space p)
 assigned env place v gs (a_host_member e m) = member_written env e m gs v
-assigned env place v gs (a_value node of) =
-    if is_object of then default_written (expression_of node place of) of v else option_map (λ x. to.assign_none x v) (value_of env (a_value node of) place)
+assigned env place v gs (a_value node of) = value_written place v node of
 assigned env place v gs other = None
 
 -- a property, and a member of an object of the host, take their arguments with the value
@@ -196,17 +209,22 @@ assigned_to env (index base left args right) v =
     else assigned env (place_of_expression base) v [] (indexed env (place_of_expression base) t (givens env args))
 assigned_to env e v = assigned env (place_of_expression e) v [] (term_of env e)
 
--- the value of an assignment: where the target takes it with arguments an object comes as it is
+-- the value of an assignment: where the target takes it with arguments, and for an element of a Variant, an object comes as
+-- it is
+abbrev pub is_variant_place : Term → Bool
+is_variant_place (a_place x of bounded lends) = is_variant of
+is_variant_place t = false
+
 abbrev pub is_given_with : Env → Expr → Bool
-is_given_with env (index base left args right) = takes_value env (target_before env base)
+is_given_with env (index base left args right) = takes_value env (target_before env base) || is_variant_place (target_before env base)
 is_given_with env e = takes_value env (term_of env e)
 
 abbrev pub value_for : Env → Expr → Expr → Option bound.Expr
 value_for env x e = if is_given_with env x then bound_as_given env e else bound_operand env e
 
--- Set: a variable of an object type is given a reference ([MS-VBAL] 5.4.3.9)
+-- Set: a variable of an object type, or a Variant, is given a reference ([MS-VBAL] 5.4.3.9)
 abbrev pub set_to : Term → bound.Expr → Option Action
-set_to (a_place x of bounded lends) v = if is_object of then Some (to.set x v) else None
+set_to (a_place x of bounded lends) v = if is_object of || is_variant of then Some (to.set x v) else None
 set_to other v = None
 
 -- ReDim: the base of the module where no low bound is written
@@ -216,17 +234,12 @@ integer place n = expression_of (constant (whole kind.Integer (pos n))) place ty
 abbrev pub redim_bounds : Env → List Dim → Option Exprs
 redim_bounds env [] = Some no_exprs
 redim_bounds env (upper e ∷ ds) =
-    from_two (λ high es. also (integer (place_of_expression e) (base_of env.scope.here.source)) (also high es)) (bound_value env e) (redim_bounds env ds)
-redim_bounds env (Dim.range low to_word high ∷ ds) = from_three (λ a b es. also a (also b es)) (bound_value env low) (bound_value env high) (redim_bounds env ds)
+    from_two (λ high es. also (integer (place_of_expression e) (base_of env.scope.here.source)) (also high es)) (bound_operand env e) (redim_bounds env ds)
+redim_bounds env (Dim.range low to_word high ∷ ds) = from_three (λ a b es. also a (also b es)) (bound_operand env low) (bound_operand env high) (redim_bounds env ds)
 
 abbrev pub redim_type : Env → Option TypeClause → Option Declared
 redim_type env None = None
 redim_type env (Some c) = Some (written_type (known_length env.scope) env.scope c.declared_type)
-
--- arrays of objects aren't built
-abbrev pub is_built_element : Option Declared → Bool
-is_built_element None = true
-is_built_element (Some of) = not (is_object of)
 
 abbrev pub place_in : Term → Option Lvalue
 place_in (a_place x of bounded lends) = Some x
@@ -235,9 +248,7 @@ place_in other = None
 abbrev pub redim_arrays : Env → List ReDimArray → Option Resizes
 redim_arrays env [] = Some no_resizes
 redim_arrays env (a ∷ others) =
-    if is_built_element (redim_type env a.type_clause)
-    then from_three (λ x es rs. resize x es (redim_type env a.type_clause) rs) (place_in (term_of env a.place)) (redim_bounds env (all_of a.dims)) (redim_arrays env others)
-    else None
+    from_three (λ x es rs. resize x es (redim_type env a.type_clause) rs) (place_in (term_of env a.place)) (redim_bounds env (all_of a.dims)) (redim_arrays env others)
 
 abbrev pub erased_arrays : Env → List Expr → Option Arrays
 erased_arrays env [] = Some no_arrays
@@ -316,10 +327,6 @@ abbrev pub for_action : Option Variable → Env → Option bound.Expr → Option
 for_action counter env start last step first behind =
     option_and_then (λ x. from_three (λ a b c. to.for_to x (compare_in env.scope) a b c first behind) start last step) counter
 
--- what a For Each walks: an array, or for a variable of an object type the sheets or the cells of a range
-abbrev pub walked : Env → Variable → Expr → Option bound.Expr
-walked env v group = if is_object v.of then bound_as_given env group else bound_value env group
-
 -- the line that opened the innermost block
 abbrev pub line_of : Part → Option BlockLine
 line_of (statement (simple (block_line line))) = Some line
@@ -353,7 +360,7 @@ case_tests env (value e ∷ ts) = from_two (test_is op.Eq) (bound_operand env e)
 case_tests env (CaseTest.range low to_word high ∷ ts) = from_three test_range (bound_operand env low) (bound_operand env high) (case_tests env ts)
 case_tests env (comparison is_word o token e ∷ ts) = from_three test_is (operator_kind o) (bound_operand env e) (case_tests env ts)
 
--- the value of the Select Case that stands open
+-- the value of the Select Case that stands open, as an operand
 abbrev pub selected : Around → List Opened → Option bound.Expr
 selected a [] = None
 selected a (o ∷ os) = option_and_then at (line_of o.line)
@@ -367,7 +374,7 @@ selected a (o ∷ os) = option_and_then at (line_of o.line)
 
 abbrev pub with_action : Term → Env → Place → Option Action
 with_action (a_place x of bounded lends) env place =
-    if is_object of then option_map to.with_value (reference_of env (a_place x of bounded lends) place) else Some (to.with_place x)
+    if is_object of || is_variant of then option_map to.with_value (given_as env (a_place x of bounded lends) place) else Some (to.with_place x)
 with_action t env place = option_map to.with_value (given_as env t place)
 
 abbrev pub block_action : Around → Standing → BlockLine → Option Action
@@ -389,13 +396,13 @@ block_action a s line = at line
     at : BlockLine → Option Action
     at (if_line if_word e then_word) = option_map (λ c. to.test true c first next_arm) (bound_operand env e)
     at (else_if_line else_if_word e then_word) = option_map (λ c. to.test true c first next_arm) (bound_operand env e)
-    at (select_case select_word case_word e) = option_map (λ v. to.select v next_arm) (bound_operand env e)
+    at (select_case select_word case_word e) = option_map (λ v. to.select v next_arm) (bound_as_given env e)
     at (case_line case_word tests) =
         from_two (λ v ts. to.case_of ts (header_of s.around) (bound.operand_type v) (compare_in env.scope) first next_arm) (selected a s.around) (case_tests env (all_of tests))
     at (for_line for_word x equal start to_word limit step) =
         for_action (loop_variable env x) env (bound_operand env start) (bound_operand env limit) (step_value env (place_of s.part) step) first behind
     at (for_each for_word each_word x in_word group) =
-        option_and_then (λ v. option_map (λ e. to.for_each v e first behind) (walked env v group)) (loop_variable env x)
+        option_and_then (λ v. option_map (λ e. to.for_each v e first behind) (bound_as_given env group)) (loop_variable env x)
     at (next_line next_word x) = next_action env s.around
     at (do_line do_word c) = loop_action env c first behind
     at (loop_line loop_word c) = loop_action env c (header_of s.around) first

@@ -1,6 +1,6 @@
 -- Expressions by what they are: a place, a value, or a name of something else. What stands round an expression takes
 -- from that what it needs. What the bound project can't say yet is no term.
-use Rattle.std.specs.Prelude.{ℕ, suc, ◌==◌, Bool, true, ◌&&◌, ◌||◌, not, List, [], ◌∷◌, ◌++◌, Option, Some, None, is_some, option_map, option_and_then, bytes_eq, if◌then◌else◌}
+use Rattle.std.specs.Prelude.{ℕ, suc, ◌==◌, Bool, true, false, ◌&&◌, ◌||◌, not, List, [], ◌∷◌, ◌++◌, Option, Some, None, is_some, option_map, option_and_then, bytes_eq, if◌then◌else◌}
 use Rattle.std.specs.List.{list_any}
 use Rattle.vba_base.specs.declared.place.Place.{Place}
 use Rattle.vba_values.specs.Coerce.{is_same_type}
@@ -88,24 +88,33 @@ pub record Item : Type 0 where
   pub add : bound.Args → Option bound.Args
 
 -- the way in which a parameter takes what is given: a variable of its own type by its place, unless it is ByVal; a
--- Variant takes one of any type but an object's
-abbrev pub by_copy : (Term → Place → Option bound.Expr) → Parameter → Term → Place → bound.Args → Option bound.Args
-by_copy value p t place rest = option_map (λ e. bound.by_copy e p.of rest) (value t place)
+-- Variant takes one of any type, and an Object one of any object type. What is given is bound for the parameter's type
+abbrev pub by_copy : (Declared → Term → Place → Option bound.Expr) → Parameter → Term → Place → bound.Args → Option bound.Args
+by_copy value p t place rest = option_map (λ e. bound.by_copy e p.of rest) (value p.of t place)
 
 abbrev pub is_lent_to : (of parameter : Declared) → Bool
-is_lent_to of parameter = (is_variant parameter && not (is_object of)) || is_same_type of parameter
+is_lent_to of parameter = is_variant parameter || (is_same_type of parameter || (is_object of && is_same_type type.object parameter))
 
-abbrev pub lent_to : Parameter → Lvalue → Declared → bound.Args → Option bound.Args
-lent_to p x of rest = if is_lent_to of p.of then Some (bound.by_place x rest) else None
+-- an element of a Variant, which may be the item of an object, and so no variable
+abbrev pub may_be_item : Lvalue → Bool
+may_be_item (item x es) = is_variant x.of
+may_be_item x = false
 
-abbrev pub by_reference : (Term → Place → Option bound.Expr) → Parameter → Term → Place → bound.Args → Option bound.Args
-by_reference value p (a_place x of bounded true) place rest = lent_to p x of rest
+-- what is copied though it is a variable: one of another object type, and what may be none
+abbrev pub is_copied_to : Lvalue → (of parameter : Declared) → Bool
+is_copied_to x of parameter = (is_object of && is_object parameter) || may_be_item x
+
+abbrev pub by_reference : (Declared → Term → Place → Option bound.Expr) → Parameter → Term → Place → bound.Args → Option bound.Args
+by_reference value p (a_place x of bounded true) place rest =
+    if is_lent_to of p.of then Some (bound.by_place x rest)
+    else if is_copied_to x of p.of then by_copy value p (a_place x of bounded true) place rest
+    else None
 by_reference value p t place rest = by_copy value p t place rest
 
 abbrev pub not_given_to : Parameter → bound.Args → Option bound.Args
 not_given_to p rest = if p.many then Some (bound.by_list no_exprs rest) else option_map (λ v. bound.by_default v rest) p.default
 
-abbrev pub taken_by : (Term → Place → Option bound.Expr) → Parameter → Given → bound.Args → Option bound.Args
+abbrev pub taken_by : (Declared → Term → Place → Option bound.Expr) → Parameter → Given → bound.Args → Option bound.Args
 taken_by value p g rest = at g.term
   where
     at : Option Term → Option bound.Args
@@ -129,21 +138,21 @@ parameter_named number (p ∷ ps) fold = if not p.many && bytes_eq p.name.fold f
 abbrev pub cons_if : Option Item → Option (List Item) → Option (List Item)
 cons_if i is = from_two (λ x xs. x ∷ xs) i is
 
-abbrev pub named_item : (Term → Place → Option bound.Expr) → Given → Option (ℕ × Parameter) → Option Item
+abbrev pub named_item : (Declared → Term → Place → Option bound.Expr) → Given → Option (ℕ × Parameter) → Option Item
 named_item value g found = option_map (λ f. record { parameter = f.0; add = taken_by value f.1 g }) found
 
 -- arguments with names, for the parameters from a number on
-abbrev pub by_names : (Term → Place → Option bound.Expr) → ℕ → List Parameter → List Given → Option (List Item)
+abbrev pub by_names : (Declared → Term → Place → Option bound.Expr) → ℕ → List Parameter → List Given → Option (List Item)
 by_names value number ps [] = Some []
 by_names value number ps (g ∷ gs) = cons_if (option_and_then (λ fold. named_item value g (parameter_named number ps fold)) g.name) (by_names value number ps gs)
 
 -- arguments from the left, until one has a name
-abbrev pub by_position : (Term → Place → Option bound.Expr) → ℕ → List Parameter → List Given → Option (List Item)
+abbrev pub by_position : (Declared → Term → Place → Option bound.Expr) → ℕ → List Parameter → List Given → Option (List Item)
 by_position value number ps [] = Some []
 by_position value number [] (g ∷ gs) = None
 by_position value number (p ∷ ps) (g ∷ gs) =
     if is_some g.name then by_names value number (p ∷ ps) (g ∷ gs)
-    else if p.many then option_map (λ es. record { parameter = number; add = λ rest. Some (bound.by_list es rest) } ∷ []) (listed_values value (g ∷ gs))
+    else if p.many then option_map (λ es. record { parameter = number; add = λ rest. Some (bound.by_list es rest) } ∷ []) (listed_values (value type.variant) (g ∷ gs))
     else cons_if (Some (record { parameter = number; add = taken_by value p g })) (by_position value (suc number) ps gs)
 
 -- the parameters to which nothing is given
@@ -175,7 +184,7 @@ abbrev pub has_names : List Given → Bool
 has_names gs = list_any (λ (g : Given). is_some g.name) gs
 
 -- the arguments of a call, first those that are written, in their order
-abbrev pub bound_arguments : (Term → Place → Option bound.Expr) → List Parameter → List Given → Option bound.Args
+abbrev pub bound_arguments : (Declared → Term → Place → Option bound.Expr) → List Parameter → List Given → Option bound.Args
 bound_arguments value ps gs = option_and_then with_rest (by_position value 0 ps gs)
   where
     ordered : List Item → bound.Args → bound.Args

@@ -2,12 +2,12 @@
 use Rattle.std.proofs.Common.{◌≡◌, T, ℕ, ◌+◌, ◌==◌, ◌&&◌, not, Bool, true, false, List, [], ◌∷◌, ◌++◌, map, length, Option, Some, None, option_map, is_some, if◌then◌else◌, refl, sym, ap, subst, ◌∙◌, arith, length-append}
 use Rattle.std.proofs.lemmas.List.{map-append}
 use Rattle.vba_base.specs.declared.place.Place.{Place}
+use Rattle.vba_values.specs.Types.{Declared}
 use Rattle.vba_expression.specs.Tree.{Expr, index}
 use Rattle.vba_expression.specs.Nodes as nodes
 use Rattle.vba_expression.specs.Nodes.{behind_nodes, last_tree, tree_in, arguments_in}
 use Rattle.vba_expression.specs.declared.node.ExpressionNode.{ExpressionNode}
 use Rattle.vba_expression.specs.declared.node.ExpressionNode.TheVariants as node
-use Rattle.bound_project.specs.declared.declared_type.DeclaredType.{DeclaredType}
 use Rattle.bound_project.specs.declared.declarations.Parameter.{Parameter}
 use Rattle.bound_project.specs.declared.statement.ActionKind.{ActionKind}
 use Rattle.bound_project.specs.declared.statement.ActionKind.TheVariants as action
@@ -23,9 +23,9 @@ use Rattle.bound_project.specs.Project as project
 use Rattle.bound_project.specs.Drafts.{Drafted}
 use Rattle.binder.specs.Declarations.{Written}
 use Rattle.binder.specs.Scopes.{Space}
-use Rattle.binder.specs.Terms.{Env, Given, a_place, a_value, a_routine, a_function, a_host_member, err_object, err_raise, err_clear, error_word, no_term, value_with, bound_arguments, has_names}
+use Rattle.binder.specs.Terms.{Env, Given, a_value, a_routine, err_raise, err_clear, error_word, no_term, bound_arguments, has_names}
 use Rattle.binder.specs.Terms as plain
-use Rattle.binder.specs.ExpressionsBound.{bare_call, call_with, callee, given_as, givens, indexed, term_of, value_of}
+use Rattle.binder.specs.ExpressionsBound.{argument_of, bare_call, callee, given_as, givens, indexed, term_of}
 use Rattle.binder.specs.StatementsBound.{called_place, called_term, called_with, is_one, raise_parameters}
 use Rattle.bound_actions.specs.declared.trees.Split.{Split}
 use Rattle.bound_calls.specs.declared.term.Ending.{Ending}
@@ -37,10 +37,10 @@ use Rattle.bound_calls.specs.Passing.{AllTaken}
 use Rattle.bound_calls.specs.Standing.{TermStands, TreeStands}
 use Rattle.bound_calls.specs.Steps.{Leaves}
 use Rattle.bound_calls.specs.References.{TakesGiven}
-use Rattle.bound_calls.specs.Taking.{Pushes, TakesValue}
+use Rattle.bound_actions.specs.Assigning.{GivenPushed}
 use Rattle.bound_actions.specs.Actions.{ActionStands}
 use Rattle.bound_calls.specs.Calls.{PassesRest, node_of}
-use Rattle.bound_actions.specs.Called.{IsBare, LeavesAlone, SplitAt, args_on, Framed, is_routine, Reads, RestPushed, AllPassed, PassesAll, ActionIs, Acts, ActsOn, CallsTree, CallsTreeOn}
+use Rattle.bound_actions.specs.Called.{IsBare, LeavesAlone, SplitAt, args_on, Framed, Reads, RestPushed, AllPassed, PassesAll, ActionIs, Acts, ActsOn, CallsTree, CallsTreeOn}
 use Rattle.bound_terms.specs.Callee.{CalleeIs}
 use Rattle.bound_calls.proofs.Growing.{grown_same, grown_pieces, grown_twice}
 use Rattle.bound_calls.proofs.Arguing.{left_long}
@@ -50,7 +50,7 @@ use Rattle.bound_calls.proofs.Passing.{arguments_bound, nameless}
 
 -- ---- arguments
 
-taken_long : (value : plain.Term → Place → Option bound.Expr) (ps : List project.Parameter) (gs : List Given) (xs : List Argument) (left : List project.Parameter) → AllTaken value ps gs xs left → length xs ≡ length gs
+taken_long : (value : Declared → plain.Term → Place → Option bound.Expr) (ps : List project.Parameter) (gs : List Given) (xs : List Argument) (left : List project.Parameter) → AllTaken value ps gs xs left → length xs ≡ length gs
 taken_long value ps [] [] left t = refl
 taken_long value ps [] (x ∷ xs) left t = absurd t
 taken_long value [] (g ∷ gs) xs left t = absurd t
@@ -68,10 +68,10 @@ passes_all env parameters x ns d d1 e left all r h a b = record {
       let lefts = map parameter_view x.left.now in
       record {
         made = s.made ++ h.made;
-        bound = arguments_bound (value_of env) (map parameter_view parameters) gs s.made lefts h.made s.taken h.left;
+        bound = arguments_bound (argument_of env) (map parameter_view parameters) gs s.made lefts h.made s.taken h.left;
         all_is = omega (arith, a, b, s.count_is, left_long lefts h.made h.left, parameters_long x.left.now, length-append s.made h.made);
-        written_is = s.count_is ∙ taken_long (value_of env) (map parameter_view parameters) gs s.made lefts s.taken;
-        no_names = nameless (value_of env) (map parameter_view parameters) gs s.made lefts s.taken;
+        written_is = s.count_is ∙ taken_long (argument_of env) (map parameter_view parameters) gs s.made lefts s.taken;
+        no_names = nameless (argument_of env) (map parameter_view parameters) gs s.made lefts s.taken;
         on_top = h.on_top ∙ ap (λ st. above (map an_argument h.made) st) s.on_top ∙ sym (above_both (map an_argument s.made) (map an_argument h.made) d.pieces)
             ∙ ap (λ l. above l d.pieces) (sym (map-append an_argument s.made h.made));
       };
@@ -122,7 +122,7 @@ acts_number env place ns d e written all one p = record {
         named = tt;
         stands = λ y h.
             let A : plain.Term → Type 0 = λ z. called_term env place z gs ≡ Some (to.raise (args_of s.made)) in
-            let B : Bool → Type 0 = λ b. (if b then option_map to.raise (bound_arguments (value_of env) raise_parameters gs) else None) ≡ Some (to.raise (args_of s.made)) in
+            let B : Bool → Type 0 = λ b. (if b then option_map to.raise (bound_arguments (argument_of env) raise_parameters gs) else None) ≡ Some (to.raise (args_of s.made)) in
             record {
               made = to.raise (args_of s.made);
               is = subst A (sym h.0) (subst B (sym (one_given gs (sym one ∙ s.written_is) s.no_names)) (ap (λ o. option_map to.raise o) s.bound));
@@ -143,106 +143,74 @@ acts_clear env x place d is =
 
 -- a procedure is called by a statement
 pub routine_called : (env : Env) (place : Place) (y : plain.Term) (space : Space) (number : ℕ) (w : Written) (gs : List Given) (made : bound.Expr) → y ≡ a_routine space number w
-    → value_of env (indexed env place y gs) place ≡ Some made → called_term env place y gs ≡ Some (evaluate made)
+    → given_as env (indexed env place y gs) place ≡ Some made → called_term env place y gs ≡ Some (evaluate made)
 routine_called env place y space number w gs made is h =
-    let A : plain.Term → Type 0 = λ z. value_of env (indexed env place z gs) place ≡ Some made in
+    let A : plain.Term → Type 0 = λ z. given_as env (indexed env place z gs) place ≡ Some made in
     let B : plain.Term → Type 0 = λ z. called_term env place z gs ≡ Some (evaluate made) in
     subst B (sym is) (ap (λ o. option_map evaluate o) (subst A is h))
 
--- ---- values as statements
+-- ---- values and objects as statements
 
 none_there : (e : bound.Expr) → None ≡ Some e → ⊥
 none_there e h = subst T (ap (λ (o : Option bound.Expr). is_some o) (sym h)) tt
 
--- what a call gives is a value
-routine_bare : (env : Env) (s : Space) (n : ℕ) (w : Written) (place : Place) (z : plain.Term) (made : bound.Expr) → value_with (λ a b c. z) (a_routine s n w) place ≡ Some made → value_of env z place ≡ Some made
-routine_bare env s n w place (a_value node of) made h = h
-routine_bare env s n w place (a_place x of bounded lends) made h = absurd (none_there made h)
-routine_bare env s n w place (a_routine a b c) made h = absurd (none_there made h)
-routine_bare env s n w place (a_function f text_form base) made h = absurd (none_there made h)
-routine_bare env s n w place (a_host_member e m) made h = absurd (none_there made h)
-routine_bare env s n w place err_object made h = absurd (none_there made h)
-routine_bare env s n w place err_raise made h = absurd (none_there made h)
-routine_bare env s n w place err_clear made h = absurd (none_there made h)
-routine_bare env s n w place error_word made h = absurd (none_there made h)
-routine_bare env s n w place no_term made h = absurd (none_there made h)
+-- what a procedure gives that is called without arguments
+bare_given : (env : Env) (place : Place) (s : Space) (n : ℕ) (w : Written) (t : plain.Term) (made : bound.Expr) → bare_call env s n w ≡ t → given_as env (a_routine s n w) place ≡ Some made → given_as env t place ≡ Some made
+bare_given env place s n w (a_value node of) made e h = rw e at h
+bare_given env place s n w t made e h = absurd (none_there made (rw e at h))
 
-no_arguments : (env : Env) (place : Place) (s : Space) (n : ℕ) (w : Written) → call_with (value_of env) env place [] s n w ≡ bare_call env s n w
+no_arguments : (env : Env) (place : Place) (s : Space) (n : ℕ) (w : Written) → indexed env place (a_routine s n w) [] ≡ bare_call env s n w
 no_arguments env place s n w = refl
 
--- a procedure that is called without arguments
-called_bare : (env : Env) (place : Place) (s : Space) (n : ℕ) (w : Written) (made : bound.Expr) → value_of env (a_routine s n w) place ≡ Some made → called_term env place (a_routine s n w) [] ≡ Some (evaluate made)
-called_bare env place s n w made h =
-    let A : plain.Term → Type 0 = λ z. value_of env z place ≡ Some made in
-    ap (λ o. option_map evaluate o) (subst A (sym (no_arguments env place s n w)) (routine_bare env s n w place (bare_call env s n w) made h))
+routine_evaluated : (env : Env) (place : Place) (s : Space) (n : ℕ) (w : Written) (made : bound.Expr) → given_as env (a_routine s n w) place ≡ Some made → called_term env place (a_routine s n w) [] ≡ Some (evaluate made)
+routine_evaluated env place s n w made h =
+    ap (λ t. option_map evaluate (given_as env t place)) (no_arguments env place s n w) ∙ ap (λ o. option_map evaluate o) (bare_given env place s n w (bare_call env s n w) made refl h)
 
-routine_evaluated : (env : Env) (t : Tables) (x : Term) (y : plain.Term) (ps below : List Piece) (place : Place) (made : bound.Expr) → is_routine x ≡ true → TermStands env t x y ps below → value_of env y place ≡ Some made
-    → called_term env place y [] ≡ Some (evaluate made)
-routine_evaluated env t (term.Routine r) y ps below place made a s h =
-    let A : plain.Term → Type 0 = λ z. value_of env z place ≡ Some made in
-    let B : plain.Term → Type 0 = λ z. called_term env place z [] ≡ Some (evaluate made) in
-    subst B (sym s.is) (called_bare env place s.space s.number s.written made (subst A s.is h))
-routine_evaluated env t (term.Place kind of bounded lends) y ps below place made a s h = let e : false ≡ true = a in absurd cc
-routine_evaluated env t (term.Value e) y ps below place made a s h = let e : false ≡ true = a in absurd cc
-routine_evaluated env t (term.Function f) y ps below place made a s h = let e : false ≡ true = a in absurd cc
-routine_evaluated env t (term.HostMember m) y ps below place made a s h = let e : false ≡ true = a in absurd cc
-routine_evaluated env t (term.SheetMember m) y ps below place made a s h = let e : false ≡ true = a in absurd cc
-routine_evaluated env t term.Err y ps below place made a s h = let e : false ≡ true = a in absurd cc
-routine_evaluated env t term.ErrRaise y ps below place made a s h = let e : false ≡ true = a in absurd cc
-routine_evaluated env t term.ErrClear y ps below place made a s h = let e : false ≡ true = a in absurd cc
-routine_evaluated env t term.ErrorWord y ps below place made a s h = let e : false ≡ true = a in absurd cc
-routine_evaluated env t term.Nothing y ps below place made a s h = let e : false ≡ true = a in absurd cc
-
-pub acts_value : (env : Env) (x : Term) (place : Place) (d d1 e : Drafted) (ending : Option Ending) (of : DeclaredType) → is_routine x ≡ true → TakesValue x d d1 ending → Pushes ending place d1 e (Some of) → Acts env x place [] d e action.Evaluate
-acts_value env x place d d1 e ending of r t p = record {
-  grown = grown_twice d d1 e t.grown p.grown;
-  named = tt;
-  stands = λ y h.
-      let m = p.stands (λ q. value_of env y q) [] (t.stands env y [] h) in
-      record { made = evaluate m.made; is = routine_evaluated env d.tables x y d.pieces [] place m.made r h m.is; fits = ap (λ ps. action_of e.tables action.Evaluate ps) m.on_top };
-}
-
--- what is no procedure is a value or an object
 given_none : (env : Env) (place : Place) (z t : plain.Term) (made : bound.Expr) → z ≡ t → given_as env t place ≡ None → given_as env z place ≡ Some made → ⊥
 given_none env place z t made is none h = none_there made (sym none ∙ sym (ap (λ y. given_as env y place) is) ∙ h)
 
-called_given : (env : Env) (t : Tables) (x : Term) (z : plain.Term) (ps below : List Piece) (place : Place) (made : bound.Expr) → is_routine x ≡ false → TermStands env t x z ps below → given_as env z place ≡ Some made
+called_given : (env : Env) (t : Tables) (x : Term) (z : plain.Term) (ps below : List Piece) (place : Place) (made : bound.Expr) → TermStands env t x z ps below → given_as env z place ≡ Some made
     → called_term env place z [] ≡ Some (evaluate made)
-called_given env t (term.Place kind of bounded lends) z ps below place made r h k =
+called_given env t (term.Place kind of bounded lends) z ps below place made h k =
     let A : plain.Term → Type 0 = λ y. called_term env place y [] ≡ option_map evaluate (given_as env y place) in subst A (sym h.is) refl ∙ ap (λ o. option_map evaluate o) k
-called_given env t (term.Value e) z ps below place made r h k =
+called_given env t (term.Value e) z ps below place made h k =
     let A : plain.Term → Type 0 = λ y. called_term env place y [] ≡ option_map evaluate (given_as env y place) in subst A (sym h.is) refl ∙ ap (λ o. option_map evaluate o) k
-called_given env t (term.Function f) z ps below place made r h k =
+called_given env t (term.Routine r) z ps below place made h k =
+    let A : plain.Term → Type 0 = λ y. given_as env y place ≡ Some made in
+    let B : plain.Term → Type 0 = λ y. called_term env place y [] ≡ Some (evaluate made) in
+    subst B (sym h.is) (routine_evaluated env place h.space h.number h.written made (subst A h.is k))
+called_given env t (term.Function f) z ps below place made h k =
     let A : plain.Term → Type 0 = λ y. called_term env place y [] ≡ option_map evaluate (given_as env y place) in subst A (sym h.0.is) refl ∙ ap (λ o. option_map evaluate o) k
-called_given env t (term.HostMember m) z ps below place made r h k =
+called_given env t (term.HostMember m) z ps below place made h k =
     let A : plain.Term → Type 0 = λ y. called_term env place y [] ≡ option_map evaluate (given_as env y place) in subst A (sym h.is) refl ∙ ap (λ o. option_map evaluate o) k
-called_given env t (term.SheetMember m) z ps below place made r h k =
+called_given env t (term.SheetMember m) z ps below place made h k =
     let A : plain.Term → Type 0 = λ y. called_term env place y [] ≡ option_map evaluate (given_as env y place) in subst A (sym h.0) refl ∙ ap (λ o. option_map evaluate o) k
-called_given env t term.Err z ps below place made r h k =
+called_given env t term.Err z ps below place made h k =
     let A : plain.Term → Type 0 = λ y. called_term env place y [] ≡ option_map evaluate (given_as env y place) in subst A (sym h.0) refl ∙ ap (λ o. option_map evaluate o) k
-called_given env t term.Nothing z ps below place made r h k = absurd (given_none env place z no_term made h refl k)
-called_given env t term.ErrRaise z ps below place made r h k = absurd (given_none env place z err_raise made h.0 refl k)
-called_given env t term.ErrClear z ps below place made r h k = absurd (given_none env place z err_clear made h.0 refl k)
-called_given env t term.ErrorWord z ps below place made r h k = absurd (given_none env place z error_word made h.0 refl k)
-called_given env t (term.Routine s) z ps below place made r h k = let e : true ≡ false = r in absurd cc
+called_given env t term.Nothing z ps below place made h k = absurd (given_none env place z no_term made h refl k)
+called_given env t term.ErrRaise z ps below place made h k = absurd (given_none env place z err_raise made h.0 refl k)
+called_given env t term.ErrClear z ps below place made h k = absurd (given_none env place z err_clear made h.0 refl k)
+called_given env t term.ErrorWord z ps below place made h k = absurd (given_none env place z error_word made h.0 refl k)
 
-pub acts_given : (env : Env) (x : Term) (place : Place) (d d1 e : Drafted) (ending : Ending) → is_routine x ≡ false → TakesGiven x d d1 ending → e ≡ record d1 { pieces = put d1.tables (node_of ending.kind place ending.of) d1.pieces }
-    → Acts env x place [] d e action.Evaluate
-acts_given env x place d d1 e ending r t eq =
-    let P : Drafted → Type 0 = λ z. Acts env x place [] d z action.Evaluate in
+pub given_pushed : (x : Term) (place : Place) (d d1 e : Drafted) (ending : Ending) → TakesGiven x d d1 ending → e ≡ record d1 { pieces = put d1.tables (node_of ending.kind place ending.of) d1.pieces } → GivenPushed x place d e
+given_pushed x place d d1 e ending t eq =
+    let P : Drafted → Type 0 = λ z. GivenPushed x place d z in
     let n = node_of ending.kind place ending.of in
     subst P (sym eq) (record {
       grown = grown_twice d d1 (record d1 { pieces = put d1.tables n d1.pieces }) t.grown (grown_pieces d1 (put d1.tables n d1.pieces));
-      named = tt;
-      stands = λ y h.
-          let m = t.stands env y [] h in
-          let made = plain.expression_of m.made place (declared_view ending.of) in
-          record {
-            made = evaluate made;
-            is = called_given env d.tables x y d.pieces [] place made r h (m.is place);
-            fits = ap (λ ps. action_of d1.tables action.Evaluate ps) (m.ends n);
-          };
+      stands = λ env y below h.
+          let m = t.stands env y below h in
+          record { made = plain.expression_of m.made place (declared_view ending.of); is = m.is place; on_top = m.ends n };
     })
+
+pub acts_given : (env : Env) (x : Term) (place : Place) (d e : Drafted) → GivenPushed x place d e → Acts env x place [] d e action.Evaluate
+acts_given env x place d e g = record {
+  grown = g.grown;
+  named = tt;
+  stands = λ y h.
+      let m = g.stands env y [] h in
+      record { made = evaluate m.made; is = called_given env d.tables x y d.pieces [] place m.made h m.is; fits = ap (λ ps. action_of e.tables action.Evaluate ps) m.on_top };
+}
 
 pub acts_none : (env : Env) (x : Term) (place : Place) (ns : List ExpressionNode) (d e : Drafted) (kind : ActionKind) → ns ≡ node.NoArguments ∷ [] → Acts env x place [] d e kind → ActsOn env x place ns d e kind
 acts_none env x place ns d e kind is a =

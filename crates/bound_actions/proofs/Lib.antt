@@ -8,3 +8,6 @@ pub mod NamedCalls
 pub mod NamesOfMembers
 pub mod WrittenMembers
 pub mod GivenValues
+pub mod Heights
+pub mod Indexing
+pub mod WrittenTargets

@@ -3,13 +3,13 @@ use Rattle.std.proofs.Common.{◌≡◌, ℕ, zero, suc, List, [], ◌∷◌, �
 use Rattle.std.specs.Prelude.{option_map, reverse}
 use Rattle.std.proofs.lemmas.List.{length-reverse}
 use Rattle.vba_base.specs.declared.place.Place.{Place}
+use Rattle.vba_values.specs.Types.{Declared}
 use Rattle.vba_expression.specs.Tree.{Args, missing, no_args}
 use Rattle.vba_expression.specs.Tree as tree
 use Rattle.vba_expression.specs.Nodes as nodes
 use Rattle.vba_expression.specs.Nodes.{behind_nodes, last_arguments}
 use Rattle.vba_expression.specs.declared.node.ExpressionNode.{ExpressionNode}
 use Rattle.vba_expression.specs.declared.node.ExpressionNode.TheVariants as node
-use Rattle.bound_project.specs.declared.declared_type.DeclaredType.{DeclaredType}
 use Rattle.bound_project.specs.declared.declarations.Parameter.{Parameter}
 use Rattle.bound_project.specs.declared.statement.ActionKind.TheVariants as action
 use Rattle.bound_project.specs.Statements.{Action, evaluate}
@@ -25,7 +25,7 @@ use Rattle.bound_project.specs.Drafts.{Drafted}
 use Rattle.binder.specs.Terms.{Env, Given, bound_arguments}
 use Rattle.binder.specs.StatementsBound.{called_term, raise_parameters}
 use Rattle.binder.specs.Terms as plain
-use Rattle.binder.specs.ExpressionsBound.{givens, indexed, value_of}
+use Rattle.binder.specs.ExpressionsBound.{argument_of, givens, indexed}
 use Rattle.bound_calls.specs.declared.term.Ending.{Ending}
 use Rattle.bound_calls.specs.declared.term.Item.{Item}
 use Rattle.bound_calls.specs.declared.term.Item.TheVariants as item
@@ -34,27 +34,27 @@ use Rattle.bound_calls.specs.declared.term.Ordered.{Ordered}
 use Rattle.bound_calls.specs.declared.term.Passed.{Passed}
 use Rattle.bound_calls.specs.declared.term.Routine.{Routine}
 use Rattle.bound_actions.specs.Called.{ActsOn, PassesAll, Reads, RestPushed, args_on}
-use Rattle.bound_calls.specs.Calls.{PushesCall}
+use Rattle.bound_calls.specs.Calls.{EndsCall}
 use Rattle.bound_calls.specs.Passing.{AllTaken}
 use Rattle.bound_calls.specs.Steps.{Goes}
 use Rattle.bound_calls.specs.InOrder.{AllNamedTaken, EndsInOrder, EndsNamed, with_named}
-use Rattle.bound_actions.specs.NamedCalls.{NamedPassed, PushesNamed, PushesValues, ReadsNamed, ReadsWritten, ValuesPassed}
+use Rattle.bound_actions.specs.NamedCalls.{NamedPassed, PushesCall, PushesNamed, PushesValues, ReadsNamed, ReadsWritten, ValuesPassed}
 use Rattle.bound_calls.specs.Standing.{Base, PassedStands, RoutineStands, Stands, ValueStands}
-use Rattle.bound_calls.specs.Taking.{Pushes, no_object}
+use Rattle.bound_actions.specs.Assigning.{GivenPushed}
 use Rattle.bound_calls.proofs.Growing.{grown_twice}
-use Rattle.bound_calls.proofs.NamedSteps.{InOrderBound, call_stands, ending_named, in_order_bound, unpacked}
-use Rattle.bound_calls.proofs.Taking.{takes_value}
+use Rattle.bound_calls.proofs.CallSteps.{call_stands as plain_stands}
+use Rattle.bound_calls.proofs.NamedSteps.{InOrderBound, call_stands, in_order_bound, unpacked}
 use Rattle.bound_terms.specs.Gathering.{EndsGathered, with_gathered}
-use Rattle.bound_terms.proofs.ParamArrays.{called_gathered, ending_gathered, gathering, ungathered}
+use Rattle.bound_terms.proofs.ParamArrays.{called_gathered, gathering, ungathered}
 use Rattle.bound_actions.proofs.Called.{acts_raise, passes_all, routine_called}
 
 -- ---- arguments of which none has a name
 
-nothing : (value : plain.Term → Place → Option bound.Expr) (n : ℕ) (ps : List project.Parameter) (gs : List Given) (xs : List Argument) → AllNamedTaken value n ps gs [] xs → gs ≡ []
+nothing : (value : Declared → plain.Term → Place → Option bound.Expr) (n : ℕ) (ps : List project.Parameter) (gs : List Given) (xs : List Argument) → AllNamedTaken value n ps gs [] xs → gs ≡ []
 nothing value n ps [] xs h = refl
 nothing value n ps (g ∷ gs) xs h = absurd h
 
-unmade : (value : plain.Term → Place → Option bound.Expr) (n : ℕ) (ps : List project.Parameter) (gs : List Given) (xs : List Argument) → AllNamedTaken value n ps gs [] xs → xs ≡ []
+unmade : (value : Declared → plain.Term → Place → Option bound.Expr) (n : ℕ) (ps : List project.Parameter) (gs : List Given) (xs : List Argument) → AllNamedTaken value n ps gs [] xs → xs ≡ []
 unmade value n ps [] [] h = refl
 unmade value n ps [] (x ∷ xs) h = absurd h
 unmade value n ps (g ∷ gs) xs h = absurd h
@@ -62,13 +62,19 @@ unmade value n ps (g ∷ gs) xs h = absurd h
 passed_plain : (env : Env) (parameters : List project.Parameter) (x : Passed) (args : Args) (ps below : List Piece) → NamedPassed env parameters x [] args ps below → PassedStands env parameters x args ps below
 passed_plain env parameters x args ps below p =
     let left = map parameter_view x.left.now in
-    let none : p.given ≡ [] = nothing (value_of env) x.count left p.given p.made p.taken in
-    let empty : p.made ≡ [] = unmade (value_of env) x.count left p.given p.made p.taken in
+    let none : p.given ≡ [] = nothing (argument_of env) x.count left p.given p.made p.taken in
+    let empty : p.made ≡ [] = unmade (argument_of env) x.count left p.given p.made p.taken in
     let same : givens env args ≡ givens env p.before = p.givens_are ∙ ap (λ l. givens env p.before ++ l) none ∙ append-nil (givens env p.before) in
     let at : ps ≡ p.between = p.on_top ∙ ap (λ l. above (map an_argument l) p.between) empty in
     let q = p.passed in
-    let A : List Given → Type 0 = λ gs. AllTaken (value_of env) parameters gs q.made left in
+    let A : List Given → Type 0 = λ gs. AllTaken (argument_of env) parameters gs q.made left in
     record { made = q.made; taken = subst A (sym same) q.taken; count_is = q.count_is; on_top = at ∙ q.on_top }
+
+pub pushes_call : (r : Routine) (x : Passed) (place : Place) (d d1 e : Drafted) (ending : Ending) → EndsCall r x d d1 ending → GivenPushed (term.Value ending) place d1 e → PushesCall r x place d e
+pushes_call r x place d d1 e ending h p = record {
+  grown = grown_twice d d1 e h.grown p.grown;
+  stands = λ env y args qs below s t. p.stands env (indexed env place y (givens env args)) below (plain_stands env d1.tables r x d d1 ending y place args qs below h s t);
+}
 
 pub pushes_plain : (r : Routine) (x : Passed) (place : Place) (d e : Drafted) → PushesCall r x place d e → PushesNamed r x [] place d e
 pushes_plain r x place d e h = record {
@@ -84,7 +90,7 @@ some_reversed (k ∷ ks) some h = absurd (omega (arith, ap (λ l. length l) h, l
 
 -- the value of a call
 value_stands : (env : Env) (r : Routine) (x : Passed) (named : List ℕ) (d e : Drafted) (ending : Ending) (y : plain.Term) (place : Place) (gs : List Given) (before : Args) (given : List Given) (made : List Argument) (qs between below : List Piece)
-    → (named ≡ [] → ⊥) → EndsNamed r x named d e ending → RoutineStands env r y qs qs → gs ≡ givens env before ++ given → AllNamedTaken (value_of env) x.count (map parameter_view x.left.now) given named made
+    → (named ≡ [] → ⊥) → EndsNamed r x named d e ending → RoutineStands env r y qs qs → gs ≡ givens env before ++ given → AllNamedTaken (argument_of env) x.count (map parameter_view x.left.now) given named made
     → d.pieces ≡ above (map an_argument made) between → PassedStands env (map parameter_view r.parameters.now) x before between below → ValueStands e.tables ending (indexed env place y gs) e.pieces below
 value_stands env r x [] d e ending y place gs before given made qs between below some h s is names a p = absurd (some refl)
 value_stands env r x (k ∷ ks) d e ending y place gs before [] made qs between below some h s is names a p = absurd names
@@ -92,16 +98,12 @@ value_stands env r x (k ∷ ks) d e ending y place gs before (g ∷ ns) made qs 
     let A : List Given → Type 0 = λ l. ValueStands e.tables ending (indexed env place y l) e.pieces below in
     subst A (sym is) (call_stands env e.tables r x d e (k ∷ ks) ending y place (givens env before) p.made g ns made qs between below h refl s p.taken p.count_is names a p.on_top)
 
-pub pushes_named : (r : Routine) (x : Passed) (named : List ℕ) (place : Place) (d d1 e : Drafted) (ending : Ending) (of : DeclaredType) → (named ≡ [] → ⊥) → EndsNamed r x named d d1 ending → Pushes (no_object ending) place d1 e (Some of)
-    → PushesNamed r x named place d e
-pushes_named r x named place d d1 e ending of some h p = record {
+pub pushes_named : (r : Routine) (x : Passed) (named : List ℕ) (place : Place) (d d1 e : Drafted) (ending : Ending) → (named ≡ [] → ⊥) → EndsNamed r x named d d1 ending → GivenPushed (term.Value ending) place d1 e → PushesNamed r x named place d e
+pushes_named r x named place d d1 e ending some h p = record {
   grown = grown_twice d d1 e h.ends.grown p.grown;
   stands = λ env y args qs below s t.
-      let z = indexed env place y (givens env args) in
-      let v = takes_value ending d1 (ending_named r x named d d1 ending h) in
-      let made = value_stands env r x named d d1 ending y place (givens env args) t.before t.given t.made qs t.between below some h s t.givens_are t.taken t.on_top t.passed in
-      let is = p.stands (λ q. value_of env z q) below (v.stands env z below made) in
-      record { made = is.made; is = is.is; on_top = is.on_top };
+      p.stands env (indexed env place y (givens env args)) below
+      (value_stands env r x named d d1 ending y place (givens env args) t.before t.given t.made qs t.between below some h s t.givens_are t.taken t.on_top t.passed);
 }
 
 -- ---- the arguments of a statement
@@ -182,17 +184,13 @@ some_values env t (suc n) x args is ps base some h =
       passed = subst A u.stands.1.1.1 u.stands.1.0;
     }
 
-pub pushes_values : (r : Routine) (x : Passed) (values : ℕ) (place : Place) (d d1 e : Drafted) (ending : Ending) (of : DeclaredType) → (values ≡ 0 → ⊥) → EndsGathered r x values d d1 ending → Pushes (no_object ending) place d1 e (Some of)
-    → PushesValues r x values place d e
-pushes_values r x values place d d1 e ending of some h p = record {
+pub pushes_values : (r : Routine) (x : Passed) (values : ℕ) (place : Place) (d d1 e : Drafted) (ending : Ending) → (values ≡ 0 → ⊥) → EndsGathered r x values d d1 ending → GivenPushed (term.Value ending) place d1 e → PushesValues r x values place d e
+pushes_values r x values place d d1 e ending some h p = record {
   grown = grown_twice d d1 e h.passes.grown p.grown;
   stands = λ env y args qs below s t.
-      let z = indexed env place y (givens env args) in
-      let v = takes_value ending d1 (ending_gathered r x values d d1 ending h) in
       let A : List Given → Type 0 = λ l. ValueStands d1.tables ending (indexed env place y l) d1.pieces below in
-      let made = subst A (sym t.givens_are) (called_gathered env r x values d d1 ending y place (givens env t.before) t.passed.made t.given t.made qs t.between below t.many t.count_is some h s t.passed.taken t.passed.count_is t.taken t.on_top t.passed.on_top) in
-      let is = p.stands (λ q. value_of env z q) below (v.stands env z below made) in
-      record { made = is.made; is = is.is; on_top = is.on_top };
+      p.stands env (indexed env place y (givens env args)) below
+      (subst A (sym t.givens_are) (called_gathered env r x values d d1 ending y place (givens env t.before) t.passed.made t.given t.made qs t.between below t.many t.count_is some h s t.passed.taken t.passed.count_is t.taken t.on_top t.passed.on_top));
 }
 
 pub acts_values : (env : Env) (r : Routine) (x : Passed) (named : List ℕ) (values : ℕ) (place : Place) (ns : List ExpressionNode) (d d1 e : Drafted) → named ≡ [] → (values ≡ 0 → ⊥)
@@ -242,7 +240,7 @@ acts_routine env r x named place ns d d1 e a p = record {
 -- ---- Err.Raise
 
 bound_on : (env : Env) (parameters : List Parameter) (x : Passed) (named : List ℕ) (o : Ordered) (d e : Drafted) (gs : List Given) (before : Args) (given : List Given) (made : List Argument) (between below : List Piece) → (named ≡ [] → ⊥)
-    → EndsInOrder parameters x named d e o → gs ≡ givens env before ++ given → AllNamedTaken (value_of env) x.count (map parameter_view x.left.now) given named made → d.pieces ≡ above (map an_argument made) between
+    → EndsInOrder parameters x named d e o → gs ≡ givens env before ++ given → AllNamedTaken (argument_of env) x.count (map parameter_view x.left.now) given named made → d.pieces ≡ above (map an_argument made) between
     → PassedStands env (map parameter_view parameters) x before between below → InOrderBound env e.tables (map parameter_view parameters) o gs e.pieces below
 bound_on env parameters x [] o d e gs before given made between below some h is names a p = absurd (some refl)
 bound_on env parameters x (k ∷ ks) o d e gs before [] made between below some h is names a p = absurd names
@@ -273,7 +271,7 @@ acts_raise_named env place ns parameters x named o d d1 e raised some a h = reco
             let m = bound_on env parameters x (reverse named) o d1 e gs p.before p.given p.made p.between d.pieces (some_reversed named some) h p.givens_are p.taken p.on_top p.passed in
             let made = to.raise (bound.in_order m.places (args_of m.all)) in
             let A : plain.Term → Type 0 = λ z. called_term env place z gs ≡ Some made in
-            let given : bound_arguments (value_of env) raise_parameters gs ≡ Some (bound.in_order m.places (args_of m.all)) = ap (λ ps. bound_arguments (value_of env) ps gs) (sym raised) ∙ m.bound in
+            let given : bound_arguments (argument_of env) raise_parameters gs ≡ Some (bound.in_order m.places (args_of m.all)) = ap (λ ps. bound_arguments (argument_of env) ps gs) (sym raised) ∙ m.bound in
             record { made = made; is = subst A (sym s.0) (ap (λ g. option_map to.raise g) given); fits = raised_in_order e.tables o m.all m.places e.pieces d.pieces s.1 m.arguments_is m.order_is m.on_top };
       };
 }

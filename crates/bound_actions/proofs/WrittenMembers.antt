@@ -1,10 +1,8 @@
--- Members of objects, and other objects, that are assigned to.
-use Rattle.std.proofs.Common.{◌≡◌, ◌≢◌, ℕ, ◌==◌, Bool, true, false, ◌&&◌, ◌||◌, List, [], ◌∷◌, map, length, Option, Some, None, option_map, if◌then◌else◌, refl, sym, ap, subst, ◌∙◌, arith}
+-- Members of objects that are assigned to.
+use Rattle.std.proofs.Common.{◌≡◌, ◌≢◌, ℕ, ◌==◌, Bool, true, false, ◌&&◌, ◌||◌, not, is_some, List, [], ◌∷◌, map, length, Option, Some, None, option_map, if◌then◌else◌, refl, sym, ap, subst, ◌∙◌, arith}
 use Rattle.std.specs.Prelude.{◌<◌, suc, bytes_eq, codes}
 use Rattle.std.specs.List.{list_any}
 use Rattle.vba_base.specs.declared.place.Place.{Place}
-use Rattle.vba_values.specs.Types.{Declared}
-use Rattle.vba_values.specs.Types as type
 use Rattle.vba_lexer.specs.declared.token.Token.{Token}
 use Rattle.vba_words.specs.declared.identifier.Identifier.{Identifier}
 use Rattle.vba_expression.specs.Tree.{Expr, Args, index, no_args}
@@ -12,25 +10,24 @@ use Rattle.vba_expression.specs.Nodes as nodes
 use Rattle.vba_expression.specs.Nodes.{behind_node, behind_nodes, last_tree}
 use Rattle.vba_expression.specs.declared.node.ExpressionNode.{ExpressionNode}
 use Rattle.vba_expression.specs.declared.node.ExpressionNode.TheVariants as node
-use Rattle.bound_project.specs.declared.declared_type.DeclaredType.{DeclaredType}
 use Rattle.bound_project.specs.declared.node.NodeKind.TheVariants as kinds
 use Rattle.bound_project.specs.declared.statement.ActionKind.{ActionKind}
 use Rattle.bound_project.specs.declared.statement.ActionKind.TheVariants as action
 use Rattle.bound_project.specs.Bodies.{action_of, member_found}
-use Rattle.bound_project.specs.Expressions.{Exprs, no_exprs, given_count, load}
+use Rattle.bound_project.specs.Expressions.{Exprs, no_exprs, given_count}
 use Rattle.bound_project.specs.Expressions as bound
 use Rattle.bound_project.specs.Lists.{above, exprs_of}
 use Rattle.bound_project.proofs.Lists.{exprs_are, is_itself}
 use Rattle.bound_project.specs.Pieces.{Piece, Tables, a_member, an_expr, exprs_off, name_in, of_value, put}
 use Rattle.bound_project.specs.Drafts.{Drafted}
-use Rattle.bound_project.specs.Statements.{Action, assign_default, assign_member}
+use Rattle.bound_project.specs.Statements.{Action, assign_member}
 use Rattle.bound_project.specs.View.{declared_view}
 use Rattle.binder.specs.Types.{is_object}
 use Rattle.binder.specs.Constants.{place_of_expression}
-use Rattle.binder.specs.Terms.{Env, Given, a_host_member, expression_of, listed_values}
+use Rattle.binder.specs.Terms.{Env, Given, a_host_member, listed_values}
 use Rattle.binder.specs.Terms as plain
-use Rattle.binder.specs.ExpressionsBound.{all_given, callee, given_as, givens, host_arguments, indexed, item_of, mark_members, reference_of, takes_arguments, term_of, typed_reference}
-use Rattle.binder.specs.StatementsBound.{assigned, assigned_to, default_written, fits_written, has_written_default, is_given_with, is_written_member, member_written, takes_value, target_before}
+use Rattle.binder.specs.ExpressionsBound.{all_given, callee, given_as, givens, host_arguments, indexed, item_of, mark_members, takes_arguments, term_of}
+use Rattle.binder.specs.StatementsBound.{assigned, assigned_to, fits_written, has_written_default, is_given_with, is_variant_place, is_written_member, member_written, takes_value, target_before}
 use Rattle.bound_calls.specs.declared.term.HostMember.{HostMember}
 use Rattle.bound_calls.specs.declared.term.MemberCall.{MemberCall}
 use Rattle.bound_calls.specs.declared.term.Item.{Item}
@@ -39,7 +36,6 @@ use Rattle.bound_calls.specs.declared.term.Term.{Term}
 use Rattle.bound_calls.specs.declared.term.Term.TheVariants as term
 use Rattle.bound_calls.specs.declared.term.Tree.{Tree}
 use Rattle.bound_calls.specs.Calls.{node_of}
-use Rattle.bound_calls.specs.References.{PushesReference}
 use Rattle.bound_calls.specs.Standing.{AllGiven, AllNumbers, MemberStands, Stands, TermStands, member_is, on_pieces}
 use Rattle.bound_calls.specs.Taking.{PushesSheet, sheet_expression}
 use Rattle.bound_calls.proofs.Growing.{grown_pieces, grown_twice}
@@ -47,25 +43,31 @@ use Rattle.bound_calls.proofs.Taking.{sheet_stands}
 use Rattle.bound_members.proofs.Listing.{all_listed, given_all, given_long}
 use Rattle.bound_members.specs.MemberCalls.{OpensMember}
 use Rattle.bound_terms.specs.Items.{MakesItem}
-use Rattle.bound_actions.specs.Members.{AssignsItem, AssignsTerm, AssignsTree, GivesMember, NamedBy, ReadsOnto, WritesCall, is_at_hand, is_written}
+use Rattle.bound_actions.specs.Called.{ActionIs}
+use Rattle.bound_actions.specs.Members.{AssignsItem, AssignsTerm, AssignsTree, GivesMember, NamedBy, ReadsOnto, WritesCall, is_written}
 use Rattle.bound_actions.proofs.Assigned.{bare_assigned, bare_given}
 use Rattle.bound_actions.proofs.NodeTrees.{behind_push}
 
 -- ---- which members are written
 
-or_true : (b : Bool) → (b || true) ≡ true
-or_true true = refl
-or_true false = refl
+-- a member of an object of an unknown kind, or one that gives an object with a default member
+late_or_default : (late named object written marked : Bool) → (late || object) ≡ true → written ≡ true → (((late || named) || (object && written)) || marked) ≡ true
+late_or_default true named object written marked h k = refl
+late_or_default false true object written marked h k = refl
+late_or_default false false true true marked h k = refl
+late_or_default false false true false marked h k = let e : false ≡ true = k in absurd cc
+late_or_default false false false written marked h k = let e : false ≡ true = h in absurd cc
 
-written_default : (m : plain.HostMember) → has_written_default m.of ≡ true → is_written_member m ≡ true
-written_default m h =
-    let named = bytes_eq m.name (codes "value") in
-    let marked = list_any (λ (w : plain.HostMember). bytes_eq m.name w.name) mark_members in
-    ap (λ (b : Bool). (named || b) || marked) h ∙ ap (λ (b : Bool). b || marked) (or_true named)
+late_named : (late named default marked : Bool) → (late || default) ≡ true → (((late || named) || default) || marked) ≡ true
+late_named true named default marked h = refl
+late_named false true default marked h = refl
+late_named false false true marked h = refl
+late_named false false false marked h = let e : false ≡ true = h in absurd cc
 
-written_is : (name : Option Identifier) (object : bound.Expr) (m : plain.HostMember) → NamedBy name (a_host_member object m) → is_written name m.of ≡ true → is_written_member m ≡ true
-written_is None object m k h = written_default m h
-written_is (Some x) object m k h = ap (λ (n : List ℕ). is_written_member (record { name = n; of = m.of; least = 0; greatest = None })) k ∙ h
+written_is : (name : Option Identifier) (object : bound.Expr) (m : plain.HostMember) → NamedBy name (a_host_member object m) → is_written name m.of m.greatest ≡ true → is_written_member m ≡ true
+written_is None object m k h =
+    late_named (not (is_some m.greatest)) (bytes_eq m.name (codes "value")) (is_object m.of && has_written_default m.of) (list_any (λ (w : plain.HostMember). bytes_eq m.name w.name) mark_members) h
+written_is (Some x) object m k h = ap (λ (n : List ℕ). is_written_member (record { name = n; of = m.of; least = 0; greatest = m.greatest })) k ∙ h
 
 -- ---- without arguments
 
@@ -79,21 +81,21 @@ bare_fits t name object value =
     let n = name_in t name in
     ap (λ (b : Bool). if b then Some (assign_member object n no_exprs value) else None) (is_itself n no_exprs)
 
-pub member_assigned : (m : HostMember) (name : Option Identifier) (place : Place) (d e : Drafted) → m.name < length d.tables.constants → m.least ≡ 0 → is_written name (declared_view m.of) ≡ true
-    → e ≡ record d { pieces = put d.tables (node_of (kinds.MemberThere m.name 0) place m.of) d.pieces } → AssignsTerm (term.HostMember m) name d e (action.AssignMember m.name 0)
+pub member_assigned : (m : HostMember) (name : Option Identifier) (place : Place) (d e : Drafted) → m.name < length d.tables.constants → m.least ≡ 0 → is_written name (declared_view m.of) m.greatest ≡ true
+    → e ≡ record d { pieces = put d.tables (node_of (kinds.MemberThere m.name 0) place m.of) d.pieces } → AssignsTerm place (term.HostMember m) name d e (action.AssignMember m.name 0) true
 member_assigned m name place d e there least written eq =
-    let P : Drafted → Type 0 = λ (z : Drafted). AssignsTerm (term.HostMember m) name d z (action.AssignMember m.name 0) in
+    let P : Drafted → Type 0 = λ (z : Drafted). AssignsTerm place (term.HostMember m) name d z (action.AssignMember m.name 0) true in
     let t = d.tables in
     let M = member_is t m in
     subst P (sym eq) (record {
       grown = grown_pieces d (put t (node_of (kinds.MemberThere m.name 0) place m.of) d.pieces);
       named = there;
       takes = λ env z ps below h. ap (λ (y : plain.Term). takes_value env y) h.is;
-      stands = λ env at z value k h.
+      stands = λ env z value k h.
           let N : plain.Term → Type 0 = λ (y : plain.Term). NamedBy name y in
           record {
             made = assign_member h.object M.name no_exprs value;
-            is = ap (λ (y : plain.Term). assigned env at value [] y) h.is ∙ bare_written env h.object M value (written_is name h.object M (subst N h.is k) written) least;
+            is = ap (λ (y : plain.Term). assigned env place value [] y) h.is ∙ bare_written env h.object M value (written_is name h.object M (subst N h.is k) written) least;
             fits = ap (λ (ps : List Piece). action_of t (action.AssignMember m.name 0) (of_value (λ x. a_member x (name_in t m.name) 0) ps)) h.on_top ∙ bare_fits t m.name h.object value;
           };
     })
@@ -101,95 +103,31 @@ member_assigned m name place d e there least written eq =
 member_there : (m : HostMember) (d f : Drafted) → PushesSheet d f → (z : plain.Term) → z ≡ a_host_member sheet_expression (member_is d.tables m) → z ≡ a_host_member sheet_expression (member_is f.tables m)
 member_there m d f s z h = h ∙ ap (λ (t : Tables). a_host_member sheet_expression (member_is t m)) (sym s.tables_are)
 
-pub sheet_assigned : (m : HostMember) (name : Option Identifier) (d f e : Drafted) (kind : ActionKind) → PushesSheet d f → AssignsTerm (term.HostMember m) name f e kind → AssignsTerm (term.SheetMember m) name d e kind
-sheet_assigned m name d f e kind s a = record {
+pub sheet_assigned : (m : HostMember) (name : Option Identifier) (place : Place) (d f e : Drafted) (kind : ActionKind) → PushesSheet d f → AssignsTerm place (term.HostMember m) name f e kind true → AssignsTerm place (term.SheetMember m) name d e kind true
+sheet_assigned m name place d f e kind s a = record {
   grown = grown_twice d f e s.grown a.grown;
   named = a.named;
   takes = λ env z ps below h. a.takes env z (an_expr sheet_expression ∷ ps) below (record { object = sheet_expression; is = member_there m d f s z h.0; on_top = ap (λ (qs : List Piece). an_expr sheet_expression ∷ qs) h.1 });
-  stands = λ env at z value k h. a.stands env at z value k (sheet_stands m d f s env z (an_expr value ∷ []) h);
+  stands = λ env z value k h. a.stands env z value k (sheet_stands m d f s env z (an_expr value ∷ []) h);
 }
 
-pub term_assigned : (x : Tree) (name : Option Identifier) (d e : Drafted) (kind : ActionKind) → AssignsTerm x.term name d e kind → AssignsTree x name d e kind
-term_assigned x name d e kind a = record {
+term_assigned : (x : Tree) (name : Option Identifier) (d e : Drafted) (kind : ActionKind) (given : Bool) → AssignsTerm x.place x.term name d e kind given → AssignsTree x name d e kind given
+term_assigned x name d e kind given a = record {
   grown = a.grown;
   named = a.named;
   takes = λ env tree below bare h. bare_given env tree bare ∙ a.takes env (term_of env tree) d.pieces below h.term_is;
   stands = λ env tree value bare k h.
-      let m = a.stands env (place_of_expression tree) (term_of env tree) value k h.term_is in
+      let B : Place → Type 0 = λ (p : Place). ActionIs kind (assigned env p value [] (term_of env tree)) e.tables e.pieces in
+      let m = subst B h.place_is (a.stands env (term_of env tree) value k h.term_is) in
       record { made = m.made; is = bare_assigned env tree value bare ∙ m.is; fits = m.fits };
 }
 
--- ---- default members
-
-typed_default : (made : bound.Node) (p : Place) (of : Declared) (node : bound.Node) (at : Place) (u : Declared) (value : bound.Expr) (other : Option Action) → typed_reference made p of ≡ Some (expression_of node at u) → has_written_default u ≡ true
-    → (if is_object of then default_written (expression_of made p of) of value else other) ≡ Some (assign_default (expression_of node at u) value)
-typed_default made p type.object node at u value other h k = ap (λ (o : Option bound.Expr). option_map (λ (e : bound.Expr). assign_default e value) o) h
-typed_default made p type.range node at u value other h k = ap (λ (o : Option bound.Expr). option_map (λ (e : bound.Expr). assign_default e value) o) h
-typed_default made p type.worksheet node at u value other h k =
-    let same : type.worksheet ≡ u = (let e : Some (expression_of made p type.worksheet) ≡ Some (expression_of node at u) = h in cc) in
-    let A : Declared → Type 0 = λ (v : Declared). has_written_default v ≡ true in
-    let no : false ≡ true = subst A (sym same) k in
-    absurd cc
-typed_default made p type.boolean node at u value other h k = let e : None ≡ Some (expression_of node at u) = h in absurd cc
-typed_default made p type.byte node at u value other h k = let e : None ≡ Some (expression_of node at u) = h in absurd cc
-typed_default made p type.integer node at u value other h k = let e : None ≡ Some (expression_of node at u) = h in absurd cc
-typed_default made p type.long node at u value other h k = let e : None ≡ Some (expression_of node at u) = h in absurd cc
-typed_default made p type.long_long node at u value other h k = let e : None ≡ Some (expression_of node at u) = h in absurd cc
-typed_default made p type.currency node at u value other h k = let e : None ≡ Some (expression_of node at u) = h in absurd cc
-typed_default made p type.text node at u value other h k = let e : None ≡ Some (expression_of node at u) = h in absurd cc
-typed_default made p (type.fixed_text n) node at u value other h k = let e : None ≡ Some (expression_of node at u) = h in absurd cc
-typed_default made p (type.class n) node at u value other h k = let e : None ≡ Some (expression_of node at u) = h in absurd cc
-typed_default made p type.collection node at u value other h k = let e : None ≡ Some (expression_of node at u) = h in absurd cc
-typed_default made p type.variant node at u value other h k = let e : None ≡ Some (expression_of node at u) = h in absurd cc
-typed_default made p (type.udt n) node at u value other h k = let e : None ≡ Some (expression_of node at u) = h in absurd cc
-typed_default made p (type.array_of of) node at u value other h k = let e : None ≡ Some (expression_of node at u) = h in absurd cc
-
-hand_takes : (env : Env) (t : Tables) (x : Term) (z : plain.Term) (ps below : List Piece) → is_at_hand x ≡ true → TermStands env t x z ps below → takes_value env z ≡ false
-hand_takes env t (term.Place kind of bounded lends) z ps below a h = ap (λ (y : plain.Term). takes_value env y) h.is
-hand_takes env t (term.Value e) z ps below a h = ap (λ (y : plain.Term). takes_value env y) h.is
-hand_takes env t (term.Routine r) z ps below a h = let e : false ≡ true = a in absurd cc
-hand_takes env t (term.Function f) z ps below a h = let e : false ≡ true = a in absurd cc
-hand_takes env t (term.HostMember m) z ps below a h = let e : false ≡ true = a in absurd cc
-hand_takes env t (term.SheetMember m) z ps below a h = let e : false ≡ true = a in absurd cc
-hand_takes env t term.Err z ps below a h = let e : false ≡ true = a in absurd cc
-hand_takes env t term.ErrRaise z ps below a h = let e : false ≡ true = a in absurd cc
-hand_takes env t term.ErrClear z ps below a h = let e : false ≡ true = a in absurd cc
-hand_takes env t term.ErrorWord z ps below a h = let e : false ≡ true = a in absurd cc
-hand_takes env t term.Nothing z ps below a h = let e : false ≡ true = a in absurd cc
-
-hand_default : (env : Env) (t : Tables) (x : Term) (z : plain.Term) (ps below : List Piece) (p : Place) (node : bound.Node) (at : Place) (u : Declared) (value : bound.Expr) → is_at_hand x ≡ true → TermStands env t x z ps below
-    → reference_of env z p ≡ Some (expression_of node at u) → has_written_default u ≡ true → assigned env p value [] z ≡ Some (assign_default (expression_of node at u) value)
-hand_default env t (term.Place kind of bounded lends) z ps below p node at u value a h r k =
-    let A : plain.Term → Type 0 = λ (y : plain.Term). reference_of env y p ≡ Some (expression_of node at u) in
-    ap (λ (y : plain.Term). assigned env p value [] y) h.is ∙ typed_default (load h.at) p (declared_view of) node at u value _ (subst A h.is r) k
-hand_default env t (term.Value e) z ps below p node at u value a h r k =
-    let A : plain.Term → Type 0 = λ (y : plain.Term). reference_of env y p ≡ Some (expression_of node at u) in
-    ap (λ (y : plain.Term). assigned env p value [] y) h.is ∙ typed_default h.made p (declared_view e.of) node at u value _ (subst A h.is r) k
-hand_default env t (term.Routine s) z ps below p node at u value a h r k = let e : false ≡ true = a in absurd cc
-hand_default env t (term.Function f) z ps below p node at u value a h r k = let e : false ≡ true = a in absurd cc
-hand_default env t (term.HostMember m) z ps below p node at u value a h r k = let e : false ≡ true = a in absurd cc
-hand_default env t (term.SheetMember m) z ps below p node at u value a h r k = let e : false ≡ true = a in absurd cc
-hand_default env t term.Err z ps below p node at u value a h r k = let e : false ≡ true = a in absurd cc
-hand_default env t term.ErrRaise z ps below p node at u value a h r k = let e : false ≡ true = a in absurd cc
-hand_default env t term.ErrClear z ps below p node at u value a h r k = let e : false ≡ true = a in absurd cc
-hand_default env t term.ErrorWord z ps below p node at u value a h r k = let e : false ≡ true = a in absurd cc
-hand_default env t term.Nothing z ps below p node at u value a h r k = let e : false ≡ true = a in absurd cc
-
-pub default_assigned : (x : Tree) (name : Option Identifier) (of : DeclaredType) (d e : Drafted) → is_at_hand x.term ≡ true → has_written_default (declared_view of) ≡ true → PushesReference x d e of → AssignsTree x name d e action.AssignDefault
-default_assigned x name of d e a w p = record {
-  grown = p.grown;
-  named = tt;
-  takes = λ env tree below bare h. bare_given env tree bare ∙ hand_takes env d.tables x.term (term_of env tree) d.pieces below a h.term_is;
-  stands = λ env tree value bare k h.
-      let r = p.stands env tree (an_expr value ∷ []) h in
-      let made = expression_of r.made r.place (declared_view of) in
-      record {
-        made = assign_default made value;
-        is = bare_assigned env tree value bare
-            ∙ hand_default env d.tables x.term (term_of env tree) d.pieces (an_expr value ∷ []) (place_of_expression tree) r.made r.place (declared_view of) value a h.term_is r.is w;
-        fits = ap (λ (ps : List Piece). action_of e.tables action.AssignDefault ps) r.on_top;
-      };
-}
+pub tree_assigned : (x : Tree) (name : Option Identifier) (t : Term) (d e : Drafted) (kind k : ActionKind) (given g : Bool) → x.term ≡ t → k ≡ kind → g ≡ given → AssignsTerm x.place t name d e kind given → AssignsTree x name d e k g
+tree_assigned x name t d e kind k given g is same flag a =
+    let T : Term → Type 0 = λ (y : Term). AssignsTerm x.place y name d e kind given in
+    let K : ActionKind → Type 0 = λ (l : ActionKind). AssignsTree x name d e l given in
+    let G : Bool → Type 0 = λ (b : Bool). AssignsTree x name d e k b in
+    subst G (sym flag) (subst K (sym same) (term_assigned x name d e kind given (subst T (sym is) a)))
 
 -- ---- with arguments
 
@@ -202,14 +140,16 @@ some_fit m [] some takes k = absurd (some refl)
 some_fit m (g ∷ gs) some takes k = ap (λ (b : Bool). b && has_written_default m.of) takes ∙ k
 
 call_written : (env : Env) (object : bound.Expr) (m : plain.HostMember) (count : ℕ) (gs : List Given) (es : List bound.Expr) (value : bound.Expr) → count ≡ length es → count ≢ 0 → takes_arguments m count ≡ true → has_written_default m.of ≡ true
-    → AllNumbers (given_as env) gs es → member_written env object m gs value ≡ Some (assign_member object m.name (exprs_of es) value)
-call_written env object m count gs es value c some takes k values =
+    → (not (is_some m.greatest) || is_object m.of) ≡ true → AllNumbers (given_as env) gs es → member_written env object m gs value ≡ Some (assign_member object m.name (exprs_of es) value)
+call_written env object m count gs es value c some takes k late values =
     let long : count ≡ length gs = omega (arith, c, given_long (given_as env) gs es values) in
     let N : ℕ → Type 0 = λ (n : ℕ). n ≢ 0 in
     let T : ℕ → Type 0 = λ (n : ℕ). takes_arguments m n ≡ true in
+    let written : is_written_member m ≡ true =
+    late_or_default (not (is_some m.greatest)) (bytes_eq m.name (codes "value")) (is_object m.of) (has_written_default m.of) (list_any (λ (w : plain.HostMember). bytes_eq m.name w.name) mark_members) late k in
     let fits : fits_written m gs ≡ true = some_fit m gs (subst N long some) (subst T long takes) k in
     let done : Option Exprs → Option Action = λ (o : Option Exprs). option_map (λ (xs : Exprs). assign_member object m.name xs value) o in
-    ap (λ (b : Bool). if b && fits_written m gs then done (host_arguments env gs) else None) (written_default m k) ∙ ap (λ (b : Bool). if b then done (host_arguments env gs) else None) fits
+    ap (λ (b : Bool). if b && fits_written m gs then done (host_arguments env gs) else None) written ∙ ap (λ (b : Bool). if b then done (host_arguments env gs) else None) fits
     ∙ ap (λ (b : Bool). done (if b then listed_values (given_as env) gs else None)) (given_all (given_as env) gs es values) ∙ ap done (all_listed (given_as env) gs es values)
 
 call_fits : (t : Tables) (name given count : ℕ) (object value : bound.Expr) (es : List bound.Expr) (ps : List Piece) → count ≡ length es → given ≡ count → AllGiven es
@@ -223,7 +163,7 @@ call_fits t name given count object value es ps c g all on_top =
     ∙ ap (λ (b : Bool). if b then Some (assign_member object n (exprs_of es) value) else None) (is_itself n (exprs_of es))
 
 indexed_given : (env : Env) (base : Expr) (left right : Token) (args : Args) (object : bound.Expr) (m : plain.HostMember) → target_before env base ≡ a_host_member object m → is_given_with env (index base left args right) ≡ true
-indexed_given env base left right args object m h = ap (λ (t : plain.Term). takes_value env t) h
+indexed_given env base left right args object m h = ap (λ (t : plain.Term). takes_value env t || is_variant_place t) h
 
 indexed_assigned : (env : Env) (base : Expr) (left right : Token) (args : Args) (object : bound.Expr) (m : plain.HostMember) (value : bound.Expr) → target_before env base ≡ a_host_member object m
     → assigned_to env (index base left args right) value ≡ member_written env object m (givens env args) value
@@ -248,7 +188,7 @@ member_given env x kind left right t (nodes.arguments args ∷ nodes.tree base �
           let low : h.0 ≡ an_expr value ∷ [] = h.1.1.1 ∙ alone in
           record {
             made = assign_member s.object M.name (exprs_of s.made) value;
-            is = indexed_assigned env base left right args s.object M value s.is ∙ call_written env s.object M x.count (givens env args) s.made value s.count_is w.some (w.takes t) w.default s.values;
+            is = indexed_assigned env base left right args s.object M value s.is ∙ call_written env s.object M x.count (givens env args) s.made value s.count_is w.some (w.takes t) w.default w.written s.values;
             fits = call_fits t x.member.name x.given x.count s.object value s.made ps s.count_is w.given_is s.all_given
                 (s.on_top ∙ ap (λ (qs : List Piece). above (map an_expr s.made) (a_member s.object (name_in t x.member.name) x.given ∷ qs)) low);
           };
@@ -262,14 +202,13 @@ item_assigned env place y m c x ns kind d h i e made opened r w =
     subst N (sym w.kind_is) (subst L (sym r.is) (record {
       grown = grown_twice d h e made.grown (grown_twice h i e opened.grown r.goes.grown);
       named = r.goes.named.0;
-      takes = refl;
       stands = λ tree left right below at k.
           let A : Place → Type 0 = λ (p : Place). TermStands env h.tables (term.HostMember m) (item_of p (callee env tree (term_of env tree))) h.pieces below in
           let there = subst A at (made.stands env (callee env tree (term_of env tree)) below k) in
           let start = opened.stands env tree [] [] below (on_pieces below) at there (refl, refl) in
           let is = behind_nodes (nodes.arguments no_args ∷ nodes.tree tree ∷ []) r.behind in
           let done = member_given env x (action.AssignMember x.member.name x.count) left right e.tables is e.pieces below
-          (record { kind_is = refl; given_is = w.given_is; some = w.some; takes = w.takes; default = w.default })
+          (record { kind_is = refl; given_is = w.given_is; some = w.some; takes = w.takes; default = w.default; written = w.written })
           (r.goes.stands (nodes.arguments no_args ∷ nodes.tree tree ∷ []) (on_pieces below) start) in
           let T : List nodes.Item → Type 0 = λ (l : List nodes.Item). GivesMember env (last_tree l) (action.AssignMember x.member.name x.count) e.tables e.pieces below in
           subst T (sym (behind_push (nodes.tree tree ∷ []) (node.NoArguments ∷ r.behind) (node.Index left right))) done;

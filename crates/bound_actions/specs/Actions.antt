@@ -1,22 +1,22 @@
 -- Serves the code: statements whose nodes were pushed.
-use Rattle.std.specs.Prelude.{◌≡◌, Bool, true, false, List, [], ◌∷◌, Option, Some, None}
-use Rattle.vba_expression.specs.Tree.{Expr}
+use Rattle.std.specs.Prelude.{◌≡◌, Bool, ◌||◌, List, [], ◌∷◌, Option, Some, None}
 use Rattle.bound_project.specs.declared.statement.ActionKind.{ActionKind}
-use Rattle.bound_project.specs.declared.statement.ActionKind.TheVariants as action
+use Rattle.bound_project.specs.declared.declared_type.DeclaredType.{DeclaredType}
 use Rattle.bound_project.specs.Expressions.{Lvalue}
 use Rattle.bound_project.specs.Expressions as bound
 use Rattle.bound_project.specs.declared.variable.Variable.{Variable}
-use Rattle.bound_project.specs.View.{variable_view}
+use Rattle.bound_project.specs.View.{declared_view, variable_view}
 use Rattle.bound_project.specs.Pieces.{Piece, Tables, an_expr, a_place}
-use Rattle.bound_project.specs.Statements.{Action, assign, set}
+use Rattle.bound_project.specs.Statements.{Action, set}
 use Rattle.bound_project.specs.Bodies.{action_of}
 use Rattle.bound_project.specs.Drafts.{Drafted, ActionNamed}
+use Rattle.binder.specs.Types.{is_object}
+use Rattle.binder.specs.Constants.{is_variant}
 use Rattle.binder.specs.Terms.{Env}
 use Rattle.binder.specs.Terms as plain
-use Rattle.binder.specs.StatementsBound.{assigned_to, is_given_with, plain_variable, set_to}
+use Rattle.binder.specs.StatementsBound.{plain_variable, set_to}
 use Rattle.bound_calls.specs.declared.term.Term.{Term}
-use Rattle.bound_calls.specs.declared.term.Tree.{Tree}
-use Rattle.bound_calls.specs.Standing.{TermStands, TreeStands, Grown}
+use Rattle.bound_calls.specs.Standing.{TermStands, Grown}
 
 -- what a statement does, and that it is what its nodes say, which are all that stand there
 pub record ActionPushed (kind : ActionKind) (found : Option Action) (d e : Drafted) : Type 0 where
@@ -32,18 +32,9 @@ abbrev pub ActionStands : Option ActionKind → Option Action → (d e : Drafted
 ActionStands None found d e = found ≡ None
 ActionStands (Some kind) found d e = ActionPushed kind found d e
 
--- kinds that take the value with arguments
-abbrev pub takes_with : ActionKind → Bool
-takes_with (action.AssignMember i count) = true
-takes_with (action.LetProperty p count of) = true
-takes_with k = false
-
--- a place is pushed behind the value that it is given
-pub record Assigns (x : Tree) (d e : Drafted) : Type 0 where
-  pub grown : Grown d e
-  pub takes : (env : Env) (tree : Expr) (below : List Piece) → TreeStands env d.tables x tree d.pieces below → is_given_with env tree ≡ false
-  pub stands : (env : Env) (tree : Expr) (value : bound.Expr) → TreeStands env d.tables x tree d.pieces (an_expr value ∷ [])
-      → (at : Lvalue) × (assigned_to env tree value ≡ Some (assign at value)) × (e.pieces ≡ a_place at ∷ an_expr value ∷ [])
+-- a type of what may be an object
+abbrev pub may_be_object : DeclaredType → Bool
+may_be_object of = is_object (declared_view of) || is_variant (declared_view of)
 
 -- a term is this variable, where there is one
 abbrev pub IsVariable : Term → Option Variable → Type 0

@@ -1,5 +1,5 @@
 -- Serves the code: calls that stand as statements.
-use Rattle.std.specs.Prelude.{◌≡◌, ℕ, ◌+◌, length, Bool, true, false, List, [], ◌∷◌, ◌++◌, map, Option, Some}
+use Rattle.std.specs.Prelude.{◌≡◌, ℕ, ◌+◌, length, Bool, false, List, [], ◌∷◌, ◌++◌, map, Option, Some, if◌then◌else◌}
 use Rattle.vba_base.specs.declared.place.Place.{Place}
 use Rattle.vba_lexer.specs.declared.token.Token.{Token}
 use Rattle.vba_expression.specs.Tree.{Expr, Args, index}
@@ -7,7 +7,10 @@ use Rattle.vba_expression.specs.Nodes as nodes
 use Rattle.vba_expression.specs.Nodes.{behind_nodes, items_of, last_arguments, tree_in}
 use Rattle.vba_expression.specs.declared.node.ExpressionNode.{ExpressionNode}
 use Rattle.vba_expression.specs.declared.node.ExpressionNode.TheVariants as node
+use Rattle.bound_project.specs.declared.declared_type.DeclaredType.{DeclaredType}
 use Rattle.bound_project.specs.declared.statement.ActionKind.{ActionKind}
+use Rattle.bound_project.specs.declared.statement.ActionKind.TheVariants as action
+use Rattle.bound_project.specs.View.{declared_view}
 use Rattle.bound_project.specs.Bodies.{action_of}
 use Rattle.bound_project.specs.Drafts.{Drafted, ActionNamed}
 use Rattle.bound_project.specs.Expressions as bound
@@ -15,17 +18,16 @@ use Rattle.bound_project.specs.Lists.{above, args_of}
 use Rattle.bound_project.specs.Pieces.{Argument, Piece, Tables, an_argument, an_expr}
 use Rattle.bound_project.specs.Project as project
 use Rattle.bound_project.specs.Statements.{Action}
+use Rattle.binder.specs.Types.{is_object}
 use Rattle.binder.specs.Terms.{Env, Given, bound_arguments, has_names}
 use Rattle.binder.specs.Terms as plain
-use Rattle.binder.specs.ExpressionsBound.{givens, value_of}
+use Rattle.binder.specs.ExpressionsBound.{argument_of, givens}
 use Rattle.binder.specs.StatementsBound.{assigned, assigned_to, called_term, called_with, is_given_with}
 use Rattle.bound_actions.specs.declared.trees.Split.{Split}
-use Rattle.bound_actions.specs.Actions.{takes_with}
 use Rattle.bound_calls.specs.declared.term.Item.TheVariants as item
 use Rattle.bound_calls.specs.declared.term.Passed.{Passed}
 use Rattle.bound_calls.specs.declared.term.Routine.{Routine}
 use Rattle.bound_calls.specs.declared.term.Term.{Term}
-use Rattle.bound_calls.specs.declared.term.Term.TheVariants as term
 use Rattle.bound_calls.specs.declared.term.Tree.{Tree}
 use Rattle.bound_calls.specs.Standing.{RoutineStands, PassedStands, TermStands, TreeStands, Grown}
 use Rattle.bound_calls.specs.Steps.{Goes, Leaves}
@@ -77,7 +79,7 @@ pub record RestPushed (x : Passed) (d e : Drafted) (written all : ℕ) : Type 0 
 -- all arguments were pushed that parameters have: so many are written, and so many there are
 pub record AllPassed (env : Env) (parameters : List project.Parameter) (gs : List Given) (written all : ℕ) (ps below : List Piece) : Type 0 where
   pub made : List Argument
-  pub bound : bound_arguments (value_of env) parameters gs ≡ Some (args_of made)
+  pub bound : bound_arguments (argument_of env) parameters gs ≡ Some (args_of made)
   pub all_is : all ≡ length made
   pub written_is : written ≡ length gs
   pub no_names : has_names gs ≡ false
@@ -89,10 +91,6 @@ pub record PassesAll (env : Env) (parameters : List project.Parameter) (ns : Lis
   pub stands : (items : List nodes.Item) → AllPassed env parameters (givens env (args_on items ns)) written all e.pieces d.pieces
 
 -- ---- what is done
-
-abbrev pub is_routine : Term → Bool
-is_routine (term.Routine r) = true
-is_routine x = false
 
 pub record ActionIs (kind : ActionKind) (found : Option Action) (t : Tables) (ps : List Piece) : Type 0 where
   pub made : Action
@@ -122,20 +120,24 @@ pub record CallsTreeOn (env : Env) (x : Tree) (ns : List ExpressionNode) (d e : 
 
 -- ---- properties that are assigned to
 
+-- a value parameter of an object type is given the object itself
+abbrev pub property_kind : (procedure arguments : ℕ) → DeclaredType → ActionKind
+property_kind procedure arguments of =
+    if is_object (declared_view of) then action.SetProperty procedure arguments of else action.LetProperty procedure arguments of
+
 -- its arguments were pushed behind the value that it is given
 pub record Lets (env : Env) (r : Routine) (gs : List Given) (d e : Drafted) (kind : ActionKind) : Type 0 where
   pub grown : Grown d e
   pub named : ActionNamed e.tables kind
-  pub takes : takes_with kind ≡ true
   pub stands : (y : plain.Term) (place : Place) (value : bound.Expr) (ps below : List Piece) → RoutineStands env r y ps below → d.pieces ≡ an_expr value ∷ [] → ActionIs kind (assigned env place value gs y) e.tables e.pieces
 
 pub record LetsOn (env : Env) (r : Routine) (ns : List ExpressionNode) (d e : Drafted) (kind : ActionKind) : Type 0 where
   pub framed : Framed ns
   pub lets : (items : List nodes.Item) → Lets env r (givens env (args_on items ns)) d e kind
 
--- an expression is assigned the value that was pushed
-pub record AssignsTo (env : Env) (place : Expr) (d e : Drafted) (kind : ActionKind) : Type 0 where
+-- an expression is assigned the value that was pushed, and whether that comes as it is
+pub record AssignsTo (env : Env) (place : Expr) (d e : Drafted) (kind : ActionKind) (given : Bool) : Type 0 where
   pub grown : Grown d e
   pub named : ActionNamed e.tables kind
-  pub takes : is_given_with env place ≡ takes_with kind
+  pub takes : is_given_with env place ≡ given
   pub stands : (value : bound.Expr) → d.pieces ≡ an_expr value ∷ [] → ActionIs kind (assigned_to env place value) e.tables e.pieces

@@ -4,3 +4,5 @@ pub mod Kept
 pub mod NamedCalls
 pub mod Members
 pub mod Assigning
+pub mod Targets
+pub mod Heights

@@ -1,5 +1,5 @@
 -- Serves the code: members of objects, and other objects, that are assigned to.
-use Rattle.std.specs.Prelude.{◌≡◌, ◌≢◌, ℕ, Bool, true, false, List, [], ◌∷◌, ◌++◌, Option, Some, None}
+use Rattle.std.specs.Prelude.{◌≡◌, ◌≢◌, ℕ, Bool, true, ◌&&◌, ◌||◌, not, List, [], ◌∷◌, ◌++◌, Option, Some, None, is_some}
 use Rattle.vba_base.specs.declared.place.Place.{Place}
 use Rattle.vba_values.specs.Types.{Declared}
 use Rattle.vba_lexer.specs.declared.token.Token.{Token}
@@ -15,6 +15,7 @@ use Rattle.bound_project.specs.View.{declared_view}
 use Rattle.bound_project.specs.Drafts.{Drafted, ActionNamed}
 use Rattle.bound_project.specs.Expressions as bound
 use Rattle.bound_project.specs.Pieces.{Piece, Tables, an_expr}
+use Rattle.binder.specs.Types.{is_object}
 use Rattle.binder.specs.Constants.{place_of_expression}
 use Rattle.binder.specs.Terms.{Env, a_host_member}
 use Rattle.binder.specs.Terms as plain
@@ -22,12 +23,10 @@ use Rattle.binder.specs.ExpressionsBound.{callee, takes_arguments, term_of}
 use Rattle.binder.specs.StatementsBound.{assigned, assigned_to, has_written_default, is_given_with, is_written_member, takes_value}
 use Rattle.bound_calls.specs.declared.term.MemberCall.{MemberCall}
 use Rattle.bound_calls.specs.declared.term.Term.{Term}
-use Rattle.bound_calls.specs.declared.term.Term.TheVariants as term
 use Rattle.bound_calls.specs.declared.term.Tree.{Tree}
 use Rattle.bound_calls.specs.declared.term.Item.TheVariants as item
 use Rattle.bound_calls.specs.Standing.{TermStands, TreeStands, Grown, member_is}
 use Rattle.bound_calls.specs.Steps.{Goes}
-use Rattle.bound_actions.specs.Actions.{takes_with}
 use Rattle.bound_actions.specs.Called.{ActionIs, IsBare}
 
 -- ---- names of members
@@ -41,34 +40,29 @@ abbrev pub NamedBy : Option Identifier → plain.Term → Type 0
 NamedBy None t = Unit {0}
 NamedBy (Some x) t = MemberNamed x.name t
 
--- whether a member is written, by its name, where that is known, and the type of what it gives
-abbrev pub is_written : Option Identifier → Declared → Bool
-is_written None of = has_written_default of
-is_written (Some x) of = is_written_member (record { name = x.name; of = of; least = 0; greatest = None })
+-- whether a member is written, by its name, where that is known, the type of what it gives and the greatest number of its
+-- arguments
+abbrev pub is_written : Option Identifier → Declared → (greatest : Option ℕ) → Bool
+is_written None of greatest = not (is_some greatest) || (is_object of && has_written_default of)
+is_written (Some x) of greatest = is_written_member (record { name = x.name; of = of; least = 0; greatest = greatest })
 
 -- ---- without arguments
 
--- a member of an object is assigned the value that was pushed below the object
-pub record AssignsTerm (x : Term) (name : Option Identifier) (d e : Drafted) (kind : ActionKind) : Type 0 where
+-- a term at this place in the source is assigned the value that was pushed below it, and whether that comes as it is
+pub record AssignsTerm (place : Place) (x : Term) (name : Option Identifier) (d e : Drafted) (kind : ActionKind) (given : Bool) : Type 0 where
   pub grown : Grown d e
   pub named : ActionNamed e.tables kind
-  pub takes : (env : Env) (z : plain.Term) (ps below : List Piece) → TermStands env d.tables x z ps below → takes_value env z ≡ takes_with kind
-  pub stands : (env : Env) (place : Place) (z : plain.Term) (value : bound.Expr) → NamedBy name z → TermStands env d.tables x z d.pieces (an_expr value ∷ [])
+  pub takes : (env : Env) (z : plain.Term) (ps below : List Piece) → TermStands env d.tables x z ps below → takes_value env z ≡ given
+  pub stands : (env : Env) (z : plain.Term) (value : bound.Expr) → NamedBy name z → TermStands env d.tables x z d.pieces (an_expr value ∷ [])
       → ActionIs kind (assigned env place value [] z) e.tables e.pieces
 
 -- the same of an expression that doesn't end with arguments in brackets
-pub record AssignsTree (x : Tree) (name : Option Identifier) (d e : Drafted) (kind : ActionKind) : Type 0 where
+pub record AssignsTree (x : Tree) (name : Option Identifier) (d e : Drafted) (kind : ActionKind) (given : Bool) : Type 0 where
   pub grown : Grown d e
   pub named : ActionNamed e.tables kind
-  pub takes : (env : Env) (tree : Expr) (below : List Piece) → IsBare tree → TreeStands env d.tables x tree d.pieces below → is_given_with env tree ≡ takes_with kind
+  pub takes : (env : Env) (tree : Expr) (below : List Piece) → IsBare tree → TreeStands env d.tables x tree d.pieces below → is_given_with env tree ≡ given
   pub stands : (env : Env) (tree : Expr) (value : bound.Expr) → IsBare tree → NamedBy name (term_of env tree) → TreeStands env d.tables x tree d.pieces (an_expr value ∷ [])
       → ActionIs kind (assigned_to env tree value) e.tables e.pieces
-
--- a place or a value
-abbrev pub is_at_hand : Term → Bool
-is_at_hand (term.Place kind of bounded lends) = true
-is_at_hand (term.Value e) = true
-is_at_hand x = false
 
 -- ---- with arguments
 
@@ -85,6 +79,7 @@ pub record WritesCall (x : MemberCall) (kind : ActionKind) : Type 0 where
   pub some : x.count ≢ 0
   pub takes : (t : Tables) → takes_arguments (member_is t x.member) x.count ≡ true
   pub default : has_written_default (declared_view x.member.of) ≡ true
+  pub written : (not (is_some x.member.greatest) || is_object (declared_view x.member.of)) ≡ true
 
 -- an expression that is a member with arguments is assigned the value below its object
 pub record GivesMember (env : Env) (place : Expr) (kind : ActionKind) (t : Tables) (ps below : List Piece) : Type 0 where
@@ -95,6 +90,5 @@ pub record GivesMember (env : Env) (place : Expr) (kind : ActionKind) (t : Table
 pub record AssignsItem (env : Env) (place : Place) (x : Term) (ns : List ExpressionNode) (d e : Drafted) (kind : ActionKind) : Type 0 where
   pub grown : Grown d e
   pub named : ActionNamed e.tables kind
-  pub takes : takes_with kind ≡ true
   pub stands : (tree : Expr) (left right : Token) (below : List Piece) → place ≡ place_of_expression tree → TermStands env d.tables x (callee env tree (term_of env tree)) d.pieces below
       → GivesMember env (last_tree (behind_nodes (nodes.tree tree ∷ []) (ns ++ node.Index left right ∷ []))) kind e.tables e.pieces below

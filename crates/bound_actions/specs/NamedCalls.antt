@@ -12,14 +12,14 @@ use Rattle.bound_project.specs.Project.{Parameter}
 use Rattle.bound_project.specs.Drafts.{Drafted}
 use Rattle.binder.specs.Terms.{Env, Given}
 use Rattle.binder.specs.Terms as plain
-use Rattle.binder.specs.ExpressionsBound.{givens, value_of}
+use Rattle.binder.specs.ExpressionsBound.{argument_of, given_as, givens, indexed}
 use Rattle.bound_calls.specs.declared.term.Routine.{Routine}
 use Rattle.bound_calls.specs.declared.term.Passed.{Passed}
-use Rattle.bound_calls.specs.Calls.{CallPushed}
 use Rattle.bound_calls.specs.InOrder.{AllNamedTaken, with_named}
 use Rattle.bound_calls.specs.Standing.{AllNumbers, Grown, PassedStands, RoutineStands, Stands, is_gathering}
 use Rattle.bound_calls.specs.declared.term.Item.TheVariants as item
 use Rattle.bound_terms.specs.Gathering.{with_gathered}
+use Rattle.bound_actions.specs.Assigning.{ExprPushed}
 use Rattle.bound_actions.specs.Called.{Framed, args_on}
 
 -- arguments that were pushed for these parameters, the last ones for those that they name
@@ -28,16 +28,22 @@ pub record NamedPassed (env : Env) (parameters : List Parameter) (x : Passed) (n
   pub given : List Given
   pub givens_are : givens env args ≡ givens env before ++ given
   pub made : List Argument
-  pub taken : AllNamedTaken (value_of env) x.count (map parameter_view x.left.now) given named made
+  pub taken : AllNamedTaken (argument_of env) x.count (map parameter_view x.left.now) given named made
   pub between : List Piece
   pub on_top : ps ≡ above (map an_argument made) between
   pub passed : PassedStands env parameters x before between below
 
--- the value of a call was pushed behind such arguments
+-- what a call gives was pushed behind arguments without names
+pub record PushesCall (r : Routine) (x : Passed) (place : Place) (d e : Drafted) : Type 0 where
+  pub grown : Grown d e
+  pub stands : (env : Env) (y : plain.Term) (args : Args) (qs below : List Piece) → RoutineStands env r y qs qs → PassedStands env (map parameter_view r.parameters.now) x args d.pieces below
+      → ExprPushed (given_as env (indexed env place y (givens env args)) place) e.pieces below
+
+-- the same behind such arguments
 pub record PushesNamed (r : Routine) (x : Passed) (named : List ℕ) (place : Place) (d e : Drafted) : Type 0 where
   pub grown : Grown d e
   pub stands : (env : Env) (y : plain.Term) (args : Args) (qs below : List Piece) → RoutineStands env r y qs qs → NamedPassed env (map parameter_view r.parameters.now) x named args d.pieces below
-      → CallPushed env y args place e.pieces below
+      → ExprPushed (given_as env (indexed env place y (givens env args)) place) e.pieces below
 
 -- the arguments of a statement were pushed for these parameters; the last ones name theirs, here the last one first
 pub record ReadsNamed (env : Env) (parameters : List Parameter) (ns : List ExpressionNode) (d e : Drafted) (x : Passed) (named : List ℕ) : Type 0 where
@@ -52,17 +58,17 @@ pub record ValuesPassed (env : Env) (parameters : List Parameter) (x : Passed) (
   pub givens_are : givens env args ≡ givens env before ++ given
   pub many : is_gathering (map parameter_view x.left.now) ≡ true
   pub made : List bound.Expr
-  pub taken : AllNumbers (value_of env) given made
+  pub taken : AllNumbers (given_as env) given made
   pub count_is : length made ≡ values
   pub between : List Piece
   pub on_top : ps ≡ above (map an_expr made) between
   pub passed : PassedStands env parameters x before between below
 
--- the value of a call was pushed behind such arguments
+-- the same behind such arguments
 pub record PushesValues (r : Routine) (x : Passed) (values : ℕ) (place : Place) (d e : Drafted) : Type 0 where
   pub grown : Grown d e
   pub stands : (env : Env) (y : plain.Term) (args : Args) (qs below : List Piece) → RoutineStands env r y qs qs → ValuesPassed env (map parameter_view r.parameters.now) x values args d.pieces below
-      → CallPushed env y args place e.pieces below
+      → ExprPushed (given_as env (indexed env place y (givens env args)) place) e.pieces below
 
 -- the arguments of a statement were pushed for these parameters; above those without names so many values for a ParamArray, and
 -- above these the ones that name their parameters

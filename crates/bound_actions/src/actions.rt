@@ -12,12 +12,13 @@ ghost use Rattle.bound_terms.specs.View.{EnvStands, env_view};
 use crate::assigned_values::bind_assigned;
 use crate::assigning::assign_to;
 use crate::statement_calls::{call_bare, call_tree};
+use crate::targets::may_be_object;
 use crate::trees::{ends_bare, nodes_tree, split_call};
 use bound_calls::{Term, Tree, push_node};
 use bound_declarations::NotYet;
 use bound_project::{ActionKind, Draft, NodeKind, Variable};
 use bound_terms::{Env, bind_reference, meant_variable, tree_of};
-use declared_names::{Use, declares, is_object};
+use declared_names::{Use, declares};
 use std::alloc::Global;
 use vba_base::OrMemory;
 use vba_expression::{Arguments, Expression};
@@ -38,11 +39,11 @@ pub fn bind_assignment<'a>(
         (draft_view draft.old) (draft_view draft.new)) }
 {
     bind_assigned(alloc, draft, env, place, value)?;
-    let kind = assign_to(alloc, draft, env, place)?;
-    Ok(Some(kind))
+    let done = assign_to(alloc, draft, env, place)?;
+    Ok(Some(done.kind))
 }
 
-/// Pushes the place of an object that is set.
+/// Pushes the place that is set, which has or may have an object.
 fn set_place<'a>(draft: &mut Draft, tree: Tree<'a>) -> Result<(), OrMemory<NotYet>>
     requires { TermNamed (draft_view draft.old).tables tree.term }
     ensures { OnOk result (SetsPlace tree.entry.term (draft_view draft.old) (draft_view draft.new)) }
@@ -50,7 +51,7 @@ fn set_place<'a>(draft: &mut Draft, tree: Tree<'a>) -> Result<(), OrMemory<NotYe
     let Term::Place { kind, of, .. } = tree.term else {
         return Err(OrMemory::Fault(NotYet));
     };
-    if !is_object(of) {
+    if !may_be_object(of) {
         return Err(OrMemory::Fault(NotYet));
     }
     push_node(draft, kind, of, tree.place)?;

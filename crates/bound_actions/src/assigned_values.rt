@@ -1,35 +1,24 @@
 //! The value of an assignment.
 
-ghost use Rattle.std.specs.Prelude.{◌≡◌, Bool, IfOk, OnOk};
+ghost use Rattle.std.specs.Prelude.{◌≡◌, true, Bool, IfOk, OnOk};
 ghost use Rattle.vba_expression.specs.View.{view as expression_view};
 ghost use Rattle.bound_project.specs.DraftView.{draft_view};
 ghost use Rattle.binder.specs.StatementsBound as plain;
-ghost use Rattle.bound_actions.specs.Actions.{takes_with};
-ghost use Rattle.bound_actions.specs.Assigning.{PushesFor, ValueFor};
+ghost use Rattle.bound_actions.specs.Assigning.{PushesFor, ValueFor, is_plain};
 ghost use Rattle.bound_calls.specs.Standing.{TermNamed};
 ghost use Rattle.bound_terms.specs.View.{EnvStands, env_view};
 
 use crate::assigning::assign_to;
-use bound_calls::{Tree, push_given, push_operand, refers};
+use crate::targets::may_be_object;
+use bound_calls::{Term, Tree, push_given, push_operand};
 use bound_declarations::NotYet;
-use bound_project::{ActionKind, Draft};
+use bound_project::Draft;
 use bound_terms::{Env, push_value, tree_of};
 use std::alloc::Global;
 use vba_base::OrMemory;
 use vba_expression::Expression;
 
-/// Does a statement of this kind take the value with arguments?
-fn takes_with(kind: ActionKind) -> bool
-    ensures { result ≡ takes_with kind }
-{
-    match kind {
-        ActionKind::AssignMember { .. } => true,
-        ActionKind::LetProperty { .. } => true,
-        _ => false,
-    }
-}
-
-/// Does an expression take its value with its arguments, by nodes that nothing else has?
+/// Does an expression take its value as it is, by nodes that nothing else has?
 fn is_given_in<'a>(
     alloc: Global,
     draft: &mut Draft,
@@ -39,11 +28,11 @@ fn is_given_in<'a>(
     requires { EnvStands env }
     ensures { IfOk result (λ given. given ≡ plain.is_given_with (env_view env.entry) (expression_view place.now)) }
 {
-    let kind = assign_to(alloc, draft, env, place)?;
-    Ok(takes_with(kind))
+    let done = assign_to(alloc, draft, env, place)?;
+    Ok(done.is_given)
 }
 
-/// Does an expression take its value with its arguments?
+/// Does an expression take its value as it is?
 fn is_given_with<'a>(
     alloc: Global,
     env: Env<'a>,
@@ -56,8 +45,19 @@ fn is_given_with<'a>(
     is_given_in(alloc, &mut draft, env, place)
 }
 
-/// Pushes an object that is assigned, as it is or as an operand.
-fn push_object<'a>(
+/// Is a term a place or a value that is no object and can be none?
+fn is_plain<'a>(term: Term<'a>) -> bool
+    ensures { result ≡ is_plain term.entry }
+{
+    match term {
+        Term::Place { of, .. } => !may_be_object(of),
+        Term::Value(ending) => !may_be_object(ending.of),
+        _ => false,
+    }
+}
+
+/// Pushes what is assigned, as it is or as an operand.
+fn push_assigned<'a>(
     alloc: Global,
     draft: &mut Draft,
     tree: Tree<'a>,
@@ -78,7 +78,8 @@ fn push_object<'a>(
 
 /// Pushes a value that is assigned and is no object: it is the same as it is and as an operand.
 fn push_plain<'a>(alloc: Global, draft: &mut Draft, tree: Tree<'a>) -> Result<(), OrMemory<NotYet>>
-    requires { TermNamed (draft_view draft.old).tables tree.term }
+    requires named { TermNamed (draft_view draft.old).tables tree.term }
+    requires plain { is_plain tree.term ≡ true }
     ensures { (given : Bool) → OnOk result (PushesFor given tree.entry (draft_view draft.old) (draft_view draft.new)) }
 {
     let Some(_of) = push_value(alloc, draft, tree)? else {
@@ -99,9 +100,9 @@ pub fn bind_assigned<'a>(
     ensures { OnOk result (ValueFor (plain.value_for (env_view env.entry) (expression_view place.now) (expression_view value.now)) (draft_view draft.old) (draft_view draft.new)) }
 {
     let tree = tree_of(alloc, draft, env, value)?;
-    if !refers(tree.term) {
+    if is_plain(tree.term) {
         return push_plain(alloc, draft, tree);
     }
     let given = is_given_with(alloc, env, place)?;
-    push_object(alloc, draft, tree, given)
+    push_assigned(alloc, draft, tree, given)
 }

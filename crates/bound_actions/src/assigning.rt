@@ -1,23 +1,25 @@
 //! What the value of an assignment goes to.
 
-ghost use Rattle.std.specs.Prelude.{◌≡◌, [], IfOk, OnOk, option_map};
+ghost use Rattle.std.specs.Prelude.{◌≡◌, true, false, [], IfOk, option_map};
 ghost use Rattle.vba_expression.specs.View.{view as expression_view};
 ghost use Rattle.vba_expression.specs.Nodes.{tree_in};
 ghost use Rattle.bound_project.specs.DraftView.{draft_view};
-ghost use Rattle.bound_actions.specs.Actions.{Assigns};
-ghost use Rattle.bound_actions.specs.Called.{AssignsTo, IsBare, Lets, LetsOn, SplitAt};
+ghost use Rattle.bound_actions.specs.Called.{AssignsTo, IsBare, Lets, LetsOn, SplitAt, property_kind};
 ghost use Rattle.bound_actions.specs.Members.{AssignsTree};
 ghost use Rattle.bound_terms.specs.Callee.{IsWriter};
 ghost use Rattle.bound_calls.specs.Standing.{TermNamed};
 ghost use Rattle.bound_terms.specs.View.{EnvStands, env_view};
 ghost use Rattle.declared_names.specs.View.{scope_view};
 
-use crate::member_targets::{assign_item, assign_object};
+use crate::member_targets::{assign_item, assign_member, assign_sheet};
 use crate::statement_calls::push_arguments;
-use crate::trees::{Split, continue_tree, ends_bare, member_name, nodes_tree, split_call};
-use bound_calls::{Term, Tree, count_of, is_host_type, pass_rest};
+use crate::targets::{assign_indexed, assign_place, assign_value, is_variant_term};
+use crate::trees::{
+    Split, adds_one, continue_tree, ends_bare, member_name, nodes_tree, split_call,
+};
+use bound_calls::{Ending, Term, Tree, count_of, pass_rest};
 use bound_declarations::{NotYet, procedure_number};
-use bound_project::{ActionKind, DeclaredType, Draft, Node};
+use bound_project::{ActionKind, DeclaredType, Draft};
 use bound_terms::{Env, Writer, callee_term, takes_item, tree_of, writer_of};
 use declared_names::is_object;
 use std::alloc::Global;
@@ -25,24 +27,53 @@ use vba_base::OrMemory;
 use vba_expression::{Expression, ExpressionNode};
 use vba_words::Identifier;
 
-/// A place that is no object, behind the value that it is given; values that are assigned to aren't bound yet.
-fn assign<'a>(draft: &mut Draft, tree: Tree<'a>) -> Result<(), OrMemory<NotYet>>
-    requires { TermNamed (draft_view draft.old).tables tree.term }
-    ensures { OnOk result (Assigns tree.entry (draft_view draft.old) (draft_view draft.new)) }
+/// What is done with a value that was pushed, where it is assigned, and whether it comes as it is: where its target takes
+/// it with arguments or is an element of a Variant.
+#[derive(Clone, Copy)]
+pub struct Assignment {
+    pub kind: ActionKind,
+    pub is_given: bool,
+}
+
+/// An assignment of a value as it is.
+fn as_given(kind: ActionKind) -> Assignment
+    ensures kind { result.kind ≡ kind }
+    ensures given { result.is_given ≡ true }
 {
-    let Term::Place { kind, of, .. } = tree.term else {
-        return Err(OrMemory::Fault(NotYet));
-    };
-    if is_object(of) {
-        return Err(OrMemory::Fault(NotYet));
-    }
-    draft.push(Node {
+    Assignment {
         kind,
-        place: tree.place,
-        of,
-        operand: of,
-    })?;
-    Ok(())
+        is_given: true,
+    }
+}
+
+/// An assignment of an operand.
+fn as_operand(kind: ActionKind) -> Assignment
+    ensures kind { result.kind ≡ kind }
+    ensures given { result.is_given ≡ false }
+{
+    Assignment {
+        kind,
+        is_given: false,
+    }
+}
+
+/// An assignment to a property, whose last parameter has a type: one of an object is given the object itself.
+fn property_kind(procedure: u32, arguments: u32, of: DeclaredType) -> ActionKind
+    ensures { result ≡ property_kind procedure arguments of }
+{
+    if is_object(of) {
+        ActionKind::SetProperty {
+            procedure,
+            arguments,
+            of,
+        }
+    } else {
+        ActionKind::LetProperty {
+            procedure,
+            arguments,
+            of,
+        }
+    }
 }
 
 /// `property = value`
@@ -66,11 +97,7 @@ fn let_bare<'a>(
     };
     let arguments = count_of(front)?;
     pass_rest(alloc, draft, front)?;
-    Ok(ActionKind::LetProperty {
-        procedure,
-        arguments,
-        of: last.of,
-    })
+    Ok(property_kind(procedure, arguments, last.of))
 }
 
 /// `property(arguments) = value`
@@ -94,28 +121,7 @@ fn let_given<'a>(
         return Err(OrMemory::Fault(NotYet));
     };
     let (_written, arguments) = push_arguments(alloc, draft, env, front, nodes)?;
-    Ok(ActionKind::LetProperty {
-        procedure,
-        arguments,
-        of: last.of,
-    })
-}
-
-/// A place of a type, an object or a member of one, behind the value that it is given.
-fn assign_typed<'a>(
-    draft: &mut Draft,
-    tree: Tree<'a>,
-    of: DeclaredType,
-    name: Option<&Identifier>,
-) -> Result<ActionKind, OrMemory<NotYet>>
-    requires { TermNamed (draft_view draft.old).tables tree.term }
-    ensures { IfOk result (λ kind. AssignsTree tree.entry (option_map (λ name. name.now) name.entry) (draft_view draft.old) (draft_view draft.new) kind) }
-{
-    if is_host_type(of) {
-        return assign_object(draft, tree, name);
-    }
-    assign(draft, tree)?;
-    Ok(ActionKind::Assign)
+    Ok(property_kind(procedure, arguments, last.of))
 }
 
 /// An expression that doesn't end with arguments in brackets, by the name behind its dot, behind the value that it is given.
@@ -123,13 +129,29 @@ fn assign_tree<'a>(
     draft: &mut Draft,
     tree: Tree<'a>,
     name: Option<&Identifier>,
-) -> Result<ActionKind, OrMemory<NotYet>>
+) -> Result<Assignment, OrMemory<NotYet>>
     requires { TermNamed (draft_view draft.old).tables tree.term }
-    ensures { IfOk result (λ kind. AssignsTree tree.entry (option_map (λ name. name.now) name.entry) (draft_view draft.old) (draft_view draft.new) kind) }
+    ensures { IfOk result (λ done. AssignsTree tree.entry (option_map (λ name. name.now) name.entry) (draft_view draft.old) (draft_view draft.new) done.kind done.is_given) }
 {
+    let place = tree.place;
     match tree.term {
-        Term::Place { of, .. } => assign_typed(draft, tree, of, name),
-        _ => assign_object(draft, tree, name),
+        Term::Place { kind, of, .. } => {
+            let kind = assign_place(draft, Ending { kind, of }, place)?;
+            Ok(as_operand(kind))
+        }
+        Term::Value(ending) => {
+            let kind = assign_value(draft, ending, place)?;
+            Ok(as_operand(kind))
+        }
+        Term::HostMember(member) => {
+            let kind = assign_member(draft, member, name, place)?;
+            Ok(as_given(kind))
+        }
+        Term::SheetMember(member) => {
+            let kind = assign_sheet(draft, member, name, place)?;
+            Ok(as_given(kind))
+        }
+        _ => Err(OrMemory::Fault(NotYet)),
     }
 }
 
@@ -139,14 +161,17 @@ fn assign_bare<'a>(
     draft: &mut Draft,
     env: Env<'a>,
     place: &'a Expression,
-) -> Result<ActionKind, OrMemory<NotYet>>
+) -> Result<Assignment, OrMemory<NotYet>>
     requires env { EnvStands env }
     requires bare { IsBare (expression_view place.now) }
-    ensures { IfOk result (λ kind. AssignsTo (env_view env.entry) (expression_view place.now) (draft_view draft.old) (draft_view draft.new) kind) }
+    ensures { IfOk result (λ done. AssignsTo (env_view env.entry) (expression_view place.now) (draft_view draft.old) (draft_view draft.new) done.kind done.is_given) }
 {
     let tree = tree_of(alloc, draft, env, place)?;
     match writer_of(env.constants.scope, tree.term) {
-        Some(writer) => let_bare(alloc, draft, env, writer),
+        Some(writer) => {
+            let kind = let_bare(alloc, draft, env, writer)?;
+            Ok(as_given(kind))
+        }
         None => assign_tree(draft, tree, member_name(place.nodes())),
     }
 }
@@ -158,39 +183,30 @@ fn assign_split<'a>(
     env: Env<'a>,
     nodes: &'a [ExpressionNode],
     split: Split<'a>,
-) -> Result<ActionKind, OrMemory<NotYet>>
+) -> Result<Assignment, OrMemory<NotYet>>
     requires env { EnvStands env }
     requires split { SplitAt split nodes.now }
-    ensures { IfOk result (λ kind. AssignsTo (env_view env.entry) (tree_in nodes.now) (draft_view draft.old) (draft_view draft.new) kind) }
+    ensures { IfOk result (λ done. AssignsTo (env_view env.entry) (tree_in nodes.now) (draft_view draft.old) (draft_view draft.new) done.kind done.is_given) }
 {
     let tree = nodes_tree(alloc, draft, env, split.target)?;
     let term = callee_term(alloc, draft, env, tree)?;
-    match writer_of(env.constants.scope, term) {
-        Some(writer) => let_given(alloc, draft, env, writer, split.arguments),
-        None => {
-            if takes_item(term) {
-                return assign_item(alloc, draft, env, tree.place, term, split.arguments);
-            }
-            let more = continue_tree(alloc, draft, env, tree, split.closed)?;
-            assign(draft, more)?;
-            Ok(ActionKind::Assign)
-        }
+    if let Some(writer) = writer_of(env.constants.scope, term) {
+        let kind = let_given(alloc, draft, env, writer, split.arguments)?;
+        return Ok(as_given(kind));
     }
-}
-
-/// A place of any other form, behind the value that it is given.
-fn assign_other<'a>(
-    alloc: Global,
-    draft: &mut Draft,
-    env: Env<'a>,
-    place: &'a Expression,
-) -> Result<ActionKind, OrMemory<NotYet>>
-    requires { EnvStands env }
-    ensures { IfOk result (λ kind. AssignsTo (env_view env.entry) (expression_view place.now) (draft_view draft.old) (draft_view draft.new) kind) }
-{
-    let tree = tree_of(alloc, draft, env, place)?;
-    assign(draft, tree)?;
-    Ok(ActionKind::Assign)
+    if takes_item(term) {
+        let kind = assign_item(alloc, draft, env, tree.place, term, split.arguments)?;
+        return Ok(as_given(kind));
+    }
+    if !adds_one(split.arguments) {
+        return Err(OrMemory::NoMemory);
+    }
+    let more = continue_tree(alloc, draft, env, tree, split.closed)?;
+    let kind = assign_indexed(draft, more.term, more.place)?;
+    Ok(Assignment {
+        kind,
+        is_given: is_variant_term(term),
+    })
 }
 
 /// What is done with a value that was pushed, where it is assigned to an expression.
@@ -199,9 +215,9 @@ pub fn assign_to<'a>(
     draft: &mut Draft,
     env: Env<'a>,
     place: &'a Expression,
-) -> Result<ActionKind, OrMemory<NotYet>>
+) -> Result<Assignment, OrMemory<NotYet>>
     requires { EnvStands env }
-    ensures { IfOk result (λ kind. AssignsTo (env_view env.entry) (expression_view place.now) (draft_view draft.old) (draft_view draft.new) kind) }
+    ensures { IfOk result (λ done. AssignsTo (env_view env.entry) (expression_view place.now) (draft_view draft.old) (draft_view draft.new) done.kind done.is_given) }
 {
     let nodes = place.nodes();
     if ends_bare(nodes) {
@@ -209,6 +225,6 @@ pub fn assign_to<'a>(
     }
     match split_call(nodes) {
         Some(split) => assign_split(alloc, draft, env, nodes, split),
-        None => assign_other(alloc, draft, env, place),
+        None => Err(OrMemory::Fault(NotYet)),
     }
 }

@@ -8,6 +8,7 @@ mod member_targets;
 mod places;
 mod raising;
 mod statement_calls;
+mod targets;
 mod trees;
 
 pub use actions::{bind_assignment, bind_call, bind_call_place, bind_set, loop_variable};

@@ -1,54 +1,28 @@
-//! Members of objects, and other objects, that are assigned to.
+//! Members of objects that are assigned to.
 
-ghost use Rattle.std.specs.Prelude.{◌≡◌, ◌<◌, true, length, IfOk, bytes_eq, option_map};
+ghost use Rattle.std.specs.Prelude.{◌≡◌, ◌<◌, true, not, length, is_some, IfOk, bytes_eq, option_map};
 ghost use Rattle.std.specs.List.{list_any};
 ghost use Rattle.bound_project.specs.DraftView.{draft_view};
 ghost use Rattle.bound_project.specs.View.{declared_view};
 ghost use Rattle.binder.specs.ExpressionsBound.{mark_members};
-ghost use Rattle.binder.specs.StatementsBound as plain;
 ghost use Rattle.binder.specs.Terms as terms;
-ghost use Rattle.bound_actions.specs.Members.{AssignsItem, AssignsTerm, AssignsTree, ReadsOnto, WritesCall, is_at_hand, is_written};
+ghost use Rattle.bound_actions.specs.Members.{AssignsItem, AssignsTerm, ReadsOnto, WritesCall, is_written};
 ghost use Rattle.bound_calls.specs.declared.term.Term.TheVariants as term;
 ghost use Rattle.bound_calls.specs.Standing.{TermNamed};
 ghost use Rattle.bound_terms.specs.Items.{takes_item};
 ghost use Rattle.bound_terms.specs.View.{EnvStands, env_view};
 
-use bound_calls::{
-    HostMember, Item, MemberCall, Term, Tree, push_node, push_reference, push_sheet, put_item,
-    take_item,
-};
+use crate::targets::has_written_default;
+use bound_calls::{HostMember, Item, MemberCall, Term, push_node, push_sheet, put_item, take_item};
 use bound_declarations::NotYet;
-use bound_members::{open_member, takes_arguments};
-use bound_project::{ActionKind, DeclaredType, Draft, ElementType, NodeKind};
+use bound_members::{is_word, open_member, takes_arguments};
+use bound_project::{ActionKind, DeclaredType, Draft, NodeKind};
 use bound_terms::{Env, item_member, run};
+use declared_names::is_object;
 use std::alloc::Global;
 use vba_base::{OrMemory, Place};
 use vba_expression::ExpressionNode;
 use vba_words::Identifier;
-
-/// Has a text these ASCII characters?
-fn is_word(text: &[u16], word: &[u8]) -> bool
-    ensures { result ≡ bytes_eq text.now word.now }
-{
-    match text {
-        [] => word.is_empty(),
-        [unit, text @ ..] => match word {
-            [] => false,
-            [character, word @ ..] => *unit == u16::from(*character) && is_word(text, word),
-        },
-    }
-}
-
-/// Has an object of a type a default member that is written?
-fn has_written_default(of: DeclaredType) -> bool
-    ensures { result ≡ plain.has_written_default (declared_view of) }
-{
-    match of {
-        DeclaredType::Plain(ElementType::Object) => true,
-        DeclaredType::Plain(ElementType::Range) => true,
-        _ => false,
-    }
-}
 
 /// Is it the name of a mark of Application?
 fn is_mark(name: &[u16]) -> bool
@@ -58,30 +32,41 @@ fn is_mark(name: &[u16]) -> bool
         || (is_word(name, b"screenupdating") || is_word(name, b"displayalerts"))
 }
 
-/// Is a member written that has a name, where that is known, and gives what is of a type?
-fn is_written(name: Option<&Identifier>, of: DeclaredType) -> bool
-    ensures { result ≡ is_written (option_map (λ name. name.now) name.entry) (declared_view of) }
+/// Is how many arguments a member takes told by the run alone?
+fn is_late(greatest: Option<u32>) -> bool
+    ensures { result ≡ not (is_some greatest) }
 {
+    match greatest {
+        Some(_) => false,
+        None => true,
+    }
+}
+
+/// Is a member written that has a name, where that is known, gives what is of a type and takes so many arguments at most?
+fn is_written(name: Option<&Identifier>, of: DeclaredType, greatest: Option<u32>) -> bool
+    ensures { result ≡ is_written (option_map (λ name. name.now) name.entry) (declared_view of) greatest }
+{
+    let gives_default = is_object(of) && has_written_default(of);
     match name {
-        None => has_written_default(of),
+        None => is_late(greatest) || gives_default,
         Some(name) => {
             let units = name.name.units();
-            is_word(units, b"value") || (has_written_default(of) || is_mark(units))
+            ((is_late(greatest) || is_word(units, b"value")) || gives_default) || is_mark(units)
         }
     }
 }
 
 /// `object.member = value`, behind the value and the object.
-fn assign_member(
+pub fn assign_member(
     draft: &mut Draft,
     member: HostMember,
     name: Option<&Identifier>,
     place: Place,
 ) -> Result<ActionKind, OrMemory<NotYet>>
     requires { member.name < length (draft_view draft.old).tables.constants }
-    ensures { IfOk result (λ kind. AssignsTerm (term.HostMember member) (option_map (λ name. name.now) name.entry) (draft_view draft.old) (draft_view draft.new) kind) }
+    ensures { IfOk result (λ kind. AssignsTerm place (term.HostMember member) (option_map (λ name. name.now) name.entry) (draft_view draft.old) (draft_view draft.new) kind true) }
 {
-    if member.least != 0 || !is_written(name, member.of) {
+    if member.least != 0 || !is_written(name, member.of, member.greatest) {
         return Err(OrMemory::Fault(NotYet));
     }
     let there = NodeKind::MemberThere {
@@ -96,53 +81,17 @@ fn assign_member(
 }
 
 /// The same of a member of the active sheet, behind the value.
-fn assign_sheet(
+pub fn assign_sheet(
     draft: &mut Draft,
     member: HostMember,
     name: Option<&Identifier>,
     place: Place,
 ) -> Result<ActionKind, OrMemory<NotYet>>
     requires { member.name < length (draft_view draft.old).tables.constants }
-    ensures { IfOk result (λ kind. AssignsTerm (term.SheetMember member) (option_map (λ name. name.now) name.entry) (draft_view draft.old) (draft_view draft.new) kind) }
+    ensures { IfOk result (λ kind. AssignsTerm place (term.SheetMember member) (option_map (λ name. name.now) name.entry) (draft_view draft.old) (draft_view draft.new) kind true) }
 {
     push_sheet(draft)?;
     assign_member(draft, member, name, place)
-}
-
-/// `object = value`, behind the value: the object's default member is written.
-pub fn assign_default<'a>(
-    draft: &mut Draft,
-    tree: Tree<'a>,
-    name: Option<&Identifier>,
-) -> Result<ActionKind, OrMemory<NotYet>>
-    requires named { TermNamed (draft_view draft.old).tables tree.term }
-    requires at_hand { is_at_hand tree.term ≡ true }
-    ensures { IfOk result (λ kind. AssignsTree tree.entry (option_map (λ name. name.now) name.entry) (draft_view draft.old) (draft_view draft.new) kind) }
-{
-    let of = push_reference(draft, tree)?;
-    if has_written_default(of) {
-        Ok(ActionKind::AssignDefault)
-    } else {
-        Err(OrMemory::Fault(NotYet))
-    }
-}
-
-/// A member of an object, with the name behind its dot, or another object, behind the value that it is given.
-pub fn assign_object<'a>(
-    draft: &mut Draft,
-    tree: Tree<'a>,
-    name: Option<&Identifier>,
-) -> Result<ActionKind, OrMemory<NotYet>>
-    requires { TermNamed (draft_view draft.old).tables tree.term }
-    ensures { IfOk result (λ kind. AssignsTree tree.entry (option_map (λ name. name.now) name.entry) (draft_view draft.old) (draft_view draft.new) kind) }
-{
-    match tree.term {
-        Term::HostMember(member) => assign_member(draft, member, name, tree.place),
-        Term::SheetMember(member) => assign_sheet(draft, member, name, tree.place),
-        Term::Place { .. } => assign_default(draft, tree, name),
-        Term::Value(_) => assign_default(draft, tree, name),
-        _ => Err(OrMemory::Fault(NotYet)),
-    }
 }
 
 /// How many arguments these nodes of arguments are.
@@ -199,11 +148,15 @@ fn written_call(call: MemberCall) -> Result<ActionKind, OrMemory<NotYet>>
     if call.count != call.given || call.count == 0 {
         return Err(OrMemory::Fault(NotYet));
     }
-    if !takes_arguments(call.member, call.count) || !has_written_default(call.member.of) {
+    let member = call.member;
+    if !takes_arguments(member, call.count) || !has_written_default(member.of) {
+        return Err(OrMemory::Fault(NotYet));
+    }
+    if !(is_late(member.greatest) || is_object(member.of)) {
         return Err(OrMemory::Fault(NotYet));
     }
     Ok(ActionKind::AssignMember {
-        name: call.member.name,
+        name: member.name,
         arguments: call.count,
     })
 }

@@ -1,6 +1,6 @@
 //! Expressions that stand for places: what ReDim and Erase name, and what With keeps.
 
-ghost use Rattle.std.specs.Prelude.{◌≡◌, [], IfOk, OnOk, option_map};
+ghost use Rattle.std.specs.Prelude.{◌≡◌, false, [], IfOk, OnOk, option_map};
 ghost use Rattle.vba_expression.specs.View.{view as expression_view};
 ghost use Rattle.bound_project.specs.DraftView.{draft_view};
 ghost use Rattle.bound_project.specs.Drafts.{NodeNamed};
@@ -8,19 +8,17 @@ ghost use Rattle.bound_project.specs.View.{declared_view};
 ghost use Rattle.binder.specs.Constants.{place_of_expression};
 ghost use Rattle.binder.specs.ExpressionsBound.{term_of};
 ghost use Rattle.binder.specs.StatementsBound as plain;
-ghost use Rattle.bound_actions.specs.Actions.{ActionStands, PlacePushed};
+ghost use Rattle.bound_actions.specs.Actions.{ActionStands, PlacePushed, may_be_object};
 ghost use Rattle.bound_actions.specs.Kept.{Keeps, WithPlacePushed, place_ending};
 ghost use Rattle.bound_terms.specs.View.{EnvStands, env_view, within_view};
 
-use bound_calls::{
-    Ending, Routine, Term, bare_call, is_host_type, push_given, push_node, push_reference,
-};
+use crate::targets::may_be_object;
+use bound_calls::{Ending, Routine, Term, push_given, push_node, routine_ending};
 use bound_declarations::NotYet;
 use bound_project::{ActionKind, DeclaredType, Draft, NodeKind};
 use bound_terms::{Env, Within, tree_of};
-use declared_names::is_object;
 use std::alloc::Global;
-use vba_base::{OrMemory, Place};
+use vba_base::{NoMemory, OrMemory, Place};
 use vba_expression::Expression;
 
 /// The place that a term is, but for its last node.
@@ -51,21 +49,18 @@ pub fn bind_place<'a>(
     Ok(())
 }
 
-/// Pushes a place that a With block keeps, which is no object.
+/// Pushes a place that a With block keeps, which is no object and can be none.
 fn with_place(
     draft: &mut Draft,
     kind: NodeKind,
     of: DeclaredType,
     place: Place,
-) -> Result<(), OrMemory<NotYet>>
-    requires { NodeNamed (draft_view draft.old).tables kind }
+) -> Result<(), NoMemory>
+    requires named { NodeNamed (draft_view draft.old).tables kind }
+    requires plain { may_be_object of ≡ false }
     ensures { OnOk result (WithPlacePushed kind of (draft_view draft.old) (draft_view draft.new)) }
 {
-    if is_object(of) {
-        return Err(OrMemory::Fault(NotYet));
-    }
-    push_node(draft, kind, of, place)?;
-    Ok(())
+    push_node(draft, kind, of, place)
 }
 
 /// `With expression`
@@ -84,8 +79,8 @@ pub fn bind_with<'a>(
     let tree = tree_of(alloc, draft, env, expression)?;
     match place_ending(tree.term) {
         Some(at) => {
-            if is_host_type(at.of) {
-                push_reference(draft, tree)?;
+            if may_be_object(at.of) {
+                push_given(alloc, draft, tree)?;
                 return Ok(Some(ActionKind::WithValue));
             }
             with_place(draft, at.kind, at.of, tree.place)?;
@@ -114,9 +109,7 @@ fn kept_call<'a>(
 ) -> Result<Within, OrMemory<NotYet>>
     ensures { IfOk result (λ kept. Keeps header (Term.Routine routine.entry) (draft_view draft.old) kept) }
 {
-    let Some(ending) = bare_call(alloc, draft, routine)? else {
-        return Err(OrMemory::Fault(NotYet));
-    };
+    let ending = routine_ending(alloc, draft, routine)?;
     Ok(kept_place(header, ending.of, false))
 }
 

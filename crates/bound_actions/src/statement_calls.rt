@@ -1,14 +1,13 @@
 //! Calls that stand as statements.
 
-ghost use Rattle.std.specs.Prelude.{◌≡◌, ◌≢◌, true, false, [], ◌∷◌, IfOk, MatchBool, OnOk, map, reverse};
+ghost use Rattle.std.specs.Prelude.{◌≡◌, ◌≢◌, [], ◌∷◌, IfOk, MatchBool, OnOk, map, reverse};
 ghost use Rattle.vba_expression.specs.declared.node.ExpressionNode.TheVariants as node;
 ghost use Rattle.bound_project.specs.DraftView.{draft_view};
 ghost use Rattle.bound_project.specs.View.{parameter_view};
-ghost use Rattle.bound_project.specs.declared.statement.ActionKind.TheVariants as action;
 ghost use Rattle.binder.specs.Terms as plain;
-ghost use Rattle.bound_actions.specs.Called.{Acts, ActsOn, CallsTree, CallsTreeOn, PassesAll, Reads, RestPushed, is_routine};
-ghost use Rattle.bound_actions.specs.NamedCalls.{PushesNamed, PushesValues, ReadsNamed, ReadsWritten};
-ghost use Rattle.bound_calls.specs.Calls.{PushesCall};
+ghost use Rattle.bound_actions.specs.Called.{Acts, ActsOn, CallsTree, CallsTreeOn, PassesAll, Reads, RestPushed};
+ghost use Rattle.bound_actions.specs.Assigning.{GivenPushed};
+ghost use Rattle.bound_actions.specs.NamedCalls.{PushesCall, PushesNamed, PushesValues, ReadsNamed, ReadsWritten};
 ghost use Rattle.bound_calls.specs.Standing.{TermNamed};
 ghost use Rattle.bound_terms.specs.View.{EnvStands, env_view};
 ghost use Rattle.bound_calls.specs.declared.term.Term.TheVariants as term;
@@ -16,8 +15,7 @@ ghost use Rattle.bound_calls.specs.declared.term.Term.TheVariants as term;
 use crate::raising::{raise, raise_number};
 use bound_calls::{
     Item, Passed, Routine, Term, Tree, call_ending, count_of, given_ending, named_ending,
-    no_object, pass_rest, push_ending, push_node, put_item, sum, take_item, take_numbers,
-    value_ending,
+    pass_rest, push_node, put_item, sum, take_item, take_numbers,
 };
 use bound_declarations::NotYet;
 use bound_project::{ActionKind, Draft, Parameter};
@@ -128,7 +126,28 @@ pub fn push_arguments<'a>(
     push_rest(alloc, draft, passed)
 }
 
-/// Pushes the value of a call whose written arguments were pushed.
+/// Pushes a term as it is, a value or an object.
+fn push_term<'a>(
+    alloc: Global,
+    draft: &mut Draft,
+    term: Term<'a>,
+    place: Place,
+) -> Result<(), OrMemory<NotYet>>
+    requires { TermNamed (draft_view draft.old).tables term }
+    ensures { OnOk result (GivenPushed term.entry place (draft_view draft.old) (draft_view draft.new)) }
+{
+    let tree = Tree {
+        place,
+        name: None,
+        is_qualifier: false,
+        term,
+    };
+    let ending = given_ending(alloc, draft, tree)?;
+    push_node(draft, ending.kind, ending.of, place)?;
+    Ok(())
+}
+
+/// Pushes what a call gives whose written arguments were pushed.
 fn push_call<'a>(
     alloc: Global,
     draft: &mut Draft,
@@ -139,10 +158,7 @@ fn push_call<'a>(
     ensures { OnOk result (PushesCall routine.entry passed.entry place (draft_view draft.old) (draft_view draft.new)) }
 {
     let ending = call_ending(alloc, draft, routine, passed)?;
-    let Some(_found) = push_ending(draft, no_object(ending), place)? else {
-        return Err(OrMemory::Fault(NotYet));
-    };
-    Ok(())
+    push_term(alloc, draft, Term::Value(ending), place)
 }
 
 /// The same where some of those arguments have names: they were pushed for the parameters with these numbers, the last one
@@ -159,10 +175,7 @@ fn push_named<'a>(
     ensures { OnOk result (PushesNamed routine.entry passed.entry (reverse named.items) place (draft_view draft.old) (draft_view draft.new)) }
 {
     let ending = named_ending(alloc, draft, routine, passed, named)?;
-    let Some(_found) = push_ending(draft, no_object(ending), place)? else {
-        return Err(OrMemory::Fault(NotYet));
-    };
-    Ok(())
+    push_term(alloc, draft, Term::Value(ending), place)
 }
 
 /// The same where the last arguments are so many values for a ParamArray.
@@ -178,10 +191,7 @@ fn push_values<'a>(
     ensures { OnOk result (PushesValues routine.entry passed.entry values place (draft_view draft.old) (draft_view draft.new)) }
 {
     let ending = gathered_ending(alloc, draft, routine, passed, values)?;
-    let Some(_found) = push_ending(draft, no_object(ending), place)? else {
-        return Err(OrMemory::Fault(NotYet));
-    };
-    Ok(())
+    push_term(alloc, draft, Term::Value(ending), place)
 }
 
 /// The same with names or without.
@@ -226,56 +236,6 @@ fn call_routine<'a>(
     Ok(ActionKind::Evaluate)
 }
 
-/// A statement that is the value of a call.
-fn evaluate_call<'a>(
-    alloc: Global,
-    draft: &mut Draft,
-    term: Term<'a>,
-    place: Place,
-) -> Result<ActionKind, OrMemory<NotYet>>
-    requires named { TermNamed (draft_view draft.old).tables term }
-    requires routine { is_routine term ≡ true }
-    ensures { IfOk result (λ kind. (env : plain.Env) → Acts env term.entry place [] (draft_view draft.old) (draft_view draft.new) kind) }
-{
-    let ending = value_ending(alloc, draft, term, place)?;
-    let Some(_found) = push_ending(draft, ending, place)? else {
-        return Err(OrMemory::Fault(NotYet));
-    };
-    Ok(ActionKind::Evaluate)
-}
-
-/// A statement that is a value or an object.
-fn evaluate_given<'a>(
-    alloc: Global,
-    draft: &mut Draft,
-    term: Term<'a>,
-    place: Place,
-) -> Result<ActionKind, OrMemory<NotYet>>
-    requires named { TermNamed (draft_view draft.old).tables term }
-    requires no_routine { is_routine term ≡ false }
-    ensures { IfOk result (λ kind. (env : plain.Env) → Acts env term.entry place [] (draft_view draft.old) (draft_view draft.new) kind) }
-{
-    let tree = Tree {
-        place,
-        name: None,
-        is_qualifier: false,
-        term,
-    };
-    let ending = given_ending(alloc, draft, tree)?;
-    push_node(draft, ending.kind, ending.of, place)?;
-    Ok(ActionKind::Evaluate)
-}
-
-/// Is a term a procedure?
-fn is_routine<'a>(term: Term<'a>) -> bool
-    ensures { result ≡ is_routine term.entry }
-{
-    match term {
-        Term::Routine(_) => true,
-        _ => false,
-    }
-}
-
 /// A statement that is the value of a call, another value or an object.
 fn evaluate_term<'a>(
     alloc: Global,
@@ -286,11 +246,8 @@ fn evaluate_term<'a>(
     requires { TermNamed (draft_view draft.old).tables term }
     ensures { IfOk result (λ kind. (env : plain.Env) → Acts env term.entry place [] (draft_view draft.old) (draft_view draft.new) kind) }
 {
-    if is_routine(term) {
-        evaluate_call(alloc, draft, term, place)
-    } else {
-        evaluate_given(alloc, draft, term, place)
-    }
+    push_term(alloc, draft, term, place)?;
+    Ok(ActionKind::Evaluate)
 }
 
 /// A statement that calls without arguments.

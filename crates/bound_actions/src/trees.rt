@@ -1,11 +1,12 @@
 //! Expressions by a part of their nodes: what stands before the last arguments in brackets.
 
-ghost use Rattle.std.specs.Prelude.{◌≡◌, IfOk, MatchBool, IfSome, option_map};
+ghost use Rattle.std.specs.Prelude.{◌≡◌, Some, IfOk, MatchBool, IfSome, option_map};
 ghost use Rattle.vba_expression.specs.Nodes.{tree_in};
 ghost use Rattle.bound_project.specs.DraftView.{draft_view};
 ghost use Rattle.binder.specs.ExpressionsBound.{term_of};
 ghost use Rattle.binder.specs.Terms as plain;
 ghost use Rattle.bound_actions.specs.Called.{Continues, IsBare, LeavesAlone, SplitAt};
+ghost use Rattle.bound_actions.specs.Heights.{AddsOne, height_behind, taking};
 ghost use Rattle.bound_actions.specs.Members.{NamedBy};
 ghost use Rattle.bound_calls.specs.Standing.{TermNamed};
 ghost use Rattle.bound_terms.specs.View.{EnvStands, env_view};
@@ -131,4 +132,37 @@ pub fn member_name<'a>(nodes: &'a [ExpressionNode]) -> Option<&'a Identifier>
         Some((ExpressionNode::WithMember { member, .. }, _)) => Some(member),
         _ => None,
     }
+}
+
+/// How many items stand there behind a node where so many did; none where it takes one below those.
+fn height_behind(node: &ExpressionNode, height: usize) -> Option<usize>
+    ensures { IfSome result (λ more. height_behind (taking node.now) height ≡ Some more) }
+{
+    match node {
+        ExpressionNode::Literal(_)
+        | ExpressionNode::Me(_)
+        | ExpressionNode::Name(_)
+        | ExpressionNode::WithMember { .. }
+        | ExpressionNode::NoArguments
+        | ExpressionNode::New { .. } => height.checked_add(1),
+        ExpressionNode::PlainArgument { .. }
+        | ExpressionNode::NamedArgument { .. }
+        | ExpressionNode::Index { .. }
+        | ExpressionNode::Binary { .. } => { if height < 2 { None } else { Some(height - 1) } }
+        _ => { if height == 0 { None } else { Some(height) } }
+    }
+}
+
+/// Do nodes leave one more item, and those below as they are?
+pub fn adds_one(nodes: &[ExpressionNode]) -> bool
+    ensures { MatchBool result (AddsOne nodes.now) (Unit {0}) }
+{
+    let mut height: usize = 0;
+    for node in nodes {
+        match height_behind(node, height) {
+            Some(more) => height = more,
+            None => return false,
+        }
+    }
+    height == 1
 }

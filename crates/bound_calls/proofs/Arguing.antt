@@ -1,8 +1,9 @@
 -- How arguments and calls are pushed.
-use Rattle.std.proofs.Common.{◌≡◌, T, ℕ, ◌<◌, ◌≤◌, ◌+◌, Bool, true, false, List, [], ◌∷◌, ◌++◌, map, length, get_or, drop, Option, Some, None, option_map, is_some, if◌then◌else◌, refl, sym, ap, subst, ◌∙◌, arith, length-append, append-nil, append_assoc}
+use Rattle.std.proofs.Common.{◌≡◌, T, ℕ, ◌<◌, ◌≤◌, ◌+◌, Bool, true, false, ◌&&◌, ◌||◌, List, [], ◌∷◌, ◌++◌, map, length, get_or, drop, Option, Some, None, option_map, is_some, if◌then◌else◌, refl, sym, ap, subst, ◌∙◌, arith, length-append, append-nil, append_assoc}
 use Rattle.std.proofs.lemmas.List.{map_push, drop_more, drop_all}
 use Rattle.std.specs.Prelude.{unwrap_or}
 use Rattle.vba_base.specs.declared.place.Place.{Place}
+use Rattle.vba_values.specs.Types.{Declared}
 use Rattle.vba_values.specs.Val.{Val}
 use Rattle.vba_values.specs.declared.value.Value.{Value}
 use Rattle.vba_values.specs.View.{view as value_view}
@@ -12,29 +13,32 @@ use Rattle.bound_project.specs.declared.declarations.Parameter.{Parameter}
 use Rattle.bound_project.specs.declared.declared_type.DeclaredType.{DeclaredType}
 use Rattle.bound_project.specs.declared.node.NodeKind.{NodeKind}
 use Rattle.bound_project.specs.declared.node.NodeKind.TheVariants as node
-use Rattle.bound_project.specs.View.{declared_view, parameter_view}
-use Rattle.bound_project.specs.Expressions.{no_exprs}
+use Rattle.bound_project.specs.View.{declared_view, parameter_view, variable_view}
+use Rattle.bound_project.specs.Expressions.{Lvalue, item, no_exprs}
 use Rattle.bound_project.specs.Expressions as bound
 use Rattle.bound_project.specs.Lists.{above}
 use Rattle.bound_project.proofs.Lists.{above_push}
-use Rattle.bound_project.specs.Pieces.{Argument, place_lent, value_copied, default_taken, values_listed, Piece, Tables, an_argument, of_place, of_value, put}
+use Rattle.bound_project.specs.Pieces.{Argument, place_lent, value_copied, default_taken, values_listed, Piece, Tables, an_argument, a_place as a_place_piece, exprs_off, of_place, of_value, put}
 use Rattle.bound_project.specs.Project as project
 use Rattle.bound_project.specs.Drafts.{Drafted, NodeNamed, with_constant}
 use Rattle.bound_project.proofs.Drafts.{constant_last}
 use Rattle.binder.specs.Constants.{place_of_expression}
-use Rattle.binder.specs.Terms.{Env, Given, taken_by, by_reference, by_copy, is_lent_to}
+use Rattle.binder.specs.Types.{is_object}
+use Rattle.binder.specs.Terms.{Env, Given, a_place, taken_by, by_reference, by_copy, is_lent_to, is_copied_to}
 use Rattle.binder.specs.Terms as plain
-use Rattle.binder.specs.ExpressionsBound.{term_of, value_of, givens}
+use Rattle.binder.specs.ExpressionsBound.{argument_of, given_as, operand_of, term_of, givens}
 use Rattle.bound_calls.specs.declared.term.Ending.{Ending}
 use Rattle.bound_calls.specs.declared.term.Term.{Term}
 use Rattle.bound_calls.specs.declared.term.Term.TheVariants as term
 use Rattle.bound_calls.specs.declared.term.Tree.{Tree}
 use Rattle.bound_calls.specs.declared.term.Passed.{Passed}
 use Rattle.bound_calls.specs.Passing.{Taken, AllTaken, NotGiven, AllLeft}
-use Rattle.bound_calls.specs.Standing.{TermStands, TermNamed, TreeStands, PassedStands, Grown}
-use Rattle.bound_calls.specs.Steps.{AddsConstant, PushesValue}
-use Rattle.bound_calls.specs.Calls.{node_of, plain_given, lent_in, LendsTo, Lends, Copies, TakenIs, PassesTree, PassesNone, PassesRest, PassesPlain, PassesMissing}
+use Rattle.bound_calls.specs.Standing.{PlaceEnds, TermStands, TermNamed, TreeStands, PassedStands, Grown}
+use Rattle.bound_calls.specs.Steps.{AddsConstant, PushesOperand}
+use Rattle.bound_calls.specs.References.{PushesGiven}
+use Rattle.bound_calls.specs.Calls.{node_of, plain_given, lent_in, may_be_item, is_copied, keeps_object, PushesArgument, Lends, Copies, TakenIs, PassesTree, PassesNone, PassesRest, PassesPlain, PassesMissing}
 use Rattle.bound_calls.proofs.Growing.{grown_same, grown_twice, grown_pieces, grown_constant}
+use Rattle.bound_calls.proofs.LastNodes.{any_node, found_passes}
 use Rattle.bound_calls.proofs.Passing.{taken_push}
 
 -- a draft with one more node
@@ -56,8 +60,8 @@ lent kind place of d d1 e a b =
       stands = λ x below h. ap (λ st. of_place (λ y. an_argument (place_lent y)) st) (h (node_of kind place of));
     })
 
-pub copied : (of found : DeclaredType) (x : Tree) (place : Place) (d d1 e : Drafted) → PushesValue x d d1 (Some found) → e ≡ behind (node.ByCopy of) place of d1 → Copies of x d e
-copied of found x place d d1 e h b =
+pub copied : (of : DeclaredType) (x : Tree) (place : Place) (d d1 e : Drafted) → PushesArgument of x d d1 → e ≡ behind (node.ByCopy of) place of d1 → Copies of x d e
+copied of x place d d1 e h b =
     let P : Drafted → Type 0 = λ y. Copies of x d y in
     subst P (sym b) (record {
       grown = grown_twice d d1 (behind (node.ByCopy of) place of d1) h.grown (grown_behind (node.ByCopy of) place of d1);
@@ -66,9 +70,29 @@ copied of found x place d d1 e h b =
           record { made = p.made; is = p.is; on_top = ap (λ st. of_value (λ y. an_argument (value_copied y (declared_view of))) st) p.on_top };
     })
 
+-- an expression as a parameter of a type takes it
+argument_given : (env : Env) (of : DeclaredType) (t : plain.Term) (place : Place) (b : Bool) → keeps_object of ≡ b → argument_of env (declared_view of) t place ≡ (if b then given_as env t place else operand_of env t place)
+argument_given env of t place b h = ap (λ c. if c then given_as env t place else operand_of env t place) h
+
+pub argument_kept : (of : DeclaredType) (x : Tree) (u : DeclaredType) (d e : Drafted) → keeps_object of ≡ true → PushesGiven x d e u → PushesArgument of x d e
+argument_kept of x u d e keeps h = record {
+  grown = h.grown;
+  stands = λ env tree below k.
+      let p = h.stands env tree below k in
+      record { made = p.made; is = argument_given env of (term_of env tree) (place_of_expression tree) true keeps ∙ p.is; on_top = p.on_top };
+}
+
+pub argument_operand : (of : DeclaredType) (x : Tree) (u : DeclaredType) (d e : Drafted) → keeps_object of ≡ false → PushesOperand x d e (Some u) → PushesArgument of x d e
+argument_operand of x u d e keeps h = record {
+  grown = h.grown;
+  stands = λ env tree below k.
+      let p = h.stands env tree below k in
+      record { made = p.made; is = argument_given env of (term_of env tree) (place_of_expression tree) false keeps ∙ p.is; on_top = p.on_top };
+}
+
 -- a parameter takes a copy
-taken_copy : (value : plain.Term → Place → Option bound.Expr) (p : project.Parameter) (t : plain.Term) (place : Place) (made : bound.Expr) → p.many ≡ false
-    → ((rest : bound.Args) → taken_by value p (record { name = None; term = Some t; place = place }) rest ≡ by_copy value p t place rest) → value t place ≡ Some made
+taken_copy : (value : Declared → plain.Term → Place → Option bound.Expr) (p : project.Parameter) (t : plain.Term) (place : Place) (made : bound.Expr) → p.many ≡ false
+    → ((rest : bound.Args) → taken_by value p (record { name = None; term = Some t; place = place }) rest ≡ by_copy value p t place rest) → value p.of t place ≡ Some made
     → Taken value p (record { name = None; term = Some t; place = place }) (value_copied made p.of)
 taken_copy value p t place made many how found = record {
   no_name = refl;
@@ -78,20 +102,20 @@ taken_copy value p t place made many how found = record {
 
 copy_taken : (p : Parameter) (x : Tree) (d e : Drafted) → p.is_param_array ≡ false → Copies p.of x d e
     → ((env : Env) (tree : Expr) (below : List Piece) → TreeStands env d.tables x tree d.pieces below → (rest : bound.Args)
-    → taken_by (value_of env) (parameter_view p) (plain_given env tree) rest ≡ by_copy (value_of env) (parameter_view p) (term_of env tree) (place_of_expression tree) rest)
+    → taken_by (argument_of env) (parameter_view p) (plain_given env tree) rest ≡ by_copy (argument_of env) (parameter_view p) (term_of env tree) (place_of_expression tree) rest)
     → PassesTree p x d e
 copy_taken p x d e many h how = record {
   grown = h.grown;
   stands = λ env tree below k.
       let c = h.stands env tree below k in
-      record { made = value_copied c.made (declared_view p.of); taken = taken_copy (value_of env) (parameter_view p) (term_of env tree) (place_of_expression tree) c.made many (how env tree below k) c.is; on_top = c.on_top };
+      record { made = value_copied c.made (declared_view p.of); taken = taken_copy (argument_of env) (parameter_view p) (term_of env tree) (place_of_expression tree) c.made many (how env tree below k) c.is; on_top = c.on_top };
 }
 
 pub passed_copy : (p : Parameter) (x : Tree) (d e : Drafted) → p.is_param_array ≡ false → p.is_by_reference ≡ false → Copies p.of x d e → PassesTree p x d e
 passed_copy p x d e many reference h =
     copy_taken p x d e many h (λ env tree below k rest.
-    ap (λ b. if b then by_reference (value_of env) (parameter_view p) (term_of env tree) (place_of_expression tree) rest
-    else by_copy (value_of env) (parameter_view p) (term_of env tree) (place_of_expression tree) rest) reference)
+    ap (λ b. if b then by_reference (argument_of env) (parameter_view p) (term_of env tree) (place_of_expression tree) rest
+    else by_copy (argument_of env) (parameter_view p) (term_of env tree) (place_of_expression tree) rest) reference)
 
 -- what isn't lent
 abbrev pub no_lent : Term → Type 0
@@ -99,33 +123,44 @@ no_lent (term.Place kind of bounded true) = ⊥
 no_lent x = Unit {0}
 
 copied_anyway : (env : Env) (x : Tree) (d : Drafted) (y : plain.Term) (below : List Piece) → no_lent x.term → TermStands env d.tables x.term y d.pieces below
-    → (p : project.Parameter) (place : Place) (rest : bound.Args) → by_reference (value_of env) p y place rest ≡ by_copy (value_of env) p y place rest
+    → (p : project.Parameter) (place : Place) (rest : bound.Args) → by_reference (argument_of env) p y place rest ≡ by_copy (argument_of env) p y place rest
 copied_anyway env x d y below n h p place rest = at x.term n h
   where
-    at : (x : Term) → no_lent x → TermStands env d.tables x y d.pieces below → by_reference (value_of env) p y place rest ≡ by_copy (value_of env) p y place rest
+    at : (x : Term) → no_lent x → TermStands env d.tables x y d.pieces below → by_reference (argument_of env) p y place rest ≡ by_copy (argument_of env) p y place rest
     at (term.Place kind of bounded true) n h = absurd n
-    at (term.Place kind of bounded false) n h = let A : plain.Term → Type 0 = λ z. by_reference (value_of env) p z place rest ≡ by_copy (value_of env) p z place rest in subst A (sym h.is) refl
-    at (term.Value e) n h = let A : plain.Term → Type 0 = λ z. by_reference (value_of env) p z place rest ≡ by_copy (value_of env) p z place rest in subst A (sym h.is) refl
-    at (term.Routine r) n h = let A : plain.Term → Type 0 = λ z. by_reference (value_of env) p z place rest ≡ by_copy (value_of env) p z place rest in subst A (sym h.is) refl
-    at (term.Function f) n h = let A : plain.Term → Type 0 = λ z. by_reference (value_of env) p z place rest ≡ by_copy (value_of env) p z place rest in subst A (sym h.0.is) refl
-    at (term.HostMember m) n h = let A : plain.Term → Type 0 = λ z. by_reference (value_of env) p z place rest ≡ by_copy (value_of env) p z place rest in subst A (sym h.is) refl
-    at (term.SheetMember m) n h = let A : plain.Term → Type 0 = λ z. by_reference (value_of env) p z place rest ≡ by_copy (value_of env) p z place rest in subst A (sym h.0) refl
-    at term.Err n h = let A : plain.Term → Type 0 = λ z. by_reference (value_of env) p z place rest ≡ by_copy (value_of env) p z place rest in subst A (sym h.0) refl
-    at term.ErrRaise n h = let A : plain.Term → Type 0 = λ z. by_reference (value_of env) p z place rest ≡ by_copy (value_of env) p z place rest in subst A (sym h.0) refl
-    at term.ErrClear n h = let A : plain.Term → Type 0 = λ z. by_reference (value_of env) p z place rest ≡ by_copy (value_of env) p z place rest in subst A (sym h.0) refl
-    at term.ErrorWord n h = let A : plain.Term → Type 0 = λ z. by_reference (value_of env) p z place rest ≡ by_copy (value_of env) p z place rest in subst A (sym h.0) refl
-    at term.Nothing n h = let A : plain.Term → Type 0 = λ z. by_reference (value_of env) p z place rest ≡ by_copy (value_of env) p z place rest in subst A (sym h) refl
+    at (term.Place kind of bounded false) n h = let A : plain.Term → Type 0 = λ z. by_reference (argument_of env) p z place rest ≡ by_copy (argument_of env) p z place rest in subst A (sym h.is) refl
+    at (term.Value e) n h = let A : plain.Term → Type 0 = λ z. by_reference (argument_of env) p z place rest ≡ by_copy (argument_of env) p z place rest in subst A (sym h.is) refl
+    at (term.Routine r) n h = let A : plain.Term → Type 0 = λ z. by_reference (argument_of env) p z place rest ≡ by_copy (argument_of env) p z place rest in subst A (sym h.is) refl
+    at (term.Function f) n h = let A : plain.Term → Type 0 = λ z. by_reference (argument_of env) p z place rest ≡ by_copy (argument_of env) p z place rest in subst A (sym h.0.is) refl
+    at (term.HostMember m) n h = let A : plain.Term → Type 0 = λ z. by_reference (argument_of env) p z place rest ≡ by_copy (argument_of env) p z place rest in subst A (sym h.is) refl
+    at (term.SheetMember m) n h = let A : plain.Term → Type 0 = λ z. by_reference (argument_of env) p z place rest ≡ by_copy (argument_of env) p z place rest in subst A (sym h.0) refl
+    at term.Err n h = let A : plain.Term → Type 0 = λ z. by_reference (argument_of env) p z place rest ≡ by_copy (argument_of env) p z place rest in subst A (sym h.0) refl
+    at term.ErrRaise n h = let A : plain.Term → Type 0 = λ z. by_reference (argument_of env) p z place rest ≡ by_copy (argument_of env) p z place rest in subst A (sym h.0) refl
+    at term.ErrClear n h = let A : plain.Term → Type 0 = λ z. by_reference (argument_of env) p z place rest ≡ by_copy (argument_of env) p z place rest in subst A (sym h.0) refl
+    at term.ErrorWord n h = let A : plain.Term → Type 0 = λ z. by_reference (argument_of env) p z place rest ≡ by_copy (argument_of env) p z place rest in subst A (sym h.0) refl
+    at term.Nothing n h = let A : plain.Term → Type 0 = λ z. by_reference (argument_of env) p z place rest ≡ by_copy (argument_of env) p z place rest in subst A (sym h) refl
 
 -- where a parameter takes a place, and none is lent
 pub passed_anyway : (p : Parameter) (x : Tree) (d e : Drafted) → p.is_param_array ≡ false → p.is_by_reference ≡ true → no_lent x.term → Copies p.of x d e → PassesTree p x d e
 passed_anyway p x d e many reference n h =
     copy_taken p x d e many h (λ env tree below k rest.
-    ap (λ b. if b then by_reference (value_of env) (parameter_view p) (term_of env tree) (place_of_expression tree) rest
-    else by_copy (value_of env) (parameter_view p) (term_of env tree) (place_of_expression tree) rest) reference
+    ap (λ b. if b then by_reference (argument_of env) (parameter_view p) (term_of env tree) (place_of_expression tree) rest
+    else by_copy (argument_of env) (parameter_view p) (term_of env tree) (place_of_expression tree) rest) reference
     ∙ copied_anyway env x d (term_of env tree) below n k.term_is (parameter_view p) (place_of_expression tree) rest)
 
 -- a place is lent
-pub passed_place : (p : Parameter) (x : Tree) (kind : NodeKind) (of : DeclaredType) (bounded : Bool) (d e : Drafted) → p.is_param_array ≡ false → p.is_by_reference ≡ true → x.term ≡ term.Place kind of bounded true
+abbrev by_place : Env → project.Parameter → Lvalue → Declared → Bool → Place → bound.Args → (lent copied : Bool) → Option bound.Args
+by_place env p at of bounded place rest lent copied = if lent then Some (bound.by_place at rest) else if copied then by_copy (argument_of env) p (a_place at of bounded true) place rest else None
+
+reference_taken : (env : Env) (p : Parameter) (t : plain.Term) (at : Lvalue) (of : Declared) (bounded : Bool) (place : Place) (rest : bound.Args) (lent copied : Bool) → p.is_by_reference ≡ true → t ≡ a_place at of bounded true
+    → is_lent_to of (declared_view p.of) ≡ lent → is_copied_to at of (declared_view p.of) ≡ copied
+    → (if p.is_by_reference then by_reference (argument_of env) (parameter_view p) t place rest else by_copy (argument_of env) (parameter_view p) t place rest) ≡ by_place env (parameter_view p) at of bounded place rest lent copied
+reference_taken env p t at of bounded place rest lent copied reference is fits copies =
+    let P = parameter_view p in
+    ap (λ b. if b then by_reference (argument_of env) P t place rest else by_copy (argument_of env) P t place rest) reference ∙ ap (λ y. by_reference (argument_of env) P y place rest) is
+    ∙ ap (λ b. by_place env P at of bounded place rest b (is_copied_to at of (declared_view p.of))) fits ∙ ap (λ b. by_place env P at of bounded place rest lent b) copies
+
+passed_place : (p : Parameter) (x : Tree) (kind : NodeKind) (of : DeclaredType) (bounded : Bool) (d e : Drafted) → p.is_param_array ≡ false → p.is_by_reference ≡ true → x.term ≡ term.Place kind of bounded true
     → is_lent_to (declared_view of) (declared_view p.of) ≡ true → Lends kind d e → PassesTree p x d e
 passed_place p x kind of bounded d e many reference is fits h = record {
   grown = h.grown;
@@ -137,15 +172,41 @@ passed_place p x kind of bounded d e many reference is fits h = record {
         taken = record {
           no_name = refl;
           no_list = many;
-          makes = λ rest.
-              ap (λ b. if b then by_reference (value_of env) (parameter_view p) (term_of env tree) (place_of_expression tree) rest
-              else by_copy (value_of env) (parameter_view p) (term_of env tree) (place_of_expression tree) rest) reference
-              ∙ ap (λ y. by_reference (value_of env) (parameter_view p) y (place_of_expression tree) rest) s.is
-              ∙ ap (λ b. if b then Some (bound.by_place s.at rest) else None) fits;
+          makes = λ rest. reference_taken env p (term_of env tree) s.at (declared_view of) bounded (place_of_expression tree) rest true (is_copied_to s.at (declared_view of) (declared_view p.of)) reference s.is fits refl;
         };
         on_top = h.stands s.at below s.ends;
       };
 }
+
+-- an element of a Variant variable
+item_on_top : List Piece → Bool
+item_on_top (a_place_piece x ∷ st) = plain.may_be_item x
+item_on_top st = true
+
+may_be : (t : Tables) (kind : NodeKind) (at : Lvalue) (ps below : List Piece) → may_be_item kind ≡ true → PlaceEnds t kind at ps below → plain.may_be_item at ≡ true
+unfolding item_on_top
+may_be t (node.Item x count) at ps below h ends =
+    sym (ap item_on_top (ends any_node)) ∙ found_passes item_on_top refl (λ es. a_place_piece (item (variable_view x) es)) (λ es rest. h) (exprs_off count ps no_exprs)
+may_be t kind at ps below h ends = let e : false ≡ true = h in absurd cc
+
+either_holds : (a b c : Bool) → (b ≡ true → c ≡ true) → (a || b) ≡ true → (a || c) ≡ true
+either_holds true b c f h = refl
+either_holds false b c f h = f h
+
+copied_to : (t : Tables) (kind : NodeKind) (of parameter : DeclaredType) (at : Lvalue) (ps below : List Piece) → is_copied kind of parameter ≡ true → PlaceEnds t kind at ps below
+    → is_copied_to at (declared_view of) (declared_view parameter) ≡ true
+copied_to t kind of parameter at ps below h ends =
+    either_holds (is_object (declared_view of) && is_object (declared_view parameter)) (may_be_item kind) (plain.may_be_item at) (λ k. may_be t kind at ps below k ends) h
+
+placed_copy : (p : Parameter) (x : Tree) (kind : NodeKind) (of : DeclaredType) (bounded : Bool) (d e : Drafted) → p.is_param_array ≡ false → p.is_by_reference ≡ true → x.term ≡ term.Place kind of bounded true
+    → is_lent_to (declared_view of) (declared_view p.of) ≡ false → is_copied kind of p.of ≡ true → Copies p.of x d e → PassesTree p x d e
+placed_copy p x kind of bounded d e many reference is fits copies h =
+    copy_taken p x d e many h (λ env tree below k rest.
+    let A : Term → Type 0 = λ y. TermStands env d.tables y (term_of env tree) d.pieces below in
+    let s = subst A is k.term_is in
+    let place = place_of_expression tree in
+    reference_taken env p (term_of env tree) s.at (declared_view of) bounded place rest false true reference s.is fits (copied_to d.tables kind of p.of s.at d.pieces below copies s.ends)
+    ∙ ap (λ y. by_copy (argument_of env) (parameter_view p) y place rest) (sym s.is))
 
 some_of : (x y : Ending) → Some x ≡ Some y → x ≡ y
 some_of x y h = ap (λ o. unwrap_or o x) h
@@ -160,9 +221,13 @@ lent_is x lent h = absurd (none_of lent h)
 pub lent_named : (t : Tables) (x : Term) (lent : Ending) → lent_in x ≡ Some lent → TermNamed t x → NodeNamed t lent.kind
 lent_named t x lent h k = let A : Term → Type 0 = λ y. TermNamed t y in subst A (lent_is x lent h).1 k
 
-pub passed_lent : (p : Parameter) (x : Tree) (lent : Ending) (d e : Drafted) → p.is_param_array ≡ false → p.is_by_reference ≡ true → lent_in x.term ≡ Some lent → LendsTo p lent d e → PassesTree p x d e
-passed_lent p x lent d e many reference is h =
-    let at = lent_is x.term lent is in passed_place p x lent.kind lent.of at.0 d e many reference at.1 h.fits h.lends
+pub passed_lent : (p : Parameter) (x : Tree) (lent : Ending) (d e : Drafted) → p.is_param_array ≡ false → p.is_by_reference ≡ true → lent_in x.term ≡ Some lent → is_lent_to (declared_view lent.of) (declared_view p.of) ≡ true
+    → Lends lent.kind d e → PassesTree p x d e
+passed_lent p x lent d e many reference is fits h = let at = lent_is x.term lent is in passed_place p x lent.kind lent.of at.0 d e many reference at.1 fits h
+
+pub passed_copied : (p : Parameter) (x : Tree) (lent : Ending) (d e : Drafted) → p.is_param_array ≡ false → p.is_by_reference ≡ true → lent_in x.term ≡ Some lent → is_lent_to (declared_view lent.of) (declared_view p.of) ≡ false
+    → is_copied lent.kind lent.of p.of ≡ true → Copies p.of x d e → PassesTree p x d e
+passed_copied p x lent d e many reference is fits copies h = let at = lent_is x.term lent is in placed_copy p x lent.kind lent.of at.0 d e many reference at.1 fits copies h
 
 pub nothing_lent : (x : Term) → lent_in x ≡ None → no_lent x
 nothing_lent (term.Place kind of bounded true) h = none_of (record { kind = kind; of = of }) (sym h)
@@ -257,10 +322,10 @@ resting_done all d e i le r =
 passed_more : (env : Env) (parameters : List project.Parameter) (x z : Passed) (args more : Args) (p : Parameter) (left : List Parameter) (g : Given) (ps between below : List Piece) → x.left.now ≡ p ∷ left → z.left.now ≡ left
     → z.count ≡ x.count + 1 → givens env more ≡ givens env args ++ g ∷ [] → PassedStands env parameters x args between below → TakenIs env (parameter_view p) g ps between → PassedStands env parameters z more ps below
 passed_more env parameters x z args more p left g ps between below a b c given h t =
-    let A : List Parameter → Type 0 = λ l. AllTaken (value_of env) parameters (givens env args) h.made (map parameter_view l) in
-    let taken = taken_push (value_of env) parameters (givens env args) h.made (parameter_view p) (map parameter_view left) g t.made (subst A a h.taken) t.taken in
-    let B : List Given → Type 0 = λ l. AllTaken (value_of env) parameters l (h.made ++ t.made ∷ []) (map parameter_view left) in
-    let C : List Parameter → Type 0 = λ l. AllTaken (value_of env) parameters (givens env more) (h.made ++ t.made ∷ []) (map parameter_view l) in
+    let A : List Parameter → Type 0 = λ l. AllTaken (argument_of env) parameters (givens env args) h.made (map parameter_view l) in
+    let taken = taken_push (argument_of env) parameters (givens env args) h.made (parameter_view p) (map parameter_view left) g t.made (subst A a h.taken) t.taken in
+    let B : List Given → Type 0 = λ l. AllTaken (argument_of env) parameters l (h.made ++ t.made ∷ []) (map parameter_view left) in
+    let C : List Parameter → Type 0 = λ l. AllTaken (argument_of env) parameters (givens env more) (h.made ++ t.made ∷ []) (map parameter_view l) in
     record {
       made = h.made ++ t.made ∷ [];
       taken = subst C (sym b) (subst B (sym given) taken);

@@ -13,7 +13,6 @@ use Rattle.vba_expression.specs.Tree.{Expr, name, Args, missing, plain}
 use Rattle.vba_expression.specs.Reader.{name_in}
 use Rattle.vba_expression.specs.Nodes as nodes
 use Rattle.vba_expression.specs.Nodes.{behind_node}
-use Rattle.bound_project.specs.declared.declared_type.DeclaredType.{DeclaredType}
 use Rattle.bound_project.specs.declared.node.NodeKind.TheVariants as kind
 use Rattle.bound_project.specs.declared.node.Node.{Node}
 use Rattle.bound_project.specs.declared.declarations.Parameter.{Parameter}
@@ -31,7 +30,7 @@ use Rattle.binder.specs.Declarations.{Written}
 use Rattle.binder.specs.Scopes.{Space}
 use Rattle.binder.specs.Terms.{Env, Given, a_value, a_routine, value_with}
 use Rattle.binder.specs.Terms as plain_terms
-use Rattle.binder.specs.ExpressionsBound.{call_with, bare_call, callee, indexed, item_of, term_of, value_of, givens}
+use Rattle.binder.specs.ExpressionsBound.{argument_of, call_with, bare_call, callee, indexed, item_of, term_of, value_of, givens}
 use Rattle.module_parts.proofs.Firsts.{expression_front}
 use Rattle.bound_calls.specs.declared.term.Ending.{Ending}
 use Rattle.bound_calls.specs.declared.term.Routine.{Routine}
@@ -42,12 +41,12 @@ use Rattle.bound_calls.specs.declared.term.Call.{Call}
 use Rattle.bound_calls.specs.declared.term.Item.{Item}
 use Rattle.bound_calls.specs.declared.term.Item.TheVariants as item
 use Rattle.bound_calls.specs.Passing.{AllTaken}
-use Rattle.bound_calls.specs.Standing.{RoutineStands, ValueStands, EndingStands, PassedStands, Stands, ItemNamed, AllNamed, Base}
-use Rattle.bound_calls.specs.Taking.{CallsBare, Pushes, TakesValue, no_object}
+use Rattle.bound_calls.specs.Standing.{RoutineStands, ValueStands, PassedStands, Stands, ItemNamed, AllNamed, Base}
+use Rattle.bound_calls.specs.Taking.{BareIs, CallsBare, CallsRoutine, no_object}
 use Rattle.bound_calls.specs.Steps.{Goes}
-use Rattle.bound_calls.specs.Calls.{PassesPlain, PassesMissing, PassesRest, passed_in, with_passed, EndsCall, PushesCall}
+use Rattle.bound_calls.specs.Calls.{PassesPlain, PassesMissing, PassesRest, passed_in, with_passed, EndsCall}
 use Rattle.bound_calls.specs.Indexing.{AddsArgument, Closes}
-use Rattle.bound_calls.proofs.Growing.{grown_twice, all_named, stands_grows}
+use Rattle.bound_calls.proofs.Growing.{all_named, stands_grows}
 use Rattle.bound_calls.proofs.Arguing.{left_long}
 use Rattle.bound_calls.proofs.Taking.{same_ending, takes_value}
 use Rattle.bound_calls.proofs.Passing.{arguments_bound}
@@ -80,7 +79,7 @@ call_ends t procedure count xs ds ps between below counted a b n =
     ap (λ st. A (arguments_off count st bound.no_args)) all ∙ ap (λ m. A (arguments_off m (above (map an_argument (xs ++ ds)) below) bound.no_args)) number ∙ ap A (args_are (xs ++ ds) below)
 
 -- arguments that were pushed, and the others
-call_made : (value : plain_terms.Term → Place → Option bound.Expr) (env : Env) (t : Tables) (r : Routine) (x : Passed) (d e : Drafted) (ending : Ending) (y : plain_terms.Term) (place : Place) (gs : List Given) (xs : List Argument)
+call_made : (value : Declared → plain_terms.Term → Place → Option bound.Expr) (env : Env) (t : Tables) (r : Routine) (x : Passed) (d e : Drafted) (ending : Ending) (y : plain_terms.Term) (place : Place) (gs : List Given) (xs : List Argument)
     (qs : List Piece) (below : List Piece) → EndsCall r x d e ending → (s : RoutineStands env r y qs qs) → AllTaken value (map parameter_view r.parameters.now) gs xs (map parameter_view x.left.now) → x.count ≡ length xs
     → d.pieces ≡ above (map an_argument xs) below → ValueStands t ending (call_with value env place gs s.space s.number s.written) e.pieces below
 call_made value env t r x d e ending y place gs xs qs below h s taken counted on_top =
@@ -98,7 +97,7 @@ pub call_stands : (env : Env) (t : Tables) (r : Routine) (x : Passed) (d e : Dra
     → RoutineStands env r y qs qs → PassedStands env (map parameter_view r.parameters.now) x args d.pieces below → ValueStands t ending (indexed env place y (givens env args)) e.pieces below
 call_stands env t r x d e ending y place args qs below h s p =
     let A : plain_terms.Term → Type 0 = λ z. ValueStands t ending (indexed env place z (givens env args)) e.pieces below in
-    subst A (sym s.is) (call_made (value_of env) env t r x d e ending y place (givens env args) p.made qs below h s p.taken p.count_is p.on_top)
+    subst A (sym s.is) (call_made (argument_of env) env t r x d e ending y place (givens env args) p.made qs below h s p.taken p.count_is p.on_top)
 
 ending_call : (r : Routine) (x : Passed) (d e : Drafted) (ending : Ending) → EndsCall r x d e ending → NodeNamed e.tables ending.kind
 ending_call r x d e ending h = let P : Ending → Type 0 = λ z. NodeNamed e.tables z.kind in subst P (sym h.ending_is) tt
@@ -109,9 +108,9 @@ bare_value : (env : Env) (space : Space) (number : ℕ) (w : Written) (made : bo
 bare_value env space number w made of place h =
     let A : plain_terms.Term → Type 0 = λ z. value_with (λ a b c. z) (a_routine space number w) place ≡ value_of env z place in subst A (sym h) refl
 
-bare_stands : (r : Routine) (x : Passed) (d e : Drafted) (ending : Ending) → x.left.now ≡ r.parameters.now → x.count ≡ 0 → EndsCall r x d e ending → (v : TakesValue (term.Value ending) e e (no_object ending))
-    → (env : Env) (y : plain_terms.Term) (below : List Piece) → RoutineStands env r y d.pieces below → EndingStands e.tables (no_object ending) (λ place. value_of env y place) e.pieces below
-bare_stands r x d e ending left count h v env y below s =
+routine_stands : (r : Routine) (x : Passed) (d e : Drafted) (ending : Ending) → x.left.now ≡ r.parameters.now → x.count ≡ 0 → EndsCall r x d e ending → (env : Env) (y : plain_terms.Term) (below : List Piece) → RoutineStands env r y d.pieces below
+    → BareIs env e.tables ending y e.pieces below
+routine_stands r x d e ending left count h env y below s =
     let t : RoutineStands env r y below below = record {
       space = s.space;
       number = s.number;
@@ -127,16 +126,30 @@ bare_stands r x d e ending left count h v env y below s =
       placed = s.placed;
       none_pushed = refl;
     } in
-    let z = bare_call env s.space s.number s.written in
-    let made : ValueStands e.tables ending z e.pieces below =
-    call_made (λ t place. None) env e.tables r x d e ending y s.written.place [] [] below below h t (ap (λ l. map parameter_view l) (sym left)) count s.none_pushed in
-    same_ending e.tables (no_object ending) (λ place. value_of env z place) (λ place. value_of env y place) e.pieces below
-    (λ place. ap (λ w. value_of env w place) s.is ∙ bare_value env s.space s.number s.written made.made (declared_view ending.of) place made.is) (v.stands env z below made)
+    record {
+      space = s.space;
+      number = s.number;
+      written = s.written;
+      is = s.is;
+      called = call_made (λ of t place. None) env e.tables r x d e ending y s.written.place [] [] below below h t (ap (λ l. map parameter_view l) (sym left)) count s.none_pushed;
+    }
 
-pub calls_bare : (r : Routine) (x : Passed) (d e : Drafted) (ending : Ending) → x.left.now ≡ r.parameters.now → x.count ≡ 0 → EndsCall r x d e ending → CallsBare r d e (no_object ending)
-calls_bare r x d e ending left count h =
-    let v = takes_value ending e (ending_call r x d e ending h) in
-    record { grown = h.grown; named = v.named; stands = bare_stands r x d e ending left count h v }
+pub calls_routine : (r : Routine) (x : Passed) (d e : Drafted) (ending : Ending) → x.left.now ≡ r.parameters.now → x.count ≡ 0 → EndsCall r x d e ending → CallsRoutine r d e ending
+calls_routine r x d e ending left count h =
+    record { grown = h.grown; named = ending_call r x d e ending h; of_is = ap (λ (z : Ending). z.of) h.ending_is; stands = routine_stands r x d e ending left count h }
+
+pub calls_bare : (r : Routine) (d e : Drafted) (ending : Ending) → CallsRoutine r d e ending → CallsBare r d e (no_object ending)
+calls_bare r d e ending h =
+    let v = takes_value ending e h.named in
+    record {
+      grown = h.grown;
+      named = v.named;
+      stands = λ env y below k.
+          let b = h.stands env y below k in
+          let z = bare_call env b.space b.number b.written in
+          same_ending e.tables (no_object ending) (λ place. value_of env z place) (λ place. value_of env y place) e.pieces below
+          (λ place. ap (λ w. value_of env w place) b.is ∙ bare_value env b.space b.number b.written b.called.made (declared_view ending.of) place b.called.is) (v.stands env z below b.called);
+    }
 
 -- ---- the steps
 
@@ -291,13 +304,3 @@ pub ends_call : (r : Routine) (x : Passed) (d e : Drafted) (left arguments : ℕ
 ends_call r x d e left arguments a b h =
     let count : arguments ≡ x.count + length h.made = omega (arith, a, b, left_long (map parameter_view x.left.now) h.made h.left, parameters_long x.left.now) in
     let A : ℕ → Ending = λ n. record { kind = kind.Call r.procedure n; of = r.of } in record { grown = h.grown; made = h.made; left = h.left; on_top = h.on_top; ending_is = ap A count }
-
-pub pushes_call : (r : Routine) (x : Passed) (place : Place) (d d1 e : Drafted) (ending : Ending) (of : DeclaredType) → EndsCall r x d d1 ending → Pushes (no_object ending) place d1 e (Some of) → PushesCall r x place d e
-pushes_call r x place d d1 e ending of h p = record {
-  grown = grown_twice d d1 e h.grown p.grown;
-  stands = λ env y args qs below s t.
-      let z = indexed env place y (givens env args) in
-      let v = takes_value ending d1 (ending_call r x d d1 ending h) in
-      let is = p.stands (λ q. value_of env z q) below (v.stands env z below (call_stands env d1.tables r x d d1 ending y place args qs below h s t)) in
-      record { made = is.made; is = is.is; on_top = is.on_top };
-}

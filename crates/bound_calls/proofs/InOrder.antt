@@ -3,6 +3,7 @@ use Rattle.std.proofs.Common.{◌≡◌, ℕ, zero, suc, ◌+◌, ◌==◌, Bool
 use Rattle.std.specs.Prelude.{option_and_then}
 use Rattle.std.specs.List.{list_any}
 use Rattle.vba_base.specs.declared.place.Place.{Place}
+use Rattle.vba_values.specs.Types.{Declared}
 use Rattle.bound_project.specs.Expressions.{Args, no_args, in_order}
 use Rattle.bound_project.specs.Expressions as bound
 use Rattle.bound_project.specs.Pieces.{Argument, with_argument}
@@ -104,7 +105,7 @@ record ItemsMade (found : Option (List Item)) (ks : List ℕ) (xs : List Argumen
   pub numbers_are : numbers_in items ≡ ks
   pub builds : (more : List Item) (args : Args) → built more ≡ Some args → built (items ++ more) ≡ Some (args_before xs args)
 
-named_made : (value : Term → Place → Option bound.Expr) (n : ℕ) (ps : List Parameter) (gs : List Given) (ks : List ℕ) (xs : List Argument) → AllNamedTaken value n ps gs ks xs → ItemsMade (by_names value n ps gs) ks xs
+named_made : (value : Declared → Term → Place → Option bound.Expr) (n : ℕ) (ps : List Parameter) (gs : List Given) (ks : List ℕ) (xs : List Argument) → AllNamedTaken value n ps gs ks xs → ItemsMade (by_names value n ps gs) ks xs
 named_made value n ps [] [] [] h = record { items = []; is = refl; numbers_are = refl; builds = λ more args b. b }
 named_made value n ps [] [] (x ∷ xs) h = absurd h
 named_made value n ps [] (k ∷ ks) xs h = absurd h
@@ -123,14 +124,14 @@ named_made value n ps (g ∷ gs) (k ∷ ks) (x ∷ xs) h =
     }
 
 -- where the first argument has a name
-names_begin : (value : Term → Place → Option bound.Expr) (n : ℕ) (ps : List Parameter) (g : Given) (gs : List Given) (ks : List ℕ) (xs : List Argument) → AllNamedTaken value n ps (g ∷ gs) ks xs
+names_begin : (value : Declared → Term → Place → Option bound.Expr) (n : ℕ) (ps : List Parameter) (g : Given) (gs : List Given) (ks : List ℕ) (xs : List Argument) → AllNamedTaken value n ps (g ∷ gs) ks xs
     → by_position value n ps (g ∷ gs) ≡ by_names value n ps (g ∷ gs)
 names_begin value n ps g gs [] xs h = absurd h
 names_begin value n ps g gs (k ∷ ks) [] h = absurd h
 names_begin value n [] g gs (k ∷ ks) (x ∷ xs) h = let e : ◌≡◌ {A = Option (ℕ × Parameter)} None (Some (k, h.0.parameter)) = h.0.found in absurd cc
 names_begin value n (p ∷ ps) g gs (k ∷ ks) (x ∷ xs) h = rw h.0.has_name refl
 
-all_made : (value : Term → Place → Option bound.Expr) (n : ℕ) (ps : List Parameter) (gs : List Given) (xs : List Argument) (left : List Parameter) (m : ℕ) (g : Given) (ns : List Given) (ks : List ℕ) (ys : List Argument)
+all_made : (value : Declared → Term → Place → Option bound.Expr) (n : ℕ) (ps : List Parameter) (gs : List Given) (xs : List Argument) (left : List Parameter) (m : ℕ) (g : Given) (ns : List Given) (ks : List ℕ) (ys : List Argument)
     → m ≡ n + length xs → AllTaken value ps gs xs left → AllNamedTaken value m left (g ∷ ns) ks ys → ItemsMade (by_position value n ps (gs ++ g ∷ ns)) (counted_from n (length xs) ++ ks) (xs ++ ys)
 all_made value n ps [] [] left m g ns ks ys e t h =
     let same : m ≡ n = omega (arith, e) in
@@ -150,7 +151,7 @@ all_made value n (p ∷ ps) (f ∷ gs) (x ∷ xs) left m g ns ks ys e t h =
       builds = λ more args b. ap (λ o. option_and_then (taken_by value p f) o) (r.builds more args b) ∙ t.0.makes (args_before (xs ++ ys) args);
     }
 
-names_there : (value : Term → Place → Option bound.Expr) (n : ℕ) (left : List Parameter) (gs : List Given) (g : Given) (ns : List Given) (ks : List ℕ) (ys : List Argument) → AllNamedTaken value n left (g ∷ ns) ks ys
+names_there : (value : Declared → Term → Place → Option bound.Expr) (n : ℕ) (left : List Parameter) (gs : List Given) (g : Given) (ns : List Given) (ks : List ℕ) (ys : List Argument) → AllNamedTaken value n left (g ∷ ns) ks ys
     → has_names (gs ++ g ∷ ns) ≡ true
 names_there value n left [] g ns [] ys h = absurd h
 names_there value n left [] g ns (k ∷ ks) [] h = absurd h
@@ -165,12 +166,12 @@ args_append : (xs ys : List Argument) (args : Args) → args_before (xs ++ ys) a
 args_append [] ys args = refl
 args_append (x ∷ xs) ys args = ap (λ a. with_argument x a) (args_append xs ys args)
 
-bound_by : (value : Term → Place → Option bound.Expr) (ps : List Parameter) (gs : List Given) (is : List Item) (args : Args) (order : List ℕ) → by_position value 0 ps gs ≡ Some is → are_apart is ≡ true
+bound_by : (value : Declared → Term → Place → Option bound.Expr) (ps : List Parameter) (gs : List Given) (is : List Item) (args : Args) (order : List ℕ) → by_position value 0 ps gs ≡ Some is → are_apart is ≡ true
     → built (is ++ left_over 0 ps is) ≡ Some args → has_names gs ≡ true → order_from 0 ps (is ++ left_over 0 ps is) ≡ order → bound_arguments value ps gs ≡ Some (in_order order args)
 bound_by value ps gs is args order a b c d e = rw (a, b, c, d, e) refl
 
 -- the arguments of a call of which the last ones have names
-pub named_bound : (value : Term → Place → Option bound.Expr) (ps : List Parameter) (gs : List Given) (xs : List Argument) (left : List Parameter) (g : Given) (ns : List Given) (ks : List ℕ) (ys ds : List Argument) → AllTaken value ps gs xs left
+pub named_bound : (value : Declared → Term → Place → Option bound.Expr) (ps : List Parameter) (gs : List Given) (xs : List Argument) (left : List Parameter) (g : Given) (ns : List Given) (ks : List ℕ) (ys ds : List Argument) → AllTaken value ps gs xs left
     → AllNamedTaken value (length xs) left (g ∷ ns) ks ys → all_apart (numbers_given (length xs) ks) ≡ true → AllLeft (others 0 ps (numbers_given (length xs) ks)) ds
     → bound_arguments value ps (gs ++ g ∷ ns) ≡ Some (in_order (places_from 0 (length ps) (numbers_pushed (length ps) (numbers_given (length xs) ks))) (args_of ((xs ++ ys) ++ ds)))
 named_bound value ps gs xs left g ns ks ys ds t h apart rest =

@@ -1,5 +1,6 @@
 pub mod Growing
 pub mod Taking
+pub mod LastNodes
 pub mod Referring
 pub mod Steps
 pub mod Passing

@@ -15,6 +15,7 @@ use Rattle.vba_expression.specs.Nodes as nodes
 use Rattle.vba_expression.specs.Nodes.{behind_node, last_arguments, rest}
 use Rattle.vba_tree.specs.Tree.{Parameter as Written_parameter}
 use Rattle.vba_values.specs.Types.{Declared}
+use Rattle.vba_values.specs.Types as type
 use Rattle.bound_project.specs.declared.declarations.Parameter.{Parameter}
 use Rattle.bound_project.specs.declared.node.NodeKind.TheVariants as kind
 use Rattle.bound_project.specs.declared.node.Node.{Node}
@@ -34,7 +35,7 @@ use Rattle.binder.specs.Scopes.{Scope, Space}
 use Rattle.binder.specs.Storage.{bound_parameters, procedure_number}
 use Rattle.binder.specs.Terms.{Env, Given, a_value, bound_arguments, parameter_named}
 use Rattle.binder.specs.Terms as plain_terms
-use Rattle.binder.specs.ExpressionsBound.{is_get, reader, parameters_in, call_type, call_value, call_with, if_there, indexes_value, indexed_value, node_or, numbers_of, callee, indexed, term_of, value_of, givens}
+use Rattle.binder.specs.ExpressionsBound.{is_get, reader, parameters_in, call_type, call_value, call_with, if_there, indexes_value, indexed_value, node_or, numbers_of, argument_of, callee, indexed, term_of, givens}
 use Rattle.module_parts.proofs.Firsts.{expression_front}
 use Rattle.bound_calls.specs.declared.term.Ending.{Ending}
 use Rattle.bound_calls.specs.declared.term.Routine.{Routine}
@@ -339,7 +340,7 @@ ends_in_order ps x named given all d d1 e o is h w =
 
 -- ---- what stands below the names
 
-named_push : (value : plain_terms.Term → Place → Option bound.Expr) (n : ℕ) (ps : List project.Parameter) (gs : List Given) (ks : List ℕ) (xs : List Argument) (g : Given) (k : ℕ) (x : Argument) → AllNamedTaken value n ps gs ks xs
+named_push : (value : Declared → plain_terms.Term → Place → Option bound.Expr) (n : ℕ) (ps : List project.Parameter) (gs : List Given) (ks : List ℕ) (xs : List Argument) (g : Given) (k : ℕ) (x : Argument) → AllNamedTaken value n ps gs ks xs
     → NamedTaken value n ps g k x → AllNamedTaken value n ps (gs ++ g ∷ []) (ks ++ k ∷ []) (xs ++ x ∷ [])
 named_push value n ps [] [] [] g k x h t = (t, tt)
 named_push value n ps [] [] (y ∷ xs) g k x h t = absurd h
@@ -353,7 +354,7 @@ pub record Unpacked (env : Env) (t : Tables) (ks : List ℕ) (i : Item) (xs : Li
   pub given : List Given
   pub givens_are : givens env args ≡ givens env before ++ given
   pub made : List Argument
-  pub taken : AllNamedTaken (value_of env) p.count (map parameter_view p.left.now) given (reverse ks) made
+  pub taken : AllNamedTaken (argument_of env) p.count (map parameter_view p.left.now) given (reverse ks) made
   pub between : List Piece
   pub on_top : ps ≡ above (map an_argument made) between
   pub stands : Stands env t (i ∷ xs) (nodes.arguments before ∷ is) between base
@@ -365,7 +366,7 @@ unpacked_on : (env : Env) (t : Tables) (k : ℕ) (ks : List ℕ) (i : Item) (xs 
     → NamedStands env p (record { number = k }) name e ps below → Unpacked env t ks i xs p before is below base → Unpacked env t (k ∷ ks) i xs p (tree.named before comma name mark e) is ps base
 unpacked_on env t k ks i xs p before comma name mark e is ps below base s r =
     let g : Given = record { name = Some name.name; term = Some (term_of env e); place = place_of_expression e } in
-    let A : List ℕ → Type 0 = λ l. AllNamedTaken (value_of env) p.count (map parameter_view p.left.now) (r.given ++ g ∷ []) l (r.made ++ s.made ∷ []) in
+    let A : List ℕ → Type 0 = λ l. AllNamedTaken (argument_of env) p.count (map parameter_view p.left.now) (r.given ++ g ∷ []) l (r.made ++ s.made ∷ []) in
     record {
       before = r.before;
       given = r.given ++ g ∷ [];
@@ -373,7 +374,7 @@ unpacked_on env t k ks i xs p before comma name mark e is ps below base s r =
       made = r.made ++ s.made ∷ [];
       taken =
           subst A (sym (reverse-append (k ∷ []) ks))
-          (named_push (value_of env) p.count (map parameter_view p.left.now) r.given (reverse ks) r.made g k s.made r.taken (record { fold = name.name; parameter = s.parameter; has_name = refl; found = s.found; makes = s.makes }));
+          (named_push (argument_of env) p.count (map parameter_view p.left.now) r.given (reverse ks) r.made g k s.made r.taken (record { fold = name.name; parameter = s.parameter; has_name = refl; found = s.found; makes = s.makes }));
       between = r.between;
       on_top = s.on_top ∙ ap (λ st. an_argument s.made ∷ st) r.on_top ∙ sym (above_more r.made s.made r.between);
       stands = r.stands;
@@ -403,34 +404,34 @@ and_no : (b : Bool) → (b && false) ≡ false
 and_no true = refl
 and_no false = refl
 
-none_named : (value : plain_terms.Term → Place → Option bound.Expr) (n : ℕ) (g : Given) (ns : List Given) (ks : List ℕ) (ys : List Argument) → AllNamedTaken value n [] (g ∷ ns) ks ys → ⊥
+none_named : (value : Declared → plain_terms.Term → Place → Option bound.Expr) (n : ℕ) (g : Given) (ns : List Given) (ks : List ℕ) (ys : List Argument) → AllNamedTaken value n [] (g ∷ ns) ks ys → ⊥
 none_named value n g ns [] ys h = h
 none_named value n g ns (k ∷ ks) [] h = h
 none_named value n g ns (k ∷ ks) (y ∷ ys) h = let e : ◌≡◌ {A = Option (ℕ × project.Parameter)} None (Some (k, h.0.parameter)) = h.0.found in absurd cc
 
-some_written : (value : plain_terms.Term → Place → Option bound.Expr) (s : Scope) (takes : Bool) (qs : List Written_parameter) (gs : List Given) (xs : List Argument) (left : List project.Parameter) (n : ℕ) (g : Given) (ns : List Given) (ks : List ℕ)
+some_written : (value : Declared → plain_terms.Term → Place → Option bound.Expr) (s : Scope) (takes : Bool) (qs : List Written_parameter) (gs : List Given) (xs : List Argument) (left : List project.Parameter) (n : ℕ) (g : Given) (ns : List Given) (ks : List ℕ)
     (ys : List Argument) → AllTaken value (bound_parameters s takes qs) gs xs left → AllNamedTaken value n left (g ∷ ns) ks ys → (length qs == 0) ≡ false
 some_written value s takes [] [] [] left n g ns ks ys t h = absurd (none_named value n g ns ks ys (subst (λ l. AllNamedTaken value n l (g ∷ ns) ks ys) (sym t) h))
 some_written value s takes [] [] (x ∷ xs) left n g ns ks ys t h = absurd t
 some_written value s takes [] (f ∷ gs) xs left n g ns ks ys t h = absurd t
 some_written value s takes (q ∷ qs) gs xs left n g ns ks ys t h = ne_eqb (length (q ∷ qs)) 0 (λ (e : length (q ∷ qs) ≡ 0). omega (arith, e))
 
-no_index : (value : plain_terms.Term → Place → Option bound.Expr) (w : Written) (gs : List Given) → (length w.parameters == 0) ≡ false → indexes_value w gs ≡ false
+no_index : (value : Declared → plain_terms.Term → Place → Option bound.Expr) (w : Written) (gs : List Given) → (length w.parameters == 0) ≡ false → indexes_value w gs ≡ false
 no_index value w [] h = refl
 no_index value w (g ∷ gs) h = ap (λ b. is_get w.kind && b) h ∙ and_no (is_get w.kind)
 
-pub call_is : (value : plain_terms.Term → Place → Option bound.Expr) (env : Env) (place : Place) (gs : List Given) (space : Space) (number : ℕ) (w : Written) (read : ℕ × Written) (procedure : ℕ) (of : Declared) (parameters : List project.Parameter)
+pub call_is : (value : Declared → plain_terms.Term → Place → Option bound.Expr) (env : Env) (place : Place) (gs : List Given) (space : Space) (number : ℕ) (w : Written) (read : ℕ × Written) (procedure : ℕ) (of : Declared) (parameters : List project.Parameter)
     (args : bound.Args) → reader env.scope space number w ≡ Some read → procedure ≡ procedure_number env.scope space read.0 → parameters ≡ parameters_in env.scope space read.1 → of ≡ call_type env.scope space read.1
     → (length read.1.parameters == 0) ≡ false → bound_arguments value parameters gs ≡ Some args → call_with value env place gs space number w ≡ a_value (call procedure args) of
 call_is value env place gs space number w read procedure of parameters args reads number_is parameters_are of_is some given =
     let all : bound_arguments value (parameters_in env.scope space read.1) gs ≡ Some args = ap (λ l. bound_arguments value l gs) (sym parameters_are) ∙ given in
     let called_as : ℕ × Written → plain_terms.Term = λ (f : ℕ × Written).
-    if indexes_value f.1 gs then node_or (call_value env space f.0 f.1 (Some bound.no_args)) (λ n u. indexed_value place n u (numbers_of value gs))
+    if indexes_value f.1 gs then node_or (call_value env space f.0 f.1 (Some bound.no_args)) (λ n u. indexed_value place n u (numbers_of (value type.long) gs))
     else call_value env space f.0 f.1 (bound_arguments value (parameters_in env.scope space f.1) gs) in
     let found : call_with value env place gs space number w ≡ called_as read = ap (λ o. if_there (option_map called_as o)) reads in
     found ∙ rw (no_index value read.1 gs some, all, number_is, of_is) refl
 
-names_long : (value : plain_terms.Term → Place → Option bound.Expr) (n : ℕ) (ps : List project.Parameter) (gs : List Given) (ks : List ℕ) (xs : List Argument) → AllNamedTaken value n ps gs ks xs → length ks ≡ length xs
+names_long : (value : Declared → plain_terms.Term → Place → Option bound.Expr) (n : ℕ) (ps : List project.Parameter) (gs : List Given) (ks : List ℕ) (xs : List Argument) → AllNamedTaken value n ps gs ks xs → length ks ≡ length xs
 names_long value n ps [] [] [] h = refl
 names_long value n ps [] [] (y ∷ xs) h = absurd h
 names_long value n ps [] (j ∷ ks) xs h = absurd h
@@ -442,17 +443,17 @@ names_long value n ps (f ∷ gs) (j ∷ ks) (y ∷ xs) h = omega (arith, names_l
 pub record InOrderBound (env : Env) (t : Tables) (parameters : List project.Parameter) (o : Ordered) (gs : List Given) (ps below : List Piece) : Type 0 where
   pub all : List Argument
   pub places : List ℕ
-  pub bound : bound_arguments (value_of env) parameters gs ≡ Some (in_order places (args_of all))
+  pub bound : bound_arguments (argument_of env) parameters gs ≡ Some (in_order places (args_of all))
   pub arguments_is : o.arguments ≡ length all
   pub order_is : order_in t o.order ≡ places
   pub on_top : ps ≡ above (map an_argument all) below
 
 pub in_order_bound : (env : Env) (t : Tables) (parameters : List Parameter) (x : Passed) (named : List ℕ) (o : Ordered) (gs : List Given) (xs : List Argument) (g : Given) (ns : List Given) (ys : List Argument) (between below : List Piece)
-    (d e : Drafted) → EndsInOrder parameters x named d e o → t ≡ e.tables → AllTaken (value_of env) (map parameter_view parameters) gs xs (map parameter_view x.left.now) → x.count ≡ length xs
-    → AllNamedTaken (value_of env) x.count (map parameter_view x.left.now) (g ∷ ns) named ys → d.pieces ≡ above (map an_argument ys) between → between ≡ above (map an_argument xs) below
+    (d e : Drafted) → EndsInOrder parameters x named d e o → t ≡ e.tables → AllTaken (argument_of env) (map parameter_view parameters) gs xs (map parameter_view x.left.now) → x.count ≡ length xs
+    → AllNamedTaken (argument_of env) x.count (map parameter_view x.left.now) (g ∷ ns) named ys → d.pieces ≡ above (map an_argument ys) between → between ≡ above (map an_argument xs) below
     → InOrderBound env t (map parameter_view parameters) o (gs ++ g ∷ ns) e.pieces below
 in_order_bound env t parameters x named o gs xs g ns ys between below d e h same taken counted by_name a b =
-    let value = value_of env in
+    let value = argument_of env in
     let ps = map parameter_view parameters in
     let left = map parameter_view x.left.now in
     let N : ℕ → Type 0 = λ c. AllNamedTaken value c left (g ∷ ns) named ys in
@@ -472,11 +473,11 @@ in_order_bound env t parameters x named o gs xs g ns ys between below d e h same
 
 -- the value of a call, behind what was pushed
 pub call_stands : (env : Env) (t : Tables) (r : Routine) (x : Passed) (d e : Drafted) (named : List ℕ) (ending : Ending) (y : plain_terms.Term) (place : Place) (gs : List Given) (xs : List Argument) (g : Given) (ns : List Given) (ys : List Argument)
-    (qs between below : List Piece) → EndsNamed r x named d e ending → t ≡ e.tables → RoutineStands env r y qs qs → AllTaken (value_of env) (map parameter_view r.parameters.now) gs xs (map parameter_view x.left.now) → x.count ≡ length xs
-    → AllNamedTaken (value_of env) x.count (map parameter_view x.left.now) (g ∷ ns) named ys → d.pieces ≡ above (map an_argument ys) between → between ≡ above (map an_argument xs) below
+    (qs between below : List Piece) → EndsNamed r x named d e ending → t ≡ e.tables → RoutineStands env r y qs qs → AllTaken (argument_of env) (map parameter_view r.parameters.now) gs xs (map parameter_view x.left.now) → x.count ≡ length xs
+    → AllNamedTaken (argument_of env) x.count (map parameter_view x.left.now) (g ∷ ns) named ys → d.pieces ≡ above (map an_argument ys) between → between ≡ above (map an_argument xs) below
     → ValueStands t ending (indexed env place y (gs ++ g ∷ ns)) e.pieces below
 call_stands env t r x d e named ending y place gs xs g ns ys qs between below h same s taken counted by_name a b =
-    let value = value_of env in
+    let value = argument_of env in
     let ps = map parameter_view r.parameters.now in
     let left = map parameter_view x.left.now in
     let o = h.ordered in
@@ -497,7 +498,7 @@ pub ending_named : (r : Routine) (x : Passed) (named : List ℕ) (d e : Drafted)
 ending_named r x named d e ending h = let P : Ending → Type 0 = λ z. NodeNamed e.tables z.kind in subst P (sym h.ending_is) h.ends.order_named
 
 -- there is a name
-none_given : (value : plain_terms.Term → Place → Option bound.Expr) (n : ℕ) (ps : List project.Parameter) (k : ℕ) (ks : List ℕ) (xs : List Argument) → AllNamedTaken value n ps [] (reverse (k ∷ ks)) xs → ⊥
+none_given : (value : Declared → plain_terms.Term → Place → Option bound.Expr) (n : ℕ) (ps : List project.Parameter) (k : ℕ) (ks : List ℕ) (xs : List Argument) → AllNamedTaken value n ps [] (reverse (k ∷ ks)) xs → ⊥
 none_given value n ps k ks xs h = at (reverse ks) xs (subst (λ l. AllNamedTaken value n ps [] l xs) (reverse-append (k ∷ []) ks) h)
   where
     at : (js : List ℕ) (xs : List Argument) → AllNamedTaken value n ps [] (js ++ k ∷ []) xs → ⊥
@@ -505,7 +506,7 @@ none_given value n ps k ks xs h = at (reverse ks) xs (subst (λ l. AllNamedTaken
     at (j ∷ js) xs h = h
 
 called_stands : (env : Env) (x : Call) (d e : Drafted) (named : List ℕ) (ending : Ending) (y : Expr) (before : Args) (given : List Given) (made : List Argument) (gs : List Given) (between below : List Piece) → (given ≡ [] → ⊥) → EndsNamed x.routine x.passed named d e ending
-    → gs ≡ givens env before ++ given → CallStands env x y before between below → AllNamedTaken (value_of env) x.passed.count (map parameter_view x.passed.left.now) given named made → d.pieces ≡ above (map an_argument made) between
+    → gs ≡ givens env before ++ given → CallStands env x y before between below → AllNamedTaken (argument_of env) x.passed.count (map parameter_view x.passed.left.now) given named made → d.pieces ≡ above (map an_argument made) between
     → ValueStands e.tables ending (indexed env (place_of_expression y) (callee env y (term_of env y)) gs) e.pieces below
 called_stands env x d e named ending y before [] made gs between below some h is s names a = absurd (some refl)
 called_stands env x d e named ending y before (g ∷ ns) made gs between below some h is s names a =
@@ -527,12 +528,12 @@ index_stands env x k ks ending left right xs d e n c (nodes.arguments args ∷ n
     let s = u.stands.1.0 in
     let below = u.stands.0 in
     let T : plain_terms.Term → Type 0 = λ z. ValueStands e.tables ending (indexed env (place_of_expression y) z (givens env args)) e.pieces below in
-    let N : List Given → Type 0 = λ l. AllNamedTaken (value_of env) x.passed.count (map parameter_view x.passed.left.now) l (reverse (k ∷ ks)) u.made in (
+    let N : List Given → Type 0 = λ l. AllNamedTaken (argument_of env) x.passed.count (map parameter_view x.passed.left.now) l (reverse (k ∷ ks)) u.made in (
       below,
       (
         record {
           term_is = subst T (sym (routine_item (place_of_expression y) (callee env y (term_of env y)) s.routine.space s.routine.number s.routine.written s.routine.is))
-              (called_stands env x d e (reverse (k ∷ ks)) ending y u.before u.given u.made (givens env args) u.between below (λ z. none_given (value_of env) x.passed.count (map parameter_view x.passed.left.now) k ks u.made (subst N z u.taken)) c u.givens_are s u.taken u.on_top);
+              (called_stands env x d e (reverse (k ∷ ks)) ending y u.before u.given u.made (givens env args) u.between below (λ z. none_given (argument_of env) x.passed.count (map parameter_view x.passed.left.now) k ks u.made (subst N z u.taken)) c u.givens_are s u.taken u.on_top);
           place_is = s.place_is ∙ sym (expression_front y (marked left mark.LeftParenthesis ∷ (spell_args args ++ marked right mark.RightParenthesis ∷ [])));
           name_is = refl;
           qualifier_is = refl;

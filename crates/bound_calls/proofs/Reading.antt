@@ -11,13 +11,14 @@ use Rattle.bound_project.specs.Project as project
 use Rattle.bound_project.specs.Statements as to
 use Rattle.bound_project.specs.Statements.{Action}
 use Rattle.binder.specs.Declarations.{Written}
+use Rattle.binder.specs.Types.{is_object}
 use Rattle.binder.specs.Scopes.{Space, Scope}
 use Rattle.binder.specs.Constants.{home}
 use Rattle.binder.specs.Names.{scope_in}
 use Rattle.binder.specs.Storage.{bound_parameters, parameters_of, procedure_number}
 use Rattle.binder.specs.Terms.{Env, Given, a_routine, a_value, bound_arguments}
 use Rattle.binder.specs.Terms as plain
-use Rattle.binder.specs.ExpressionsBound.{is_get, reader, parameters_in, call_type, call_value, call_with, if_there, indexes_value, indexed_value, node_or, numbers_of, value_of, writer}
+use Rattle.binder.specs.ExpressionsBound.{is_get, reader, parameters_in, call_type, call_value, call_with, if_there, indexes_value, indexed_value, node_or, numbers_of, argument_of, writer}
 use Rattle.binder.specs.StatementsBound.{let_to, assigned}
 use Rattle.bound_calls.specs.Passing.{AllTaken}
 
@@ -25,24 +26,24 @@ and_no : (b : Bool) → (b && false) ≡ false
 and_no true = refl
 and_no false = refl
 
-some_written : (value : plain.Term → Place → Option bound.Expr) (s : Scope) (takes : Bool) (qs : List Parameter) (g : Given) (gs : List Given) (xs : List Argument) (left : List project.Parameter)
+some_written : (value : Declared → plain.Term → Place → Option bound.Expr) (s : Scope) (takes : Bool) (qs : List Parameter) (g : Given) (gs : List Given) (xs : List Argument) (left : List project.Parameter)
     → AllTaken value (bound_parameters s takes qs) (g ∷ gs) xs left → (length qs == 0) ≡ false
 some_written value s takes [] g gs xs left t = absurd t
 some_written value s takes (q ∷ qs) g gs xs left t = ne_eqb (length (q ∷ qs)) 0 (λ (e : length (q ∷ qs) ≡ 0). omega (arith, e))
 
 -- arguments that parameters take don't index a value
-no_index : (value : plain.Term → Place → Option bound.Expr) (s : Scope) (w : Written) (gs : List Given) (xs : List Argument) (left : List project.Parameter) → AllTaken value (parameters_of s w) gs xs left → indexes_value w gs ≡ false
+no_index : (value : Declared → plain.Term → Place → Option bound.Expr) (s : Scope) (w : Written) (gs : List Given) (xs : List Argument) (left : List project.Parameter) → AllTaken value (parameters_of s w) gs xs left → indexes_value w gs ≡ false
 no_index value s w [] xs left t = refl
 no_index value s w (g ∷ gs) xs left t = ap (λ b. is_get w.kind && b) (some_written value s _ w.parameters g gs xs left t) ∙ and_no (is_get w.kind)
 
-pub call_is : (value : plain.Term → Place → Option bound.Expr) (env : Env) (place : Place) (gs : List Given) (space : Space) (number : ℕ) (w : Written) (read : ℕ × Written) (procedure : ℕ) (of : Declared) (parameters : List project.Parameter)
+pub call_is : (value : Declared → plain.Term → Place → Option bound.Expr) (env : Env) (place : Place) (gs : List Given) (space : Space) (number : ℕ) (w : Written) (read : ℕ × Written) (procedure : ℕ) (of : Declared) (parameters : List project.Parameter)
     (args : bound.Args) (xs : List Argument) (left : List project.Parameter) → reader env.scope space number w ≡ Some read → procedure ≡ procedure_number env.scope space read.0 → parameters ≡ parameters_in env.scope space read.1
     → of ≡ call_type env.scope space read.1 → AllTaken value parameters gs xs left → bound_arguments value parameters gs ≡ Some args → call_with value env place gs space number w ≡ a_value (bound.call procedure args) of
 call_is value env place gs space number w read procedure of parameters args xs left reads number_is parameters_are of_is taken given =
     let all : bound_arguments value (parameters_in env.scope space read.1) gs ≡ Some args = ap (λ l. bound_arguments value l gs) (sym parameters_are) ∙ given in
     let A : List project.Parameter → Type 0 = λ l. AllTaken value l gs xs left in
     let called_as : ℕ × Written → plain.Term = λ (f : ℕ × Written).
-    if indexes_value f.1 gs then node_or (call_value env space f.0 f.1 (Some bound.no_args)) (λ n u. indexed_value place n u (numbers_of value gs))
+    if indexes_value f.1 gs then node_or (call_value env space f.0 f.1 (Some bound.no_args)) (λ n u. indexed_value place n u (numbers_of (value type.long) gs))
     else call_value env space f.0 f.1 (bound_arguments value (parameters_in env.scope space f.1) gs) in
     let found : call_with value env place gs space number w ≡ called_as read = ap (λ o. if_there (option_map called_as o)) reads in
     found ∙ rw (no_index value (scope_in (home env.scope space) read.1) read.1 gs xs left (subst A parameters_are taken), all, number_is, of_is) refl
@@ -59,8 +60,12 @@ value_type [] = type.variant
 value_type (p ∷ []) = p.of
 value_type (p ∷ ps) = value_type ps
 
+-- a value parameter of an object type is given the object itself
+abbrev pub written_by : ℕ → bound.Args → bound.Expr → Declared → Action
+written_by procedure args v of = if is_object of then to.set_property procedure args v of else to.let_property procedure args v of
+
 let_parts : (env : Env) (space : Space) (gs : List Given) (v : bound.Expr) (f : ℕ × Written) → let_to env space gs v f
-    ≡ option_map (λ args. to.let_property (procedure_number env.scope space f.0) args v (value_type (parameters_in env.scope space f.1))) (bound_arguments (value_of env) (but_last (parameters_in env.scope space f.1)) gs)
+    ≡ option_map (λ args. written_by (procedure_number env.scope space f.0) args v (value_type (parameters_in env.scope space f.1))) (bound_arguments (argument_of env) (but_last (parameters_in env.scope space f.1)) gs)
 let_parts env space gs v f = refl
 
 but_last_is : (front : List project.Parameter) (last : project.Parameter) → but_last (front ++ last ∷ []) ≡ front
@@ -74,11 +79,11 @@ value_type_is (p ∷ []) last = refl
 value_type_is (p ∷ q ∷ ps) last = value_type_is (q ∷ ps) last
 
 pub let_is : (env : Env) (place : Place) (v : bound.Expr) (gs : List Given) (space : Space) (number : ℕ) (w : Written) (f : ℕ × Written) (front : List project.Parameter) (last : project.Parameter) (args : bound.Args)
-    → writer env.scope space w ≡ Some f → parameters_in env.scope space f.1 ≡ front ++ last ∷ [] → bound_arguments (value_of env) front gs ≡ Some args
-    → assigned env place v gs (a_routine space number w) ≡ Some (to.let_property (procedure_number env.scope space f.0) args v last.of)
+    → writer env.scope space w ≡ Some f → parameters_in env.scope space f.1 ≡ front ++ last ∷ [] → bound_arguments (argument_of env) front gs ≡ Some args
+    → assigned env place v gs (a_routine space number w) ≡ Some (written_by (procedure_number env.scope space f.0) args v last.of)
 let_is env place v gs space number w f front last args found parameters given =
-    let done : List project.Parameter → Option Action = λ ps. option_map (λ args. to.let_property (procedure_number env.scope space f.0) args v (value_type ps)) (bound_arguments (value_of env) (but_last ps) gs) in
+    let n = procedure_number env.scope space f.0 in
+    let done : List project.Parameter → Option Action = λ ps. option_map (λ args. written_by n args v (value_type ps)) (bound_arguments (argument_of env) (but_last ps) gs) in
     ap (λ o. option_and_then (let_to env space gs v) o) found ∙ let_parts env space gs v f ∙ ap done parameters
-    ∙ ap (λ l. option_map (λ args. to.let_property (procedure_number env.scope space f.0) args v (value_type (front ++ last ∷ []))) (bound_arguments (value_of env) l gs)) (but_last_is front last)
-    ∙ ap (λ o. option_map (λ args. to.let_property (procedure_number env.scope space f.0) args v (value_type (front ++ last ∷ []))) o) given
-    ∙ ap (λ of. Some (to.let_property (procedure_number env.scope space f.0) args v of)) (value_type_is front last)
+    ∙ ap (λ l. option_map (λ args. written_by n args v (value_type (front ++ last ∷ []))) (bound_arguments (argument_of env) l gs)) (but_last_is front last)
+    ∙ ap (λ o. option_map (λ args. written_by n args v (value_type (front ++ last ∷ []))) o) given ∙ ap (λ of. Some (written_by n args v of)) (value_type_is front last)

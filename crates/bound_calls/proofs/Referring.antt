@@ -1,6 +1,6 @@
 -- How terms are taken as references, and operands that are objects.
 use Rattle.std.proofs.Common.{◌≡◌, Bool, true, false, List, ◌∷◌, Some, None, refl, sym, ap, subst, ◌∙◌}
-use Rattle.std.specs.Prelude.{◌==◌, if◌then◌else◌, option_and_then}
+use Rattle.std.specs.Prelude.{ℕ, ◌==◌, ◌||◌, [], Option, if◌then◌else◌, option_map, option_and_then}
 use Rattle.vba_base.specs.declared.place.Place.{Place}
 use Rattle.vba_values.specs.declared.object.HostRef.TheVariants as host
 use Rattle.vba_values.specs.Types.{Declared}
@@ -8,28 +8,33 @@ use Rattle.vba_values.specs.Types as type
 use Rattle.bound_project.specs.declared.declared_type.DeclaredType.{DeclaredType}
 use Rattle.bound_project.specs.declared.declared_type.DeclaredType.TheVariants.{Plain}
 use Rattle.bound_project.specs.declared.declared_type.ElementType.TheVariants as element
+use Rattle.bound_project.specs.declared.variable.ErrMember.TheVariants as err_member
 use Rattle.bound_project.specs.declared.node.NodeKind.{NodeKind}
 use Rattle.bound_project.specs.declared.node.NodeKind.TheVariants as node
 use Rattle.bound_project.specs.View.{declared_view}
-use Rattle.bound_project.specs.Expressions.{load, host_object, host_member, default_of, no_exprs}
+use Rattle.bound_project.specs.Expressions.{load, err_value, err_number, host_object, host_member, default_of, default_if_any, no_exprs}
 use Rattle.bound_project.specs.Expressions as bound
 use Rattle.bound_project.specs.Pieces.{Piece, Tables, name_in, of_place, of_value, expr_of, put}
 use Rattle.bound_project.specs.Drafts.{Drafted, NodeNamed}
 use Rattle.binder.specs.Options.{or_else}
 use Rattle.binder.specs.Types.{is_object}
-use Rattle.binder.specs.Constants.{place_of_expression}
-use Rattle.binder.specs.Terms.{Env, expression_of, typed_value}
+use Rattle.binder.specs.Declarations.{Written}
+use Rattle.binder.specs.Scopes.{Space}
+use Rattle.binder.specs.Storage.{procedure_number}
+use Rattle.binder.specs.Constants.{is_variant, place_of_expression}
+use Rattle.binder.specs.Terms.{Env, a_routine, a_value, bound_arguments, expression_of, typed_value, value_with}
 use Rattle.binder.specs.Terms as plain
-use Rattle.binder.specs.ExpressionsBound.{is_host_type, has_default, default_value, typed_reference, value_of, reference_of, given_as, term_of}
+use Rattle.binder.specs.ExpressionsBound.{bare_call, call_type, call_value, parameters_in, if_there, is_host_type, has_default, has_object, plain_operand, if_any, default_value, typed_reference, value_of, operand_of, reference_of, given_as, term_of}
 use Rattle.bound_calls.specs.declared.term.Ending.{Ending}
 use Rattle.bound_calls.specs.declared.term.HostMember.{HostMember}
+use Rattle.bound_calls.specs.declared.term.Routine.{Routine}
 use Rattle.bound_calls.specs.declared.term.Term.{Term}
 use Rattle.bound_calls.specs.declared.term.Term.TheVariants as term
 use Rattle.bound_calls.specs.declared.term.Tree.{Tree}
-use Rattle.bound_calls.specs.Standing.{TermStands, EndingIs}
-use Rattle.bound_calls.specs.Steps.{PushesOperand}
-use Rattle.bound_calls.specs.Taking.{PushesSheet, ReadsMember, TakesValue, sheet_expression}
-use Rattle.bound_calls.specs.References.{refers, gives_way, TakesReference, PushesReference, TakesGiven, PushesGiven}
+use Rattle.bound_calls.specs.Standing.{RoutineStands, TermStands, EndingIs}
+use Rattle.bound_calls.specs.Steps.{PushesLeft, PushesOperand}
+use Rattle.bound_calls.specs.Taking.{CallsRoutine, PushesSheet, ReadsMember, TakesValue, sheet_expression}
+use Rattle.bound_calls.specs.References.{is_referring, refers, may_refer, gives_way, EndingGives, PushesAs, TakesReference, PushesReference, TakesGiven, PushesGiven, PushesIfAny}
 use Rattle.bound_calls.proofs.Growing.{grown_same, grown_pieces, grown_twice}
 use Rattle.bound_calls.proofs.Taking.{node_of, operand_split, not_err, sheet_stands}
 
@@ -55,12 +60,26 @@ object_too (type.array_of of) h = h
 no_value_typed : (made : bound.Node) (place : Place) (of : Declared) → is_host_type of ≡ true → typed_value made place of ≡ None
 no_value_typed made place of h = ap (λ b. if b then None else Some (expression_of made place of)) (object_too of h)
 
-referred : (made : bound.Node) (place : Place) (of : Declared) → is_host_type of ≡ true → typed_reference made place of ≡ Some (expression_of made place of)
+referred : (made : bound.Node) (place : Place) (of : Declared) → (is_host_type of || is_variant of) ≡ true → typed_reference made place of ≡ Some (expression_of made place of)
 referred made place of h = ap (λ b. if b then Some (expression_of made place of) else None) h
 
 no_member_value : (b : Bool) (made : bound.Node) (place : Place) (of : Declared) → is_host_type of ≡ true → (if b then typed_value made place of else None) ≡ None
 no_member_value true made place of h = no_value_typed made place of h
 no_member_value false made place of h = refl
+
+-- a call without arguments that gives an object
+no_call_value : (env : Env) (space : Space) (number : ℕ) (written : Written) (f : ℕ × Written) (args : Option bound.Args) (place : Place) → is_host_type (call_type env.scope space f.1) ≡ true
+    → value_with (λ a b c. call_value env space f.0 f.1 args) (a_routine space number written) place ≡ None
+no_call_value env space number written f None place h = refl
+no_call_value env space number written f (Some args) place h = no_value_typed (bound.call (procedure_number env.scope space f.0) args) place (call_type env.scope space f.1) h
+
+no_routine_value : (env : Env) (r : Routine) {x : plain.Term} {ps below : List Piece} (s : RoutineStands env r x ps below) → is_host_type (declared_view r.of) ≡ true → (place : Place)
+    → value_of env (a_routine s.space s.number s.written) place ≡ None
+no_routine_value env r s h place =
+    let found : Option (ℕ × Written) → plain.Term = λ o. if_there (option_map (λ f. call_value env s.space f.0 f.1 (bound_arguments (λ of t place. None) (parameters_in env.scope s.space f.1) [])) o) in
+    let bare : bare_call env s.space s.number s.written ≡ call_value env s.space s.read.0 s.read.1 (bound_arguments (λ of t place. None) (parameters_in env.scope s.space s.read.1) []) = ap found s.reads in
+    ap (λ z. value_with (λ a b c. z) (a_routine s.space s.number s.written) place) bare
+    ∙ no_call_value env s.space s.number s.written s.read (bound_arguments (λ of t place. None) (parameters_in env.scope s.space s.read.1) []) place (ap is_host_type (sym s.of_is) ∙ h)
 
 -- what is taken as a reference is no value
 pub no_value_there : (env : Env) (t : Tables) (x : Term) (y : plain.Term) (ps below : List Piece) → refers x ≡ true → TermStands env t x y ps below → (place : Place) → value_of env y place ≡ None
@@ -70,7 +89,7 @@ no_value_there env t (term.HostMember m) y ps below r h place =
     ap (λ z. value_of env z place) h.is ∙ no_member_value (m.least == 0) (host_member h.object (name_in t m.name) no_exprs) place (declared_view m.of) r
 no_value_there env t (term.SheetMember m) y ps below r h place =
     ap (λ z. value_of env z place) h.0 ∙ no_member_value (m.least == 0) (host_member sheet_expression (name_in t m.name) no_exprs) place (declared_view m.of) r
-no_value_there env t (term.Routine s) y ps below r h place = let e : false ≡ true = r in absurd cc
+no_value_there env t (term.Routine s) y ps below r h place = ap (λ z. value_of env z place) h.is ∙ no_routine_value env s h r place
 no_value_there env t (term.Function f) y ps below r h place = let e : false ≡ true = r in absurd cc
 no_value_there env t term.Err y ps below r h place = ap (λ z. value_of env z place) h.0
 no_value_there env t term.ErrRaise y ps below r h place = let e : false ≡ true = r in absurd cc
@@ -80,7 +99,7 @@ no_value_there env t term.Nothing y ps below r h place = let e : false ≡ true 
 
 -- ---- references
 
-place_referred : (kind : NodeKind) (of : DeclaredType) (bounded lends : Bool) (at : Place) (d : Drafted) → is_host_type (declared_view of) ≡ true → (env : Env) (y : plain.Term) (below : List Piece)
+place_referred : (kind : NodeKind) (of : DeclaredType) (bounded lends : Bool) (at : Place) (d : Drafted) → is_referring of ≡ true → (env : Env) (y : plain.Term) (below : List Piece)
     → TermStands env d.tables (term.Place kind of bounded lends) y d.pieces below
     → EndingIs d.tables (record { kind = node.Load; of = of }) (λ place. reference_of env y place) (put d.tables (node_of kind at of) d.pieces) below
 place_referred kind of bounded lends at d r env y below k = record {
@@ -89,13 +108,13 @@ place_referred kind of bounded lends at d r env y below k = record {
   ends = λ n. ap (λ st. of_place (λ x. expr_of n (load x)) st) (k.ends (node_of kind at of));
 }
 
-pub takes_place : (kind : NodeKind) (of : DeclaredType) (bounded lends : Bool) (at : Place) (d e : Drafted) → is_host_type (declared_view of) ≡ true → e ≡ record d { pieces = put d.tables (node_of kind at of) d.pieces }
+pub takes_place : (kind : NodeKind) (of : DeclaredType) (bounded lends : Bool) (at : Place) (d e : Drafted) → is_referring of ≡ true → e ≡ record d { pieces = put d.tables (node_of kind at of) d.pieces }
     → TakesReference (term.Place kind of bounded lends) d e (record { kind = node.Load; of = of })
 takes_place kind of bounded lends at d e r eq =
     let P : Drafted → Type 0 = λ x. TakesReference (term.Place kind of bounded lends) d x (record { kind = node.Load; of = of }) in
     subst P (sym eq) (record { grown = grown_pieces d (put d.tables (node_of kind at of) d.pieces); named = tt; stands = place_referred kind of bounded lends at d r })
 
-pub takes_value : (v : Ending) (d : Drafted) → is_host_type (declared_view v.of) ≡ true → NodeNamed d.tables v.kind → TakesReference (term.Value v) d d v
+pub takes_value : (v : Ending) (d : Drafted) → is_referring v.of ≡ true → NodeNamed d.tables v.kind → TakesReference (term.Value v) d d v
 takes_value v d r n = record {
   grown = grown_same d;
   named = n;
@@ -106,10 +125,10 @@ takes_value v d r n = record {
   };
 }
 
-read_when : (b : Bool) (made : bound.Node) (place : Place) (of : Declared) → b ≡ true → is_host_type of ≡ true → (if b then typed_reference made place of else None) ≡ Some (expression_of made place of)
+read_when : (b : Bool) (made : bound.Node) (place : Place) (of : Declared) → b ≡ true → (is_host_type of || is_variant of) ≡ true → (if b then typed_reference made place of else None) ≡ Some (expression_of made place of)
 read_when b made place of eq h = ap (λ c. if c then typed_reference made place of else None) eq ∙ referred made place of h
 
-member_referred : (m : HostMember) (d e : Drafted) (v : Ending) → is_host_type (declared_view m.of) ≡ true → ReadsMember m d e v → (env : Env) (y : plain.Term) (below : List Piece)
+member_referred : (m : HostMember) (d e : Drafted) (v : Ending) → is_referring m.of ≡ true → ReadsMember m d e v → (env : Env) (y : plain.Term) (below : List Piece)
     → TermStands env d.tables (term.HostMember m) y d.pieces below → EndingIs e.tables v (λ place. reference_of env y place) e.pieces below
 member_referred m d e v r h env y below k =
     let made = host_member k.object (name_in d.tables m.name) no_exprs in
@@ -120,13 +139,33 @@ member_referred m d e v r h env y below k =
       ends = h.ends k.object below k.on_top;
     }
 
-pub takes_member : (m : HostMember) (d e : Drafted) (v : Ending) → is_host_type (declared_view m.of) ≡ true → ReadsMember m d e v → TakesReference (term.HostMember m) d e v
+pub takes_member : (m : HostMember) (d e : Drafted) (v : Ending) → is_referring m.of ≡ true → ReadsMember m d e v → TakesReference (term.HostMember m) d e v
 takes_member m d e v r h = record { grown = h.grown; named = h.named; stands = member_referred m d e v r h }
 
-pub takes_sheet_member : (m : HostMember) (d s e : Drafted) (v : Ending) → is_host_type (declared_view m.of) ≡ true → PushesSheet d s → ReadsMember m s e v → TakesReference (term.SheetMember m) d e v
+pub takes_sheet_member : (m : HostMember) (d s e : Drafted) (v : Ending) → is_referring m.of ≡ true → PushesSheet d s → ReadsMember m s e v → TakesReference (term.SheetMember m) d e v
 takes_sheet_member m d s e v r p h =
     let t = takes_member m s e v r h in
     record { grown = grown_twice d s e p.grown t.grown; named = t.named; stands = λ env y below k. t.stands env y below (sheet_stands m d s p env y below k) }
+
+-- a call without arguments
+bare_reference : (env : Env) (space : Space) (number : ℕ) (w : Written) (made : bound.Node) (of : Declared) (place : Place) → bare_call env space number w ≡ a_value made of
+    → reference_of env (a_routine space number w) place ≡ typed_reference made place of
+bare_reference env space number w made of place h = rw h refl
+
+pub takes_routine : (r : Routine) (d e : Drafted) (v : Ending) → is_referring r.of ≡ true → CallsRoutine r d e v → TakesReference (term.Routine r) d e v
+takes_routine r d e v ref h = record {
+  grown = h.grown;
+  named = h.named;
+  stands = λ env y below k.
+      let b = h.stands env y below k in
+      let c = b.called in
+      record {
+        made = c.made;
+        is = λ place. ap (λ z. reference_of env z place) b.is ∙ bare_reference env b.space b.number b.written c.made (declared_view v.of) place c.is
+            ∙ referred c.made place (declared_view v.of) (ap (λ of. is_referring of) h.of_is ∙ ref);
+        ends = c.ends;
+      };
+}
 
 abbrev pub err_reference : Ending
 err_reference = record { kind = node.HostObject host.ErrObject; of = Plain element.Object }
@@ -144,12 +183,11 @@ takes_err d = record {
 
 -- ---- what is pushed
 
-pub pushes_reference : (x : Tree) (d m e : Drafted) (v : Ending) → refers x.term ≡ true → TakesReference x.term d m v → e ≡ record m { pieces = put m.tables (node_of v.kind x.place v.of) m.pieces } → PushesReference x d e v.of
-pushes_reference x d m e v r t eq =
+pub pushes_reference : (x : Tree) (d m e : Drafted) (v : Ending) → TakesReference x.term d m v → e ≡ record m { pieces = put m.tables (node_of v.kind x.place v.of) m.pieces } → PushesReference x d e v.of
+pushes_reference x d m e v t eq =
     let P : Drafted → Type 0 = λ z. PushesReference x d z v.of in
     subst P (sym eq) (record {
       grown = grown_twice d m (record m { pieces = put m.tables (node_of v.kind x.place v.of) m.pieces }) t.grown (grown_pieces m (put m.tables (node_of v.kind x.place v.of) m.pieces));
-      refers = r;
       stands = λ env tree below k.
           let h = t.stands env (term_of env tree) below k.term_is in
           let A : Place → Type 0 = λ place. reference_of env (term_of env tree) place ≡ Some (expression_of h.made x.place (declared_view v.of)) in
@@ -192,7 +230,24 @@ pushes_given x d m e v t eq =
 
 -- ---- operands
 
-gives_refers : (x : Term) → gives_way x ≡ true → refers x ≡ true
+-- what is taken as a reference may be taken as one
+first_holds : (a b : Bool) → a ≡ true → (a || b) ≡ true
+first_holds a b h = ap (λ c. c || b) h
+
+pub refers_may : (x : Term) → refers x ≡ true → may_refer x ≡ true
+refers_may (term.Place kind of bounded lends) h = first_holds (is_host_type (declared_view of)) (is_variant (declared_view of)) h
+refers_may (term.Value e) h = first_holds (is_host_type (declared_view e.of)) (is_variant (declared_view e.of)) h
+refers_may (term.HostMember m) h = first_holds (is_host_type (declared_view m.of)) (is_variant (declared_view m.of)) h
+refers_may (term.SheetMember m) h = first_holds (is_host_type (declared_view m.of)) (is_variant (declared_view m.of)) h
+refers_may (term.Routine r) h = first_holds (is_host_type (declared_view r.of)) (is_variant (declared_view r.of)) h
+refers_may (term.Function f) h = h
+refers_may term.Err h = refl
+refers_may term.ErrRaise h = h
+refers_may term.ErrClear h = h
+refers_may term.ErrorWord h = h
+refers_may term.Nothing h = h
+
+pub gives_refers : (x : Term) → gives_way x ≡ true → refers x ≡ true
 gives_refers (term.Place kind of bounded lends) h = h
 gives_refers (term.Value e) h = h
 gives_refers (term.HostMember m) h = h
@@ -206,20 +261,18 @@ gives_refers term.ErrorWord h = h
 gives_refers term.Nothing h = h
 
 gives_no_err : (x : Term) → gives_way x ≡ true → not_err x
-gives_no_err (term.Place kind of bounded lends) h = unfold not_err in tt
-gives_no_err (term.Value e) h = unfold not_err in tt
-gives_no_err (term.HostMember m) h = unfold not_err in tt
-gives_no_err (term.SheetMember m) h = unfold not_err in tt
-gives_no_err (term.Routine s) h = unfold not_err in tt
-gives_no_err (term.Function f) h = unfold not_err in tt
+unfolding not_err
+gives_no_err (term.Place kind of bounded lends) h = tt
+gives_no_err (term.Value e) h = tt
+gives_no_err (term.HostMember m) h = tt
+gives_no_err (term.SheetMember m) h = tt
+gives_no_err (term.Routine s) h = tt
+gives_no_err (term.Function f) h = tt
 gives_no_err term.Err h = let e : false ≡ true = h in absurd cc
-gives_no_err term.ErrRaise h = unfold not_err in tt
-gives_no_err term.ErrClear h = unfold not_err in tt
-gives_no_err term.ErrorWord h = unfold not_err in tt
-gives_no_err term.Nothing h = unfold not_err in tt
-
-pub refers_too : (x : Term) → gives_way x ≡ true → refers x ≡ true
-refers_too x h = gives_refers x h
+gives_no_err term.ErrRaise h = tt
+gives_no_err term.ErrClear h = tt
+gives_no_err term.ErrorWord h = tt
+gives_no_err term.Nothing h = tt
 
 abbrev variant : DeclaredType
 variant = Plain element.Variant
@@ -242,10 +295,152 @@ pushes_default x d m e of w p has eq =
           record {
             made = expression_of (default_of reference) x.place type.variant;
             is = operand_split env d.tables x.term (gives_no_err x.term w) y d.pieces below k.term_is place
-                ∙ ap (λ o. or_else o (option_and_then (default_value place) (reference_of env y place))) (no_value_there env d.tables x.term y d.pieces below p.refers k.term_is place)
+                ∙ ap (λ o. or_else (option_map plain_operand o) (option_and_then (default_value place) (reference_of env y place))) (no_value_there env d.tables x.term y d.pieces below (gives_refers x.term w) k.term_is place)
                 ∙ ap (λ o. option_and_then (default_value place) o) h.is ∙ default_found place h.made h.place (declared_view of) has
                 ∙ ap (λ (q : Place). Some (expression_of (default_of reference) q type.variant)) (sym k.place_is);
             operand = refl;
             on_top = ap (λ st. of_value (λ v. expr_of (node_of node.DefaultOf x.place variant) (default_of v)) st) h.on_top;
           };
     })
+
+-- Err is its number
+pub pushes_err : (x : Tree) (d e : Drafted) → x.term ≡ term.Err → e ≡ record d { pieces = put d.tables (node_of (node.ErrValue err_member.Number) x.place (Plain element.Long)) d.pieces } → PushesOperand x d e (Some (Plain element.Long))
+pushes_err x d e is eq =
+    let long = Plain element.Long in
+    let P : Drafted → Type 0 = λ z. PushesOperand x d z (Some long) in
+    let n = node_of (node.ErrValue err_member.Number) x.place long in
+    subst P (sym eq) (record {
+      grown = grown_pieces d (put d.tables n d.pieces);
+      stands = λ env tree below k.
+          let A : Term → Type 0 = λ t. TermStands env d.tables t (term_of env tree) d.pieces below in
+          let s = subst A is k.term_is in
+          record {
+            made = expression_of (err_value err_number) x.place type.long;
+            is = ap (λ z. operand_of env z (place_of_expression tree)) s.0 ∙ ap (λ (q : Place). Some (expression_of (err_value err_number) q type.long)) (sym k.place_is);
+            operand = refl;
+            on_top = ap (λ st. expr_of n (err_value err_number) ∷ st) s.1;
+          };
+    })
+
+-- ---- what stands behind the last node of a value
+
+plain_is : (made : bound.Node) (place : Place) (of : Declared) (b : Bool) → has_object made of ≡ b
+    → plain_operand (expression_of made place of) ≡ (if b then expression_of (default_of (expression_of made place of)) place type.variant else expression_of made place of)
+plain_is made place of b h = ap (λ c. if c then expression_of (default_of (expression_of made place of)) place type.variant else expression_of made place of) h
+
+pub plainly_same : (v : Ending) (place : Place) (d e : Drafted) → EndingGives v false → e ≡ record d { pieces = put d.tables (node_of v.kind place v.of) d.pieces } → PushesAs plain_operand v place d e v.of
+plainly_same v place d e g eq =
+    let P : Drafted → Type 0 = λ z. PushesAs plain_operand v place d z v.of in
+    subst P (sym eq) (record {
+      grown = grown_pieces d (put d.tables (node_of v.kind place v.of) d.pieces);
+      stands = λ made below ends. record {
+        made = expression_of made place (declared_view v.of);
+        is = ap (λ x. Some x) (plain_is made place (declared_view v.of) false (g d.tables made d.pieces below ends));
+        operand = refl;
+        on_top = ends (node_of v.kind place v.of);
+      };
+    })
+
+pub plainly_default : (v : Ending) (place : Place) (d m e : Drafted) → EndingGives v true → m ≡ record d { pieces = put d.tables (node_of v.kind place v.of) d.pieces }
+    → e ≡ record m { pieces = put m.tables (node_of node.DefaultOf place variant) m.pieces } → PushesAs plain_operand v place d e variant
+plainly_default v place d m e g one two =
+    let m1 : Drafted = record d { pieces = put d.tables (node_of v.kind place v.of) d.pieces } in
+    let e1 : Drafted = record m1 { pieces = put m1.tables (node_of node.DefaultOf place variant) m1.pieces } in
+    let all : e ≡ e1 = two ∙ ap (λ (z : Drafted). record z { pieces = put z.tables (node_of node.DefaultOf place variant) z.pieces }) one in
+    let P : Drafted → Type 0 = λ z. PushesAs plain_operand v place d z variant in
+    subst P (sym all) (record {
+      grown = grown_twice d m1 e1 (grown_pieces d m1.pieces) (grown_pieces m1 e1.pieces);
+      stands = λ made below ends. record {
+        made = expression_of (default_of (expression_of made place (declared_view v.of))) place type.variant;
+        is = ap (λ x. Some x) (plain_is made place (declared_view v.of) true (g d.tables made d.pieces below ends));
+        operand = refl;
+        on_top = ap (λ st. of_value (λ x. expr_of (node_of node.DefaultOf place variant) (default_of x)) st) (ends (node_of v.kind place v.of));
+      };
+    })
+
+any_is : (made : bound.Node) (place : Place) (of : Declared) (o b : Bool) → is_object of ≡ o → has_object made of ≡ b
+    → if_any (expression_of made place of) ≡ (if o || b then expression_of (default_if_any (expression_of made place of)) place type.variant else expression_of made place of)
+any_is made place of o b h k =
+    ap (λ c. if c || has_object made of then expression_of (default_if_any (expression_of made place of)) place type.variant else expression_of made place of) h
+    ∙ ap (λ c. if o || c then expression_of (default_if_any (expression_of made place of)) place type.variant else expression_of made place of) k
+
+any_by : (made : bound.Node) (place : Place) (of : Declared) (o b c : Bool) → is_object of ≡ o → has_object made of ≡ b → (o || b) ≡ c
+    → if_any (expression_of made place of) ≡ (if c then expression_of (default_if_any (expression_of made place of)) place type.variant else expression_of made place of)
+any_by made place of o b c h k is =
+    any_is made place of o b h k ∙ ap (λ z. if z then expression_of (default_if_any (expression_of made place of)) place type.variant else expression_of made place of) is
+
+pub if_any_same : (v : Ending) (place : Place) (d e : Drafted) (o b : Bool) → is_object (declared_view v.of) ≡ o → EndingGives v b → (o || b) ≡ false → e ≡ record d { pieces = put d.tables (node_of v.kind place v.of) d.pieces }
+    → PushesAs if_any v place d e v.of
+if_any_same v place d e o b h g is eq =
+    let P : Drafted → Type 0 = λ z. PushesAs if_any v place d z v.of in
+    subst P (sym eq) (record {
+      grown = grown_pieces d (put d.tables (node_of v.kind place v.of) d.pieces);
+      stands = λ made below ends. record {
+        made = expression_of made place (declared_view v.of);
+        is = ap (λ x. Some x) (any_by made place (declared_view v.of) o b false h (g d.tables made d.pieces below ends) is);
+        operand = refl;
+        on_top = ends (node_of v.kind place v.of);
+      };
+    })
+
+pub if_any_default : (v : Ending) (place : Place) (d m e : Drafted) (o b : Bool) → is_object (declared_view v.of) ≡ o → EndingGives v b → (o || b) ≡ true
+    → m ≡ record d { pieces = put d.tables (node_of v.kind place v.of) d.pieces } → e ≡ record m { pieces = put m.tables (node_of node.DefaultIfAny place variant) m.pieces } → PushesAs if_any v place d e variant
+if_any_default v place d m e o b h g is one two =
+    let m1 : Drafted = record d { pieces = put d.tables (node_of v.kind place v.of) d.pieces } in
+    let e1 : Drafted = record m1 { pieces = put m1.tables (node_of node.DefaultIfAny place variant) m1.pieces } in
+    let all : e ≡ e1 = two ∙ ap (λ (z : Drafted). record z { pieces = put z.tables (node_of node.DefaultIfAny place variant) z.pieces }) one in
+    let P : Drafted → Type 0 = λ z. PushesAs if_any v place d z variant in
+    subst P (sym all) (record {
+      grown = grown_twice d m1 e1 (grown_pieces d m1.pieces) (grown_pieces m1 e1.pieces);
+      stands = λ made below ends. record {
+        made = expression_of (default_if_any (expression_of made place (declared_view v.of))) place type.variant;
+        is = ap (λ x. Some x) (any_by made place (declared_view v.of) o b true h (g d.tables made d.pieces below ends) is);
+        operand = refl;
+        on_top = ap (λ st. of_value (λ x. expr_of (node_of node.DefaultIfAny place variant) (default_if_any x)) st) (ends (node_of v.kind place v.of));
+      };
+    })
+
+-- a value as an operand
+pub value_plainly : (x : Tree) (d m e : Drafted) (v : Ending) (of : DeclaredType) → not_err x.term → TakesValue x.term d m (Some v) → PushesAs plain_operand v x.place m e of → PushesOperand x d e (Some of)
+value_plainly x d m e v of n t p = record {
+  grown = grown_twice d m e t.grown p.grown;
+  stands = λ env tree below k.
+      let y = term_of env tree in
+      let place = place_of_expression tree in
+      let h = t.stands env y below k.term_is in
+      let s = p.stands h.made below h.ends in
+      let here : value_of env y place ≡ Some (expression_of h.made x.place (declared_view v.of)) = h.is place ∙ ap (λ (q : Place). Some (expression_of h.made q (declared_view v.of))) (sym k.place_is) in
+      record {
+        made = s.made;
+        is = operand_split env d.tables x.term n y d.pieces below k.term_is place ∙ ap (λ o. or_else (option_map plain_operand o) (option_and_then (default_value place) (reference_of env y place))) here
+            ∙ ap (λ o. or_else o (option_and_then (default_value place) (reference_of env y place))) s.is;
+        operand = s.operand;
+        on_top = s.on_top;
+      };
+}
+
+pub given_if_any : (x : Tree) (d m e : Drafted) (v : Ending) (of : DeclaredType) → TakesGiven x.term d m v → PushesAs if_any v x.place m e of → PushesIfAny x d e of
+given_if_any x d m e v of t p = record {
+  grown = grown_twice d m e t.grown p.grown;
+  stands = λ env tree below k.
+      let y = term_of env tree in
+      let place = place_of_expression tree in
+      let h = t.stands env y below k.term_is in
+      let s = p.stands h.made below h.ends in
+      let here : given_as env y place ≡ Some (expression_of h.made x.place (declared_view v.of)) = h.is place ∙ ap (λ (q : Place). Some (expression_of h.made q (declared_view v.of))) (sym k.place_is) in
+      record { made = s.made; is = ap (λ o. option_map if_any o) here ∙ s.is; operand = s.operand; on_top = s.on_top };
+}
+
+-- ---- left operands
+
+pub left_reference : (x : Tree) (d e : Drafted) (of : DeclaredType) → PushesReference x d e of → PushesLeft x d e (record { place = x.place; of = Some of; is_reference = true })
+left_reference x d e of h = record {
+  grown = h.grown;
+  place_is = refl;
+  stands = λ env tree below k.
+      let s = h.stands env tree below k in
+      record { made = expression_of s.made s.place (declared_view of); is = s.is; operand = refl; on_top = s.on_top };
+}
+
+pub left_operand : (x : Tree) (d e : Drafted) (of : Option DeclaredType) → PushesOperand x d e of → PushesLeft x d e (record { place = x.place; of = of; is_reference = false })
+left_operand x d e of h = record { grown = h.grown; place_is = refl; stands = h.stands }

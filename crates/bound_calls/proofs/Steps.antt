@@ -1,6 +1,6 @@
 -- What the nodes of an expression do to the stack.
 use Rattle.std.proofs.lemmas.List.{drop_more, drop_all}
-use Rattle.std.proofs.Common.{◌≡◌, ℕ, true, false, ◌<◌, ◌≤◌, ◌+◌, get_or, drop, length, arith, length-append, List, [], ◌∷◌, Option, Some, None, refl, sym, ap, subst, ◌∙◌}
+use Rattle.std.proofs.Common.{◌≡◌, ℕ, Bool, true, false, ◌<◌, ◌≤◌, ◌+◌, get_or, drop, length, arith, length-append, List, [], ◌∷◌, Option, Some, None, refl, sym, ap, subst, ◌∙◌}
 use Rattle.std.specs.Prelude.{option_map}
 use Rattle.vba_base.specs.declared.place.Place.{Place}
 use Rattle.vba_lexer.specs.declared.token.Token.{Token}
@@ -19,18 +19,20 @@ use Rattle.vba_expression.specs.declared.node.ExpressionNode.{ExpressionNode}
 use Rattle.vba_expression.specs.Nodes.{behind_node, behind_nodes, items_of, last_tree, tree_in}
 use Rattle.module_parts.proofs.Firsts.{expression_front}
 use Rattle.bound_project.specs.declared.declared_type.DeclaredType.{DeclaredType}
+use Rattle.bound_project.specs.declared.declared_type.DeclaredType.TheVariants.{Plain}
+use Rattle.bound_project.specs.declared.declared_type.ElementType.TheVariants as element
 use Rattle.bound_project.specs.declared.node.NodeKind.TheVariants as kind
 use Rattle.vba_values.specs.Types.{Declared}
 use Rattle.bound_project.specs.View.{declared_view}
 use Rattle.bound_project.specs.Expressions as bound
-use Rattle.bound_project.specs.Expressions.{constant}
-use Rattle.bound_project.specs.Pieces.{Piece, Tables, expr_of, put}
+use Rattle.bound_project.specs.Expressions.{constant, same}
+use Rattle.bound_project.specs.Pieces.{Piece, Tables, an_expr, expr_of, of_both}
 use Rattle.bound_project.specs.Drafts.{Drafted}
 use Rattle.bound_project.proofs.Drafts.{constant_last}
 use Rattle.binder.specs.Constants.{place_of_expression, compare_in, operator_kind, value_type}
-use Rattle.binder.specs.Terms.{Env, no_term, a_value}
+use Rattle.binder.specs.Terms.{Env, a_value, expression_of}
 use Rattle.binder.specs.Terms as plain
-use Rattle.binder.specs.ExpressionsBound.{term_of, value_of, operand_of, as_value, binary_term, if_there, value_term, literal_term, bound_value, bound_operand}
+use Rattle.binder.specs.ExpressionsBound.{term_of, value_of, operand_of, reference_of, given_as, as_value, binary_term, same_term, if_there, value_term, literal_term, bound_value, bound_operand}
 use Rattle.vba_words.specs.declared.identifier.Identifier.{Identifier}
 use Rattle.bound_calls.specs.declared.term.Ending.{Ending}
 use Rattle.bound_calls.specs.declared.term.Term.{Term}
@@ -39,51 +41,38 @@ use Rattle.bound_calls.specs.declared.term.Tree.{Tree}
 use Rattle.bound_calls.specs.declared.term.Operand.{Operand}
 use Rattle.bound_calls.specs.declared.term.Item.{Item}
 use Rattle.bound_calls.specs.declared.term.Item.TheVariants as item
-use Rattle.bound_calls.specs.Standing.{TermStands, TermNamed, QualifierStands, LeafStands, TreeStands, PushedStands, EndingStands, EndingNamed, Stands, AllNamed, Grown, Base, on_pieces}
-use Rattle.bound_calls.specs.Taking.{TakesValue, TakesOperand, Pushes}
-use Rattle.bound_calls.specs.Steps.{PushesOperand, PushesValue, Leaves, Binds, Goes, MakesUnary, MakesBinary, MakesLeaf, AddsConstant, as_term, is_same}
-use Rattle.bound_calls.proofs.Growing.{grown_same, grown_constant, grown_pieces, grown_twice, all_named, stands_grows}
-use Rattle.bound_calls.proofs.Taking.{node_of}
-
-pub pushes_operand : (x : Tree) (d m e : Drafted) (v : Ending) → TakesOperand x.term d m v → e ≡ record m { pieces = put m.tables (node_of v.kind x.place v.of) m.pieces } → PushesOperand x d e (Some v.of)
-pushes_operand x d m e v t eq =
-    let P : Drafted → Type 0 = λ z. PushesOperand x d z (Some v.of) in
-    subst P (sym eq) (record {
-      grown = grown_twice d m (record m { pieces = put m.tables (node_of v.kind x.place v.of) m.pieces }) t.grown (grown_pieces m (put m.tables (node_of v.kind x.place v.of) m.pieces));
-      stands = λ env tree below k.
-          let h = t.stands env (term_of env tree) below k.term_is in
-          let A : Place → Type 0 = λ place. operand_of env (term_of env tree) place ≡ Some (bound.expr h.made x.place (declared_view v.of) (declared_view v.of)) in
-          record { made = bound.expr h.made x.place (declared_view v.of) (declared_view v.of); is = subst A k.place_is (h.is x.place); operand = refl; on_top = h.ends (node_of v.kind x.place v.of) };
-    })
+use Rattle.bound_calls.specs.Standing.{left_of, TermStands, TermNamed, QualifierStands, LeafStands, TreeStands, PushedIs, PushedStands, EndingIs, Stands, AllNamed, Grown, Base, on_pieces}
+use Rattle.bound_calls.specs.Taking.{TakesValue, Pushes}
+use Rattle.bound_calls.specs.References.{PushesReference, TakesGiven}
+use Rattle.bound_calls.specs.Steps.{PushesLeft, PushesOperand, PushesValue, Leaves, Binds, Goes, MakesUnary, MakesBinary, MakesLeaf, AddsConstant, is_same}
+use Rattle.bound_calls.proofs.Growing.{grown_same, grown_constant, grown_twice, all_named, stands_grows}
 
 pub goes_same : (env : Env) (d : Drafted) (xs : List Item) → AllNamed d.tables xs → Goes env d xs d xs (λ is. is)
 goes_same env d xs n = record { grown = grown_same d; named = n; stands = λ is base h. h }
 
 -- ---- a left operand
 
-settle_stands : (env : Env) (x : Tree) (xs : List Item) (d e : Drafted) (of : Option DeclaredType) → AllNamed d.tables (item.Tree x ∷ xs) → PushesOperand x d e of → (is : List nodes.Item) (base : Base)
-    → Stands env d.tables (item.Tree x ∷ xs) is d.pieces base → Stands env e.tables (item.Operand (record { place = x.place; of = of }) ∷ xs) is e.pieces base
-settle_stands env x xs d e of n p [] base h = absurd h
-settle_stands env x xs d e of n p (nodes.arguments args ∷ is) base h = absurd h
-settle_stands env x xs d e of n p (nodes.tree tree ∷ is) base h =
-    (h.0, (record { pushed = p.stands env tree h.0 h.1.0; place_is = h.1.0.place_is }, stands_grows env d.tables e.tables p.grown.tables xs n.1 is h.0 base h.1.1))
+settle_stands : (env : Env) (x : Tree) (xs : List Item) (d e : Drafted) (left : Operand) → AllNamed d.tables (item.Tree x ∷ xs) → PushesLeft x d e left → (is : List nodes.Item) (base : Base)
+    → Stands env d.tables (item.Tree x ∷ xs) is d.pieces base → Stands env e.tables (item.Operand left ∷ xs) is e.pieces base
+settle_stands env x xs d e left n p [] base h = absurd h
+settle_stands env x xs d e left n p (nodes.arguments args ∷ is) base h = absurd h
+settle_stands env x xs d e left n p (nodes.tree tree ∷ is) base h =
+    (h.0, (record { pushed = p.stands env tree h.0 h.1.0; place_is = p.place_is ∙ h.1.0.place_is }, stands_grows env d.tables e.tables p.grown.tables xs n.1 is h.0 base h.1.1))
 
-pub settle_tree : (env : Env) (x : Tree) (xs : List Item) (d e : Drafted) (of : Option DeclaredType) → AllNamed d.tables (item.Tree x ∷ xs) → PushesOperand x d e of
-    → Goes env d (item.Tree x ∷ xs) e (item.Operand (record { place = x.place; of = of }) ∷ xs) (λ is. is)
-settle_tree env x xs d e of n p = record {
+settle_tree : (env : Env) (x : Tree) (xs : List Item) (d e : Drafted) (left : Operand) → AllNamed d.tables (item.Tree x ∷ xs) → PushesLeft x d e left → Goes env d (item.Tree x ∷ xs) e (item.Operand left ∷ xs) (λ is. is)
+settle_tree env x xs d e left n p = record {
   grown = p.grown;
   named = (tt, all_named d.tables e.tables p.grown.tables xs n.1);
-  stands = λ is base h. settle_stands env x xs d e of n p is base h;
+  stands = λ is base h. settle_stands env x xs d e left n p is base h;
 }
 
 -- as the calls say it
-pub settled : (env : Env) (x : Tree) (xs old new : List Item) (d e : Drafted) (of : Option DeclaredType) → old ≡ item.Tree x ∷ xs → new ≡ item.Operand (record { place = x.place; of = of }) ∷ xs → AllNamed d.tables old
-    → PushesOperand x d e of → Goes env d old e new (λ is. is)
-settled env x xs old new d e of o n k p =
+pub settled : (env : Env) (x : Tree) (xs old new : List Item) (d e : Drafted) (left : Operand) → old ≡ item.Tree x ∷ xs → new ≡ item.Operand left ∷ xs → AllNamed d.tables old → PushesLeft x d e left → Goes env d old e new (λ is. is)
+settled env x xs old new d e left o n k p =
     let N : List Item → Type 0 = λ l. AllNamed d.tables l in
     let A : List Item → Type 0 = λ l. Goes env d l e new (λ is. is) in
     let B : List Item → Type 0 = λ l. Goes env d (item.Tree x ∷ xs) e l (λ is. is) in
-    subst A (sym o) (subst B (sym n) (settle_tree env x xs d e of (subst N o k) p))
+    subst A (sym o) (subst B (sym n) (settle_tree env x xs d e left (subst N o k) p))
 
 pub put_back : (env : Env) (xs old new : List Item) (d : Drafted) → old ≡ new → AllNamed d.tables old → Goes env d old d new (λ is. is)
 put_back env xs old new d o k = let A : List Item → Type 0 = λ l. Goes env d old d l (λ is. is) in subst A o (goes_same env d old k)
@@ -118,21 +107,8 @@ goes_leaf env xs ys new d e f x tree g m p n q eq =
 
 -- ---- parentheses
 
-as_value_none : (env : Env) (y : plain.Term) (place : Place) → value_of env y place ≡ None → as_value env y place ≡ no_term
-as_value_none env y place h = ap (λ o. if_there (option_map value_term o)) h
-
-as_value_some : (env : Env) (y : plain.Term) (place : Place) (made : bound.Expr) → value_of env y place ≡ Some made → as_value env y place ≡ value_term made
-as_value_some env y place made h = ap (λ o. if_there (option_map value_term o)) h
-
-valued : (env : Env) (t : Tables) (ending : Option Ending) (y : plain.Term) (place : Place) (ps below : List Piece) → EndingStands t ending (λ p. value_of env y p) ps below
-    → TermStands env t (as_term ending) (as_value env y place) ps below
-valued env t None y place ps below h = as_value_none env y place (h place)
-valued env t (Some e) y place ps below h =
-    record { made = h.made; is = as_value_some env y place (bound.expr h.made place (declared_view e.of) (declared_view e.of)) (h.is place); ends = h.ends }
-
-as_term_named : (t : Tables) (ending : Option Ending) → EndingNamed t ending → TermNamed t (as_term ending)
-as_term_named t None h = tt
-as_term_named t (Some e) h = h
+valued : (env : Env) (t : Tables) (v : Ending) (y : plain.Term) (place : Place) (ps below : List Piece) → EndingIs t v (λ p. given_as env y p) ps below → TermStands env t (term.Value v) (as_value env y place) ps below
+valued env t v y place ps below h = record { made = h.made; is = ap (λ o. if_there (option_map value_term o)) (h.is place); ends = h.ends }
 
 -- what is made of the tree on top
 made_of_tree : (env : Env) (x y : Tree) (xs : List Item) (d e : Drafted) (f : Expr → Expr) → Grown d e → AllNamed d.tables xs
@@ -159,11 +135,11 @@ goes_made env x y xs old new d e f o n grown k named make g eq =
       stands = λ is base h. made_of_tree env x y xs d e f grown all.1 make g eq is base h;
     }))
 
-pub goes_parenthesised : (env : Env) (x : Tree) (left right : Token) (ending : Option Ending) (xs old new : List Item) (d e : Drafted) → old ≡ item.Tree x ∷ xs
-    → new ≡ item.Tree (record { place = left.place; name = None; is_qualifier = false; term = as_term ending }) ∷ xs → AllNamed d.tables old → TakesValue x.term d e ending → Goes env d old e new (behind_node (node.Parenthesised left right))
-goes_parenthesised env x left right ending xs old new d e o n k v =
-    goes_made env x (record { place = left.place; name = None; is_qualifier = false; term = as_term ending }) xs old new d e (λ tree. parenthesised left tree right) o n v.grown k (as_term_named e.tables ending v.named)
-    (λ tree below h. record { term_is = valued env e.tables ending (term_of env tree) (place_of_expression tree) e.pieces below (v.stands env (term_of env tree) below h.term_is); place_is = refl; name_is = refl; qualifier_is = refl; leaf = tt })
+pub goes_parenthesised : (env : Env) (x : Tree) (left right : Token) (v : Ending) (xs old new : List Item) (d e : Drafted) → old ≡ item.Tree x ∷ xs
+    → new ≡ item.Tree (record { place = left.place; name = None; is_qualifier = false; term = term.Value v }) ∷ xs → AllNamed d.tables old → TakesGiven x.term d e v → Goes env d old e new (behind_node (node.Parenthesised left right))
+goes_parenthesised env x left right v xs old new d e o n k g =
+    goes_made env x (record { place = left.place; name = None; is_qualifier = false; term = term.Value v }) xs old new d e (λ tree. parenthesised left tree right) o n g.grown k g.named
+    (λ tree below h. record { term_is = valued env e.tables v (term_of env tree) (place_of_expression tree) e.pieces below (g.stands env (term_of env tree) below h.term_is); place_is = refl; name_is = refl; qualifier_is = refl; leaf = tt })
     (behind_node (node.Parenthesised left right)) (λ tree is. refl)
 
 -- ---- operators
@@ -199,21 +175,27 @@ two_operands env l r operators.Eqv token h = refl
 two_operands env l r operators.Imp token h = refl
 two_operands env l r operators.Is token h = let e : true ≡ false = h in absurd cc
 
-binary_stands : (env : Env) (left : Operand) (x : Tree) (operator : BinaryOperator) (token : Token) (of : Option DeclaredType) (made : Term) (xs : List Item) (d e : Drafted) (compare : Compare) → is_same operator ≡ false → compare ≡ compare_in env.scope
+-- a left operand that is no reference
+plain_left : (b : Bool) (env : Env) (t : plain.Term) (place : Place) → b ≡ false → left_of b env t place ≡ operand_of env t place
+plain_left b env t place h = rw h refl
+
+binary_stands : (env : Env) (left : Operand) (x : Tree) (operator : BinaryOperator) (token : Token) (of : Option DeclaredType) (made : Term) (xs : List Item) (d e : Drafted) (compare : Compare) → is_same operator ≡ false → left.is_reference ≡ false → compare ≡ compare_in env.scope
     → AllNamed d.tables xs → PushesOperand x d e of → MakesBinary compare operator left.of of made → (is : List nodes.Item) (base : Base)
     → Stands env d.tables (item.Tree x ∷ item.Operand left ∷ xs) is d.pieces base
     → Stands env e.tables (item.Tree (record { place = left.place; name = None; is_qualifier = false; term = made }) ∷ xs) (behind_node (node.Binary operator token) is) e.pieces base
-binary_stands env left x operator token of made xs d e compare o c k p m [] base h = absurd h
-binary_stands env left x operator token of made xs d e compare o c k p m (nodes.arguments args ∷ is) base h = absurd h
-binary_stands env left x operator token of made xs d e compare o c k p m (nodes.tree r ∷ []) base h = absurd h.1.1
-binary_stands env left x operator token of made xs d e compare o c k p m (nodes.tree r ∷ nodes.arguments args ∷ is) base h = absurd h.1.1
-binary_stands env left x operator token of made xs d e compare o c k p m (nodes.tree r ∷ nodes.tree l ∷ is) base h =
+binary_stands env left x operator token of made xs d e compare o q c k p m [] base h = absurd h
+binary_stands env left x operator token of made xs d e compare o q c k p m (nodes.arguments args ∷ is) base h = absurd h
+binary_stands env left x operator token of made xs d e compare o q c k p m (nodes.tree r ∷ []) base h = absurd h.1.1
+binary_stands env left x operator token of made xs d e compare o q c k p m (nodes.tree r ∷ nodes.arguments args ∷ is) base h = absurd h.1.1
+binary_stands env left x operator token of made xs d e compare o q c k p m (nodes.tree r ∷ nodes.tree l ∷ is) base h =
     let low = h.1.1 in
-    let A : plain.Term → Type 0 = λ z. TermStands env e.tables made z e.pieces low.0 in (
+    let A : plain.Term → Type 0 = λ z. TermStands env e.tables made z e.pieces low.0 in
+    let B : Option bound.Expr → Type 0 = λ z. PushedStands left.of z h.0 low.0 in
+    let pushed = subst B (plain_left left.is_reference env (term_of env l) (place_of_expression l) q) low.1.0.pushed in (
       low.0,
       (
         record {
-          term_is = subst A (sym (two_operands env l r operator token o)) (m.stands env e.tables (operand_of env (term_of env l) (place_of_expression l)) (operand_of env (term_of env r) (place_of_expression r)) e.pieces h.0 low.0 c low.1.0.pushed (p.stands env r h.0 h.1.0));
+          term_is = subst A (sym (two_operands env l r operator token o)) (m.stands env e.tables (operand_of env (term_of env l) (place_of_expression l)) (operand_of env (term_of env r) (place_of_expression r)) e.pieces h.0 low.0 c pushed (p.stands env r h.0 h.1.0));
           place_is = low.1.0.place_is ∙ sym (expression_front l (read token (binary_reading operator) ∷ spell r));
           name_is = refl;
           qualifier_is = refl;
@@ -224,9 +206,9 @@ binary_stands env left x operator token of made xs d e compare o c k p m (nodes.
     )
 
 pub goes_binary : (env : Env) (left : Operand) (x : Tree) (operator : BinaryOperator) (token : Token) (of : Option DeclaredType) (made : Term) (xs old between new : List Item) (d e : Drafted) (compare : Compare)
-    → is_same operator ≡ false → compare ≡ compare_in env.scope → old ≡ item.Tree x ∷ between → between ≡ item.Operand left ∷ xs → new ≡ item.Tree (record { place = left.place; name = None; is_qualifier = false; term = made }) ∷ xs → AllNamed d.tables old
+    → is_same operator ≡ false → left.is_reference ≡ false → compare ≡ compare_in env.scope → old ≡ item.Tree x ∷ between → between ≡ item.Operand left ∷ xs → new ≡ item.Tree (record { place = left.place; name = None; is_qualifier = false; term = made }) ∷ xs → AllNamed d.tables old
     → PushesOperand x d e of → MakesBinary compare operator left.of of made → Goes env d old e new (behind_node (node.Binary operator token))
-goes_binary env left x operator token of made xs old between new d e compare other c o b n k p m =
+goes_binary env left x operator token of made xs old between new d e compare other q c o b n k p m =
     let g = behind_node (node.Binary operator token) in
     let all : old ≡ item.Tree x ∷ item.Operand left ∷ xs = o ∙ ap (λ l. item.Tree x ∷ l) b in
     let N : List Item → Type 0 = λ l. AllNamed d.tables l in
@@ -236,7 +218,68 @@ goes_binary env left x operator token of made xs old between new d e compare oth
     subst A (sym all) (subst B (sym n) (record {
       grown = p.grown;
       named = (m.named e.tables, all_named d.tables e.tables p.grown.tables xs named.1.1);
-      stands = λ is base h. binary_stands env left x operator token of made xs d e compare other c named.1.1 p m is base h;
+      stands = λ is base h. binary_stands env left x operator token of made xs d e compare other q c named.1.1 p m is base h;
+    }))
+
+-- ---- Is
+
+abbrev same_ending : Ending
+same_ending = record { kind = kind.Same; of = Plain element.Boolean }
+
+same_term_stands : (env : Env) (t : Tables) (l r : Option bound.Expr) (a b : bound.Expr) (ps between below : List Piece) → l ≡ Some a → r ≡ Some b → between ≡ an_expr a ∷ below → ps ≡ an_expr b ∷ between
+    → TermStands env t (term.Value same_ending) (same_term l r) ps below
+same_term_stands env t l r a b ps between below one other low high = record {
+  made = same a b;
+  is = ap (λ o. same_term o r) one ∙ ap (λ o. same_term (Some a) o) other;
+  ends = λ n. ap (λ st. of_both (λ x y. expr_of n (same x y)) st) (high ∙ ap (λ st. an_expr b ∷ st) low);
+}
+
+referred_left : (b : Bool) (env : Env) (t : plain.Term) (place : Place) → b ≡ true → left_of b env t place ≡ reference_of env t place
+referred_left b env t place h = rw h refl
+
+left_pushed : (of : Option DeclaredType) (u : DeclaredType) (found : Option bound.Expr) (ps below : List Piece) → of ≡ Some u → PushedStands of found ps below → PushedIs u found ps below
+left_pushed of u found ps below h k = let A : Option DeclaredType → Type 0 = λ o. PushedStands o found ps below in subst A h k
+
+same_stands : (env : Env) (left : Operand) (u of : DeclaredType) (x : Tree) (token : Token) (xs : List Item) (d e : Drafted) → left.is_reference ≡ true → left.of ≡ Some u → AllNamed d.tables xs → PushesReference x d e of
+    → (is : List nodes.Item) (base : Base) → Stands env d.tables (item.Tree x ∷ item.Operand left ∷ xs) is d.pieces base
+    → Stands env e.tables (item.Tree (record { place = left.place; name = None; is_qualifier = false; term = term.Value same_ending }) ∷ xs) (behind_node (node.Binary operators.Is token) is) e.pieces base
+same_stands env left u of x token xs d e q v k p [] base h = absurd h
+same_stands env left u of x token xs d e q v k p (nodes.arguments args ∷ is) base h = absurd h
+same_stands env left u of x token xs d e q v k p (nodes.tree r ∷ []) base h = absurd h.1.1
+same_stands env left u of x token xs d e q v k p (nodes.tree r ∷ nodes.arguments args ∷ is) base h = absurd h.1.1
+same_stands env left u of x token xs d e q v k p (nodes.tree r ∷ nodes.tree l ∷ is) base h =
+    let low = h.1.1 in
+    let s = p.stands env r h.0 h.1.0 in
+    let B : Option bound.Expr → Type 0 = λ z. PushedStands left.of z h.0 low.0 in
+    let w = left_pushed left.of u (reference_of env (term_of env l) (place_of_expression l)) h.0 low.0 v (subst B (referred_left left.is_reference env (term_of env l) (place_of_expression l) q) low.1.0.pushed) in (
+      low.0,
+      (
+        record {
+          term_is = same_term_stands env e.tables (reference_of env (term_of env l) (place_of_expression l)) (reference_of env (term_of env r) (place_of_expression r)) w.made
+              (expression_of s.made s.place (declared_view of)) e.pieces h.0 low.0 w.is s.is w.on_top s.on_top;
+          place_is = low.1.0.place_is ∙ sym (expression_front l (read token (binary_reading operators.Is) ∷ spell r));
+          name_is = refl;
+          qualifier_is = refl;
+          leaf = tt;
+        },
+        stands_grows env d.tables e.tables p.grown.tables xs k is low.0 base low.1.1,
+      ),
+    )
+
+pub goes_same_object : (env : Env) (left : Operand) (u of : DeclaredType) (x : Tree) (token : Token) (xs old between new : List Item) (d e : Drafted) → left.is_reference ≡ true → left.of ≡ Some u → old ≡ item.Tree x ∷ between
+    → between ≡ item.Operand left ∷ xs → new ≡ item.Tree (record { place = left.place; name = None; is_qualifier = false; term = term.Value same_ending }) ∷ xs → AllNamed d.tables old → PushesReference x d e of
+    → Goes env d old e new (behind_node (node.Binary operators.Is token))
+goes_same_object env left u of x token xs old between new d e q v o b n k p =
+    let g = behind_node (node.Binary operators.Is token) in
+    let all : old ≡ item.Tree x ∷ item.Operand left ∷ xs = o ∙ ap (λ l. item.Tree x ∷ l) b in
+    let N : List Item → Type 0 = λ l. AllNamed d.tables l in
+    let A : List Item → Type 0 = λ l. Goes env d l e new g in
+    let B : List Item → Type 0 = λ l. Goes env d (item.Tree x ∷ item.Operand left ∷ xs) e l g in
+    let named = subst N all k in
+    subst A (sym all) (subst B (sym n) (record {
+      grown = p.grown;
+      named = (tt, all_named d.tables e.tables p.grown.tables xs named.1.1);
+      stands = λ is base h. same_stands env left u of x token xs d e q v named.1.1 p is base h;
     }))
 
 -- ---- constants

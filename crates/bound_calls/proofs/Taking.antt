@@ -1,18 +1,17 @@
 -- How terms are taken.
 use Rattle.std.proofs.Common.{◌≡◌, ◌<◌, length, Bool, true, false, List, [], ◌∷◌, Option, Some, None, refl, sym, ap, subst, ◌∙◌}
-use Rattle.std.specs.Prelude.{◌==◌, if◌then◌else◌, option_and_then}
+use Rattle.std.specs.Prelude.{◌==◌, if◌then◌else◌, option_map, option_and_then}
 use Rattle.vba_base.specs.declared.place.Place.{Place}
 use Rattle.vba_values.specs.Types as type
 use Rattle.bound_project.specs.declared.declared_type.DeclaredType.{DeclaredType}
 use Rattle.bound_project.specs.declared.declared_type.DeclaredType.TheVariants.{Plain}
 use Rattle.bound_project.specs.declared.declared_type.ElementType.TheVariants as element
-use Rattle.bound_project.specs.declared.variable.ErrMember.TheVariants as err_member
 use Rattle.bound_project.specs.declared.node.NodeKind.{NodeKind}
 use Rattle.bound_project.specs.declared.node.NodeKind.TheVariants as node
 use Rattle.bound_project.specs.declared.node.Node.{Node}
 use Rattle.bound_project.specs.View.{declared_view}
 use Rattle.bound_project.specs.Project.{nowhere}
-use Rattle.bound_project.specs.Expressions.{expr, load, active_sheet, err_value, err_number, host_member, no_exprs}
+use Rattle.bound_project.specs.Expressions.{expr, load, active_sheet, host_member, no_exprs}
 use Rattle.bound_project.specs.Expressions as bound
 use Rattle.bound_project.specs.Pieces.{Piece, Tables, a_member, an_expr, exprs_off, name_in, of_member_found, of_place, of_value, expr_of, put}
 use Rattle.bound_project.proofs.Lists.{member_put}
@@ -21,14 +20,14 @@ use Rattle.binder.specs.Options.{or_else}
 use Rattle.binder.specs.Types.{is_object}
 use Rattle.binder.specs.Terms.{Env, a_host_member, expression_of, typed_value}
 use Rattle.binder.specs.Terms as plain
-use Rattle.binder.specs.ExpressionsBound.{value_of, reference_of, default_value, operand_of}
+use Rattle.binder.specs.ExpressionsBound.{plain_operand, value_of, reference_of, default_value, operand_of}
 use Rattle.bound_calls.specs.declared.term.Ending.{Ending}
 use Rattle.bound_calls.specs.declared.term.HostMember.{HostMember}
 use Rattle.bound_calls.specs.declared.term.Routine.{Routine}
 use Rattle.bound_calls.specs.declared.term.Term.{Term}
 use Rattle.bound_calls.specs.declared.term.Term.TheVariants as term
 use Rattle.bound_calls.specs.Standing.{TermStands, EndingIs, EndingStands, EndingNamed, member_is}
-use Rattle.bound_calls.specs.Taking.{Loads, CallsBare, PushesSheet, ReadsMember, TakesValue, TakesOperand, Pushes, sheet_expression}
+use Rattle.bound_calls.specs.Taking.{Loads, CallsBare, PushesSheet, ReadsMember, TakesValue, Pushes, sheet_expression}
 use Rattle.bound_calls.proofs.Growing.{grown_same, grown_pieces, grown_twice}
 
 -- a node of a type that it has as an operand too
@@ -184,10 +183,10 @@ not_err term.Err = ⊥
 not_err x = Unit {0}
 
 Splits : Env → Place → plain.Term → Type 0
-Splits env place z = operand_of env z place ≡ or_else (value_of env z place) (option_and_then (default_value place) (reference_of env z place))
+Splits env place z = operand_of env z place ≡ or_else (option_map plain_operand (value_of env z place)) (option_and_then (default_value place) (reference_of env z place))
 
 pub operand_split : (env : Env) (t : Tables) (x : Term) → not_err x → (y : plain.Term) (ps below : List Piece) → TermStands env t x y ps below → (place : Place)
-    → operand_of env y place ≡ or_else (value_of env y place) (option_and_then (default_value place) (reference_of env y place))
+    → operand_of env y place ≡ or_else (option_map plain_operand (value_of env y place)) (option_and_then (default_value place) (reference_of env y place))
 unfolding not_err Splits
 operand_split env t (term.Place kind of bounded lends) n y ps below h place = subst (Splits env place) (sym h.is) refl
 operand_split env t (term.Value e) n y ps below h place = subst (Splits env place) (sym h.is) refl
@@ -207,44 +206,19 @@ pub same_ending : (t : Tables) (ending : Option Ending) (found other : Place →
 same_ending t None found other ps below e h = λ place. e place ∙ h place
 same_ending t (Some ending) found other ps below e h = record { made = h.made; is = λ place. e place ∙ h.is place; ends = h.ends }
 
-as_operand : (x : Term) → not_err x → (d e : Drafted) (ending : Ending) → TakesValue x d e (Some ending) → TakesOperand x d e ending
-as_operand x n d e ending h = record {
-  grown = h.grown;
-  named = h.named;
-  stands = λ env y below k.
-      let v = h.stands env y below k in
-      record {
-        made = v.made;
-        is = λ place. operand_split env d.tables x n y d.pieces below k place ∙ ap (λ o. or_else o (option_and_then (default_value place) (reference_of env y place))) (v.is place);
-        ends = v.ends;
-      };
-}
-
-pub takes_operand : (x : Term) → ((x ≡ term.Err) → ⊥) → (d e : Drafted) (ending : Ending) → TakesValue x d e (Some ending) → TakesOperand x d e ending
-takes_operand (term.Place kind of bounded lends) n d e ending h = unfold not_err in as_operand (term.Place kind of bounded lends) tt d e ending h
-takes_operand (term.Value v) n d e ending h = unfold not_err in as_operand (term.Value v) tt d e ending h
-takes_operand (term.Routine r) n d e ending h = unfold not_err in as_operand (term.Routine r) tt d e ending h
-takes_operand (term.Function f) n d e ending h = unfold not_err in as_operand (term.Function f) tt d e ending h
-takes_operand (term.HostMember m) n d e ending h = unfold not_err in as_operand (term.HostMember m) tt d e ending h
-takes_operand (term.SheetMember m) n d e ending h = unfold not_err in as_operand (term.SheetMember m) tt d e ending h
-takes_operand term.Err n d e ending h = absurd (n refl)
-takes_operand term.ErrRaise n d e ending h = unfold not_err in as_operand term.ErrRaise tt d e ending h
-takes_operand term.ErrClear n d e ending h = unfold not_err in as_operand term.ErrClear tt d e ending h
-takes_operand term.ErrorWord n d e ending h = unfold not_err in as_operand term.ErrorWord tt d e ending h
-takes_operand term.Nothing n d e ending h = unfold not_err in as_operand term.Nothing tt d e ending h
-
-abbrev pub err_ending : Ending
-err_ending = record { kind = node.ErrValue err_member.Number; of = Plain element.Long }
-
-err_stands : (d : Drafted) (env : Env) (y : plain.Term) (below : List Piece) → TermStands env d.tables term.Err y d.pieces below → EndingIs d.tables err_ending (λ place. operand_of env y place) d.pieces below
-err_stands d env y below h =
-    let P : plain.Term → Type 0 = λ z. (place : Place) → operand_of env z place ≡ Some (expr (err_value err_number) place type.long type.long) in
-    record { made = err_value err_number; is = subst P (sym h.0) (λ place. refl); ends = λ n. ap (λ st. expr_of n (err_value err_number) ∷ st) h.1 }
-
-pub takes_err : (x : Term) → x ≡ term.Err → (d : Drafted) → TakesOperand x d d err_ending
-takes_err x e d =
-    let P : Term → Type 0 = λ z. TakesOperand z d d err_ending in
-    subst P (sym e) (record { grown = grown_same d; named = tt; stands = err_stands d })
+pub no_err : (x : Term) → ((x ≡ term.Err) → ⊥) → not_err x
+unfolding not_err
+no_err (term.Place kind of bounded lends) n = tt
+no_err (term.Value v) n = tt
+no_err (term.Routine r) n = tt
+no_err (term.Function f) n = tt
+no_err (term.HostMember m) n = tt
+no_err (term.SheetMember m) n = tt
+no_err term.Err n = absurd (n refl)
+no_err term.ErrRaise n = tt
+no_err term.ErrClear n = tt
+no_err term.ErrorWord n = tt
+no_err term.Nothing n = tt
 
 -- ---- what is pushed
 

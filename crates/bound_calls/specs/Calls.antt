@@ -1,5 +1,5 @@
 -- Serves the code: how arguments and calls are pushed.
-use Rattle.std.specs.Prelude.{◌≡◌, ◌+◌, length, true, List, ◌∷◌, map, Option, Some, None}
+use Rattle.std.specs.Prelude.{◌≡◌, ◌+◌, length, Bool, true, false, ◌&&◌, ◌||◌, List, ◌∷◌, map, Option, Some, None}
 use Rattle.vba_base.specs.declared.place.Place.{Place}
 use Rattle.vba_lexer.specs.declared.token.Token.{Token}
 use Rattle.vba_expression.specs.Tree.{Expr, Args, missing}
@@ -16,10 +16,10 @@ use Rattle.bound_project.specs.Lists.{above}
 use Rattle.bound_project.specs.Pieces.{Argument, place_lent, value_copied, Piece, an_argument, an_expr}
 use Rattle.bound_project.specs.Project as project
 use Rattle.bound_project.specs.Drafts.{Drafted}
-use Rattle.binder.specs.Constants.{place_of_expression}
-use Rattle.binder.specs.Terms.{Env, Given, is_lent_to}
-use Rattle.binder.specs.Terms as plain
-use Rattle.binder.specs.ExpressionsBound.{givens, indexed, term_of, value_of}
+use Rattle.binder.specs.Constants.{is_variant, place_of_expression}
+use Rattle.binder.specs.Types.{is_object}
+use Rattle.binder.specs.Terms.{Env, Given}
+use Rattle.binder.specs.ExpressionsBound.{argument_of, term_of}
 use Rattle.bound_calls.specs.declared.term.Ending.{Ending}
 use Rattle.bound_calls.specs.declared.term.Routine.{Routine}
 use Rattle.bound_calls.specs.declared.term.Term.{Term}
@@ -29,7 +29,7 @@ use Rattle.bound_calls.specs.declared.term.Passed.{Passed}
 use Rattle.bound_calls.specs.declared.term.Item.{Item}
 use Rattle.bound_calls.specs.declared.term.Item.TheVariants as item
 use Rattle.bound_calls.specs.Passing.{Taken, NotGiven, AllLeft}
-use Rattle.bound_calls.specs.Standing.{PlaceEnds, RoutineStands, TreeStands, PassedStands, Grown}
+use Rattle.bound_calls.specs.Standing.{PlaceEnds, TreeStands, PassedStands, Grown}
 
 -- ---- one argument
 
@@ -51,10 +51,28 @@ abbrev pub lent_in : Term → Option Ending
 lent_in (term.Place kind of bounded true) = Some (record { kind = kind; of = of })
 lent_in x = None
 
--- a place is lent to a parameter that takes one of its type
-pub record LendsTo (p : Parameter) (lent : Ending) (d e : Drafted) : Type 0 where
-  pub fits : is_lent_to (declared_view lent.of) (declared_view p.of) ≡ true
-  pub lends : Lends lent.kind d e
+-- a place that isn't lent is copied, where it is one of another object type, or an element of a Variant variable
+abbrev pub may_be_item : NodeKind → Bool
+may_be_item (node.Item x count) = is_variant (declared_view x.of)
+may_be_item kind = false
+
+abbrev pub is_copied : NodeKind → (of parameter : DeclaredType) → Bool
+is_copied kind of parameter = (is_object (declared_view of) && is_object (declared_view parameter)) || may_be_item kind
+
+-- a parameter of a type takes an object as it is
+abbrev pub keeps_object : DeclaredType → Bool
+keeps_object of = is_variant (declared_view of) || is_object (declared_view of)
+
+-- a value that was pushed for a parameter of a type
+pub record ArgumentIs (found : Option bound.Expr) (ps below : List Piece) : Type 0 where
+  pub made : bound.Expr
+  pub is : found ≡ Some made
+  pub on_top : ps ≡ an_expr made ∷ below
+
+pub record PushesArgument (of : DeclaredType) (x : Tree) (d e : Drafted) : Type 0 where
+  pub grown : Grown d e
+  pub stands : (env : Env) (tree : Expr) (below : List Piece) → TreeStands env d.tables x tree d.pieces below
+      → ArgumentIs (argument_of env (declared_view of) (term_of env tree) (place_of_expression tree)) e.pieces below
 
 -- a value that was copied for a parameter of a type
 pub record CopiedIs (of : DeclaredType) (found : Option bound.Expr) (ps below : List Piece) : Type 0 where
@@ -65,12 +83,12 @@ pub record CopiedIs (of : DeclaredType) (found : Option bound.Expr) (ps below : 
 pub record Copies (of : DeclaredType) (x : Tree) (d e : Drafted) : Type 0 where
   pub grown : Grown d e
   pub stands : (env : Env) (tree : Expr) (below : List Piece) → TreeStands env d.tables x tree d.pieces below
-      → CopiedIs of (value_of env (term_of env tree) (place_of_expression tree)) e.pieces below
+      → CopiedIs of (argument_of env (declared_view of) (term_of env tree) (place_of_expression tree)) e.pieces below
 
 -- an argument that was pushed for a parameter
 pub record TakenIs (env : Env) (p : project.Parameter) (g : Given) (ps below : List Piece) : Type 0 where
   pub made : Argument
-  pub taken : Taken (value_of env) p g made
+  pub taken : Taken (argument_of env) p g made
   pub on_top : ps ≡ an_argument made ∷ below
 
 -- an expression is passed to a parameter
@@ -123,16 +141,3 @@ pub record EndsCall (r : Routine) (x : Passed) (d e : Drafted) (ending : Ending)
   pub left : AllLeft (map parameter_view x.left.now) made
   pub on_top : e.pieces ≡ above (map an_argument made) d.pieces
   pub ending_is : ending ≡ record { kind = node.Call r.procedure (x.count + length made); of = r.of }
-
--- ---- the value of a call
-
--- the value of a call, and that it was pushed
-pub record CallPushed (env : Env) (y : plain.Term) (args : Args) (place : Place) (ps below : List Piece) : Type 0 where
-  pub made : bound.Expr
-  pub is : value_of env (indexed env place y (givens env args)) place ≡ Some made
-  pub on_top : ps ≡ an_expr made ∷ below
-
-pub record PushesCall (r : Routine) (x : Passed) (place : Place) (d e : Drafted) : Type 0 where
-  pub grown : Grown d e
-  pub stands : (env : Env) (y : plain.Term) (args : Args) (qs below : List Piece) → RoutineStands env r y qs qs → PassedStands env (map parameter_view r.parameters.now) x args d.pieces below
-      → CallPushed env y args place e.pieces below

@@ -5,6 +5,7 @@ use Rattle.vba_base.specs.declared.place.Place.{Place}
 use Rattle.bound_project.specs.declared.declarations.Parameter.{Parameter as ParameterHere}
 use Rattle.bound_project.specs.declared.node.NodeKind.TheVariants as node
 use Rattle.bound_project.specs.View.{parameter_view}
+use Rattle.vba_values.specs.Types.{Declared}
 use Rattle.bound_project.specs.Expressions as bound
 use Rattle.bound_project.specs.Lists.{above}
 use Rattle.bound_project.specs.Pieces.{Argument, an_argument, order_in, with_argument}
@@ -68,14 +69,14 @@ numbers_pushed count ks = ks ++ other_numbers 0 count ks
 -- ---- what is given by names
 
 -- what is given for a parameter by its name, among those from a number on
-pub record NamedTaken (value : Term → Place → Option bound.Expr) (number : ℕ) (ps : List Parameter) (g : Given) (k : ℕ) (x : Argument) : Type 0 where
+pub record NamedTaken (value : Declared → Term → Place → Option bound.Expr) (number : ℕ) (ps : List Parameter) (g : Given) (k : ℕ) (x : Argument) : Type 0 where
   pub fold : List ℕ
   pub parameter : Parameter
   pub has_name : g.name ≡ Some fold
   pub found : parameter_named number ps fold ≡ Some (k, parameter)
   pub makes : (rest : bound.Args) → taken_by value parameter g rest ≡ Some (with_argument x rest)
 
-abbrev pub AllNamedTaken : (Term → Place → Option bound.Expr) → ℕ → List Parameter → List Given → List ℕ → List Argument → Type 0
+abbrev pub AllNamedTaken : (Declared → Term → Place → Option bound.Expr) → ℕ → List Parameter → List Given → List ℕ → List Argument → Type 0
 AllNamedTaken value number ps [] [] [] = Unit {0}
 AllNamedTaken value number ps (g ∷ gs) (k ∷ ks) (x ∷ xs) = NamedTaken value number ps g k x × AllNamedTaken value number ps gs ks xs
 AllNamedTaken value number ps gs ks xs = ⊥

@@ -1,6 +1,7 @@
 -- Serves the code: arguments that parameters take, by the pieces that are pushed for them.
 use Rattle.std.specs.Prelude.{◌≡◌, false, List, [], ◌∷◌, Option, Some, None}
 use Rattle.vba_base.specs.declared.place.Place.{Place}
+use Rattle.vba_values.specs.Types.{Declared}
 use Rattle.bound_project.specs.Expressions.{Args}
 use Rattle.bound_project.specs.Expressions as bound
 use Rattle.bound_project.specs.Pieces.{Argument, with_argument}
@@ -8,13 +9,13 @@ use Rattle.bound_project.specs.Project.{Parameter}
 use Rattle.binder.specs.Terms.{Term, Given, taken_by, not_given_to}
 
 -- a parameter that is no ParamArray takes what is given without a name
-pub record Taken (value : Term → Place → Option bound.Expr) (p : Parameter) (g : Given) (x : Argument) : Type 0 where
+pub record Taken (value : Declared → Term → Place → Option bound.Expr) (p : Parameter) (g : Given) (x : Argument) : Type 0 where
   pub no_name : g.name ≡ None
   pub no_list : p.many ≡ false
   pub makes : (rest : Args) → taken_by value p g rest ≡ Some (with_argument x rest)
 
 -- the first parameters take what is given, and others are left
-abbrev pub AllTaken : (Term → Place → Option bound.Expr) → List Parameter → List Given → List Argument → (left : List Parameter) → Type 0
+abbrev pub AllTaken : (Declared → Term → Place → Option bound.Expr) → List Parameter → List Given → List Argument → (left : List Parameter) → Type 0
 AllTaken value ps [] [] left = ps ≡ left
 AllTaken value (p ∷ ps) (g ∷ gs) (x ∷ xs) left = Taken value p g x × AllTaken value ps gs xs left
 AllTaken value ps gs xs left = ⊥

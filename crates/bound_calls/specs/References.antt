@@ -1,34 +1,82 @@
 -- Serves the code: terms that are taken as references to objects.
-use Rattle.std.specs.Prelude.{◌≡◌, Bool, true, false, List, ◌∷◌, Option, Some}
+use Rattle.std.specs.Prelude.{◌≡◌, Bool, true, false, ◌||◌, List, ◌∷◌, Option, Some, None, option_map}
 use Rattle.vba_base.specs.declared.place.Place.{Place}
 use Rattle.vba_expression.specs.Tree.{Expr}
 use Rattle.bound_project.specs.declared.declared_type.DeclaredType.{DeclaredType}
+use Rattle.bound_project.specs.declared.node.NodeKind.{NodeKind}
+use Rattle.bound_project.specs.declared.node.NodeKind.TheVariants as node
 use Rattle.bound_project.specs.View.{declared_view}
 use Rattle.bound_project.specs.Expressions as bound
-use Rattle.bound_project.specs.Pieces.{Piece, an_expr}
+use Rattle.bound_project.specs.Pieces.{Piece, Tables, an_expr}
 use Rattle.bound_project.specs.Drafts.{Drafted, NodeNamed}
-use Rattle.binder.specs.Constants.{place_of_expression}
+use Rattle.binder.specs.Constants.{is_variant, place_of_expression}
 use Rattle.binder.specs.Terms.{Env, expression_of}
 use Rattle.binder.specs.Terms as plain
-use Rattle.binder.specs.ExpressionsBound.{is_host_type, reference_of, given_as, term_of}
+use Rattle.binder.specs.ExpressionsBound.{is_host_type, may_give_object, has_object, if_any, reference_of, given_as, term_of}
 use Rattle.bound_calls.specs.declared.term.Ending.{Ending}
 use Rattle.bound_calls.specs.declared.term.Term.{Term}
 use Rattle.bound_calls.specs.declared.term.Term.TheVariants as term
 use Rattle.bound_calls.specs.declared.term.Tree.{Tree}
-use Rattle.bound_calls.specs.Standing.{TermStands, TreeStands, EndingIs, PushedIs, Grown}
+use Rattle.bound_calls.specs.Standing.{ValueEnds, TermStands, TreeStands, EndingIs, PushedIs, Grown}
 
--- a term that is taken as a reference, and one that gives way to its default member's value as an operand
+-- a type of what is taken as a reference, or of what may be an object
+abbrev pub is_referring : DeclaredType → Bool
+is_referring of = is_host_type (declared_view of) || is_variant (declared_view of)
+
+-- a term that is taken as a reference, and is no value; one that may be taken as a reference; and one that gives way to its
+-- default member's value as an operand
 abbrev pub refers : Term → Bool
 refers (term.Place kind of bounded lends) = is_host_type (declared_view of)
 refers (term.Value e) = is_host_type (declared_view e.of)
+refers (term.Routine r) = is_host_type (declared_view r.of)
 refers (term.HostMember m) = is_host_type (declared_view m.of)
 refers (term.SheetMember m) = is_host_type (declared_view m.of)
 refers term.Err = true
 refers x = false
 
+abbrev pub may_refer : Term → Bool
+may_refer (term.Place kind of bounded lends) = is_referring of
+may_refer (term.Value e) = is_referring e.of
+may_refer (term.Routine r) = is_referring r.of
+may_refer (term.HostMember m) = is_referring m.of
+may_refer (term.SheetMember m) = is_referring m.of
+may_refer term.Err = true
+may_refer x = false
+
 abbrev pub gives_way : Term → Bool
 gives_way term.Err = false
 gives_way x = refers x
+
+-- ---- what may be an object
+
+-- whether a Variant may be an object, by the last node of what gives it
+abbrev pub kind_gives : NodeKind → Option Bool
+kind_gives node.Load = Some true
+kind_gives (node.ElementValue count) = Some true
+kind_gives (node.FieldValue i) = Some true
+kind_gives (node.Call p count) = Some true
+kind_gives (node.CallInOrder p count order) = Some true
+kind_gives (node.HostMember i count) = Some true
+kind_gives (node.Library f text_form count compare one) = Some (may_give_object f)
+kind_gives (node.Constant i) = Some false
+kind_gives (node.Unary o of) = Some false
+kind_gives (node.Binary o compare left right) = Some false
+kind_gives (node.ErrValue _) = Some false
+kind_gives node.Same = Some false
+kind_gives (node.HostObject reference) = Some false
+kind_gives node.ActiveSheet = Some false
+kind_gives kind = None
+
+-- whether a value whose last node isn't pushed is a Variant that may be an object
+abbrev pub EndingGives : Ending → Bool → Type 0
+EndingGives e gives = (t : Tables) (made : bound.Node) (ps below : List Piece) → ValueEnds t e.kind made ps below → has_object made (declared_view e.of) ≡ gives
+
+-- the last node of a value is pushed, and what stands behind it
+pub record PushesAs (wrap : bound.Expr → bound.Expr) (v : Ending) (place : Place) (d e : Drafted) (of : DeclaredType) : Type 0 where
+  pub grown : Grown d e
+  pub stands : (made : bound.Node) (below : List Piece) → ValueEnds d.tables v.kind made d.pieces below → PushedIs of (Some (wrap (expression_of made place (declared_view v.of)))) e.pieces below
+
+-- ---- references
 
 -- a term is taken as a reference
 pub record TakesReference (x : Term) (d e : Drafted) (ending : Ending) : Type 0 where
@@ -45,7 +93,6 @@ pub record ReferenceIs (of : DeclaredType) (found : Option bound.Expr) (ps below
 
 pub record PushesReference (x : Tree) (d e : Drafted) (of : DeclaredType) : Type 0 where
   pub grown : Grown d e
-  pub refers : refers x.term ≡ true
   pub stands : (env : Env) (tree : Expr) (below : List Piece) → TreeStands env d.tables x tree d.pieces below
       → ReferenceIs of (reference_of env (term_of env tree) (place_of_expression tree)) e.pieces below
 
@@ -60,3 +107,9 @@ pub record PushesGiven (x : Tree) (d e : Drafted) (of : DeclaredType) : Type 0 w
   pub grown : Grown d e
   pub stands : (env : Env) (tree : Expr) (below : List Piece) → TreeStands env d.tables x tree d.pieces below
       → PushedIs of (given_as env (term_of env tree) (place_of_expression tree)) e.pieces below
+
+-- the same, but the value of an object's default member where that needs no argument
+pub record PushesIfAny (x : Tree) (d e : Drafted) (of : DeclaredType) : Type 0 where
+  pub grown : Grown d e
+  pub stands : (env : Env) (tree : Expr) (below : List Piece) → TreeStands env d.tables x tree d.pieces below
+      → PushedIs of (option_map if_any (given_as env (term_of env tree) (place_of_expression tree))) e.pieces below

@@ -1,9 +1,10 @@
 -- Serves the code: what stands on the stack of a pass over the nodes of an expression, beside the pieces of the draft.
-use Rattle.std.specs.Prelude.{◌≡◌, ℕ, suc, ◌<◌, length, Bool, true, false, List, [], ◌∷◌, map, Option, Some, None, is_some, option_map, slice_get}
+use Rattle.std.specs.Prelude.{◌≡◌, ℕ, suc, ◌<◌, length, Bool, true, false, List, [], ◌∷◌, map, Option, Some, None, is_some, option_map, option_and_then, slice_get}
 use Rattle.vba_base.specs.declared.place.Place.{Place}
 use Rattle.vba_values.specs.Types.{Declared}
 use Rattle.vba_values.specs.Types as type
 use Rattle.vba_words.specs.declared.identifier.Identifier.{Identifier}
+use Rattle.vba_lib.specs.declared.function.LibraryFunction.{LibraryFunction}
 use Rattle.vba_expression.specs.Tree.{Expr, Args, named}
 use Rattle.vba_expression.specs.Tree as tree
 use Rattle.vba_expression.specs.Reader.{name_in}
@@ -28,7 +29,7 @@ use Rattle.binder.specs.Constants.{compare_in, place_of_expression}
 use Rattle.binder.specs.Storage.{procedure_number}
 use Rattle.binder.specs.Terms.{Env, Given, a_place, a_value, a_routine, a_function, a_host_member, err_object, err_raise, err_clear, error_word, no_term, expression_of, parameter_named, taken_by}
 use Rattle.binder.specs.Terms as plain
-use Rattle.binder.specs.ExpressionsBound.{reader, parameters_in, call_type, callee, item_of, element_place, element_type, function_value, givens, given_as, term_of, value_of, operand_of}
+use Rattle.binder.specs.ExpressionsBound.{reader, parameters_in, call_type, callee, item_of, element_place, element_type, argument_of, plain_value, taking, taken_as, givens, given_as, term_of, operand_of, reference_of}
 use Rattle.bound_calls.specs.declared.term.Ending.{Ending}
 use Rattle.bound_calls.specs.declared.term.Routine.{Routine}
 use Rattle.bound_calls.specs.declared.term.Function.{Function}
@@ -156,14 +157,19 @@ pub record TreeStands (env : Env) (t : Tables) (x : Tree) (e : Expr) (ps below :
   pub qualifier_is : QualifierStands env (option_map (λ name. name.now) x.name) x.is_qualifier e
   pub leaf : LeafStands (option_map (λ name. name.now) x.name) ps below
 
+-- a left operand: that of Is is a reference
+abbrev pub left_of : Bool → Env → plain.Term → Place → Option bound.Expr
+left_of true env t place = reference_of env t place
+left_of false env t place = operand_of env t place
+
 pub record OperandStands (env : Env) (x : Operand) (e : Expr) (ps below : List Piece) : Type 0 where
-  pub pushed : PushedStands x.of (operand_of env (term_of env e) (place_of_expression e)) ps below
+  pub pushed : PushedStands x.of (left_of x.is_reference env (term_of env e) (place_of_expression e)) ps below
   pub place_is : x.place ≡ place_of_expression e
 
 -- arguments that were pushed for the first of these parameters
 pub record PassedStands (env : Env) (parameters : List Parameter) (x : Passed) (args : Args) (ps below : List Piece) : Type 0 where
   pub made : List Argument
-  pub taken : AllTaken (value_of env) parameters (givens env args) made (map parameter_view x.left.now)
+  pub taken : AllTaken (argument_of env) parameters (givens env args) made (map parameter_view x.left.now)
   pub count_is : x.count ≡ length made
   pub on_top : ps ≡ above (map an_argument made) below
 
@@ -222,16 +228,24 @@ pub record IndexedStands (env : Env) (x : Indexed) (e : Expr) (args : Args) (ps 
   pub target_is : TargetStands x.target x.of x.lends (place_of_expression e) (callee env e (term_of env e)) between below
   pub place_is : x.place ≡ place_of_expression e
   pub made : List bound.Expr
-  pub numbers : AllNumbers (value_of env) (givens env args) made
+  pub numbers : AllNumbers (operand_of env) (givens env args) made
   pub count_is : x.count ≡ length made
   pub on_top : ps ≡ above (map an_expr made) between
 
 -- a function that is called, and the values that were pushed: each was given without a name
+abbrev pub function_value : Env → LibraryFunction → ℕ → plain.Term → Place → Option bound.Expr
+function_value env f i t place = option_and_then plain_value (taken_as env (taking f i) t place)
+
+abbrev pub AllValues : Env → LibraryFunction → ℕ → List Given → List bound.Expr → Type 0
+AllValues env f i [] [] = Unit {0}
+AllValues env f i (g ∷ gs) (e ∷ es) = NumberIs (function_value env f i) g e × AllValues env f (suc i) gs es
+AllValues env f i gs es = ⊥
+
 pub record FunctionStands (env : Env) (x : FunctionCall) (e : Expr) (args : Args) (ps below : List Piece) : Type 0 where
   pub function_is : FunctionIs env x.function (callee env e (term_of env e))
   pub place_is : x.place ≡ place_of_expression e
   pub made : List bound.Expr
-  pub values : AllNumbers (function_value (value_of env)) (givens env args) made
+  pub values : AllValues env x.function.function 0 (givens env args) made
   pub count_is : x.count ≡ length made
   pub on_top : ps ≡ above (map an_expr made) below
 
@@ -263,7 +277,7 @@ pub record NamedStands (env : Env) (passed : Passed) (x : Named) (name : Identif
   pub parameter : Parameter
   pub found : parameter_named passed.count (map parameter_view passed.left.now) name.name ≡ Some (x.number, parameter)
   pub made : Argument
-  pub makes : (rest : bound.Args) → taken_by (value_of env) parameter (record { name = Some name.name; term = Some (term_of env e); place = place_of_expression e }) rest ≡ Some (with_argument made rest)
+  pub makes : (rest : bound.Args) → taken_by (argument_of env) parameter (record { name = Some name.name; term = Some (term_of env e); place = place_of_expression e }) rest ≡ Some (with_argument made rest)
   pub on_top : ps ≡ an_argument made ∷ below
 
 abbrev pub NamedAbove : Env → Option Passed → Named → Identifier → Expr → (ps below : List Piece) → Type 0
@@ -286,7 +300,7 @@ gathered_below items = None
 pub record GatheredStands (env : Env) (passed : Passed) (e : Expr) (ps below : List Piece) : Type 0 where
   pub many : is_gathering (map parameter_view passed.left.now) ≡ true
   pub made : bound.Expr
-  pub is : value_of env (term_of env e) (place_of_expression e) ≡ Some made
+  pub is : given_as env (term_of env e) (place_of_expression e) ≡ Some made
   pub on_top : ps ≡ an_expr made ∷ below
 
 abbrev pub GatheredAbove : Env → Option Passed → Expr → (ps below : List Piece) → Type 0

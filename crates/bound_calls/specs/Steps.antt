@@ -15,12 +15,11 @@ use Rattle.binder.specs.Constants.{place_of_expression, operator_kind, unary_kin
 use Rattle.binder.specs.Terms.{Env}
 use Rattle.binder.specs.Terms as plain
 use Rattle.binder.specs.ExpressionsBound.{term_of, value_of, operand_of, unary_term, binary_term}
-use Rattle.bound_calls.specs.declared.term.Ending.{Ending}
 use Rattle.bound_calls.specs.declared.term.Term.{Term}
-use Rattle.bound_calls.specs.declared.term.Term.TheVariants as term
 use Rattle.bound_calls.specs.declared.term.Tree.{Tree}
+use Rattle.bound_calls.specs.declared.term.Operand.{Operand}
 use Rattle.bound_calls.specs.declared.term.Item.{Item}
-use Rattle.bound_calls.specs.Standing.{TermStands, TermNamed, TreeStands, PushedStands, Stands, AllNamed, Grown, Base}
+use Rattle.bound_calls.specs.Standing.{left_of, TermStands, TermNamed, TreeStands, PushedStands, Stands, AllNamed, Grown, Base}
 
 -- those below an item, and the item, if there is one
 abbrev pub taken : {A : Type 0} → Option A → List A → List A
@@ -32,6 +31,13 @@ pub record PushesOperand (x : Tree) (d e : Drafted) (of : Option DeclaredType) :
   pub grown : Grown d e
   pub stands : (env : Env) (tree : Expr) (below : List Piece) → TreeStands env d.tables x tree d.pieces below
       → PushedStands of (operand_of env (term_of env tree) (place_of_expression tree)) e.pieces below
+
+-- an expression is pushed as a left operand
+pub record PushesLeft (x : Tree) (d e : Drafted) (left : Operand) : Type 0 where
+  pub grown : Grown d e
+  pub place_is : left.place ≡ x.place
+  pub stands : (env : Env) (tree : Expr) (below : List Piece) → TreeStands env d.tables x tree d.pieces below
+      → PushedStands left.of (left_of left.is_reference env (term_of env tree) (place_of_expression tree)) e.pieces below
 
 -- a step from a stack to another one, beside what it does to the plain items
 pub record Goes (env : Env) (d : Drafted) (xs : List Item) (e : Drafted) (ys : List Item) (f : List nodes.Item → List nodes.Item) : Type 0 where
@@ -60,11 +66,6 @@ pub record MakesLeaf (env : Env) (d e : Drafted) (x : Term) (y : plain.Term) : T
 abbrev pub is_same : BinaryOperator → Bool
 is_same operators.Is = true
 is_same o = false
-
--- a value as a term
-abbrev pub as_term : Option Ending → Term
-as_term None = term.Nothing
-as_term (Some e) = term.Value e
 
 -- one more constant, by its number
 pub record AddsConstant (v : Val) (d e : Drafted) (number : ℕ) : Type 0 where

@@ -1,5 +1,5 @@
--- Serves the code: how terms are taken: as values, and as operands.
-use Rattle.std.specs.Prelude.{◌≡◌, List, ◌∷◌, Option, Some, None, if◌then◌else◌}
+-- Serves the code: how terms are taken as values.
+use Rattle.std.specs.Prelude.{◌≡◌, ℕ, List, ◌∷◌, Option, Some, None, if◌then◌else◌}
 use Rattle.vba_base.specs.declared.place.Place.{Place}
 use Rattle.bound_project.specs.declared.declared_type.DeclaredType.{DeclaredType}
 use Rattle.bound_project.specs.declared.node.NodeKind.{NodeKind}
@@ -8,17 +8,19 @@ use Rattle.bound_project.specs.Expressions as bound
 use Rattle.bound_project.specs.Expressions.{load, active_sheet, host_member, no_exprs, Lvalue}
 use Rattle.bound_project.specs.Project.{nowhere}
 use Rattle.vba_values.specs.Types as type
-use Rattle.bound_project.specs.Pieces.{Piece, an_expr, name_in}
+use Rattle.bound_project.specs.Pieces.{Piece, Tables, an_expr, name_in}
 use Rattle.bound_project.specs.Drafts.{Drafted, NodeNamed}
+use Rattle.binder.specs.Declarations.{Written}
+use Rattle.binder.specs.Scopes.{Space}
 use Rattle.binder.specs.Types.{is_object}
-use Rattle.binder.specs.Terms.{Env, typed_value}
+use Rattle.binder.specs.Terms.{Env, a_routine, typed_value}
 use Rattle.binder.specs.Terms as plain
-use Rattle.binder.specs.ExpressionsBound.{value_of, operand_of}
+use Rattle.binder.specs.ExpressionsBound.{bare_call, value_of}
 use Rattle.bound_calls.specs.declared.term.Ending.{Ending}
 use Rattle.bound_calls.specs.declared.term.HostMember.{HostMember}
 use Rattle.bound_calls.specs.declared.term.Routine.{Routine}
 use Rattle.bound_calls.specs.declared.term.Term.{Term}
-use Rattle.bound_calls.specs.Standing.{PlaceEnds, ValueEnds, RoutineStands, TermStands, EndingIs, EndingStands, EndingNamed, PushedStands, Grown}
+use Rattle.bound_calls.specs.Standing.{PlaceEnds, ValueEnds, ValueStands, RoutineStands, TermStands, EndingStands, EndingNamed, PushedStands, Grown}
 
 -- a place gives way to the value there
 pub record Loads (kind : NodeKind) (of : DeclaredType) (d e : Drafted) (ending : Option Ending) : Type 0 where
@@ -27,21 +29,30 @@ pub record Loads (kind : NodeKind) (of : DeclaredType) (d e : Drafted) (ending :
   pub stands : (x : Lvalue) (below : List Piece) → PlaceEnds d.tables kind x d.pieces below → EndingStands e.tables ending (λ place. typed_value (load x) place (declared_view of)) e.pieces below
 
 -- a procedure is called without arguments: all but the call's node is pushed
+pub record BareIs (env : Env) (t : Tables) (e : Ending) (y : plain.Term) (ps below : List Piece) : Type 0 where
+  pub space : Space
+  pub number : ℕ
+  pub written : Written
+  pub is : y ≡ a_routine space number written
+  pub called : ValueStands t e (bare_call env space number written) ps below
+
+pub record CallsRoutine (r : Routine) (d e : Drafted) (ending : Ending) : Type 0 where
+  pub grown : Grown d e
+  pub named : NodeNamed e.tables ending.kind
+  pub of_is : ending.of ≡ r.of
+  pub stands : (env : Env) (y : plain.Term) (below : List Piece) → RoutineStands env r y d.pieces below → BareIs env e.tables ending y e.pieces below
+
+-- the same, where it gives a value
 pub record CallsBare (r : Routine) (d e : Drafted) (ending : Option Ending) : Type 0 where
   pub grown : Grown d e
   pub named : EndingNamed e.tables ending
   pub stands : (env : Env) (y : plain.Term) (below : List Piece) → RoutineStands env r y d.pieces below → EndingStands e.tables ending (λ place. value_of env y place) e.pieces below
 
--- a term is taken as a value, and as an operand
+-- a term is taken as a value
 pub record TakesValue (x : Term) (d e : Drafted) (ending : Option Ending) : Type 0 where
   pub grown : Grown d e
   pub named : EndingNamed e.tables ending
   pub stands : (env : Env) (y : plain.Term) (below : List Piece) → TermStands env d.tables x y d.pieces below → EndingStands e.tables ending (λ place. value_of env y place) e.pieces below
-
-pub record TakesOperand (x : Term) (d e : Drafted) (ending : Ending) : Type 0 where
-  pub grown : Grown d e
-  pub named : NodeNamed e.tables ending.kind
-  pub stands : (env : Env) (y : plain.Term) (below : List Piece) → TermStands env d.tables x y d.pieces below → EndingIs e.tables ending (λ place. operand_of env y place) e.pieces below
 
 -- the active sheet is pushed
 abbrev pub sheet_expression : bound.Expr

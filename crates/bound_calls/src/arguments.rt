@@ -1,15 +1,18 @@
-ghost use Rattle.std.specs.Prelude.{◌≡◌, ◌+◌, true, false, IfOk, OnOk};
+ghost use Rattle.std.specs.Prelude.{◌≡◌, ◌+◌, true, false, IfOk, OnOk, Some};
 ghost use Rattle.bound_project.specs.DraftView.{draft_view};
 ghost use Rattle.bound_project.specs.Drafts.{NodeNamed};
 ghost use Rattle.bound_project.specs.Project.{nowhere};
 ghost use Rattle.bound_project.specs.View.{declared_view};
 ghost use Rattle.binder.specs.Constants.{is_variant};
 ghost use Rattle.binder.specs.Terms.{is_lent_to};
+ghost use Rattle.vba_values.specs.Coerce.{is_same_type};
+ghost use Rattle.vba_values.specs.Types as type;
 ghost use Rattle.bound_calls.specs.Standing.{TermNamed};
-ghost use Rattle.bound_calls.specs.Calls.{Copies, Lends, LendsTo, PassesMissing, PassesNone, PassesPlain, PassesRest, PassesTree, lent_in};
+ghost use Rattle.bound_calls.specs.Calls.{Copies, Lends, PassesMissing, PassesNone, PassesPlain, PassesRest, PassesTree, PushesArgument, is_copied, keeps_object, lent_in, may_be_item};
 
 use crate::constants::constant_number;
-use crate::take::{push_ending, push_node, value_ending};
+use crate::references::{push_given, push_operand};
+use crate::take::push_node;
 use crate::term::{Ending, Passed, Term, Tree};
 use bound_declarations::NotYet;
 use bound_project::{DeclaredType, Draft, ElementType, NodeKind, Parameter};
@@ -19,7 +22,7 @@ use vba_base::{NoMemory, OrMemory, Place};
 use vba_values::{copy_value, is_same_type};
 
 /// Is a type Variant?
-fn is_variant(of: DeclaredType) -> bool
+pub fn is_variant(of: DeclaredType) -> bool
     ensures { result ≡ is_variant (declared_view of) }
 {
     match of {
@@ -28,16 +31,52 @@ fn is_variant(of: DeclaredType) -> bool
     }
 }
 
-/// Is a place of a type lent to a parameter of a type? A Variant takes one of any type but an object's.
+/// Is a type Object?
+fn is_any_object(of: DeclaredType) -> bool
+    ensures { result ≡ is_same_type type.object (declared_view of) }
+{
+    match of {
+        DeclaredType::Plain(ElementType::Object) => true,
+        _ => false,
+    }
+}
+
+/// Is a place of a type lent to a parameter of a type? A Variant takes one of any type, and an Object one of any object
+/// type.
 fn is_fitting(alloc: Global, parameter: DeclaredType, of: DeclaredType) -> Result<bool, NoMemory>
     ensures { IfOk result (λ fits. fits ≡ is_lent_to (declared_view of) (declared_view parameter)) }
 {
-    if is_variant(parameter) && !is_object(of) {
-        return Ok(true);
+    let own = of.value_type(alloc)?;
+    let taken = parameter.value_type(alloc)?;
+    Ok(
+        is_variant(parameter)
+            || (is_same_type(&own, &taken) || (is_object(of) && is_any_object(parameter))),
+    )
+}
+
+/// Is a place that isn't lent to a parameter of a type copied for it? One of another object type is, and so is an element
+/// of a Variant variable.
+fn is_copied(kind: NodeKind, of: DeclaredType, parameter: DeclaredType) -> bool
+    ensures { result ≡ is_copied kind of parameter }
+{
+    (is_object(of) && is_object(parameter)) || may_be_item(kind)
+}
+
+/// Is a place an element of a Variant variable?
+fn may_be_item(kind: NodeKind) -> bool
+    ensures { result ≡ may_be_item kind }
+{
+    match kind {
+        NodeKind::Item { variable, .. } => is_variant(variable.of),
+        _ => false,
     }
-    let of = of.value_type(alloc)?;
-    let parameter = parameter.value_type(alloc)?;
-    Ok(is_same_type(&of, &parameter))
+}
+
+/// Does a parameter of a type take an object as it is?
+fn keeps_object(of: DeclaredType) -> bool
+    ensures { result ≡ keeps_object of }
+{
+    is_variant(of) || is_object(of)
 }
 
 /// Lends a place.
@@ -47,6 +86,26 @@ fn lend(draft: &mut Draft, kind: NodeKind, of: DeclaredType, place: Place) -> Re
 {
     push_node(draft, kind, of, place)?;
     push_node(draft, NodeKind::ByPlace, of, place)
+}
+
+/// Pushes an expression as a parameter of a type takes it: as it is, or as an operand.
+fn push_argument<'a>(
+    alloc: Global,
+    draft: &mut Draft,
+    of: DeclaredType,
+    tree: Tree<'a>,
+) -> Result<(), OrMemory<NotYet>>
+    requires { TermNamed (draft_view draft.old).tables tree.term }
+    ensures { OnOk result (PushesArgument of tree.entry (draft_view draft.old) (draft_view draft.new)) }
+{
+    if keeps_object(of) {
+        push_given(alloc, draft, tree)?;
+        return Ok(());
+    }
+    let Some(_of) = push_operand(alloc, draft, tree)? else {
+        return Err(OrMemory::Fault(NotYet));
+    };
+    Ok(())
 }
 
 /// Copies a value for a parameter of a type.
@@ -59,10 +118,7 @@ fn copy<'a>(
     requires { TermNamed (draft_view draft.old).tables tree.term }
     ensures { OnOk result (Copies of tree.entry (draft_view draft.old) (draft_view draft.new)) }
 {
-    let ending = value_ending(alloc, draft, tree.term, tree.place)?;
-    let Some(_found) = push_ending(draft, ending, tree.place)? else {
-        return Err(OrMemory::Fault(NotYet));
-    };
+    push_argument(alloc, draft, of, tree)?;
     push_node(draft, NodeKind::ByCopy(of), of, tree.place)?;
     Ok(())
 }
@@ -82,22 +138,29 @@ fn lent_in<'a>(term: Term<'a>) -> Option<Ending>
     }
 }
 
-/// Lends a place to a parameter that takes one of its type.
-fn lend_to(
+/// Passes an expression that lends a place to a parameter that takes one.
+fn pass_lent<'a>(
     alloc: Global,
     draft: &mut Draft,
     parameter: &Parameter,
     lent: Ending,
-    place: Place,
+    tree: Tree<'a>,
 ) -> Result<(), OrMemory<NotYet>>
-    requires { NodeNamed (draft_view draft.old).tables lent.kind }
-    ensures { OnOk result (LendsTo parameter.now lent (draft_view draft.old) (draft_view draft.new)) }
+    requires named { TermNamed (draft_view draft.old).tables tree.term }
+    requires one { parameter.now.is_param_array ≡ false }
+    requires reference { parameter.now.is_by_reference ≡ true }
+    requires lends { lent_in tree.term ≡ Some lent }
+    ensures { OnOk result (PassesTree parameter.now tree.entry (draft_view draft.old) (draft_view draft.new)) }
 {
-    if !is_fitting(alloc, parameter.of, lent.of)? {
-        return Err(OrMemory::Fault(NotYet));
+    let fits = is_fitting(alloc, parameter.of, lent.of)?;
+    if fits {
+        lend(draft, lent.kind, lent.of, tree.place)?;
+        return Ok(());
     }
-    lend(draft, lent.kind, lent.of, place)?;
-    Ok(())
+    if is_copied(lent.kind, lent.of, parameter.of) {
+        return copy(alloc, draft, parameter.of, tree);
+    }
+    Err(OrMemory::Fault(NotYet))
 }
 
 /// Passes an expression to a parameter that takes a place.
@@ -113,7 +176,7 @@ fn pass_by_reference<'a>(
     ensures { OnOk result (PassesTree parameter.now tree.entry (draft_view draft.old) (draft_view draft.new)) }
 {
     match lent_in(tree.term) {
-        Some(lent) => lend_to(alloc, draft, parameter, lent, tree.place),
+        Some(lent) => pass_lent(alloc, draft, parameter, lent, tree),
         None => copy(alloc, draft, parameter.of, tree),
     }
 }

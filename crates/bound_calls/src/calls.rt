@@ -1,7 +1,7 @@
 ghost use Rattle.std.specs.Prelude.{◌≡◌, IfOk, length};
 ghost use Rattle.bound_project.specs.DraftView.{draft_view};
 ghost use Rattle.bound_calls.specs.Calls.{EndsCall};
-ghost use Rattle.bound_calls.specs.Taking.{CallsBare};
+ghost use Rattle.bound_calls.specs.Taking.{CallsBare, CallsRoutine};
 
 use crate::arguments::{pass_rest, sum};
 use crate::take::no_object;
@@ -43,6 +43,21 @@ pub fn call_ending<'a>(
 }
 
 /// A call without arguments, but for its last node.
+pub fn routine_ending<'a>(
+    alloc: Global,
+    draft: &mut Draft,
+    routine: Routine<'a>,
+) -> Result<Ending, OrMemory<NotYet>>
+    ensures { IfOk result (λ ending. CallsRoutine routine.entry (draft_view draft.old) (draft_view draft.new) ending) }
+{
+    let passed = Passed {
+        left: routine.parameters,
+        count: 0,
+    };
+    call_ending(alloc, draft, routine, passed)
+}
+
+/// The value of a call without arguments, but for its last node.
 pub fn bare_call<'a>(
     alloc: Global,
     draft: &mut Draft,
@@ -50,10 +65,6 @@ pub fn bare_call<'a>(
 ) -> Result<Option<Ending>, OrMemory<NotYet>>
     ensures { IfOk result (λ ending. CallsBare routine.entry (draft_view draft.old) (draft_view draft.new) ending) }
 {
-    let passed = Passed {
-        left: routine.parameters,
-        count: 0,
-    };
-    let ending = call_ending(alloc, draft, routine, passed)?;
+    let ending = routine_ending(alloc, draft, routine)?;
     Ok(no_object(ending))
 }

@@ -11,12 +11,13 @@ mod stack;
 mod take;
 mod term;
 
-pub use arguments::{nowhere, pass_missing, pass_plain, pass_rest, pass_tree, sum};
-pub use calls::{bare_call, call_ending, count_of};
+pub use arguments::{is_variant, nowhere, pass_missing, pass_plain, pass_rest, pass_tree, sum};
+pub use calls::{bare_call, call_ending, count_of, routine_ending};
 pub use constants::{constant_number, value_term};
 pub use orders::{named_ending, push_in_order, take_numbers};
 pub use references::{
-    given_ending, is_host_type, push_given, push_operand, push_reference, refers,
+    given_ending, has_object, is_host_type, may_refer, push_given, push_if_any, push_operand,
+    push_reference, refers,
 };
 pub use stack::{put_item, settle, take_item};
 pub use take::{member_ending, no_object, push_ending, push_node, push_sheet, value_ending};

@@ -1,19 +1,26 @@
-//! Objects: terms that are taken as references, and operands that give way to their default member's value.
+//! Objects: terms that are taken as references, operands that give way to their default member's value, and what may be
+//! either.
 
-ghost use Rattle.std.specs.Prelude.{◌≡◌, IfOk, Some, true};
+ghost use Rattle.std.specs.Prelude.{◌≡◌, ◌≢◌, ◌||◌, IfOk, IfSome, Some, true};
 ghost use Rattle.bound_project.specs.DraftView.{draft_view};
+ghost use Rattle.bound_project.specs.Drafts.{NodeNamed};
 ghost use Rattle.bound_project.specs.View.{declared_view};
-ghost use Rattle.binder.specs.ExpressionsBound.{has_default, is_host_type};
-ghost use Rattle.bound_calls.specs.References.{PushesGiven, PushesReference, TakesGiven, TakesReference, gives_way, refers};
+ghost use Rattle.binder.specs.Types.{is_object};
+ghost use Rattle.binder.specs.ExpressionsBound.{has_default, if_any, is_host_type, may_give_object, plain_operand};
+ghost use Rattle.bound_calls.specs.References.{EndingGives, PushesAs, PushesGiven, PushesIfAny, PushesReference, TakesGiven, TakesReference, gives_way, is_referring, kind_gives, may_refer, refers};
 ghost use Rattle.bound_calls.specs.Standing.{TermNamed};
 ghost use Rattle.bound_calls.specs.Steps.{PushesOperand};
 
-use crate::take::{member_ending, operand_ending, push_node, push_sheet, value_ending};
+use crate::arguments::is_variant;
+use crate::calls::routine_ending;
+use crate::take::{member_ending, push_node, push_sheet, value_ending};
 use crate::term::{Ending, Term, Tree};
 use bound_declarations::NotYet;
-use bound_project::{DeclaredType, Draft, ElementType, NodeKind};
+use bound_project::{DeclaredType, Draft, ElementType, ErrMember, NodeKind};
+use declared_names::is_object;
 use std::alloc::Global;
-use vba_base::{OrMemory, Place};
+use vba_base::{NoMemory, OrMemory, Place};
+use vba_lib::LibraryFunction;
 use vba_values::HostRef;
 
 /// Is a type one of those whose values are taken as references: Object, Worksheet, Range?
@@ -28,15 +35,38 @@ pub fn is_host_type(of: DeclaredType) -> bool
     }
 }
 
-/// Is a term taken as a reference?
+/// The same, or a type whose values may be objects?
+fn is_referring(of: DeclaredType) -> bool
+    ensures { result ≡ is_referring of }
+{
+    is_host_type(of) || is_variant(of)
+}
+
+/// Is a term taken as a reference, and no value?
 pub fn refers<'a>(term: Term<'a>) -> bool
     ensures { result ≡ refers term.entry }
 {
     match term {
         Term::Place { of, .. } => is_host_type(of),
         Term::Value(ending) => is_host_type(ending.of),
+        Term::Routine(routine) => is_host_type(routine.of),
         Term::HostMember(member) => is_host_type(member.of),
         Term::SheetMember(member) => is_host_type(member.of),
+        Term::Err => true,
+        _ => false,
+    }
+}
+
+/// Is a term one that may be taken as a reference?
+pub fn may_refer<'a>(term: Term<'a>) -> bool
+    ensures { result ≡ may_refer term.entry }
+{
+    match term {
+        Term::Place { of, .. } => is_referring(of),
+        Term::Value(ending) => is_referring(ending.of),
+        Term::Routine(routine) => is_referring(routine.of),
+        Term::HostMember(member) => is_referring(member.of),
+        Term::SheetMember(member) => is_referring(member.of),
         Term::Err => true,
         _ => false,
     }
@@ -62,14 +92,59 @@ fn has_default(of: DeclaredType) -> bool
     }
 }
 
-/// A term that is taken as a reference, but for its last node; the value of a call is none yet.
+/// May a function of the library give an object: one of its arguments?
+fn may_give_object(function: LibraryFunction) -> bool
+    ensures { result ≡ may_give_object function }
+{
+    match function {
+        LibraryFunction::IIf => true,
+        LibraryFunction::CVar => true,
+        _ => false,
+    }
+}
+
+/// Whether a Variant may be an object, by the last node of what gives it; none where such a node ends no value.
+fn kind_gives(kind: NodeKind) -> Option<bool>
+    ensures { result ≡ kind_gives kind }
+{
+    match kind {
+        NodeKind::Load => Some(true),
+        NodeKind::ElementValue { .. } => Some(true),
+        NodeKind::FieldValue { .. } => Some(true),
+        NodeKind::Call { .. } => Some(true),
+        NodeKind::CallInOrder { .. } => Some(true),
+        NodeKind::HostMember { .. } => Some(true),
+        NodeKind::Library { function, .. } => Some(may_give_object(function)),
+        NodeKind::Constant { .. } => Some(false),
+        NodeKind::Unary { .. } => Some(false),
+        NodeKind::Binary { .. } => Some(false),
+        NodeKind::ErrValue(_) => Some(false),
+        NodeKind::Same => Some(false),
+        NodeKind::HostObject(_) => Some(false),
+        NodeKind::ActiveSheet => Some(false),
+        _ => None,
+    }
+}
+
+/// Whether a value whose last node isn't pushed yet is a Variant that may be an object; none where that isn't known.
+pub fn has_object(ending: Ending) -> Option<bool>
+    ensures { IfSome result (λ gives. EndingGives ending gives) }
+{
+    if !is_variant(ending.of) {
+        return Some(false);
+    }
+    kind_gives(ending.kind)
+}
+
+/// A term that is taken as a reference, but for its last node.
 fn reference_ending<'a>(
+    alloc: Global,
     draft: &mut Draft,
     term: Term<'a>,
     place: Place,
 ) -> Result<Ending, OrMemory<NotYet>>
     requires named { TermNamed (draft_view draft.old).tables term }
-    requires refers { refers term ≡ true }
+    requires refers { may_refer term ≡ true }
     ensures { IfOk result (λ ending. TakesReference term.entry (draft_view draft.old) (draft_view draft.new) ending) }
 {
     match term {
@@ -81,6 +156,7 @@ fn reference_ending<'a>(
             })
         }
         Term::Value(ending) => Ok(ending),
+        Term::Routine(routine) => routine_ending(alloc, draft, routine),
         Term::HostMember(member) => member_ending(draft, member, place),
         Term::SheetMember(member) => {
             push_sheet(draft)?;
@@ -96,22 +172,24 @@ fn reference_ending<'a>(
 
 /// Pushes an expression as a reference; answers its type.
 pub fn push_reference<'a>(
+    alloc: Global,
     draft: &mut Draft,
     tree: Tree<'a>,
 ) -> Result<DeclaredType, OrMemory<NotYet>>
     requires { TermNamed (draft_view draft.old).tables tree.term }
     ensures { IfOk result (λ of. PushesReference tree.entry (draft_view draft.old) (draft_view draft.new) of) }
 {
-    if !refers(tree.term) {
+    if !may_refer(tree.term) {
         return Err(OrMemory::Fault(NotYet));
     }
-    let ending = reference_ending(draft, tree.term, tree.place)?;
+    let ending = reference_ending(alloc, draft, tree.term, tree.place)?;
     push_node(draft, ending.kind, ending.of, tree.place)?;
     Ok(ending.of)
 }
 
 /// Pushes an expression as an object that gives way to the value of its default member; answers the type of that.
 fn push_default<'a>(
+    alloc: Global,
     draft: &mut Draft,
     tree: Tree<'a>,
 ) -> Result<Option<DeclaredType>, OrMemory<NotYet>>
@@ -119,13 +197,91 @@ fn push_default<'a>(
     requires gives { gives_way tree.term ≡ true }
     ensures { IfOk result (λ of. PushesOperand tree.entry (draft_view draft.old) (draft_view draft.new) of) }
 {
-    let of = push_reference(draft, tree)?;
+    let of = push_reference(alloc, draft, tree)?;
     if !has_default(of) {
         return Err(OrMemory::Fault(NotYet));
     }
     let variant = DeclaredType::Plain(ElementType::Variant);
     push_node(draft, NodeKind::DefaultOf, variant, tree.place)?;
     Ok(Some(variant))
+}
+
+/// Pushes the number of Err.
+fn push_err<'a>(draft: &mut Draft, tree: Tree<'a>) -> Result<DeclaredType, NoMemory>
+    requires { tree.term ≡ Term.Err }
+    ensures { IfOk result (λ of. PushesOperand tree.entry (draft_view draft.old) (draft_view draft.new) (Some of)) }
+{
+    let long = DeclaredType::Plain(ElementType::Long);
+    let number = NodeKind::ErrValue(ErrMember::Number);
+    push_node(draft, number, long, tree.place)?;
+    Ok(long)
+}
+
+/// Pushes the last node of a value, and behind it that of the value which an object gives way to, where the value may be
+/// an object; answers the type that stands there.
+fn push_plainly(
+    draft: &mut Draft,
+    ending: Ending,
+    place: Place,
+) -> Result<DeclaredType, OrMemory<NotYet>>
+    requires { NodeNamed (draft_view draft.old).tables ending.kind }
+    ensures { IfOk result (λ of. PushesAs plain_operand ending place (draft_view draft.old) (draft_view draft.new) of) }
+{
+    let Some(gives) = has_object(ending) else {
+        return Err(OrMemory::Fault(NotYet));
+    };
+    push_node(draft, ending.kind, ending.of, place)?;
+    if !gives {
+        return Ok(ending.of);
+    }
+    let variant = DeclaredType::Plain(ElementType::Variant);
+    push_node(draft, NodeKind::DefaultOf, variant, place)?;
+    Ok(variant)
+}
+
+/// Is a value of a type, which may be an object or not where it is a Variant, one that may give way?
+fn may_give_way(of: DeclaredType, gives: bool) -> bool
+    ensures { result ≡ (is_object (declared_view of) || gives) }
+{
+    is_object(of) || gives
+}
+
+/// Pushes the last node of a value or a reference, and behind it that of the value of its default member where that needs
+/// no argument; answers the type that stands there.
+fn push_ending_if_any(
+    draft: &mut Draft,
+    ending: Ending,
+    place: Place,
+) -> Result<DeclaredType, OrMemory<NotYet>>
+    requires { NodeNamed (draft_view draft.old).tables ending.kind }
+    ensures { IfOk result (λ of. PushesAs if_any ending place (draft_view draft.old) (draft_view draft.new) of) }
+{
+    let Some(gives) = has_object(ending) else {
+        return Err(OrMemory::Fault(NotYet));
+    };
+    push_node(draft, ending.kind, ending.of, place)?;
+    if !may_give_way(ending.of, gives) {
+        return Ok(ending.of);
+    }
+    let variant = DeclaredType::Plain(ElementType::Variant);
+    push_node(draft, NodeKind::DefaultIfAny, variant, place)?;
+    Ok(variant)
+}
+
+/// Pushes a value as an operand; answers its type.
+fn push_value_plainly<'a>(
+    alloc: Global,
+    draft: &mut Draft,
+    tree: Tree<'a>,
+) -> Result<DeclaredType, OrMemory<NotYet>>
+    requires named { TermNamed (draft_view draft.old).tables tree.term }
+    requires other { tree.term ≢ Term.Err }
+    ensures { IfOk result (λ of. PushesOperand tree.entry (draft_view draft.old) (draft_view draft.new) (Some of)) }
+{
+    let Some(ending) = value_ending(alloc, draft, tree.term, tree.place)? else {
+        return Err(OrMemory::Fault(NotYet));
+    };
+    push_plainly(draft, ending, tree.place)
 }
 
 /// Pushes an expression as an operand; answers its type.
@@ -138,11 +294,18 @@ pub fn push_operand<'a>(
     ensures { IfOk result (λ of. PushesOperand tree.entry (draft_view draft.old) (draft_view draft.new) of) }
 {
     if gives_way(tree.term) {
-        return push_default(draft, tree);
+        return push_default(alloc, draft, tree);
     }
-    let ending = operand_ending(alloc, draft, tree.term, tree.place)?;
-    push_node(draft, ending.kind, ending.of, tree.place)?;
-    Ok(Some(ending.of))
+    match tree.term {
+        Term::Err => {
+            let of = push_err(draft, tree)?;
+            Ok(Some(of))
+        }
+        _ => {
+            let of = push_value_plainly(alloc, draft, tree)?;
+            Ok(Some(of))
+        }
+    }
 }
 
 /// An expression as it is, a value or a reference, but for its last node.
@@ -155,7 +318,7 @@ pub fn given_ending<'a>(
     ensures { IfOk result (λ ending. TakesGiven tree.entry.term (draft_view draft.old) (draft_view draft.new) ending) }
 {
     if refers(tree.term) {
-        return reference_ending(draft, tree.term, tree.place);
+        return reference_ending(alloc, draft, tree.term, tree.place);
     }
     let Some(ending) = value_ending(alloc, draft, tree.term, tree.place)? else {
         return Err(OrMemory::Fault(NotYet));
@@ -175,4 +338,18 @@ pub fn push_given<'a>(
     let ending = given_ending(alloc, draft, tree)?;
     push_node(draft, ending.kind, ending.of, tree.place)?;
     Ok(ending.of)
+}
+
+/// Pushes an expression as it is, but an object whose default member needs no argument as the value of that; answers the
+/// type.
+pub fn push_if_any<'a>(
+    alloc: Global,
+    draft: &mut Draft,
+    tree: Tree<'a>,
+) -> Result<DeclaredType, OrMemory<NotYet>>
+    requires { TermNamed (draft_view draft.old).tables tree.term }
+    ensures { IfOk result (λ of. PushesIfAny tree.entry (draft_view draft.old) (draft_view draft.new) of) }
+{
+    let ending = given_ending(alloc, draft, tree)?;
+    push_ending_if_any(draft, ending, tree.place)
 }

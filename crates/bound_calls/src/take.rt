@@ -4,13 +4,13 @@ ghost use Rattle.bound_project.specs.Drafts.{NodeNamed};
 ghost use Rattle.bound_project.specs.Pieces.{put};
 ghost use Rattle.bound_calls.specs.Calls.{node_of};
 ghost use Rattle.bound_calls.specs.Standing.{EndingNamed, TermNamed};
-ghost use Rattle.bound_calls.specs.Taking.{Loads, Pushes, PushesSheet, ReadsMember, no_object, TakesOperand, TakesValue};
+ghost use Rattle.bound_calls.specs.Taking.{Loads, Pushes, PushesSheet, ReadsMember, TakesValue, no_object};
 
 use crate::arguments::nowhere;
 use crate::calls::bare_call;
 use crate::term::{Ending, HostMember, Term};
 use bound_declarations::NotYet;
-use bound_project::{DeclaredType, Draft, ElementType, ErrMember, Node, NodeKind};
+use bound_project::{DeclaredType, Draft, ElementType, Node, NodeKind};
 use declared_names::is_object;
 use std::alloc::Global;
 use vba_base::{NoMemory, OrMemory, Place};
@@ -152,30 +152,6 @@ pub fn value_ending<'a>(
         Term::HostMember(member) => member_value(draft, member, place),
         Term::SheetMember(member) => sheet_value(draft, member, place),
         _ => Ok(None),
-    }
-}
-
-/// A term that is no reference as an operand, but for the last node of that: Err is its number.
-pub fn operand_ending<'a>(
-    alloc: Global,
-    draft: &mut Draft,
-    term: Term<'a>,
-    place: Place,
-) -> Result<Ending, OrMemory<NotYet>>
-    requires { TermNamed (draft_view draft.old).tables term }
-    ensures { IfOk result (λ ending. TakesOperand term.entry (draft_view draft.old) (draft_view draft.new) ending) }
-{
-    match term {
-        Term::Err => Ok(Ending {
-            kind: NodeKind::ErrValue(ErrMember::Number),
-            of: DeclaredType::Plain(ElementType::Long),
-        }),
-        _ => {
-            let Some(ending) = value_ending(alloc, draft, term, place)? else {
-                return Err(OrMemory::Fault(NotYet));
-            };
-            Ok(ending)
-        }
     }
 }
 

@@ -79,11 +79,13 @@ pub struct Tree<'a> {
     pub term: Term<'a>,
 }
 
-/// A left operand that was pushed: the place of its first token, and its type; none where it isn't bound.
+/// A left operand that was pushed: the place of its first token, and its type; none where it isn't bound. The left one of
+/// Is was pushed as a reference.
 #[derive(Clone, Copy)]
 pub struct Operand {
     pub place: Place,
     pub of: Option<DeclaredType>,
+    pub is_reference: bool,
 }
 
 /// Arguments that were pushed: how many, and the parameters that are left for others.

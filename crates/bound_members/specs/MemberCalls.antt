@@ -1,5 +1,5 @@
 -- Serves the code: calls of members.
-use Rattle.std.specs.Prelude.{◌≡◌, Bool, true, false, List, ◌∷◌}
+use Rattle.std.specs.Prelude.{◌≡◌, Bool, true, List, ◌∷◌}
 use Rattle.vba_base.specs.declared.place.Place.{Place}
 use Rattle.vba_expression.specs.Tree.{Expr, Args, no_args}
 use Rattle.vba_expression.specs.Nodes as nodes
@@ -16,6 +16,7 @@ use Rattle.bound_calls.specs.declared.term.Item.TheVariants as item
 use Rattle.bound_calls.specs.declared.term.MemberCall.{MemberCall}
 use Rattle.bound_calls.specs.declared.term.Term.{Term}
 use Rattle.bound_calls.specs.declared.term.Term.TheVariants as term
+use Rattle.bound_members.specs.Kinds.{is_typed_kind}
 use Rattle.bound_calls.specs.Standing.{ItemNamed, MemberStands, Stands, TermNamed, TermStands, Base, Grown}
 
 -- arguments begin of a member whose object was pushed
@@ -34,17 +35,5 @@ pub record EndsMember (x : MemberCall) (y : Term) : Type 0 where
 
 -- nodes of values that count as given
 abbrev pub is_value_kind : NodeKind → Bool
-is_value_kind (node.Constant i) = true
-is_value_kind node.Load = true
-is_value_kind (node.ElementValue count) = true
-is_value_kind (node.FieldValue i) = true
-is_value_kind (node.Unary o of) = true
-is_value_kind (node.Binary o compare left right) = true
-is_value_kind (node.Call p count) = true
-is_value_kind (node.CallInOrder p count order) = true
-is_value_kind (node.ErrValue _) = true
-is_value_kind (node.Library f text_form count compare one) = true
 is_value_kind (node.HostObject reference) = true
-is_value_kind node.ActiveSheet = true
-is_value_kind (node.HostMember i count) = true
-is_value_kind k = false
+is_value_kind k = is_typed_kind k

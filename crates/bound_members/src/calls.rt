@@ -7,6 +7,7 @@ ghost use Rattle.bound_calls.specs.Indexing.{AddsArgument};
 ghost use Rattle.bound_calls.specs.Standing.{TermNamed};
 ghost use Rattle.bound_members.specs.MemberCalls.{EndsMember, OpensMember, is_value_kind};
 
+use crate::kinds::is_typed_kind;
 use crate::members::takes_arguments;
 use bound_calls::{Ending, HostMember, MemberCall, Term, Tree, given_ending, push_node, sum};
 use bound_declarations::NotYet;
@@ -42,20 +43,8 @@ fn is_value_kind(kind: NodeKind) -> bool
     ensures { result ≡ is_value_kind kind }
 {
     match kind {
-        NodeKind::Constant { .. } => true,
-        NodeKind::Load => true,
-        NodeKind::ElementValue { .. } => true,
-        NodeKind::FieldValue { .. } => true,
-        NodeKind::Unary { .. } => true,
-        NodeKind::Binary { .. } => true,
-        NodeKind::Call { .. } => true,
-        NodeKind::CallInOrder { .. } => true,
-        NodeKind::ErrValue(_) => true,
-        NodeKind::Library { .. } => true,
         NodeKind::HostObject(_) => true,
-        NodeKind::ActiveSheet => true,
-        NodeKind::HostMember { .. } => true,
-        _ => false,
+        _ => is_typed_kind(kind),
     }
 }
 

@@ -1,9 +1,9 @@
 //! What an object is, where that is known before the run.
 
-ghost use Rattle.std.specs.Prelude.{◌≡◌, IfSome, option_map};
+ghost use Rattle.std.specs.Prelude.{◌≡◌, IfSome, option_map, true};
 ghost use Rattle.bound_project.specs.View.{declared_view};
 ghost use Rattle.binder.specs.ExpressionsBound.{kind_by_type, kind_of_object};
-ghost use Rattle.bound_members.specs.Kinds.{EndingOfKind, kind_view};
+ghost use Rattle.bound_members.specs.Kinds.{EndingOfKind, is_typed_kind, kind_view};
 
 use bound_calls::Ending;
 use bound_project::{DeclaredType, ElementType, NodeKind};
@@ -20,7 +20,7 @@ pub enum HostKind {
     AnyObject,
 }
 
-/// What an object of a declared type is; none where the type isn't one of the host's.
+/// What an object of a declared type is; none where the type isn't one of the host's. What a Variant has the run decides.
 pub fn kind_of_type(of: DeclaredType) -> Option<HostKind>
     ensures { option_map kind_view result ≡ kind_by_type (declared_view of) }
 {
@@ -28,6 +28,7 @@ pub fn kind_of_type(of: DeclaredType) -> Option<HostKind>
         DeclaredType::Plain(ElementType::Worksheet) => Some(HostKind::Sheet),
         DeclaredType::Plain(ElementType::Range) => Some(HostKind::Area),
         DeclaredType::Plain(ElementType::Object) => Some(HostKind::AnyObject),
+        DeclaredType::Plain(ElementType::Variant) => Some(HostKind::AnyObject),
         _ => None,
     }
 }
@@ -43,15 +44,45 @@ fn kind_of_object(reference: HostRef) -> Option<HostKind>
     }
 }
 
+/// Is a node the last one of a value, and none of an object that is always there?
+pub fn is_typed_kind(kind: NodeKind) -> bool
+    ensures { result ≡ is_typed_kind kind }
+{
+    match kind {
+        NodeKind::Constant { .. } => true,
+        NodeKind::Load => true,
+        NodeKind::ElementValue { .. } => true,
+        NodeKind::FieldValue { .. } => true,
+        NodeKind::Unary { .. } => true,
+        NodeKind::Binary { .. } => true,
+        NodeKind::Call { .. } => true,
+        NodeKind::CallInOrder { .. } => true,
+        NodeKind::ErrValue(_) => true,
+        NodeKind::Library { .. } => true,
+        NodeKind::Same => true,
+        NodeKind::ActiveSheet => true,
+        NodeKind::HostMember { .. } => true,
+        _ => false,
+    }
+}
+
+/// What the object is that a value gives by its type.
+fn kind_by_type(ending: Ending) -> Option<HostKind>
+    requires { is_typed_kind ending.kind ≡ true }
+    ensures { IfSome result (λ kind. EndingOfKind ending kind) }
+{
+    kind_of_type(ending.of)
+}
+
 /// What the object is that a value gives whose last node isn't pushed yet.
 pub fn kind_of_ending(ending: Ending) -> Option<HostKind>
     ensures { IfSome result (λ kind. EndingOfKind ending kind) }
 {
+    if is_typed_kind(ending.kind) {
+        return kind_by_type(ending);
+    }
     match ending.kind {
         NodeKind::HostObject(reference) => kind_of_object(reference),
-        NodeKind::ActiveSheet => kind_of_type(ending.of),
-        NodeKind::HostMember { .. } => kind_of_type(ending.of),
-        NodeKind::Call { .. } => kind_of_type(ending.of),
         _ => None,
     }
 }

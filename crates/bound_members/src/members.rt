@@ -247,7 +247,7 @@ fn members_of(kind: HostKind) -> Members
 }
 
 /// Has a text these ASCII characters?
-fn is_word(text: &[u16], word: &[u8]) -> bool
+pub fn is_word(text: &[u16], word: &[u8]) -> bool
     ensures { result ≡ bytes_eq text.now word.now }
 {
     match text {
@@ -276,7 +276,7 @@ fn known_member(kind: HostKind, name: &[u16]) -> Option<Known>
 {
     match kind {
         HostKind::AnyObject => Some(Known {
-            of: ElementType::Object,
+            of: ElementType::Variant,
             least: 0,
             greatest: None,
         }),

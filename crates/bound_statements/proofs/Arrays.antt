@@ -1,6 +1,6 @@
 -- Arrays and their bounds are pushed one after another.
-use Rattle.std.proofs.Common.{◌≡◌, ℕ, suc, ◌+◌, Bool, true, List, [], ◌∷◌, refl, ◌∙◌, sym, ap, subst}
-use Rattle.std.specs.Prelude.{Option, Some, None, option_map, if◌then◌else◌}
+use Rattle.std.proofs.Common.{◌≡◌, ℕ, suc, ◌+◌, List, [], ◌∷◌, refl, ◌∙◌, sym, ap, subst}
+use Rattle.std.specs.Prelude.{Option, Some, None, option_map}
 use Rattle.vba_base.specs.declared.place.Place.{Place}
 use Rattle.vba_values.specs.Types.{Declared}
 use Rattle.vba_expression.specs.Tree.{Expr}
@@ -17,8 +17,8 @@ use Rattle.binder.specs.Sources.{base_of}
 use Rattle.binder.specs.Options.{from_two, from_three}
 use Rattle.binder.specs.Constants.{place_of_expression}
 use Rattle.binder.specs.Terms.{Env}
-use Rattle.binder.specs.ExpressionsBound.{bound_value, term_of}
-use Rattle.binder.specs.StatementsBound.{integer, redim_bounds, redim_type, redim_arrays, is_built_element, place_in, erased_arrays}
+use Rattle.binder.specs.ExpressionsBound.{bound_operand, term_of}
+use Rattle.binder.specs.StatementsBound.{integer, redim_bounds, redim_type, redim_arrays, place_in, erased_arrays}
 use Rattle.bound_actions.specs.Actions.{PlacePushed}
 use Rattle.bound_statements.specs.Actions.{ValuePushed}
 use Rattle.bound_statements.specs.Reads.{ItemPushed, Read}
@@ -80,35 +80,30 @@ range_bounds (Some a) (Some b) (Some es) = refl
 pub upper_read : (env : Env) (e : Expr) (rest : List Dim) (all : Option Exprs) (before : ℕ) (base d : Drafted)
     → Read Exprs exprs_off all (redim_bounds env (upper e ∷ rest)) before base d
     → Read Exprs exprs_off all
-    (from_two also (Some (integer (place_of_expression e) (base_of env.scope.here.source))) (from_two also (bound_value env e) (redim_bounds env rest))) before base d
+    (from_two also (Some (integer (place_of_expression e) (base_of env.scope.here.source))) (from_two also (bound_operand env e) (redim_bounds env rest))) before base d
 upper_read env e rest all before base d r =
     subst (λ (x : Option Exprs). Read Exprs exprs_off all x before base d)
-    (upper_bounds (integer (place_of_expression e) (base_of env.scope.here.source)) (bound_value env e) (redim_bounds env rest)) r
+    (upper_bounds (integer (place_of_expression e) (base_of env.scope.here.source)) (bound_operand env e) (redim_bounds env rest)) r
 
 -- and with one
 pub range_read : (env : Env) (low high : Expr) (to_word : Token) (rest : List Dim) (all : Option Exprs) (before : ℕ) (base d : Drafted)
     → Read Exprs exprs_off all (redim_bounds env (Dim.range low to_word high ∷ rest)) before base d
-    → Read Exprs exprs_off all (from_two also (bound_value env low) (from_two also (bound_value env high) (redim_bounds env rest))) before base d
+    → Read Exprs exprs_off all (from_two also (bound_operand env low) (from_two also (bound_operand env high) (redim_bounds env rest))) before base d
 range_read env low high to_word rest all before base d r =
-    subst (λ (x : Option Exprs). Read Exprs exprs_off all x before base d) (range_bounds (bound_value env low) (bound_value env high) (redim_bounds env rest)) r
+    subst (λ (x : Option Exprs). Read Exprs exprs_off all x before base d) (range_bounds (bound_operand env low) (bound_operand env high) (redim_bounds env rest)) r
 
 -- ---- arrays of a ReDim
 
 pub resizes_begin : (all : Option Resizes) (d : Drafted) → Read Resizes resizes_off all all 0 d d
 resizes_begin all d = read_begins Resizes resizes_off all d (λ st a. refl)
 
--- an array that is built
+-- an array with its bounds
 resized : (env : Env) (a : ReDimArray) (rest : List ReDimArray) (of : Option Declared) (x : Lvalue) (es : Exprs) → of ≡ redim_type env a.type_clause
-    → is_built_element (redim_type env a.type_clause) ≡ true → place_in (term_of env a.place) ≡ Some x → redim_bounds env (all_of a.dims) ≡ Some es
+    → place_in (term_of env a.place) ≡ Some x → redim_bounds env (all_of a.dims) ≡ Some es
     → redim_arrays env (a ∷ rest) ≡ option_map (resize x es of) (redim_arrays env rest)
-resized env a rest of x es of_is built place bounds =
-    ap (λ (b : Bool).
-    if b
-    then from_three (λ y fs rs. resize y fs (redim_type env a.type_clause) rs) (place_in (term_of env a.place)) (redim_bounds env (all_of a.dims)) (redim_arrays env rest)
-    else None)
-    built
-    ∙ (made_of_three (λ y fs rs. resize y fs (redim_type env a.type_clause) rs) (place_in (term_of env a.place)) x (redim_bounds env (all_of a.dims)) es (redim_arrays env rest) place bounds
-    ∙ ap (λ (t : Option Declared). option_map (resize x es t) (redim_arrays env rest)) (sym of_is))
+resized env a rest of x es of_is place bounds =
+    made_of_three (λ y fs rs. resize y fs (redim_type env a.type_clause) rs) (place_in (term_of env a.place)) x (redim_bounds env (all_of a.dims)) es (redim_arrays env rest) place bounds
+    ∙ ap (λ (t : Option Declared). option_map (resize x es t) (redim_arrays env rest)) (sym of_is)
 
 -- the place and the bounds of an array
 resize_made : (make : Lvalue → Exprs → Piece) (found : Option (Exprs × List Piece)) (x : Lvalue) (es : Exprs) (below : List Piece) → found ≡ Some (es, a_place x ∷ below)
@@ -116,11 +111,11 @@ resize_made : (make : Lvalue → Exprs → Piece) (found : Option (Exprs × List
 resize_made make found x es below is = rw is
 
 pub array_pushed : (env : Env) (a : ReDimArray) (rest : List ReDimArray) (of : Option Declared) (count : ℕ) (d e f g : Drafted)
-    → of ≡ redim_type env a.type_clause → is_built_element (redim_type env a.type_clause) ≡ true → PlacePushed (place_in (term_of env a.place)) d e
+    → of ≡ redim_type env a.type_clause → PlacePushed (place_in (term_of env a.place)) d e
     → Read Exprs exprs_off (redim_bounds env (all_of a.dims)) (Some no_exprs) count e f
     → g ≡ record f { pieces = of_place_found (λ x es. a_resize x es of) (exprs_off count f.pieces no_exprs) }
     → ItemPushed Resizes resizes_off (redim_arrays env (a ∷ rest)) (redim_arrays env rest) d g
-array_pushed env a rest of count d e f g of_is built p r is =
+array_pushed env a rest of count d e f g of_is p r is =
     let es = r.make no_exprs in
     let taken : exprs_off count f.pieces no_exprs ≡ Some (es, a_place p.made ∷ d.pieces) = r.taken no_exprs ∙ ap (λ (ps : List Piece). Some (es, ps)) p.on_top in
     record {
@@ -130,7 +125,7 @@ array_pushed env a rest of count d e f g of_is built p r is =
       };
       piece = a_resize p.made es of;
       make = resize p.made es of;
-      is = resized env a rest of p.made es of_is built p.is r.is;
+      is = resized env a rest of p.made es of_is p.is r.is;
       on_top = ap (λ (x : Drafted). x.pieces) is ∙ resize_made (λ x fs. a_resize x fs of) (exprs_off count f.pieces no_exprs) p.made es d.pieces taken;
       taken = λ n st b. refl;
     }

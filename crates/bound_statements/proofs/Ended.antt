@@ -1,6 +1,6 @@
 -- What the nodes of a statement say is what is added.
 use Rattle.std.proofs.Common.{◌≡◌, ℕ, pos, Bool, true, false, List, [], ◌∷◌, ◌++◌, refl, ◌∙◌, sym, ap, subst}
-use Rattle.std.specs.Prelude.{Option, Some, is_some, option_map, option_and_then, if◌then◌else◌}
+use Rattle.std.specs.Prelude.{Option, Some, is_some, option_map, option_and_then}
 use Rattle.vba_base.specs.declared.place.Place.{Place}
 use Rattle.vba_values.specs.declared.types.Compare.{Compare}
 use Rattle.vba_values.specs.declared.types.WholeKind.TheVariants as kind_of_whole
@@ -22,11 +22,10 @@ use Rattle.bound_project.specs.Drafts.{Drafted, ActionNamed, statement_of}
 use Rattle.bound_project.specs.View.{declared_view, variable_view}
 use Rattle.binder.specs.Options.{from_two}
 use Rattle.binder.specs.Constants.{compare_in}
-use Rattle.binder.specs.Types.{is_object}
 use Rattle.binder.specs.Numbering.{Opened, Standing}
 use Rattle.binder.specs.Terms.{Within, Env}
-use Rattle.binder.specs.StatementsBound.{Around, with_or, within, integer, one_statement, simple_action, env_at, for_action, next_action, line_of, loop_variable, selected, header_of, walked}
-use Rattle.binder.specs.ExpressionsBound.{bound_as_given, bound_operand, bound_value}
+use Rattle.binder.specs.StatementsBound.{Around, with_or, within, integer, one_statement, simple_action, env_at, for_action, next_action, line_of, loop_variable, selected, header_of}
+use Rattle.binder.specs.ExpressionsBound.{bound_as_given, bound_operand}
 use Rattle.vba_lexer.specs.declared.token.Token.{Token}
 use Rattle.vba_words.specs.declared.identifier.Identifier.{Identifier}
 use Rattle.vba_expression.specs.Tree.{Expr}
@@ -183,10 +182,10 @@ next_done env around os o for_word equal to_word x start limit step v is opened 
 
 -- For Each
 pub each_pushed : (env : Env) (control : Variable) (named : Option bound.Variable) (group : Expr) (of : DeclaredType) (first behind : ℕ) (d e : Drafted)
-    → d.pieces ≡ [] → Some (variable_view control) ≡ named → ValuePushed (walked env (variable_view control) group) of d e
-    → ActionPushed (kind.ForEach control first behind) (option_and_then (λ v. option_map (λ x. to.for_each v x first behind) (walked env v group)) named) d e
+    → d.pieces ≡ [] → Some (variable_view control) ≡ named → ValuePushed (bound_as_given env group) of d e
+    → ActionPushed (kind.ForEach control first behind) (option_and_then (λ v. option_map (λ x. to.for_each v x first behind) (bound_as_given env group)) named) d e
 each_pushed env control named group of first behind d e empty name v =
-    let found : Option bound.Variable → Option Action = λ (o : Option bound.Variable). option_and_then (λ (x : bound.Variable). option_map (λ (y : bound.Expr). to.for_each x y first behind) (walked env x group)) o in
+    let found : Option bound.Variable → Option Action = λ (o : Option bound.Variable). option_and_then (λ (x : bound.Variable). option_map (λ (y : bound.Expr). to.for_each x y first behind) (bound_as_given env group)) o in
     record {
       statements = v.same.statements;
       bodies = v.same.bodies;
@@ -195,17 +194,6 @@ each_pushed env control named group of first behind d e empty name v =
       is = ap found (sym name) ∙ ap (option_map (λ (y : bound.Expr). to.for_each (variable_view control) y first behind)) v.pushed.is;
       fits = ap (action_of e.tables (kind.ForEach control first behind)) (v.pushed.on_top ∙ ap (λ ps. an_expr v.pushed.made ∷ ps) empty);
     }
-
--- what a For Each walks
-pub walked_object : (env : Env) (control : Variable) (group : Expr) (of : DeclaredType) (d e : Drafted) → is_object (declared_view control.of) ≡ true → ValuePushed (bound_as_given env group) of d e
-    → ValuePushed (walked env (variable_view control) group) of d e
-walked_object env control group of d e h v =
-    let P : Bool → Type 0 = λ (b : Bool). ValuePushed (if b then bound_as_given env group else bound_value env group) of d e in subst P (sym h) v
-
-pub walked_value : (env : Env) (control : Variable) (group : Expr) (of : DeclaredType) (d e : Drafted) → is_object (declared_view control.of) ≡ false → ValuePushed (bound_value env group) of d e
-    → ValuePushed (walked env (variable_view control) group) of d e
-walked_value env control group of d e h v =
-    let P : Bool → Type 0 = λ (b : Bool). ValuePushed (if b then bound_as_given env group else bound_value env group) of d e in subst P (sym h) v
 
 -- Next of the innermost block, which is a For Each
 pub next_each_done : (env : Env) (around os : List Opened) (o : Opened) (for_word each_word in_word : Token) (x : Identifier) (group : Expr) (v : bound.Variable)

@@ -20,8 +20,8 @@ use Rattle.binder.specs.Options.{from_two}
 use Rattle.binder.specs.Constants.{compare_in, place_of_expression}
 use Rattle.binder.specs.Numbering.{Opened, Standing, Sought, here, an_arm, behind_block, sought_behind}
 use Rattle.binder.specs.Terms as terms
-use Rattle.binder.specs.ExpressionsBound.{bound_operand, bound_reference, givens, term_of}
-use Rattle.binder.specs.StatementsBound.{Around, assigned_to, called_place, called_with, redim_arrays, erased_arrays, value_shown, items_shown, ends_line, simple_action, block_action, loop_variable, next_action, loop_action, for_action, step_value, case_tests, selected, line_of, header_of, set_to, value_for, walked, with_action}
+use Rattle.binder.specs.ExpressionsBound.{bound_as_given, bound_operand, bound_reference, givens, term_of}
+use Rattle.binder.specs.StatementsBound.{Around, assigned_to, called_place, called_with, redim_arrays, erased_arrays, value_shown, items_shown, ends_line, simple_action, block_action, loop_variable, next_action, loop_action, for_action, step_value, case_tests, selected, line_of, header_of, set_to, value_for, with_action}
 use Rattle.bound_calls.specs.Standing.{PushedIs}
 
 -- a condition of a line: where it holds, control goes to the first statement of its block
@@ -39,13 +39,13 @@ for_in env s x start limit step =
 
 abbrev pub each_in : terms.Env → Standing → Identifier → Expr → Option Action
 each_in env s x group =
-    option_and_then (λ v. option_map (λ e. to.for_each v e (sought_behind here s) (sought_behind (behind_block 0) s)) (walked env v group)) (loop_variable env x)
+    option_and_then (λ v. option_map (λ e. to.for_each v e (sought_behind here s) (sought_behind (behind_block 0) s)) (bound_as_given env group)) (loop_variable env x)
 
 -- a line of a block, in this scope
 abbrev pub block_in : terms.Env → Around → Standing → BlockLine → Option Action
 block_in env a s (tree.if_line if_word e then_word) = branch_in env s (an_arm 0) e
 block_in env a s (tree.else_if_line else_if_word e then_word) = branch_in env s (an_arm 0) e
-block_in env a s (tree.select_case select_word case_word e) = option_map (λ v. to.select v (sought_behind (an_arm 0) s)) (bound_operand env e)
+block_in env a s (tree.select_case select_word case_word e) = option_map (λ v. to.select v (sought_behind (an_arm 0) s)) (bound_as_given env e)
 block_in env a s (tree.case_line case_word tests) = case_in env a s (all_of tests)
 block_in env a s (tree.for_line for_word x equal start to_word limit step) = for_in env s x start limit step
 block_in env a s (tree.for_each for_word each_word x in_word group) = each_in env s x group

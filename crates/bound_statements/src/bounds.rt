@@ -3,7 +3,7 @@
 ghost use Rattle.std.specs.Prelude.{◌≡◌, ◌∷◌, List, Option, Some, IfOk, map};
 ghost use Rattle.bound_statements.specs.Reads.{Read};
 ghost use Rattle.binder.specs.Constants.{place_of_expression};
-ghost use Rattle.binder.specs.ExpressionsBound.{bound_value};
+ghost use Rattle.binder.specs.ExpressionsBound.{bound_operand};
 ghost use Rattle.binder.specs.Options.{from_two};
 ghost use Rattle.binder.specs.Sources.{base_of};
 ghost use Rattle.binder.specs.StatementsBound as plain;
@@ -18,7 +18,7 @@ ghost use Rattle.vba_module.specs.Headers.{all_of, items_of};
 ghost use Rattle.vba_tree.specs.Tree as tree;
 ghost use Rattle.vba_tree.specs.View.{dim_view, listed_view};
 
-use crate::values::{push_integer, push_value};
+use crate::values::{push_integer, push_operand};
 use bound_declarations::NotYet;
 use bound_project::Draft;
 use bound_terms::Env;
@@ -39,10 +39,10 @@ fn push_bound<'a>(
 ) -> Result<u32, OrMemory<NotYet>>
     requires { EnvStands env }
     ensures { IfOk result (λ count. (all rest : Option Exprs) (base : Drafted)
-        → Read Exprs exprs_off all (from_two also (bound_value (env_view env.entry) (expression_view bound.now)) rest) before base (draft_view draft.old)
+        → Read Exprs exprs_off all (from_two also (bound_operand (env_view env.entry) (expression_view bound.now)) rest) before base (draft_view draft.old)
         → Read Exprs exprs_off all rest count base (draft_view draft.new)) }
 {
-    push_value(alloc, draft, env, bound)?;
+    push_operand(alloc, draft, env, bound)?;
     Ok(plus(before, 1)?)
 }
 

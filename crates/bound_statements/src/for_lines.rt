@@ -1,26 +1,21 @@
 //! For, For Each and Next.
 
-ghost use Rattle.std.specs.Prelude.{◌≡◌, true, [], ◌∷◌, List, Some, IfOk, option_map};
-ghost use Rattle.bound_statements.specs.Actions.{ForValues, ValuePushed, block_in, done_alone, each_in, for_in, is_alone};
-ghost use Rattle.bound_statements.specs.Round.{around_view};
+ghost use Rattle.std.specs.Prelude.{◌≡◌, true, [], IfOk, option_map};
+ghost use Rattle.bound_statements.specs.Actions.{ForValues, ValuePushed, done_alone, each_in, for_in, is_alone};
 ghost use Rattle.binder.specs.ExpressionsBound.{bound_operand};
-ghost use Rattle.binder.specs.Numbering as numbering;
 ghost use Rattle.binder.specs.StatementsBound as plain;
 ghost use Rattle.bound_project.specs.DraftView.{draft_view};
-ghost use Rattle.bound_project.specs.View.{variable_view};
 ghost use Rattle.bound_actions.specs.Actions.{ActionPushed};
 ghost use Rattle.bound_terms.specs.View.{EnvStands, env_view};
 ghost use Rattle.statement_numbers.specs.View.{standing_view};
 ghost use Rattle.vba_expression.specs.View.{view as expression_view};
-ghost use Rattle.vba_tree.specs.View.{block_line_view, step_view};
+ghost use Rattle.vba_tree.specs.View.{step_view};
 
-use crate::around::Around;
 use crate::innermost::{innermost_block, opening_line};
-use crate::values::{counter_of, push_given, push_integer, push_operand, push_value};
+use crate::values::{counter_of, push_given, push_integer, push_operand};
 use bound_declarations::NotYet;
 use bound_project::{ActionKind, DeclaredType, Draft, Variable};
 use bound_terms::Env;
-use declared_names::is_object;
 use module_parts::place_of;
 use statement_numbers::{Sought, Standing};
 use std::alloc::Global;
@@ -75,7 +70,7 @@ fn push_values<'a>(
 
 /// `For counter = start To limit [Step value]`
 #[tactic(auto, using(crate::proofs::Ended::for_pushed))]
-fn bind_for<'a>(
+pub(crate) fn bind_for<'a>(
     alloc: Global,
     draft: &mut Draft,
     env: Env<'a>,
@@ -113,29 +108,9 @@ fn bind_for<'a>(
     })
 }
 
-/// Pushes what a For Each walks: for a variable of an object type an object, and else a value.
-#[tactic(auto, using(crate::proofs::Ended::walked_object, crate::proofs::Ended::walked_value))]
-fn push_group<'a>(
-    alloc: Global,
-    draft: &mut Draft,
-    env: Env<'a>,
-    control: Variable,
-    group: &'a Expression,
-) -> Result<DeclaredType, OrMemory<NotYet>>
-    requires { EnvStands env }
-    ensures { IfOk result (λ of. ValuePushed (plain.walked (env_view env.entry) (variable_view control) (expression_view group.now)) of (draft_view draft.old) (draft_view draft.new)) }
-{
-    if is_object(control.of) {
-        let of = push_given(alloc, draft, env, group)?;
-        return Ok(of);
-    }
-    let of = push_value(alloc, draft, env, group)?;
-    Ok(of)
-}
-
 /// `For Each element In group`
 #[tactic(auto, using(crate::proofs::Ended::each_pushed))]
-fn bind_for_each<'a>(
+pub(crate) fn bind_for_each<'a>(
     alloc: Global,
     draft: &mut Draft,
     env: Env<'a>,
@@ -152,7 +127,7 @@ fn bind_for_each<'a>(
     let first = standing.sought_behind(Sought::Here)?;
     let behind = standing.sought_behind(Sought::BehindBlock(0))?;
     let control = counter_of(alloc, env, element)?;
-    push_group(alloc, draft, env, control, group)?;
+    push_given(alloc, draft, env, group)?;
     Ok(ActionKind::ForEach {
         control,
         first,
@@ -162,7 +137,7 @@ fn bind_for_each<'a>(
 
 /// `Next` of the innermost block, which is a For or a For Each.
 #[tactic(auto, using(crate::proofs::Ended::next_done, crate::proofs::Ended::next_each_done))]
-fn next_kind<'a>(
+pub(crate) fn next_kind<'a>(
     alloc: Global,
     env: Env<'a>,
     standing: Standing<'a>,
@@ -185,38 +160,6 @@ fn next_kind<'a>(
             header: opened.header,
             first: opened.first,
         }),
-        _ => Err(OrMemory::Fault(NotYet)),
-    }
-}
-
-/// A line of a For or a For Each, in its scope.
-#[tactic(auto, using(crate::proofs::Ended::plainly))]
-pub(crate) fn bind_for_line<'a>(
-    alloc: Global,
-    draft: &mut Draft,
-    around: Around<'a>,
-    standing: Standing<'a>,
-    line: &'a BlockLine,
-) -> Result<ActionKind, OrMemory<NotYet>>
-    requires env { EnvStands around.env }
-    requires empty { (draft_view draft.old).pieces ≡ [] }
-    ensures { IfOk result (λ kind. ActionPushed kind
-        (block_in (env_view around.entry.env) (around_view around.entry) (standing_view standing.entry) (block_line_view line.now))
-        (draft_view draft.old) (draft_view draft.new)) }
-{
-    let env = around.env;
-    match line {
-        BlockLine::For {
-            counter,
-            start,
-            limit,
-            step,
-            ..
-        } => bind_for(alloc, draft, env, standing, counter, start, limit, step),
-        BlockLine::ForEach { element, group, .. } => {
-            bind_for_each(alloc, draft, env, standing, element, group)
-        }
-        BlockLine::Next { .. } => next_kind(alloc, env, standing),
         _ => Err(OrMemory::Fault(NotYet)),
     }
 }

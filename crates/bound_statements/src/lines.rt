@@ -1,9 +1,9 @@
 //! Lines of blocks.
 
-ghost use Rattle.std.specs.Prelude.{◌≡◌, [], None, IfOk, option_map};
-ghost use Rattle.bound_statements.specs.Actions.{block_in, branch_in};
+ghost use Rattle.std.specs.Prelude.{◌≡◌, true, [], IfOk, option_map};
+ghost use Rattle.bound_statements.specs.Actions.{block_in, branch_in, done_alone, is_alone};
 ghost use Rattle.bound_statements.specs.Round.{StandsAt, around_view};
-ghost use Rattle.binder.specs.ExpressionsBound.{bound_operand};
+ghost use Rattle.binder.specs.ExpressionsBound.{bound_as_given, bound_operand};
 ghost use Rattle.binder.specs.Numbering.{an_arm, sought_behind};
 ghost use Rattle.binder.specs.StatementsBound as plain;
 ghost use Rattle.bound_project.specs.DraftView.{draft_view};
@@ -16,9 +16,9 @@ ghost use Rattle.vba_tree.specs.View.{block_line_view, loop_condition_view};
 
 use crate::around::Around;
 use crate::case_lines::bind_case;
-use crate::for_lines::bind_for_line;
+use crate::for_lines::{bind_for, bind_for_each, next_kind};
 use crate::innermost::header_of;
-use crate::values::{push_operand, there};
+use crate::values::{push_given, push_operand, there};
 use bound_actions::bind_with;
 use bound_declarations::NotYet;
 use bound_project::{ActionKind, Draft};
@@ -82,11 +82,11 @@ fn bind_select<'a>(
     requires env { EnvStands env }
     requires empty { (draft_view draft.old).pieces ≡ [] }
     ensures { IfOk result (λ kind. ActionPushed kind
-        (option_map (λ v. plain_to.select v (sought_behind (an_arm 0) (standing_view standing.entry))) (bound_operand (env_view env.entry) (expression_view value.now)))
+        (option_map (λ v. plain_to.select v (sought_behind (an_arm 0) (standing_view standing.entry))) (bound_as_given (env_view env.entry) (expression_view value.now)))
         (draft_view draft.old) (draft_view draft.new)) }
 {
     let first = standing.sought_behind(Sought::Arm(0))?;
-    push_operand(alloc, draft, env, value)?;
+    push_given(alloc, draft, env, value)?;
     Ok(ActionKind::Select { first })
 }
 
@@ -130,88 +130,22 @@ fn bind_loop<'a>(
     }
 }
 
-/// A line with a condition or a value, in its scope.
-fn bind_condition<'a>(
+/// What a line without a condition or a value does, in its scope.
+fn alone_line<'a>(
     alloc: Global,
-    draft: &mut Draft,
     around: Around<'a>,
     standing: Standing<'a>,
     line: &'a BlockLine,
 ) -> Result<ActionKind, OrMemory<NotYet>>
-    requires env { EnvStands around.env }
-    requires empty { (draft_view draft.old).pieces ≡ [] }
-    ensures { IfOk result (λ kind. ActionPushed kind
-        (block_in (env_view around.entry.env) (around_view around.entry) (standing_view standing.entry) (block_line_view line.now))
-        (draft_view draft.old) (draft_view draft.new)) }
+    requires { EnvStands around.env }
+    ensures alone { IfOk result (λ kind. is_alone kind ≡ true) }
+    ensures is { IfOk result (λ kind. (block_in (env_view around.entry.env) (around_view around.entry) (standing_view standing.entry) (block_line_view line.now)) ≡ done_alone kind) }
 {
-    let env = around.env;
     match line {
-        BlockLine::If { condition, .. } | BlockLine::ElseIf { condition, .. } => {
-            bind_branch(alloc, draft, env, standing, condition, Sought::Arm(0))
-        }
-        BlockLine::SelectCase { value, .. } => bind_select(alloc, draft, env, standing, value),
-        BlockLine::While { condition, .. } => bind_branch(
-            alloc,
-            draft,
-            env,
-            standing,
-            condition,
-            Sought::BehindBlock(0),
-        ),
-        _ => Err(OrMemory::Fault(NotYet)),
-    }
-}
-
-/// A line of a loop that has no counter, in its scope.
-#[tactic(auto, using(crate::proofs::Ended::gone_to))]
-fn bind_loop_line<'a>(
-    alloc: Global,
-    draft: &mut Draft,
-    around: Around<'a>,
-    standing: Standing<'a>,
-    line: &'a BlockLine,
-) -> Result<ActionKind, OrMemory<NotYet>>
-    requires env { EnvStands around.env }
-    requires empty { (draft_view draft.old).pieces ≡ [] }
-    ensures { IfOk result (λ kind. ActionPushed kind
-        (block_in (env_view around.entry.env) (around_view around.entry) (standing_view standing.entry) (block_line_view line.now))
-        (draft_view draft.old) (draft_view draft.new)) }
-{
-    let env = around.env;
-    match line {
-        BlockLine::Do { condition, .. } => {
-            let first = standing.sought_behind(Sought::Here)?;
-            let behind = standing.sought_behind(Sought::BehindBlock(0))?;
-            bind_loop(alloc, draft, env, condition, first, behind)
-        }
-        BlockLine::Loop { condition, .. } => {
-            let behind = standing.sought_behind(Sought::Here)?;
-            bind_loop(alloc, draft, env, condition, header_of(standing), behind)
-        }
+        BlockLine::Next { .. } => next_kind(alloc, around.env, standing),
         BlockLine::Wend(_) => Ok(ActionKind::GoTo {
             to: header_of(standing),
         }),
-        _ => Err(OrMemory::Fault(NotYet)),
-    }
-}
-
-/// A line of a With block, in its scope.
-#[tactic(auto, using(crate::proofs::Ended::plainly))]
-fn bind_with_line<'a>(
-    alloc: Global,
-    draft: &mut Draft,
-    around: Around<'a>,
-    standing: Standing<'a>,
-    line: &'a BlockLine,
-) -> Result<ActionKind, OrMemory<NotYet>>
-    requires env { EnvStands around.env }
-    requires empty { (draft_view draft.old).pieces ≡ [] }
-    ensures { IfOk result (λ kind. ActionPushed kind
-        (block_in (env_view around.entry.env) (around_view around.entry) (standing_view standing.entry) (block_line_view line.now))
-        (draft_view draft.old) (draft_view draft.new)) }
-{
-    match line {
-        BlockLine::With { object, .. } => there(bind_with(alloc, draft, around.env, object)?),
         BlockLine::EndWith { .. } => Ok(ActionKind::EndWith {
             header: header_of(standing),
         }),
@@ -220,6 +154,7 @@ fn bind_with_line<'a>(
 }
 
 /// A line of a block, in its scope.
+#[tactic(auto, using(crate::proofs::Ended::plainly))]
 pub(crate) fn bind_line<'a>(
     alloc: Global,
     draft: &mut Draft,
@@ -234,21 +169,37 @@ pub(crate) fn bind_line<'a>(
         (block_in (env_view around.entry.env) (around_view around.entry) (standing_view standing.entry) (block_line_view line.now))
         (draft_view draft.old) (draft_view draft.new)) }
 {
+    let env = around.env;
     match line {
-        BlockLine::If { .. }
-        | BlockLine::ElseIf { .. }
-        | BlockLine::SelectCase { .. }
-        | BlockLine::While { .. } => bind_condition(alloc, draft, around, standing, line),
-        BlockLine::Do { .. } | BlockLine::Loop { .. } | BlockLine::Wend(_) => {
-            bind_loop_line(alloc, draft, around, standing, line)
+        BlockLine::If { condition, .. } | BlockLine::ElseIf { condition, .. } => {
+            bind_branch(alloc, draft, env, standing, condition, Sought::Arm(0))
         }
+        BlockLine::While { condition, .. } => {
+            let behind = Sought::BehindBlock(0);
+            bind_branch(alloc, draft, env, standing, condition, behind)
+        }
+        BlockLine::SelectCase { value, .. } => bind_select(alloc, draft, env, standing, value),
         BlockLine::Case { tests, .. } => bind_case(alloc, draft, around, standing, tests),
-        BlockLine::For { .. } | BlockLine::ForEach { .. } | BlockLine::Next { .. } => {
-            bind_for_line(alloc, draft, around, standing, line)
+        BlockLine::For {
+            counter,
+            start,
+            limit,
+            step,
+            ..
+        } => bind_for(alloc, draft, env, standing, counter, start, limit, step),
+        BlockLine::ForEach { element, group, .. } => {
+            bind_for_each(alloc, draft, env, standing, element, group)
         }
-        BlockLine::With { .. } | BlockLine::EndWith { .. } => {
-            bind_with_line(alloc, draft, around, standing, line)
+        BlockLine::Do { condition, .. } => {
+            let first = standing.sought_behind(Sought::Here)?;
+            let behind = standing.sought_behind(Sought::BehindBlock(0))?;
+            bind_loop(alloc, draft, env, condition, first, behind)
         }
-        _ => Err(OrMemory::Fault(NotYet)),
+        BlockLine::Loop { condition, .. } => {
+            let behind = standing.sought_behind(Sought::Here)?;
+            bind_loop(alloc, draft, env, condition, header_of(standing), behind)
+        }
+        BlockLine::With { object, .. } => there(bind_with(alloc, draft, env, object)?),
+        _ => alone_line(alloc, around, standing, line),
     }
 }

@@ -1,6 +1,6 @@
 //! ReDim.
 
-ghost use Rattle.std.specs.Prelude.{◌≡◌, true, [], ◌∷◌, List, Option, Some, IfOk, OnOk, map, option_map};
+ghost use Rattle.std.specs.Prelude.{◌≡◌, [], ◌∷◌, List, Option, Some, IfOk, OnOk, map, option_map};
 ghost use Rattle.bound_statements.specs.Reads.{ItemPushed, Read};
 ghost use Rattle.binder.specs.StatementsBound as plain;
 ghost use Rattle.bound_project.specs.DraftView.{draft_view};
@@ -24,7 +24,6 @@ use bound_declarations::NotYet;
 use bound_project::{ActionKind, DeclaredType, Draft, Node, NodeKind};
 use bound_terms::Env;
 use constant_values::written_type;
-use declared_names::is_object;
 use statement_numbers::plus;
 use std::alloc::Global;
 use vba_base::{NoMemory, OrMemory};
@@ -43,33 +42,6 @@ fn resized_type<'a>(
         None => Ok(None),
         Some(clause) => Ok(Some(written_type(alloc, env.constants, &clause.declared_type)?)),
     }
-}
-
-/// Are arrays of such elements bound? Those of objects aren't.
-fn is_built_element(of: Option<DeclaredType>) -> bool
-    ensures { result ≡ plain.is_built_element (option_map declared_view of) }
-{
-    match of {
-        None => true,
-        Some(of) => !is_object(of),
-    }
-}
-
-/// The type of the elements, where arrays of such are bound.
-fn element_type<'a>(
-    alloc: Global,
-    env: Env<'a>,
-    clause: &Option<TypeClause>,
-) -> Result<Option<DeclaredType>, OrMemory<NotYet>>
-    requires { EnvStands env }
-    ensures of { IfOk result (λ of. option_map declared_view of ≡ plain.redim_type (env_view env.entry) (option_map type_clause_view clause.now)) }
-    ensures built { IfOk result (λ of. plain.is_built_element (plain.redim_type (env_view env.entry) (option_map type_clause_view clause.now)) ≡ true) }
-{
-    let of = resized_type(alloc, env, clause)?;
-    if !is_built_element(of) {
-        return Err(OrMemory::Fault(NotYet));
-    }
-    Ok(of)
 }
 
 /// Ends an array: the place and so many bounds behind it were pushed.
@@ -96,7 +68,7 @@ fn push_array<'a>(
         → ItemPushed Resizes resizes_off (plain.redim_arrays (env_view env.entry) (array_view array.now ∷ rest)) (plain.redim_arrays (env_view env.entry) rest)
         (draft_view draft.old) (draft_view draft.new)) }
 {
-    let of = element_type(alloc, env, &array.type_clause)?;
+    let of = resized_type(alloc, env, &array.type_clause)?;
     bind_place(alloc, draft, env, &array.place)?;
     let bounds = push_bounds(alloc, draft, env, &array.dims)?;
     end_array(draft, bounds, of)?;

@@ -16,7 +16,7 @@ ghost use Rattle.vba_expression.specs.View.{view as expression_view};
 use bound_actions::loop_variable;
 use bound_declarations::NotYet;
 use bound_project::{ActionKind, DeclaredType, Draft, ElementType, Node, NodeKind, Variable};
-use bound_terms::{Env, bind_given, bind_operand, bind_value};
+use bound_terms::{Env, bind_given, bind_operand};
 use std::alloc::Global;
 use vba_base::{NoMemory, OrMemory, Place};
 use vba_expression::Expression;
@@ -45,23 +45,6 @@ pub(crate) fn push_operand<'a>(
     ensures { IfOk result (λ of. ValuePushed (plain.bound_operand (env_view env.entry) (expression_view expression.now)) of (draft_view draft.old) (draft_view draft.new)) }
 {
     match bind_operand(alloc, draft, env, expression)? {
-        Some(of) => Ok(of),
-        None => Err(OrMemory::Fault(NotYet)),
-    }
-}
-
-/// Pushes a value as it is, not as an operand; answers its type.
-#[tactic(auto, using(crate::proofs::Ended::value_pushed))]
-pub(crate) fn push_value<'a>(
-    alloc: Global,
-    draft: &mut Draft,
-    env: Env<'a>,
-    expression: &'a Expression,
-) -> Result<DeclaredType, OrMemory<NotYet>>
-    requires { EnvStands env }
-    ensures { IfOk result (λ of. ValuePushed (plain.bound_value (env_view env.entry) (expression_view expression.now)) of (draft_view draft.old) (draft_view draft.new)) }
-{
-    match bind_value(alloc, draft, env, expression)? {
         Some(of) => Ok(of),
         None => Err(OrMemory::Fault(NotYet)),
     }

@@ -28,7 +28,7 @@ use Rattle.bound_project.specs.Drafts.{Drafted}
 use Rattle.binder.specs.Constants.{place_of_expression}
 use Rattle.binder.specs.Terms.{Env, Given, a_value, expression_of, has_names, listed_values}
 use Rattle.binder.specs.Terms as terms
-use Rattle.binder.specs.ExpressionsBound.{are_numbers, numbers_of, element_place, element_type, with_type, indexed, is_host_type, item_of, object_member, callee, term_of, value_of, givens}
+use Rattle.binder.specs.ExpressionsBound.{are_numbers, numbers_of, element_place, element_type, with_type, indexed, is_host_type, item_of, object_member, callee, term_of, operand_of, givens}
 use Rattle.module_parts.proofs.Firsts.{expression_front}
 use Rattle.bound_calls.specs.declared.term.Ending.{Ending}
 use Rattle.bound_calls.specs.declared.term.Routine.{Routine}
@@ -44,7 +44,7 @@ use Rattle.bound_calls.specs.declared.term.Item.{Item}
 use Rattle.bound_calls.specs.declared.term.Item.TheVariants as items
 use Rattle.bound_calls.specs.Calls.{node_of}
 use Rattle.bound_calls.specs.Standing.{AllNumbers, PlaceStands, ValueStands, RoutineStands, TargetStands, TermStands, Stands, AllNamed, Base}
-use Rattle.bound_calls.specs.Steps.{Goes, PushesValue}
+use Rattle.bound_calls.specs.Steps.{Goes, PushesOperand}
 use Rattle.bound_members.specs.MemberCalls.{OpensMember}
 use Rattle.bound_terms.specs.Callee.{CalleeIs}
 use Rattle.bound_terms.specs.Items.{MakesItem}
@@ -240,7 +240,7 @@ goes_begin env x i xs old new d e o n k c =
 
 -- ---- one more number
 
-numbered : (env : Env) (x : Indexed) (y : Tree) (of : DeclaredType) (count : ℕ) (comma : Option Token) (xs : List Item) (d e : Drafted) → count ≡ x.count + 1 → PushesValue y d e (Some of) → AllNamed d.tables xs
+numbered : (env : Env) (x : Indexed) (y : Tree) (of : DeclaredType) (count : ℕ) (comma : Option Token) (xs : List Item) (d e : Drafted) → count ≡ x.count + 1 → PushesOperand y d e (Some of) → AllNamed d.tables xs
     → (is : List nodes.Item) (base : Base) → Stands env d.tables (items.Tree y ∷ items.Indexed x ∷ xs) is d.pieces base
     → Stands env e.tables (items.Indexed (record x { count = count }) ∷ xs) (behind_node (node.PlainArgument comma) is) e.pieces base
 numbered env x y of count comma xs d e c p k [] base h = absurd h
@@ -260,7 +260,7 @@ numbered env x y of count comma xs d e c p k (nodes.tree v ∷ nodes.arguments a
           target_is = s.target_is;
           place_is = s.place_is;
           made = s.made ++ m.made ∷ [];
-          numbers = numbers_more (value_of env) (givens env args) s.made (record { name = None; term = Some (term_of env v); place = place_of_expression v }) m.made s.numbers
+          numbers = numbers_more (operand_of env) (givens env args) s.made (record { name = None; term = Some (term_of env v); place = place_of_expression v }) m.made s.numbers
               (record { no_name = refl; term = term_of env v; given = refl; is = m.is });
           count_is = omega (arith, c, s.count_is, length-append s.made (m.made ∷ []));
           on_top = m.on_top ∙ ap (λ (ps : List Piece). an_expr m.made ∷ ps) s.on_top ∙ sym (above_push (map an_expr s.made) (an_expr m.made) s.between)
@@ -270,7 +270,7 @@ numbered env x y of count comma xs d e c p k (nodes.tree v ∷ nodes.arguments a
       ),
     )
 
-pub adds_number : (x : Indexed) (y : Tree) (of : DeclaredType) (count : ℕ) (d e : Drafted) → count ≡ x.count + 1 → PushesValue y d e (Some of) → AddsArgument (items.Indexed x) y d e (items.Indexed (record x { count = count }))
+pub adds_number : (x : Indexed) (y : Tree) (of : DeclaredType) (count : ℕ) (d e : Drafted) → count ≡ x.count + 1 → PushesOperand y d e (Some of) → AddsArgument (items.Indexed x) y d e (items.Indexed (record x { count = count }))
 adds_number x y of count d e c p = record { grown = p.grown; named = tt; stands = λ env comma xs is base k h. numbered env x y of count comma xs d e c p k is base h }
 
 pub goes_argument : (env : Env) (x : Tree) (i j : Item) (xs old between new : List Item) (comma : Option Token) (d e : Drafted) → old ≡ items.Tree x ∷ between → between ≡ i ∷ xs → new ≡ j ∷ xs → AllNamed d.tables old
@@ -316,17 +316,17 @@ same_place place at whole u bounded lends h =
 same_value : (place : Place) (made : bound.Node) (whole u : Declared) → element_type whole ≡ Some u → item_of place (a_value made whole) ≡ a_value made whole
 same_value place made whole u h = ap (λ (b : Bool). if b then object_member place made whole (codes "item") else a_value made whole) (no_object whole u h)
 
-place_indexed : (env : Env) (place : Place) (at : Lvalue) (whole : Declared) (bounded lends : Bool) (gs : List Given) (of : Declared) (es : Exprs) → element_type whole ≡ Some of → numbers_of (value_of env) gs ≡ Some es
+place_indexed : (env : Env) (place : Place) (at : Lvalue) (whole : Declared) (bounded lends : Bool) (gs : List Given) (of : Declared) (es : Exprs) → element_type whole ≡ Some of → numbers_of (operand_of env) gs ≡ Some es
     → indexed env place (terms.a_place at whole bounded lends) gs ≡ terms.a_place (element_place at es) of false lends
 place_indexed env place at whole bounded lends gs of es h k =
     let T : Declared → Exprs → terms.Term = λ (u : Declared) (xs : Exprs). terms.a_place (element_place at xs) u false lends in
-    ap (λ (o : Option Declared). with_type o (numbers_of (value_of env) gs) T) h ∙ ap (λ (o : Option Exprs). with_type (Some of) o T) k
+    ap (λ (o : Option Declared). with_type o (numbers_of (operand_of env) gs) T) h ∙ ap (λ (o : Option Exprs). with_type (Some of) o T) k
 
-value_indexed : (env : Env) (place : Place) (made : bound.Node) (whole : Declared) (gs : List Given) (of : Declared) (es : Exprs) → element_type whole ≡ Some of → numbers_of (value_of env) gs ≡ Some es
+value_indexed : (env : Env) (place : Place) (made : bound.Node) (whole : Declared) (gs : List Given) (of : Declared) (es : Exprs) → element_type whole ≡ Some of → numbers_of (operand_of env) gs ≡ Some es
     → indexed env place (a_value made whole) gs ≡ a_value (element_value (expression_of made place whole) es) of
 value_indexed env place made whole gs of es h k =
     let T : Declared → Exprs → terms.Term = λ (u : Declared) (xs : Exprs). a_value (element_value (expression_of made place whole) xs) u in
-    ap (λ (o : Option Declared). with_type o (numbers_of (value_of env) gs) T) h ∙ ap (λ (o : Option Exprs). with_type (Some of) o T) k
+    ap (λ (o : Option Declared). with_type o (numbers_of (operand_of env) gs) T) h ∙ ap (λ (o : Option Exprs). with_type (Some of) o T) k
 
 there_are : (x : Indexed) (made : List bound.Expr) → 0 < x.count → x.count ≡ length made → 0 < length made
 there_are x made lt c = omega (arith, lt, c)
@@ -340,7 +340,7 @@ ends_variable x v is lt = record {
       let T : Target → Type 0 = λ (z : Target). TargetStands z x.of x.lends place (callee env e (term_of env e)) s.between below in
       let q = subst T is s.target_is in
       let es = exprs_of s.made in
-      let numbers = numbers_are (value_of env) gs s.made s.numbers (there_are x s.made lt s.count_is) in
+      let numbers = numbers_are (operand_of env) gs s.made s.numbers (there_are x s.made lt s.count_is) in
       let A : terms.Term → Type 0 = λ (z : terms.Term). PlaceStands t (kinds.Item v x.count) x.of false x.lends (indexed env place (item_of place z) gs) ps below in
       subst A (sym q.is) (record {
         at = item (variable_view v) es;
@@ -359,7 +359,7 @@ ends_place x is lt = record {
       let T : Target → Type 0 = λ (z : Target). TargetStands z x.of x.lends place (callee env e (term_of env e)) s.between below in
       let q = subst T is s.target_is in
       let es = exprs_of s.made in
-      let numbers = numbers_are (value_of env) gs s.made s.numbers (there_are x s.made lt s.count_is) in
+      let numbers = numbers_are (operand_of env) gs s.made s.numbers (there_are x s.made lt s.count_is) in
       let A : terms.Term → Type 0 = λ (z : terms.Term). PlaceStands t (kinds.Element x.count) x.of false x.lends (indexed env place (item_of place z) gs) ps below in
       subst A (sym q.is) (record {
         at = element q.at es;
@@ -379,7 +379,7 @@ ends_value x is lt = record {
       let T : Target → Type 0 = λ (z : Target). TargetStands z x.of x.lends place (callee env e (term_of env e)) s.between below in
       let q = subst T is s.target_is in
       let es = exprs_of s.made in
-      let numbers = numbers_are (value_of env) gs s.made s.numbers (there_are x s.made lt s.count_is) in
+      let numbers = numbers_are (operand_of env) gs s.made s.numbers (there_are x s.made lt s.count_is) in
       let A : terms.Term → Type 0 = λ (z : terms.Term). ValueStands t (record { kind = kinds.ElementValue x.count; of = x.of }) (indexed env place (item_of place z) gs) ps below in
       subst A (sym q.is) (record {
         made = element_value (expression_of q.made place q.whole) es;

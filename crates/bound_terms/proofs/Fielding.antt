@@ -22,19 +22,17 @@ use Rattle.bound_project.specs.declared.node.NodeKind.TheVariants as kinds
 use Rattle.bound_project.specs.Project.{Declaration, UserType, nowhere}
 use Rattle.bound_project.specs.Project as project
 use Rattle.bound_project.specs.View.{declared_view, declarations_view, user_type_view}
-use Rattle.bound_project.specs.Expressions.{expr, active_sheet, host_member, host_object, load, no_exprs, Lvalue, field, field_value, kept_place}
+use Rattle.bound_project.specs.Expressions.{active_sheet, host_member, host_object, load, no_exprs, Lvalue, field, field_value, kept_place}
 use Rattle.bound_project.specs.Expressions as bound
 use Rattle.bound_project.specs.Pieces.{Piece, a_place, expr_of, name_in, put, put_kind}
 use Rattle.bound_project.specs.Drafts.{Drafted}
 use Rattle.binder.specs.Bind.{declarations_of}
 use Rattle.binder.specs.Constants.{home, place_of_expression}
-use Rattle.binder.specs.Declarations.{Written}
 use Rattle.binder.specs.Scopes.{Space, Qualifier, qualifier_of, enum_behind}
 use Rattle.binder.specs.Storage.{types_from, types_of_space, user_types}
-use Rattle.binder.specs.Types.{is_object}
-use Rattle.binder.specs.Terms.{Env, Within, a_place as a_place_term, a_value, a_routine, a_function, a_host_member, err_object, err_raise, err_clear, error_word, no_term, expression_of, value_with}
+use Rattle.binder.specs.Terms.{Env, Within, a_place as a_place_term, a_value, a_routine, a_host_member, err_object, no_term, expression_of}
 use Rattle.binder.specs.Terms as terms
-use Rattle.binder.specs.ExpressionsBound.{bare_call, behind_term, err_member, field_named, field_of_place, field_of_value, has_bounds, kept_member, member_of, node_or, object_member, sheets_value, term_of, value_of, with_field}
+use Rattle.binder.specs.ExpressionsBound.{bare_call, behind_term, err_member, field_named, field_of_place, field_of_value, has_bounds, kept_member, member_of, node_or, object_member, sheets_value, term_of, with_field}
 use Rattle.declared_names.specs.Outside.{the_outside}
 use Rattle.declared_names.specs.View.{scope_view}
 use Rattle.declared_names.specs.declared.scope.Scope.{Scope as ScopeHere}
@@ -54,7 +52,7 @@ use Rattle.bound_terms.specs.Items.{FindsBehindPlace, FindsBehindValue}
 use Rattle.bound_terms.specs.Owned.{IsQualifier, IsSheets, MakesMember}
 use Rattle.bound_calls.specs.Standing.{TermStands, TreeStands, Stands, Base, member_is}
 use Rattle.bound_calls.specs.Steps.{Goes, MakesLeaf}
-use Rattle.bound_calls.specs.Taking.{CallsBare, PushesSheet, ReadsMember}
+use Rattle.bound_calls.specs.Taking.{CallsRoutine, PushesSheet, ReadsMember}
 use Rattle.bound_calls.proofs.Growing.{grown_same, grown_twice, grown_pieces, all_named, stands_grows}
 use Rattle.bound_calls.proofs.Taking.{sheet_stands}
 use Rattle.bound_terms.proofs.Dotted.{made_tree, member_place, no_qualifier}
@@ -309,44 +307,19 @@ behind_workbook env place v f d y book none s =
       there = λ t z ps below k h. (let e : a_value k.made (declared_view v.of) ≡ no_term = sym k.is ∙ h in absurd cc);
     })
 
--- a procedure whose value is known
-typed_is : (b : Bool) (node made : bound.Node) (place : Place) (u of : Declared) → (if b then None else Some (expression_of node place u)) ≡ Some (expr made place of of) → a_value node u ≡ a_value made of
-typed_is true node made place u of h = let e : None ≡ Some (expr made place of of) = h in absurd cc
-typed_is false node made place u of h =
-    let e : Some (expr node place u u) ≡ Some (expr made place of of) = h in
-    let one : node ≡ made = cc in
-    let other : u ≡ of = cc in ap (λ (n : bound.Node). a_value n u) one ∙ ap (λ (t : Declared). a_value made t) other
-
-value_is : (t : terms.Term) (space : Space) (number : ℕ) (w : Written) (made : bound.Node) (of : Declared) (place : Place) → value_with (λ a b c. t) (a_routine space number w) place ≡ Some (expr made place of of) → t ≡ a_value made of
-value_is (a_value node u) space number w made of place h = typed_is (is_object u) node made place u of h
-value_is (a_place_term x u bounded lends) space number w made of place h = let e : None ≡ Some (expr made place of of) = h in absurd cc
-value_is (a_routine s n p) space number w made of place h = let e : None ≡ Some (expr made place of of) = h in absurd cc
-value_is (a_function f text_form base) space number w made of place h = let e : None ≡ Some (expr made place of of) = h in absurd cc
-value_is (a_host_member x m) space number w made of place h = let e : None ≡ Some (expr made place of of) = h in absurd cc
-value_is err_object space number w made of place h = let e : None ≡ Some (expr made place of of) = h in absurd cc
-value_is err_raise space number w made of place h = let e : None ≡ Some (expr made place of of) = h in absurd cc
-value_is err_clear space number w made of place h = let e : None ≡ Some (expr made place of of) = h in absurd cc
-value_is error_word space number w made of place h = let e : None ≡ Some (expr made place of of) = h in absurd cc
-value_is no_term space number w made of place h = let e : None ≡ Some (expr made place of of) = h in absurd cc
-
-pub bare_is : (env : Env) (space : Space) (number : ℕ) (w : Written) (made : bound.Node) (of : Declared) (place : Place) → value_of env (a_routine space number w) place ≡ Some (expr made place of of)
-    → bare_call env space number w ≡ a_value made of
-bare_is env space number w made of place h = value_is (bare_call env space number w) space number w made of place h
-
-pub behind_routine : (env : Env) (place : Place) (r : Routine) (ending : Ending) (f : Identifier) (d e g : Drafted) (y : Term) → CallsBare r d e (Some ending) → MakesBehind env place (term.Value ending) f e g y
+-- a procedure that is called
+pub behind_routine : (env : Env) (place : Place) (r : Routine) (ending : Ending) (f : Identifier) (d e g : Drafted) (y : Term) → CallsRoutine r d e ending → MakesBehind env place (term.Value ending) f e g y
     → MakesBehind env place (term.Routine r) f d g y
 behind_routine env place r ending f d e g y b m = record {
   grown = grown_twice d e g b.grown m.grown;
   named = m.named;
   stands = λ z below k.
       let c = b.stands env z below k in
-      let bare : bare_call env k.space k.number k.written ≡ a_value c.made (declared_view ending.of) =
-      bare_is env k.space k.number k.written c.made (declared_view ending.of) place (ap (λ (w : terms.Term). value_of env w place) (sym k.is) ∙ c.is place) in
       let V : bound.Node → Declared → terms.Term = λ (n : bound.Node) (u : Declared). field_of_value env place n u f in
-      let same : member_of env place (bare_call env k.space k.number k.written) f ≡ member_of env place z f =
-      ap (λ (w : terms.Term). member_of env place w f) bare ∙ sym (ap (λ (w : terms.Term). member_of env place w f) k.is ∙ ap (λ (w : terms.Term). node_or w V) bare) in
+      let same : member_of env place (bare_call env c.space c.number c.written) f ≡ member_of env place z f =
+      ap (λ (w : terms.Term). member_of env place w f) c.called.is ∙ sym (ap (λ (w : terms.Term). member_of env place w f) c.is ∙ ap (λ (w : terms.Term). node_or w V) c.called.is) in
       let A : terms.Term → Type 0 = λ (w : terms.Term). TermStands env g.tables y w g.pieces below in
-      subst A same (m.stands (bare_call env k.space k.number k.written) below (record { made = c.made; is = bare; ends = c.ends }));
+      subst A same (m.stands (bare_call env c.space c.number c.written) below c.called);
   there = λ t z ps below k h. (let e : a_routine k.space k.number k.written ≡ no_term = sym k.is ∙ h in absurd cc);
 }
 

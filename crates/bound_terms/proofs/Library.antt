@@ -1,5 +1,5 @@
 -- Functions of the library: what their names are, and calls of them.
-use Rattle.std.proofs.Common.{◌≡◌, ℕ, ◌+◌, ◌==◌, Bool, true, false, ◌&&◌, List, [], ◌∷◌, ◌++◌, map, length, Option, Some, None, option_map, if◌then◌else◌, refl, sym, ap, subst, ◌∙◌, arith, length-append}
+use Rattle.std.proofs.Common.{◌≡◌, ℕ, suc, ◌+◌, ◌==◌, Bool, true, false, ◌&&◌, not, is_some, List, [], ◌∷◌, ◌++◌, map, length, Option, Some, None, option_map, if◌then◌else◌, refl, sym, ap, subst, ◌∙◌, arith, length-append}
 use Rattle.std.specs.Prelude.{ℤ, pos, option_and_then, bytes_eq, codes}
 use Rattle.std.proofs.lemmas.List.{map-append}
 use Rattle.vba_base.specs.declared.place.Place.{Place}
@@ -22,7 +22,7 @@ use Rattle.bound_project.specs.declared.declared_type.DeclaredType.{DeclaredType
 use Rattle.bound_project.specs.declared.node.NodeKind.{NodeKind}
 use Rattle.bound_project.specs.declared.node.NodeKind.TheVariants as kinds
 use Rattle.bound_project.specs.View.{declared_view, base_view}
-use Rattle.bound_project.specs.Expressions.{Exprs, library, operand_type}
+use Rattle.bound_project.specs.Expressions.{Exprs, also, library, operand_type}
 use Rattle.bound_project.specs.Expressions as bound
 use Rattle.bound_project.specs.Lists.{above, exprs_of}
 use Rattle.bound_project.proofs.Lists.{above_push}
@@ -31,9 +31,10 @@ use Rattle.bound_project.specs.Drafts.{Drafted}
 use Rattle.binder.specs.Scopes.{has_dollar, of_library}
 use Rattle.binder.specs.Sources.{Source, base_of, has_choice, is_base_one}
 use Rattle.binder.specs.Constants.{compare_in, place_of_expression}
-use Rattle.binder.specs.Terms.{Env, Given, a_function, a_value, error_word, no_term, listed_values}
+use Rattle.binder.specs.Options.{from_two}
+use Rattle.binder.specs.Terms.{Env, Given, a_function, a_value, error_word, no_term}
 use Rattle.binder.specs.Terms as terms
-use Rattle.binder.specs.ExpressionsBound.{array_base, constant_term, from_zero, function_called, function_value, givens, if_there, indexed, is_user_type, item_of, library_term, plain_value, takes_count, term_of, value_of}
+use Rattle.binder.specs.ExpressionsBound.{all_given, array_base, constant_term, from_zero, function_called, function_values, givens, if_there, indexed, is_user_type, item_of, library_term, plain_value, taken_as, takes_count, taking, term_of}
 use Rattle.module_parts.proofs.Firsts.{expression_front}
 use Rattle.bound_calls.specs.declared.term.Function.{Function}
 use Rattle.bound_calls.specs.declared.term.FunctionCall.{FunctionCall}
@@ -42,12 +43,13 @@ use Rattle.bound_calls.specs.declared.term.Term.TheVariants as term
 use Rattle.bound_calls.specs.declared.term.Tree.{Tree}
 use Rattle.bound_calls.specs.declared.term.Item.{Item}
 use Rattle.bound_calls.specs.declared.term.Item.TheVariants as items
-use Rattle.bound_terms.specs.Functions.{EndsFunction}
+use Rattle.bound_terms.specs.declared.functions.Taking.{Taking}
+use Rattle.bound_terms.specs.Functions.{EndsFunction, PushesTaken, taking_view}
 use Rattle.bound_calls.specs.Indexing.{AddsArgument, Closes, OpensTerm}
-use Rattle.bound_calls.specs.Standing.{AllNumbers, TermStands, Stands, AllNamed, Base, base_number}
-use Rattle.bound_calls.specs.Steps.{MakesLeaf, PushesValue}
+use Rattle.bound_calls.specs.Standing.{AllValues, NumberIs, TermStands, Stands, AllNamed, Base, base_number, function_value}
+use Rattle.bound_calls.specs.Steps.{MakesLeaf}
 use Rattle.bound_calls.proofs.Growing.{grown_same, stands_grows}
-use Rattle.bound_members.proofs.Listing.{all_listed, given_all, given_long, numbers_more, taken_off}
+use Rattle.bound_members.proofs.Listing.{taken_off}
 
 -- ---- names
 
@@ -126,27 +128,37 @@ opens_function env x f d = record {
 plain_is : (e : bound.Expr) (of : DeclaredType) → operand_type e ≡ declared_view of → is_user_type (declared_view of) ≡ false → plain_value e ≡ Some e
 plain_is e of same other = ap (λ (b : Bool). if b then None else Some e) (ap (λ (u : Declared). is_user_type u) same ∙ other)
 
-valued : (env : Env) (x : FunctionCall) (y : Tree) (of : DeclaredType) (count : ℕ) (comma : Option Token) (xs : List Item) (d e : Drafted) → count ≡ x.count + 1 → is_user_type (declared_view of) ≡ false → PushesValue y d e (Some of)
-    → AllNamed d.tables xs → (is : List nodes.Item) (base : Base) → Stands env d.tables (items.Tree y ∷ items.Function x ∷ xs) is d.pieces base
+-- values with one more
+values_more : (env : Env) (f : LibraryFunction) (i : ℕ) (gs : List Given) (es : List bound.Expr) (g : Given) (e : bound.Expr) (n : ℕ) → n ≡ i + length es → AllValues env f i gs es → NumberIs (function_value env f n) g e
+    → AllValues env f i (gs ++ g ∷ []) (es ++ e ∷ [])
+values_more env f i [] [] g e n c h k = let same : n ≡ i = omega (arith, c) in (subst (λ m. NumberIs (function_value env f m) g e) same k, tt)
+values_more env f i [] (d ∷ es) g e n c h k = absurd h
+values_more env f i (o ∷ gs) [] g e n c h k = absurd h
+values_more env f i (o ∷ gs) (d ∷ es) g e n c h k = (h.0, values_more env f (suc i) gs es g e n (omega (arith, c)) h.1 k)
+
+valued : (env : Env) (x : FunctionCall) (y : Tree) (how : Taking) (of : DeclaredType) (count : ℕ) (comma : Option Token) (xs : List Item) (d e : Drafted) → count ≡ x.count + 1 → taking_view how ≡ taking x.function.function x.count
+    → is_user_type (declared_view of) ≡ false → PushesTaken how y d e of → AllNamed d.tables xs → (is : List nodes.Item) (base : Base) → Stands env d.tables (items.Tree y ∷ items.Function x ∷ xs) is d.pieces base
     → Stands env e.tables (items.Function (record x { count = count }) ∷ xs) (behind_node (node.PlainArgument comma) is) e.pieces base
-valued env x y of count comma xs d e c u p k [] base h = absurd h
-valued env x y of count comma xs d e c u p k (nodes.arguments args ∷ is) base h = absurd h
-valued env x y of count comma xs d e c u p k (nodes.tree v ∷ []) base h = absurd h.1.1
-valued env x y of count comma xs d e c u p k (nodes.tree v ∷ nodes.tree w ∷ is) base h = absurd h.1.1
-valued env x y of count comma xs d e c u p k (nodes.tree v ∷ nodes.arguments args ∷ []) base h = absurd h.1.1
-valued env x y of count comma xs d e c u p k (nodes.tree v ∷ nodes.arguments args ∷ nodes.arguments more ∷ is) base h = absurd h.1.1
-valued env x y of count comma xs d e c u p k (nodes.tree v ∷ nodes.arguments args ∷ nodes.tree b ∷ is) base h =
+valued env x y how of count comma xs d e c w u p k [] base h = absurd h
+valued env x y how of count comma xs d e c w u p k (nodes.arguments args ∷ is) base h = absurd h
+valued env x y how of count comma xs d e c w u p k (nodes.tree v ∷ []) base h = absurd h.1.1
+valued env x y how of count comma xs d e c w u p k (nodes.tree v ∷ nodes.tree z ∷ is) base h = absurd h.1.1
+valued env x y how of count comma xs d e c w u p k (nodes.tree v ∷ nodes.arguments args ∷ []) base h = absurd h.1.1
+valued env x y how of count comma xs d e c w u p k (nodes.tree v ∷ nodes.arguments args ∷ nodes.arguments more ∷ is) base h = absurd h.1.1
+valued env x y how of count comma xs d e c w u p k (nodes.tree v ∷ nodes.arguments args ∷ nodes.tree b ∷ is) base h =
     let low = h.1.1 in
     let s = low.1.0 in
-    let m = p.stands env v h.0 h.1.0 in (
+    let m = p.stands env v h.0 h.1.0 in
+    let g : Given = record { name = None; term = Some (term_of env v); place = place_of_expression v } in
+    let found : function_value env x.function.function x.count (term_of env v) (place_of_expression v) ≡ Some m.made =
+    ap (λ t. option_and_then plain_value (taken_as env t (term_of env v) (place_of_expression v))) (sym w) ∙ ap (λ (o : Option bound.Expr). option_and_then plain_value o) m.is ∙ plain_is m.made of m.operand u in (
       low.0,
       (
         record {
           function_is = s.function_is;
           place_is = s.place_is;
           made = s.made ++ m.made ∷ [];
-          values = numbers_more (function_value (value_of env)) (givens env args) s.made (record { name = None; term = Some (term_of env v); place = place_of_expression v }) m.made s.values
-              (record { no_name = refl; term = term_of env v; given = refl; is = ap (λ (o : Option bound.Expr). option_and_then plain_value o) m.is ∙ plain_is m.made of m.operand u });
+          values = values_more env x.function.function 0 (givens env args) s.made g m.made x.count (omega (arith, s.count_is)) s.values (record { no_name = refl; term = term_of env v; given = refl; is = found });
           count_is = omega (arith, c, s.count_is, length-append s.made (m.made ∷ []));
           on_top = m.on_top ∙ ap (λ (ps : List Piece). an_expr m.made ∷ ps) s.on_top ∙ sym (above_push (map an_expr s.made) (an_expr m.made) low.0)
               ∙ ap (λ (ps : List Piece). above ps low.0) (sym (map-append an_expr s.made (m.made ∷ [])));
@@ -155,9 +167,9 @@ valued env x y of count comma xs d e c u p k (nodes.tree v ∷ nodes.arguments a
       ),
     )
 
-pub adds_value : (x : FunctionCall) (y : Tree) (of : DeclaredType) (count : ℕ) (d e : Drafted) → count ≡ x.count + 1 → is_user_type (declared_view of) ≡ false → PushesValue y d e (Some of)
-    → AddsArgument (items.Function x) y d e (items.Function (record x { count = count }))
-adds_value x y of count d e c u p = record { grown = p.grown; named = tt; stands = λ env comma xs is base k h. valued env x y of count comma xs d e c u p k is base h }
+pub adds_value : (x : FunctionCall) (y : Tree) (how : Taking) (of : DeclaredType) (count : ℕ) (d e : Drafted) → count ≡ x.count + 1 → taking_view how ≡ taking x.function.function x.count → is_user_type (declared_view of) ≡ false
+    → PushesTaken how y d e of → AddsArgument (items.Function x) y d e (items.Function (record x { count = count }))
+adds_value x y how of count d e c w u p = record { grown = p.grown; named = tt; stands = λ env comma xs is base k h. valued env x y how of count comma xs d e c w u p k is base h }
 
 -- ---- what a function makes of its arguments
 
@@ -165,17 +177,41 @@ base_is : (one : Bool) → pos (base_number one) ≡ base_view one
 base_is true = refl
 base_is false = refl
 
+one_valued : (env : Env) (f : LibraryFunction) (i : ℕ) (g : Given) (e : bound.Expr) (gs : List Given) → NumberIs (function_value env f i) g e
+    → function_values env f i (g ∷ gs) ≡ from_two also (Some e) (function_values env f (suc i) gs)
+one_valued env f i g e gs h =
+    let rest = function_values env f (suc i) gs in
+    ap (λ (o : Option terms.Term). from_two also (option_and_then (λ t. function_value env f i t g.place) o) rest) h.given ∙ ap (λ (o : Option bound.Expr). from_two also o rest) h.is
+
+all_valued : (env : Env) (f : LibraryFunction) (i : ℕ) (gs : List Given) (es : List bound.Expr) → AllValues env f i gs es → function_values env f i gs ≡ Some (exprs_of es)
+all_valued env f i [] [] h = refl
+all_valued env f i [] (e ∷ es) h = absurd h
+all_valued env f i (g ∷ gs) [] h = absurd h
+all_valued env f i (g ∷ gs) (e ∷ es) h = one_valued env f i g e gs h.0 ∙ ap (λ (o : Option Exprs). from_two also (Some e) o) (all_valued env f (suc i) gs es h.1)
+
+values_given : (env : Env) (f : LibraryFunction) (i : ℕ) (gs : List Given) (es : List bound.Expr) → AllValues env f i gs es → all_given gs ≡ true
+values_given env f i [] es h = refl
+values_given env f i (g ∷ gs) [] h = absurd h
+values_given env f i (g ∷ gs) (e ∷ es) h =
+    ap (λ (o : Option terms.Term). (is_some o && not (is_some g.name)) && all_given gs) h.0.given ∙ ap (λ (o : Option (List ℕ)). not (is_some o) && all_given gs) h.0.no_name ∙ values_given env f (suc i) gs es h.1
+
+values_long : (env : Env) (f : LibraryFunction) (i : ℕ) (gs : List Given) (es : List bound.Expr) → AllValues env f i gs es → length gs ≡ length es
+values_long env f i [] [] h = refl
+values_long env f i [] (e ∷ es) h = absurd h
+values_long env f i (g ∷ gs) [] h = absurd h
+values_long env f i (g ∷ gs) (e ∷ es) h = omega (arith, values_long env f (suc i) gs es h.1)
+
 called_is : (env : Env) (f : LibraryFunction) (text_form one : Bool) (compare : Compare) (count : ℕ) (of : DeclaredType) (gs : List Given) (es : List bound.Expr) → compare ≡ compare_in env.scope → count ≡ length es → takes_count f count ≡ true
-    → declared_view of ≡ declared_of f text_form → AllNumbers (function_value (value_of env)) gs es
+    → declared_view of ≡ declared_of f text_form → AllValues env f 0 gs es
     → function_called env f text_form (base_number one) gs ≡ a_value (library f text_form (exprs_of es) compare (base_view one)) (declared_view of)
 called_is env f text_form one compare count of gs es c counted takes typed values =
-    let long : length gs ≡ count = omega (arith, counted, given_long (function_value (value_of env)) gs es values) in
+    let long : length gs ≡ count = omega (arith, counted, values_long env f 0 gs es values) in
     let found : Option Exprs → terms.Term = λ (o : Option Exprs).
     if_there (option_map (λ (xs : Exprs). a_value (library f text_form xs (compare_in env.scope) (pos (base_number one))) (declared_of f text_form)) o) in
-    let listed = listed_values (function_value (value_of env)) gs in
-    ap (λ (b : Bool). if b && takes_count f (length gs) then found listed else no_term) (given_all (function_value (value_of env)) gs es values)
+    let listed = function_values env f 0 gs in
+    ap (λ (b : Bool). if b && takes_count f (length gs) then found listed else no_term) (values_given env f 0 gs es values)
     ∙ ap (λ (n : ℕ). if takes_count f n then found listed else no_term) long ∙ ap (λ (b : Bool). if b then found listed else no_term) takes
-    ∙ ap found (all_listed (function_value (value_of env)) gs es values)
+    ∙ ap found (all_valued env f 0 gs es values)
     ∙ ap (λ (k : Compare). a_value (library f text_form (exprs_of es) k (pos (base_number one))) (declared_of f text_form)) (sym c)
     ∙ ap (λ (z : ℤ). a_value (library f text_form (exprs_of es) compare z) (declared_of f text_form)) (base_is one)
     ∙ ap (λ (u : Declared). a_value (library f text_form (exprs_of es) compare (base_view one)) u) (sym typed)

@@ -12,6 +12,8 @@ use Rattle.vba_expression.specs.Tree as tree
 use Rattle.vba_expression.specs.Nodes as nodes
 use Rattle.vba_expression.specs.Nodes.{behind_node}
 use Rattle.vba_tree.specs.Tree.{Parameter as Written_parameter}
+use Rattle.vba_values.specs.Types.{Declared}
+use Rattle.vba_values.specs.Types as type
 use Rattle.bound_project.specs.declared.declared_type.DeclaredType.{DeclaredType}
 use Rattle.bound_project.specs.declared.declarations.Parameter.{Parameter}
 use Rattle.bound_project.specs.declared.node.NodeKind.{NodeKind}
@@ -31,7 +33,7 @@ use Rattle.binder.specs.Scopes.{Scope}
 use Rattle.binder.specs.Storage.{bound_parameters}
 use Rattle.binder.specs.Terms.{Env, Given, Item as Taken_item, a_value, are_apart, bound_arguments, built, by_position, has_names, left_over, listed_values, taken_by}
 use Rattle.binder.specs.Terms as terms
-use Rattle.binder.specs.ExpressionsBound.{callee, givens, indexed, term_of, value_of}
+use Rattle.binder.specs.ExpressionsBound.{argument_of, callee, given_as, givens, indexed, term_of}
 use Rattle.module_parts.proofs.Firsts.{expression_front}
 use Rattle.bound_calls.specs.declared.term.Call.{Call}
 use Rattle.bound_calls.specs.declared.term.Ending.{Ending}
@@ -44,7 +46,8 @@ use Rattle.bound_calls.specs.declared.term.Tree.{Tree}
 use Rattle.bound_calls.specs.Calls.{PassesRest, passed_in, plain_given}
 use Rattle.bound_calls.specs.Passing.{AllLeft, AllTaken}
 use Rattle.bound_calls.specs.Standing.{AllNamed, AllNumbers, Base, GatheredAbove, GatheredStands, PushedIs, RoutineStands, Stands, ValueStands, gathered_below, is_gathering}
-use Rattle.bound_calls.specs.Steps.{Goes, PushesValue}
+use Rattle.bound_calls.specs.References.{PushesGiven}
+use Rattle.bound_calls.specs.Steps.{Goes}
 use Rattle.bound_calls.proofs.CallSteps.{parameters_long, routine_item}
 use Rattle.bound_calls.proofs.Arguing.{left_long}
 use Rattle.bound_calls.proofs.Growing.{all_named, grown_pieces, grown_twice, stands_grows}
@@ -81,14 +84,14 @@ below_gathered (suc n) i xs p f = below_gathered n i xs p f
 
 -- ---- one more value
 
-one_above : (env : Env) (p : Passed) (e : Expr) (of : DeclaredType) (ps below : List Piece) → is_gathering (map parameter_view p.left.now) ≡ true → PushedIs of (value_of env (term_of env e) (place_of_expression e)) ps below → GatheredStands env p e ps below
+one_above : (env : Env) (p : Passed) (e : Expr) (of : DeclaredType) (ps below : List Piece) → is_gathering (map parameter_view p.left.now) ≡ true → PushedIs of (given_as env (term_of env e) (place_of_expression e)) ps below → GatheredStands env p e ps below
 one_above env p e of ps below many h = record { many = many; made = h.made; is = h.is; on_top = h.on_top }
 
-another_above : (env : Env) (o : Option Passed) (e f : Expr) (of : DeclaredType) (ps between below : List Piece) → GatheredAbove env o e between below → PushedIs of (value_of env (term_of env f) (place_of_expression f)) ps between → GatheredAbove env o f ps between
+another_above : (env : Env) (o : Option Passed) (e f : Expr) (of : DeclaredType) (ps between below : List Piece) → GatheredAbove env o e between below → PushedIs of (given_as env (term_of env f) (place_of_expression f)) ps between → GatheredAbove env o f ps between
 another_above env None e f of ps between below h k = absurd h
 another_above env (Some p) e f of ps between below h k = one_above env p f of ps between h.many k
 
-gather_stands : (env : Env) (x : Tree) (i : Item) (xs : List Item) (comma : Option Token) (of : DeclaredType) (d e : Drafted) → gathers i ≡ true → AllNamed d.tables (i ∷ xs) → PushesValue x d e (Some of) → (is : List nodes.Item) (base : Base)
+gather_stands : (env : Env) (x : Tree) (i : Item) (xs : List Item) (comma : Option Token) (of : DeclaredType) (d e : Drafted) → gathers i ≡ true → AllNamed d.tables (i ∷ xs) → PushesGiven x d e of → (is : List nodes.Item) (base : Base)
     → Stands env d.tables (item.Tree x ∷ i ∷ xs) is d.pieces base → Stands env e.tables (item.Gathered ∷ i ∷ xs) (behind_node (node.PlainArgument comma) is) e.pieces base
 gather_stands env x i xs comma of d e g k m [] base h = absurd h
 gather_stands env x i xs comma of d e g k m (nodes.arguments args ∷ is) base h = absurd h
@@ -120,7 +123,7 @@ gather_stands env x item.Gathered xs comma of d e g k m (nodes.tree a ∷ nodes.
 )
 
 pub goes_gathered : (env : Env) (x : Tree) (i : Item) (xs new : List Item) (comma : Option Token) (of : DeclaredType) (d e : Drafted) → new ≡ item.Gathered ∷ i ∷ xs → gathers i ≡ true → AllNamed d.tables (item.Tree x ∷ i ∷ xs)
-    → PushesValue x d e (Some of) → Goes env d (item.Tree x ∷ i ∷ xs) e new (behind_node (node.PlainArgument comma))
+    → PushesGiven x d e of → Goes env d (item.Tree x ∷ i ∷ xs) e new (behind_node (node.PlainArgument comma))
 goes_gathered env x i xs new comma of d e n g k m =
     let B : List Item → Type 0 = λ l. Goes env d (item.Tree x ∷ i ∷ xs) e l (behind_node (node.PlainArgument comma)) in
     subst B (sym n) (record {
@@ -136,7 +139,7 @@ pub record Ungathered (env : Env) (t : Tables) (n : ℕ) (i : Item) (xs : List I
   pub given : List Given
   pub givens_are : givens env args ≡ givens env before ++ given
   pub made : List bound.Expr
-  pub values : AllNumbers (value_of env) given made
+  pub values : AllNumbers (given_as env) given made
   pub count_is : length made ≡ n
   pub between : List Piece
   pub on_top : ps ≡ above (map an_expr made) between
@@ -158,7 +161,7 @@ ungathered_on env t n i xs p before comma e is ps below base s r =
       given = r.given ++ g ∷ [];
       givens_are = ap (λ l. l ++ g ∷ []) r.givens_are ∙ append_assoc (givens env r.before) r.given (g ∷ []);
       made = r.made ++ s.made ∷ [];
-      values = numbers_more (value_of env) r.given r.made g s.made r.values (record { no_name = refl; term = term_of env e; given = refl; is = s.is });
+      values = numbers_more (given_as env) r.given r.made g s.made r.values (record { no_name = refl; term = term_of env e; given = refl; is = s.is });
       count_is = push_long r.made s.made ∙ ap suc r.count_is;
       between = r.between;
       on_top = s.on_top ∙ ap (λ st. an_expr s.made ∷ st) r.on_top ∙ sym (above_value r.made s.made r.between);
@@ -191,7 +194,7 @@ gathering env t n i xs p (plain before comma e) is ps base f h =
 abbrev list_item : ℕ → Exprs → Taken_item
 list_item n es = record { parameter = n; add = λ rest. Some (bound.by_list es rest) }
 
-abbrev gathered_from : (terms.Term → Place → Option bound.Expr) → ℕ → List project.Parameter → List Given → Exprs → List Taken_item
+abbrev gathered_from : (Declared → terms.Term → Place → Option bound.Expr) → ℕ → List project.Parameter → List Given → Exprs → List Taken_item
 gathered_from value n [] gs es = []
 gathered_from value n (p ∷ ps) [] es = list_item n es ∷ []
 gathered_from value n (p ∷ ps) (g ∷ gs) es = record { parameter = n; add = taken_by value p g } ∷ gathered_from value (suc n) ps gs es
@@ -201,12 +204,12 @@ behind_list n [] gs = []
 behind_list n (p ∷ ps) [] = rest_from (suc n) ps
 behind_list n (p ∷ ps) (g ∷ gs) = behind_list (suc n) ps gs
 
-list_position : (value : terms.Term → Place → Option bound.Expr) (n : ℕ) (p : project.Parameter) (left : List project.Parameter) (g : Given) (ns : List Given) (es : Exprs) → p.many ≡ true → g.name ≡ None → listed_values value (g ∷ ns) ≡ Some es
+list_position : (value : Declared → terms.Term → Place → Option bound.Expr) (n : ℕ) (p : project.Parameter) (left : List project.Parameter) (g : Given) (ns : List Given) (es : Exprs) → p.many ≡ true → g.name ≡ None → listed_values (value type.variant) (g ∷ ns) ≡ Some es
     → by_position value n (p ∷ left) (g ∷ ns) ≡ Some (list_item n es ∷ [])
 list_position value n p left g ns es many name listed = rw (name, many, listed) refl
 
-positions : (value : terms.Term → Place → Option bound.Expr) (n : ℕ) (ps : List project.Parameter) (gs : List Given) (xs : List Argument) (p : project.Parameter) (left : List project.Parameter) (g : Given) (ns : List Given) (es : Exprs)
-    → AllTaken value ps gs xs (p ∷ left) → p.many ≡ true → g.name ≡ None → listed_values value (g ∷ ns) ≡ Some es → by_position value n ps (gs ++ g ∷ ns) ≡ Some (gathered_from value n ps gs es)
+positions : (value : Declared → terms.Term → Place → Option bound.Expr) (n : ℕ) (ps : List project.Parameter) (gs : List Given) (xs : List Argument) (p : project.Parameter) (left : List project.Parameter) (g : Given) (ns : List Given) (es : Exprs)
+    → AllTaken value ps gs xs (p ∷ left) → p.many ≡ true → g.name ≡ None → listed_values (value type.variant) (g ∷ ns) ≡ Some es → by_position value n ps (gs ++ g ∷ ns) ≡ Some (gathered_from value n ps gs es)
 positions value n ps [] [] p left g ns es t many name listed =
     let A : List project.Parameter → Type 0 = λ l. by_position value n l (g ∷ ns) ≡ Some (gathered_from value n l [] es) in subst A (sym t) (list_position value n p left g ns es many name listed)
 positions value n ps [] (x ∷ xs) p left g ns es t many name listed = absurd t
@@ -214,17 +217,17 @@ positions value n [] (f ∷ gs) xs p left g ns es t many name listed = absurd t
 positions value n (q ∷ ps) (f ∷ gs) [] p left g ns es t many name listed = absurd t
 positions value n (q ∷ ps) (f ∷ gs) (x ∷ xs) p left g ns es t many name listed = rw (t.0.no_name, t.0.no_list, positions value (suc n) ps gs xs p left g ns es t.1 many name listed) refl
 
-none_before : (value : terms.Term → Place → Option bound.Expr) (m n : ℕ) (ps : List project.Parameter) (gs : List Given) (es : Exprs) → m < n → is_for m (gathered_from value n ps gs es) ≡ false
+none_before : (value : Declared → terms.Term → Place → Option bound.Expr) (m n : ℕ) (ps : List project.Parameter) (gs : List Given) (es : Exprs) → m < n → is_for m (gathered_from value n ps gs es) ≡ false
 none_before value m n [] gs es lt = refl
 none_before value m n (p ∷ ps) [] es lt = ap (λ (b : Bool). b || false) (other_number m n lt)
 none_before value m n (p ∷ ps) (g ∷ gs) es lt = ap (λ (b : Bool). b || is_for m (gathered_from value (suc n) ps gs es)) (other_number m n lt) ∙ none_before value m (suc n) ps gs es (omega (arith, lt))
 
-apart : (value : terms.Term → Place → Option bound.Expr) (n : ℕ) (ps : List project.Parameter) (gs : List Given) (es : Exprs) → are_apart (gathered_from value n ps gs es) ≡ true
+apart : (value : Declared → terms.Term → Place → Option bound.Expr) (n : ℕ) (ps : List project.Parameter) (gs : List Given) (es : Exprs) → are_apart (gathered_from value n ps gs es) ≡ true
 apart value n [] gs es = refl
 apart value n (p ∷ ps) [] es = refl
 apart value n (p ∷ ps) (g ∷ gs) es = rw (none_before value n (suc n) ps gs es (omega arith)) (apart value (suc n) ps gs es)
 
-left_is : (value : terms.Term → Place → Option bound.Expr) (all : List Taken_item) (n : ℕ) (ps : List project.Parameter) (gs : List Given) (es : Exprs) → ((k : ℕ) → n ≤ k → is_for k all ≡ is_for k (gathered_from value n ps gs es))
+left_is : (value : Declared → terms.Term → Place → Option bound.Expr) (all : List Taken_item) (n : ℕ) (ps : List project.Parameter) (gs : List Given) (es : Exprs) → ((k : ℕ) → n ≤ k → is_for k all ≡ is_for k (gathered_from value n ps gs es))
     → left_over n ps all ≡ behind_list n ps gs
 left_is value all n [] gs es h = refl
 left_is value all n (p ∷ ps) [] es h =
@@ -240,7 +243,7 @@ left_is value all n (p ∷ ps) (g ∷ gs) es h =
 built_list : (n : ℕ) (p : project.Parameter) (left : List project.Parameter) (es : Exprs) (ds : List Argument) → AllLeft left ds → built (list_item n es ∷ rest_from (suc n) left) ≡ Some (args_of (values_listed es ∷ ds))
 built_list n p left es ds h = rw (built_rest (suc n) left ds h) refl
 
-built_all : (value : terms.Term → Place → Option bound.Expr) (n : ℕ) (ps : List project.Parameter) (gs : List Given) (xs : List Argument) (p : project.Parameter) (left : List project.Parameter) (es : Exprs) (ds : List Argument)
+built_all : (value : Declared → terms.Term → Place → Option bound.Expr) (n : ℕ) (ps : List project.Parameter) (gs : List Given) (xs : List Argument) (p : project.Parameter) (left : List project.Parameter) (es : Exprs) (ds : List Argument)
     → AllTaken value ps gs xs (p ∷ left) → AllLeft left ds → built (gathered_from value n ps gs es ++ behind_list n ps gs) ≡ Some (args_of (xs ++ values_listed es ∷ ds))
 built_all value n ps [] [] p left es ds t h =
     let A : List project.Parameter → Type 0 = λ l. built (gathered_from value n l [] es ++ behind_list n l []) ≡ Some (args_of (values_listed es ∷ ds)) in subst A (sym t) (built_list n p left es ds h)
@@ -249,24 +252,24 @@ built_all value n [] (g ∷ gs) xs p left es ds t h = absurd t
 built_all value n (q ∷ ps) (g ∷ gs) [] p left es ds t h = absurd t
 built_all value n (q ∷ ps) (g ∷ gs) (x ∷ xs) p left es ds t h = rw (built_all value (suc n) ps gs xs p left es ds t.1 h) (t.0.makes (args_of (xs ++ values_listed es ∷ ds)))
 
-nameless_more : (value : terms.Term → Place → Option bound.Expr) (ps : List project.Parameter) (gs : List Given) (xs : List Argument) (left : List project.Parameter) (ns : List Given) → AllTaken value ps gs xs left → has_names ns ≡ false
+nameless_more : (value : Declared → terms.Term → Place → Option bound.Expr) (ps : List project.Parameter) (gs : List Given) (xs : List Argument) (left : List project.Parameter) (ns : List Given) → AllTaken value ps gs xs left → has_names ns ≡ false
     → has_names (gs ++ ns) ≡ false
 nameless_more value ps [] xs left ns t h = h
 nameless_more value [] (g ∷ gs) xs left ns t h = absurd t
 nameless_more value (p ∷ ps) (g ∷ gs) [] left ns t h = absurd t
 nameless_more value (p ∷ ps) (g ∷ gs) (x ∷ xs) left ns t h = rw t.0.no_name (nameless_more value ps gs xs left ns t.1 h)
 
-first_nameless : (value : terms.Term → Place → Option bound.Expr) (g : Given) (ns : List Given) (es : List bound.Expr) → AllNumbers value (g ∷ ns) es → g.name ≡ None
+first_nameless : (value : Declared → terms.Term → Place → Option bound.Expr) (g : Given) (ns : List Given) (es : List bound.Expr) → AllNumbers (value type.variant) (g ∷ ns) es → g.name ≡ None
 first_nameless value g ns [] h = absurd h
 first_nameless value g ns (e ∷ es) h = h.0.no_name
 
-pub gathered_bound : (value : terms.Term → Place → Option bound.Expr) (ps : List project.Parameter) (gs : List Given) (xs : List Argument) (p : project.Parameter) (left : List project.Parameter) (g : Given) (ns : List Given) (es : List bound.Expr)
-    (ds : List Argument) → AllTaken value ps gs xs (p ∷ left) → p.many ≡ true → AllNumbers value (g ∷ ns) es → AllLeft left ds → bound_arguments value ps (gs ++ g ∷ ns) ≡ Some (args_of (xs ++ values_listed (exprs_of es) ∷ ds))
+pub gathered_bound : (value : Declared → terms.Term → Place → Option bound.Expr) (ps : List project.Parameter) (gs : List Given) (xs : List Argument) (p : project.Parameter) (left : List project.Parameter) (g : Given) (ns : List Given) (es : List bound.Expr)
+    (ds : List Argument) → AllTaken value ps gs xs (p ∷ left) → p.many ≡ true → AllNumbers (value type.variant) (g ∷ ns) es → AllLeft left ds → bound_arguments value ps (gs ++ g ∷ ns) ≡ Some (args_of (xs ++ values_listed (exprs_of es) ∷ ds))
 gathered_bound value ps gs xs p left g ns es ds t many v h =
     let is = gathered_from value 0 ps gs (exprs_of es) in
-    let listed = all_listed value (g ∷ ns) es v in
+    let listed = all_listed (value type.variant) (g ∷ ns) es v in
     bound_by value ps (gs ++ g ∷ ns) is (behind_list 0 ps gs) (args_of (xs ++ values_listed (exprs_of es) ∷ ds)) (positions value 0 ps gs xs p left g ns (exprs_of es) t many (first_nameless value g ns es v) listed)
-    (apart value 0 ps gs (exprs_of es)) (left_is value is 0 ps gs (exprs_of es) (λ k le. refl)) (built_all value 0 ps gs xs p left (exprs_of es) ds t h) (nameless_more value ps gs xs (p ∷ left) (g ∷ ns) t (no_names value (g ∷ ns) es v))
+    (apart value 0 ps gs (exprs_of es)) (left_is value is 0 ps gs (exprs_of es) (λ k le. refl)) (built_all value 0 ps gs xs p left (exprs_of es) ds t h) (nameless_more value ps gs xs (p ∷ left) (g ∷ ns) t (no_names (value type.variant) (g ∷ ns) es v))
 
 -- ---- the ends of calls
 
@@ -298,7 +301,7 @@ call_ends t procedure count all ps below counted a n =
     let A : Option (bound.Args × List Piece) → List Piece = λ o. of_found (λ args. expr_of n (call procedure args)) o in
     ap (λ st. A (arguments_off count st bound.no_args)) a ∙ ap (λ m. A (arguments_off m (above (map an_argument all) below) bound.no_args)) counted ∙ ap A (args_are all below)
 
-some_there : (value : terms.Term → Place → Option bound.Expr) (s : Scope) (takes : Bool) (qs : List Written_parameter) (gs : List Given) (xs : List Argument) (p : project.Parameter) (left : List project.Parameter)
+some_there : (value : Declared → terms.Term → Place → Option bound.Expr) (s : Scope) (takes : Bool) (qs : List Written_parameter) (gs : List Given) (xs : List Argument) (p : project.Parameter) (left : List project.Parameter)
     → AllTaken value (bound_parameters s takes qs) gs xs (p ∷ left) → (length qs == 0) ≡ false
 some_there value s takes [] [] [] p left t = let e : ◌≡◌ {A = List project.Parameter} [] (p ∷ left) = t in absurd cc
 some_there value s takes [] [] (x ∷ xs) p left t = absurd t
@@ -318,12 +321,12 @@ first_many first others ps e h = subst (λ l. is_gathering (map parameter_view l
 -- the value of a call, behind what was pushed
 pub called_gathered : (env : Env) (r : Routine) (x : Passed) (values : ℕ) (d e : Drafted) (ending : Ending) (y : terms.Term) (place : Place) (gs : List Given) (xs : List Argument) (given : List Given) (es : List bound.Expr) (qs between below : List Piece)
     → is_gathering (map parameter_view x.left.now) ≡ true → length es ≡ values → (values ≡ 0 → ⊥) → EndsGathered r x values d e ending → RoutineStands env r y qs qs
-    → AllTaken (value_of env) (map parameter_view r.parameters.now) gs xs (map parameter_view x.left.now) → x.count ≡ length xs → AllNumbers (value_of env) given es → d.pieces ≡ above (map an_expr es) between → between ≡ above (map an_argument xs) below
+    → AllTaken (argument_of env) (map parameter_view r.parameters.now) gs xs (map parameter_view x.left.now) → x.count ≡ length xs → AllNumbers (given_as env) given es → d.pieces ≡ above (map an_expr es) between → between ≡ above (map an_argument xs) below
     → ValueStands e.tables ending (indexed env place y (gs ++ given)) e.pieces below
 called_gathered env r x values d e ending y place gs xs [] [] qs between below many long some h s taken counted v a b = absurd (some (sym long))
 called_gathered env r x values d e ending y place gs xs [] (z ∷ es) qs between below many long some h s taken counted v a b = absurd v
 called_gathered env r x values d e ending y place gs xs (g ∷ ns) es qs between below many long some h s taken counted v a b =
-    let value = value_of env in
+    let value = argument_of env in
     let ps = map parameter_view r.parameters.now in
     let q = h.passes in
     let others = map parameter_view q.others in

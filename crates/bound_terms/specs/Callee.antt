@@ -1,5 +1,5 @@
 -- Serves the code: what is called.
-use Rattle.std.specs.Prelude.{◌≡◌, ℕ, true, false, List, map, Some, slice_get}
+use Rattle.std.specs.Prelude.{◌≡◌, ℕ, true, false, List, map, Some, None, slice_get}
 use Rattle.vba_expression.specs.Tree.{Expr}
 use Rattle.bound_project.specs.Drafts.{Drafted}
 use Rattle.bound_project.specs.Pieces.{Piece}
@@ -51,3 +51,8 @@ pub record IsWriter (s : Scope) (x : Writer) : Type 0 where
 pub record WriterOf (s : Scope) (x : Term) (w : Writer) : Type 0 where
   pub is : x ≡ term.Routine w.routine
   pub writer : IsWriter s w
+
+-- a term is no property that has a Let
+abbrev pub NoWriter : Scope → Term → Type 0
+NoWriter s (term.Routine r) = property_with false s (space_view r.space.now) (written_view r.written).name ≡ None
+NoWriter s x = Unit {0}

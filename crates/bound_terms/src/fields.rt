@@ -180,12 +180,13 @@ fn kept_field<'a>(
     }
 }
 
-/// A dot that begins an expression, and a name.
+/// A dot that begins an expression, and a name. A left operand before it is a reference where its operator is Is.
 pub fn step_with_member<'a>(
     alloc: Global,
     draft: &mut Draft,
     env: Env<'a>,
     stack: &mut Vec<Item<'a>>,
+    is_reference: bool,
     dot: Token,
     member: &Identifier,
 ) -> Result<(), OrMemory<NotYet>>
@@ -193,7 +194,7 @@ pub fn step_with_member<'a>(
     requires named { AllNamed (draft_view draft.old).tables (reverse stack.old.items) }
     ensures { OnOk result (Goes (env_view env.entry) (draft_view draft.old) (reverse stack.old.items) (draft_view draft.new) (reverse stack.new.items) (behind_node (node.WithMember dot member.now))) }
 {
-    settle(alloc, draft, stack)?;
+    settle(alloc, draft, stack, is_reference)?;
     let term = kept_field(alloc, draft, env, dot.place, member)?;
     put_item(
         stack,

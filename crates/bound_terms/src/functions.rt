@@ -9,16 +9,18 @@ ghost use Rattle.binder.specs.ExpressionsBound as bound;
 ghost use Rattle.binder.specs.Scopes.{has_dollar};
 ghost use Rattle.binder.specs.Terms as plain;
 ghost use Rattle.bound_calls.specs.declared.term.Item.TheVariants as item;
-ghost use Rattle.bound_terms.specs.Functions.{EndsFunction};
+ghost use Rattle.bound_terms.specs.Functions.{EndsFunction, PushesTaken, taking_view};
+ghost use Rattle.vba_lib.specs.declared.function.LibraryFunction.TheVariants as function;
 ghost use Rattle.bound_calls.specs.Indexing.{AddsArgument, OpensTerm};
 ghost use Rattle.bound_calls.specs.Standing.{TermNamed, base_number};
 ghost use Rattle.bound_calls.specs.Steps.{MakesLeaf};
 ghost use Rattle.bound_terms.specs.View.{EnvStands, env_view};
 
 use crate::env::Env;
-use crate::pass::push_value;
 use crate::types::element_type;
-use bound_calls::{Ending, Function, FunctionCall, Term, Tree, sum};
+use bound_calls::{
+    Ending, Function, FunctionCall, Term, Tree, push_given, push_if_any, push_operand, sum,
+};
 use bound_declarations::NotYet;
 use bound_project::{DeclaredType, Draft, ElementType, NodeKind};
 use declared_names::has_dollar;
@@ -85,6 +87,80 @@ fn is_user_type(of: DeclaredType) -> bool
     }
 }
 
+/// How a function takes an argument: an object as it is; its default value where it has one; or its default value.
+#[derive(Clone, Copy)]
+pub enum Taking {
+    AsItIs,
+    DefaultIfAny,
+    ByDefault,
+}
+
+/// Only the first argument as it is, by its number from 0.
+fn first_as_it_is(number: u32) -> Taking
+    ensures { taking_view result ≡ bound.first_as_it_is number }
+{
+    if number == 0 {
+        Taking::AsItIs
+    } else {
+        Taking::ByDefault
+    }
+}
+
+/// All arguments but the first as they are.
+fn others_as_they_are(number: u32) -> Taking
+    ensures { taking_view result ≡ bound.taking function.IIf number }
+{
+    if number == 0 {
+        Taking::ByDefault
+    } else {
+        Taking::AsItIs
+    }
+}
+
+/// How a function takes the argument with a number, from 0.
+fn taking_of(function: LibraryFunction, number: u32) -> Taking
+    ensures { taking_view result ≡ bound.taking function number }
+{
+    match function {
+        LibraryFunction::IsEmpty => Taking::DefaultIfAny,
+        LibraryFunction::IsNull => Taking::DefaultIfAny,
+        LibraryFunction::IsArray => Taking::DefaultIfAny,
+        LibraryFunction::VarType => Taking::DefaultIfAny,
+        LibraryFunction::IsObject => Taking::AsItIs,
+        LibraryFunction::IsMissing => Taking::AsItIs,
+        LibraryFunction::TypeName => Taking::AsItIs,
+        LibraryFunction::Array => Taking::AsItIs,
+        LibraryFunction::CVar => Taking::AsItIs,
+        LibraryFunction::Join => first_as_it_is(number),
+        LibraryFunction::UBound => first_as_it_is(number),
+        LibraryFunction::LBound => first_as_it_is(number),
+        LibraryFunction::IIf => others_as_they_are(number),
+        _ => Taking::ByDefault,
+    }
+}
+
+/// Pushes an argument as a function takes it; answers its type.
+fn push_taken<'a>(
+    alloc: Global,
+    draft: &mut Draft,
+    taking: Taking,
+    tree: Tree<'a>,
+) -> Result<DeclaredType, OrMemory<NotYet>>
+    requires { TermNamed (draft_view draft.old).tables tree.term }
+    ensures { IfOk result (λ of. PushesTaken taking tree.entry (draft_view draft.old) (draft_view draft.new) of) }
+{
+    match taking {
+        Taking::AsItIs => push_given(alloc, draft, tree),
+        Taking::DefaultIfAny => push_if_any(alloc, draft, tree),
+        Taking::ByDefault => {
+            let Some(of) = push_operand(alloc, draft, tree)? else {
+                return Err(OrMemory::Fault(NotYet));
+            };
+            Ok(of)
+        }
+    }
+}
+
 /// One more argument: the expression on top. A value of a Type is none.
 pub fn add_value<'a>(
     alloc: Global,
@@ -96,9 +172,8 @@ pub fn add_value<'a>(
     ensures { IfOk result (λ more. AddsArgument (item.Function call) tree.entry (draft_view draft.old) (draft_view draft.new) (item.Function more)) }
 {
     let count = sum(call.count, 1)?;
-    let Some(of) = push_value(alloc, draft, tree)? else {
-        return Err(OrMemory::Fault(NotYet));
-    };
+    let taking = taking_of(call.function.function, call.count);
+    let of = push_taken(alloc, draft, taking, tree)?;
     if is_user_type(of) {
         return Err(OrMemory::Fault(NotYet));
     }

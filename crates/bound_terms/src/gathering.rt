@@ -11,10 +11,9 @@ ghost use Rattle.bound_calls.specs.Standing.{AllNamed, is_gathering};
 ghost use Rattle.bound_calls.specs.Steps.{Goes};
 ghost use Rattle.bound_terms.specs.Gathering.{EndsGathered, PassesGathered, gathers, with_gathered, with_value};
 
-use crate::pass::push_value;
 use bound_calls::{
-    Ending, Item, Passed, Routine, Term, Tree, count_of, nowhere, pass_rest, push_node, put_item,
-    sum, take_item,
+    Ending, Item, Passed, Routine, Term, Tree, count_of, nowhere, pass_rest, push_given, push_node,
+    put_item, sum, take_item,
 };
 use bound_declarations::NotYet;
 use bound_project::{Draft, NodeKind, Parameter};
@@ -55,9 +54,7 @@ pub fn gather<'a>(
     requires named { AllNamed (draft_view draft.old).tables (Item.Tree tree ∷ item ∷ reverse stack.old.items) }
     ensures { OnOk result ((env : plain.Env) (comma : Option Token) → Goes env (draft_view draft.old) (Item.Tree tree.entry ∷ item.entry ∷ reverse stack.old.items) (draft_view draft.new) (reverse stack.new.items) (behind_node (node.PlainArgument comma))) }
 {
-    let Some(_of) = push_value(alloc, draft, tree)? else {
-        return Err(OrMemory::Fault(NotYet));
-    };
+    push_given(alloc, draft, tree)?;
     put_item(stack, item)?;
     put_item(stack, Item::Gathered)?;
     Ok(())

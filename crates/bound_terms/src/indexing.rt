@@ -15,10 +15,9 @@ use crate::callee::callee_term;
 use crate::env::Env;
 use crate::functions::{add_value, close_function, open_function};
 use crate::items::{item_member, takes_item};
-use crate::pass::push_value;
 use bound_calls::{
     Call, Ending, Indexed, Item, Passed, Routine, Target, Term, Tree, call_ending, pass_plain,
-    push_node, sum,
+    push_node, push_operand, sum,
 };
 use bound_declarations::NotYet;
 use bound_members::{add_given, close_member, open_member};
@@ -206,7 +205,7 @@ fn add_number<'a>(
     ensures { IfOk result (λ more. AddsArgument (Item.Indexed indexed) tree.entry (draft_view draft.old) (draft_view draft.new) (Item.Indexed more)) }
 {
     let count = sum(indexed.count, 1)?;
-    let Some(_found) = push_value(alloc, draft, tree)? else {
+    let Some(_found) = push_operand(alloc, draft, tree)? else {
         return Err(OrMemory::Fault(NotYet));
     };
     Ok(Indexed { count, ..indexed })

@@ -21,12 +21,13 @@ use crate::env::Env;
 use crate::fields::{place_field, user_type, value_field};
 use crate::functions::from_zero;
 use crate::items::{behind_object_place, behind_object_value};
-use crate::names::{folded, is_either, is_word, meant_term, sheets_value};
+use crate::names::{folded, is_either, meant_term, sheets_value};
 use bound_calls::{
-    Ending, HostMember, Item, Routine, Term, Tree, bare_call, member_ending, push_node, push_sheet,
-    put_item, take_item,
+    Ending, HostMember, Item, Routine, Term, Tree, member_ending, push_node, push_sheet, put_item,
+    routine_ending, take_item,
 };
 use bound_declarations::NotYet;
+use bound_members::is_word;
 use bound_project::{DeclaredType, Draft, ElementType, ErrMember, NodeKind};
 use declared_names::{Qualifier, Use, as_qualifier, behind, declares, enum_behind};
 use std::alloc::Global;
@@ -248,9 +249,7 @@ fn behind_routine<'a>(
     requires { EnvStands env }
     ensures { IfOk result (λ term. MakesBehind (env_view env.entry) place (Term.Routine routine.entry) member.now (draft_view draft.old) (draft_view draft.new) term) }
 {
-    let Some(ending) = bare_call(alloc, draft, routine)? else {
-        return Err(OrMemory::Fault(NotYet));
-    };
+    let ending = routine_ending(alloc, draft, routine)?;
     behind_value(alloc, draft, env, place, ending, member)
 }
 

@@ -32,7 +32,7 @@ use bound_calls::{Ending, Term, value_term};
 use bound_declarations::{
     NotYet, arrayed, is_bounded, own_storage, parameter_type, result_type, variable_type,
 };
-use bound_members::{HostKind, find_member};
+use bound_members::{HostKind, find_member, is_word};
 use bound_project::{
     Declaration, Declarations, DeclaredType, Draft, ElementType, NodeKind, Storage, Variable,
 };
@@ -44,19 +44,6 @@ use vba_lib::library_named;
 use vba_tree::{Parameter, TypeClause, Variable as WrittenVariable};
 use vba_values::{HostRef, copy_value};
 use vba_words::Identifier;
-
-/// Has a text these ASCII characters?
-pub fn is_word(text: &[u16], word: &[u8]) -> bool
-    ensures { result ≡ bytes_eq text.now word.now }
-{
-    match text {
-        [] => word.is_empty(),
-        [unit, text @ ..] => match word {
-            [] => false,
-            [character, word @ ..] => *unit == u16::from(*character) && is_word(text, word),
-        },
-    }
-}
 
 /// An object of the host that is always there, as a value.
 fn host_value<'a>(reference: HostRef) -> Term<'a>

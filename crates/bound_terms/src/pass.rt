@@ -20,7 +20,7 @@ use bound_declarations::NotYet;
 use bound_project::{DeclaredType, Draft};
 use std::alloc::Global;
 use vba_base::OrMemory;
-use vba_expression::{Expression, ExpressionNode};
+use vba_expression::{BinaryOperator, Expression, ExpressionNode};
 
 /// How many arguments there are behind the node with this number, with which they begin. No promise rests on it: where
 /// they end as many must have come.
@@ -50,7 +50,68 @@ fn arguments_behind(nodes: &[ExpressionNode], number: usize) -> u32 {
     count
 }
 
-/// Reads one node; where arguments begin, so many are to come.
+/// Is it the operator Is?
+fn is_same(node: &ExpressionNode) -> bool {
+    match node {
+        ExpressionNode::Binary { operator, .. } => match operator {
+            BinaryOperator::Is => true,
+            _ => false,
+        },
+        _ => false,
+    }
+}
+
+/// Is there an operator Is?
+fn has_same(nodes: &[ExpressionNode]) -> bool {
+    for node in nodes {
+        if is_same(node) {
+            return true;
+        }
+    }
+    false
+}
+
+/// How many expressions stand on top behind a node, where so many stood before it.
+fn depth_behind(node: &ExpressionNode, depth: usize) -> usize {
+    match node {
+        ExpressionNode::Literal(_) => depth.saturating_add(1),
+        ExpressionNode::Name(_) => depth.saturating_add(1),
+        ExpressionNode::Me(_) => depth.saturating_add(1),
+        ExpressionNode::WithMember { .. } => depth.saturating_add(1),
+        ExpressionNode::New { .. } => depth.saturating_add(1),
+        ExpressionNode::Binary { .. } => depth.saturating_sub(1),
+        ExpressionNode::PlainArgument { .. } => depth.saturating_sub(1),
+        ExpressionNode::NamedArgument { .. } => depth.saturating_sub(1),
+        _ => depth,
+    }
+}
+
+/// Is what stands before the expression that begins with these nodes the left operand of Is? No promise rests on it: where
+/// the operator comes it is tested.
+fn is_before_same(nodes: &[ExpressionNode]) -> bool {
+    let mut depth: usize = 0;
+    for node in nodes {
+        let behind = depth_behind(node, depth);
+        if depth == 1 && behind == 0 {
+            return is_same(node);
+        }
+        depth = behind;
+    }
+    false
+}
+
+/// The same of the nodes from a number on; asked only where there is an operator Is at all.
+fn refers_at(nodes: &[ExpressionNode], number: usize, has_same: bool) -> bool {
+    if !has_same {
+        return false;
+    }
+    let Some((_before, behind)) = nodes.split_at_checked(number) else {
+        return false;
+    };
+    is_before_same(behind)
+}
+
+/// Reads one node; where arguments begin, so many are to come, and a left operand before a leaf is a reference or none.
 fn step<'a>(
     alloc: Global,
     draft: &mut Draft,
@@ -58,16 +119,17 @@ fn step<'a>(
     stack: &mut Vec<Item<'a>>,
     node: &'a ExpressionNode,
     given: u32,
+    refers: bool,
 ) -> Result<(), OrMemory<NotYet>>
     requires env { EnvStands env }
     requires named { AllNamed (draft_view draft.old).tables (reverse stack.old.items) }
     ensures { OnOk result (Goes (env_view env.entry) (draft_view draft.old) (reverse stack.old.items) (draft_view draft.new) (reverse stack.new.items) (behind_node node.now)) }
 {
     match node {
-        ExpressionNode::Literal(literal) => step_literal(alloc, draft, stack, literal),
-        ExpressionNode::Name(name) => step_name(alloc, draft, env, stack, name),
+        ExpressionNode::Literal(literal) => step_literal(alloc, draft, stack, refers, literal),
+        ExpressionNode::Name(name) => step_name(alloc, draft, env, stack, refers, name),
         ExpressionNode::WithMember { dot, member } => {
-            step_with_member(alloc, draft, env, stack, *dot, member)
+            step_with_member(alloc, draft, env, stack, refers, *dot, member)
         }
         ExpressionNode::Member { member, .. } => step_member(alloc, draft, env, stack, member),
         ExpressionNode::Parenthesised { left, .. } => step_parenthesised(
@@ -110,10 +172,12 @@ pub fn run<'a>(
     requires named { AllNamed (draft_view draft.old).tables (reverse stack.old.items) }
     ensures { OnOk result (Goes (env_view env.entry) (draft_view draft.old) (reverse stack.old.items) (draft_view draft.new) (reverse stack.new.items) (λ is. behind_nodes is nodes.now)) }
 {
+    let has_same = has_same(nodes);
     let mut number: usize = 0;
     for node in nodes {
         let given = given_at(nodes, node, number);
-        step(alloc, draft, env, stack, node, given)?;
+        let refers = refers_at(nodes, number, has_same);
+        step(alloc, draft, env, stack, node, given, refers)?;
         number = number.saturating_add(1);
     }
     Ok(())
@@ -196,7 +260,7 @@ pub fn bind_reference<'a>(
     ensures { IfOk result (λ of. Binds (bound_reference (env_view env.entry) (expression_view expression.now)) (draft_view draft.old) (draft_view draft.new) (Some of)) }
 {
     let tree = tree_of(alloc, draft, env, expression)?;
-    push_reference(draft, tree)
+    push_reference(alloc, draft, tree)
 }
 
 /// Pushes the nodes of an expression as it is, a value or a reference; answers its type.

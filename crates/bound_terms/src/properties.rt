@@ -1,11 +1,11 @@
 //! Properties of a module: their Gets and their Lets, by their names.
 
-ghost use Rattle.std.specs.Prelude.{◌≡◌, ◌&&◌, IfSome, option_and_then, option_map};
+ghost use Rattle.std.specs.Prelude.{◌≡◌, ◌&&◌, IfSome, MatchOption, option_and_then, option_map};
 ghost use Rattle.binder.specs.ExpressionsBound.{procedure_of};
 ghost use Rattle.binder.specs.Scopes as scopes;
 ghost use Rattle.declared_names.specs.Lookup.{found_view};
 ghost use Rattle.declared_names.specs.View.{entry_view, scope_view, space_view, what_view, written_view};
-ghost use Rattle.bound_terms.specs.Callee.{WriterOf};
+ghost use Rattle.bound_terms.specs.Callee.{NoWriter, WriterOf};
 ghost use Rattle.bound_terms.specs.Properties.{IsEntry, first_wanted, is_wanted, property_with, wants};
 ghost use Rattle.bound_terms.specs.PropertyView.{row_view};
 
@@ -92,7 +92,7 @@ pub struct Writer<'a> {
 
 /// The Let of a property.
 pub fn writer_of<'a>(scope: Scope<'a>, term: Term<'a>) -> Option<Writer<'a>>
-    ensures { IfSome result (λ writer. WriterOf (scope_view scope.entry) term.entry writer) }
+    ensures { MatchOption result (NoWriter (scope_view scope.entry) term.entry) (λ writer. WriterOf (scope_view scope.entry) term.entry writer) }
 {
     let Term::Routine(routine) = term else {
         return None;

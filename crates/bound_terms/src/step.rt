@@ -1,22 +1,24 @@
 ghost use Rattle.std.specs.Prelude.{◌≡◌, OnOk, reverse};
 ghost use Rattle.vba_lexer.specs.declared.token.Token.{Token};
 ghost use Rattle.vba_expression.specs.declared.node.ExpressionNode.TheVariants as node;
+ghost use Rattle.vba_expression.specs.declared.operator.BinaryOperator.TheVariants as operators;
 ghost use Rattle.vba_expression.specs.Nodes.{behind_node};
 ghost use Rattle.bound_project.specs.DraftView.{draft_view};
 ghost use Rattle.binder.specs.Constants.{compare_in};
 ghost use Rattle.binder.specs.Terms as plain;
 ghost use Rattle.bound_calls.specs.Standing.{AllNamed};
-ghost use Rattle.bound_calls.specs.Steps.{Goes, as_term, is_same};
+ghost use Rattle.bound_calls.specs.Steps.{Goes, is_same};
 ghost use Rattle.bound_terms.specs.View.{EnvStands, env_view};
 
 use crate::env::Env;
 use crate::names::meant_term;
 use crate::operators::{binary_term, unary_term};
 use bound_calls::{
-    Ending, Item, Term, Tree, push_operand, put_item, settle, take_item, value_ending, value_term,
+    Ending, Item, Term, Tree, given_ending, push_operand, push_reference, put_item, settle,
+    take_item, value_term,
 };
 use bound_declarations::NotYet;
-use bound_project::Draft;
+use bound_project::{DeclaredType, Draft, ElementType, NodeKind};
 use constant_values::{literal_meant, value_type};
 use declared_names::{Use, declares};
 use std::alloc::Global;
@@ -26,17 +28,18 @@ use vba_lexer::Token;
 use vba_values::Compare;
 use vba_words::Identifier;
 
-/// A literal: a value.
+/// A literal: a value. A left operand before it is a reference where its operator is Is.
 pub fn step_literal<'a>(
     alloc: Global,
     draft: &mut Draft,
     stack: &mut Vec<Item<'a>>,
+    is_reference: bool,
     literal: &Literal,
 ) -> Result<(), OrMemory<NotYet>>
     requires { AllNamed (draft_view draft.old).tables (reverse stack.old.items) }
     ensures { OnOk result ((env : plain.Env) → Goes env (draft_view draft.old) (reverse stack.old.items) (draft_view draft.new) (reverse stack.new.items) (behind_node (node.Literal literal.now))) }
 {
-    settle(alloc, draft, stack)?;
+    settle(alloc, draft, stack, is_reference)?;
     let value = literal_meant(alloc, &literal.value)?;
     let of = value_type(&value);
     let term = value_term(draft, value, of)?;
@@ -52,17 +55,7 @@ pub fn step_literal<'a>(
     Ok(())
 }
 
-/// A value as a term.
-fn as_term<'a>(ending: Option<Ending>) -> Term<'a>
-    ensures { result ≡ as_term ending }
-{
-    match ending {
-        Some(ending) => Term::Value(ending),
-        None => Term::Nothing,
-    }
-}
-
-/// Parentheses: what stands in them is a value.
+/// Parentheses: what stands in them is a value, and an object as it is.
 pub fn step_parenthesised<'a>(
     alloc: Global,
     draft: &mut Draft,
@@ -75,14 +68,14 @@ pub fn step_parenthesised<'a>(
     let Some(Item::Tree(tree)) = take_item(stack) else {
         return Err(OrMemory::NoMemory);
     };
-    let ending = value_ending(alloc, draft, tree.term, tree.place)?;
+    let ending = given_ending(alloc, draft, tree)?;
     put_item(
         stack,
         Item::Tree(Tree {
             place: left.place,
             name: None,
             is_qualifier: false,
-            term: as_term(ending),
+            term: Term::Value(ending),
         }),
     )?;
     Ok(())
@@ -116,7 +109,7 @@ pub fn step_unary<'a>(
     Ok(())
 }
 
-/// Is it the operator Is, which isn't bound yet?
+/// Is it the operator Is?
 fn is_same(operator: BinaryOperator) -> bool
     ensures { result ≡ is_same operator }
 {
@@ -126,8 +119,45 @@ fn is_same(operator: BinaryOperator) -> bool
     }
 }
 
-/// An operator of two operands.
-pub fn step_binary<'a>(
+/// The operator Is: whether two references are to the same object.
+fn step_same<'a>(
+    alloc: Global,
+    draft: &mut Draft,
+    stack: &mut Vec<Item<'a>>,
+) -> Result<(), OrMemory<NotYet>>
+    requires { AllNamed (draft_view draft.old).tables (reverse stack.old.items) }
+    ensures { OnOk result ((env : plain.Env) (token : Token) → Goes env (draft_view draft.old) (reverse stack.old.items) (draft_view draft.new) (reverse stack.new.items) (behind_node (node.Binary operators.Is token))) }
+{
+    let Some(Item::Tree(right)) = take_item(stack) else {
+        return Err(OrMemory::NoMemory);
+    };
+    let Some(Item::Operand(left)) = take_item(stack) else {
+        return Err(OrMemory::NoMemory);
+    };
+    if !left.is_reference {
+        return Err(OrMemory::Fault(NotYet));
+    }
+    let Some(_of) = left.of else {
+        return Err(OrMemory::Fault(NotYet));
+    };
+    push_reference(alloc, draft, right)?;
+    put_item(
+        stack,
+        Item::Tree(Tree {
+            place: left.place,
+            name: None,
+            is_qualifier: false,
+            term: Term::Value(Ending {
+                kind: NodeKind::Same,
+                of: DeclaredType::Plain(ElementType::Boolean),
+            }),
+        }),
+    )?;
+    Ok(())
+}
+
+/// An operator of two operands, but for Is.
+fn step_operands<'a>(
     alloc: Global,
     draft: &mut Draft,
     compare: Compare,
@@ -138,15 +168,18 @@ pub fn step_binary<'a>(
     ensures { OnOk result ((env : plain.Env) (token : Token) → compare ≡ compare_in env.scope
         → Goes env (draft_view draft.old) (reverse stack.old.items) (draft_view draft.new) (reverse stack.new.items) (behind_node (node.Binary operator token))) }
 {
-    if is_same(operator) {
-        return Err(OrMemory::Fault(NotYet));
-    }
     let Some(Item::Tree(right)) = take_item(stack) else {
         return Err(OrMemory::NoMemory);
     };
     let Some(Item::Operand(left)) = take_item(stack) else {
         return Err(OrMemory::NoMemory);
     };
+    if left.is_reference {
+        return Err(OrMemory::Fault(NotYet));
+    }
+    if is_same(operator) {
+        return Err(OrMemory::Fault(NotYet));
+    }
     let of = push_operand(alloc, draft, right)?;
     let term = binary_term(alloc, compare, operator, left.of, of)?;
     put_item(
@@ -161,19 +194,38 @@ pub fn step_binary<'a>(
     Ok(())
 }
 
-/// A name, as it is used plainly.
+/// An operator of two operands.
+pub fn step_binary<'a>(
+    alloc: Global,
+    draft: &mut Draft,
+    compare: Compare,
+    stack: &mut Vec<Item<'a>>,
+    operator: BinaryOperator,
+) -> Result<(), OrMemory<NotYet>>
+    requires { AllNamed (draft_view draft.old).tables (reverse stack.old.items) }
+    ensures { OnOk result ((env : plain.Env) (token : Token) → compare ≡ compare_in env.scope
+        → Goes env (draft_view draft.old) (reverse stack.old.items) (draft_view draft.new) (reverse stack.new.items) (behind_node (node.Binary operator token))) }
+{
+    match operator {
+        BinaryOperator::Is => step_same(alloc, draft, stack),
+        _ => step_operands(alloc, draft, compare, stack, operator),
+    }
+}
+
+/// A name, as it is used plainly. A left operand before it is a reference where its operator is Is.
 pub fn step_name<'a>(
     alloc: Global,
     draft: &mut Draft,
     env: Env<'a>,
     stack: &mut Vec<Item<'a>>,
+    is_reference: bool,
     name: &'a Identifier,
 ) -> Result<(), OrMemory<NotYet>>
     requires env { EnvStands env }
     requires named { AllNamed (draft_view draft.old).tables (reverse stack.old.items) }
     ensures { OnOk result (Goes (env_view env.entry) (draft_view draft.old) (reverse stack.old.items) (draft_view draft.new) (reverse stack.new.items) (behind_node (node.Name name.now))) }
 {
-    settle(alloc, draft, stack)?;
+    settle(alloc, draft, stack, is_reference)?;
     let meant = declares(Use::Plainly, env.constants.scope, name);
     let term = meant_term(alloc, draft, env, name, meant)?;
     put_item(

@@ -1,17 +1,24 @@
 // Instructions over paths.
 ghost use Rattle.std.specs.Prelude.{IfOk, ◌<◌, ◌+◌, ◌^◌};
+ghost use Rattle.vba_values.specs.View.{view};
 ghost use Rattle.bound_project.specs.View.{declared_view, variable_view};
+ghost use Rattle.vba_meaning.specs.Host.{assigned_at};
+ghost use Rattle.run_memory.specs.View.{memory_view, path_view};
 ghost use Rattle.pcode.specs.Instructions as plain;
+ghost use Rattle.pcode.specs.Machine.{done_then, then_at};
 ghost use Rattle.pcode.specs.View.{code_view};
-ghost use Rattle.pcode_vm.specs.Does.{Acted};
+ghost use Rattle.pcode_vm.specs.Does.{Acted, Does};
+ghost use Rattle.pcode_vm.specs.View.{backs_view, operands_view, state_view};
 
 use crate::machine::Machine;
 use crate::step::{Step, Why};
 use bound_project::{DeclaredType, Variable};
 use pcode::Code;
+use run_host::{assigned_at, place_at};
+use run_memory::Path;
 use std::alloc::Global;
 use vba_base::{NoMemory, OrMemory};
-use vba_values::Bad;
+use vba_values::{Bad, Value};
 
 impl Machine {
     // The path of a variable.
@@ -52,7 +59,7 @@ impl Machine {
         Ok(Step::On)
     }
 
-    // The path of an element of the array at the path on top.
+    // The path of an element of what is at the path on top.
     pub fn element_of(
         &mut self,
         alloc: Global,
@@ -73,7 +80,7 @@ impl Machine {
         let path = attempt!(
             self,
             turns,
-            self.memory.element_at(alloc, &path, places.as_slice())
+            place_at(&mut self.memory, alloc, &path, places.as_slice())
         );
         self.operands.push_path(path)?;
         self.go_on(pc + 1);
@@ -101,7 +108,7 @@ impl Machine {
         let path = attempt!(
             self,
             turns,
-            self.memory.element_at(alloc, &path, places.as_slice())
+            place_at(&mut self.memory, alloc, &path, places.as_slice())
         );
         self.operands.push_path(path)?;
         self.go_on(pc + 1);
@@ -166,7 +173,29 @@ impl Machine {
         let Some(value) = self.operands.pop_value() else {
             return Ok(Step::Stuck);
         };
-        attempt!(self, turns, self.memory.assigned(alloc, &path, value));
+        self.assign_at(alloc, turns, pc, &path, value)
+    }
+
+    // The same, with both off the operands.
+    fn assign_at(
+        &mut self,
+        alloc: Global,
+        turns: u64,
+        pc: usize,
+        path: &Path,
+        value: Value,
+    ) -> Result<Step, NoMemory>
+        requires { pc + 1 < 2 ^ 64 }
+        ensures { IfOk result (λ step. Does turns (done_then (assigned_at (path_view path.now) (view value) (memory_view self.old.memory))
+            (backs_view self.old.backs) (state_view self.old)
+            (then_at (pc + 1) (operands_view self.old.operands) (backs_view self.old.backs))) self.old self.new step) }
+    {
+        let told = &mut self.told;
+        attempt!(
+            self,
+            turns,
+            assigned_at(&mut self.memory, alloc, path, value, told)
+        );
         self.go_on(pc + 1);
         Ok(Step::On)
     }

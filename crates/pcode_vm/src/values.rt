@@ -10,7 +10,7 @@ use crate::machine::Machine;
 use crate::step::{Step, Why};
 use bound_project::{DeclaredType, ErrMember};
 use pcode::Code;
-use run_arrays::indexed;
+use run_host::item_by;
 use std::alloc::Global;
 use vba_base::{NoMemory, OrMemory};
 use vba_values::{Bad, Compare, OpKind};
@@ -52,7 +52,7 @@ impl Machine {
         Ok(Step::On)
     }
 
-    // An element of a value.
+    // An element of a value, or an item of an object.
     pub fn index(
         &mut self,
         alloc: Global,
@@ -67,13 +67,13 @@ impl Machine {
         let Some(places) = self.operands.take(numbers)? else {
             return Ok(Step::Stuck);
         };
-        let Some(array) = self.operands.pop_value() else {
+        let Some(base) = self.operands.pop_value() else {
             return Ok(Step::Stuck);
         };
         let value = attempt!(
             self,
             turns,
-            indexed(&mut self.memory, alloc, &array, places.as_slice())
+            item_by(&mut self.memory, alloc, &base, places.as_slice())
         );
         self.operands.push_value(value)?;
         self.go_on(pc + 1);

@@ -64,7 +64,8 @@ fn redim_value(
         return Ok(new_array(alloc, declared, bounds, &element)?);
     }
     let steps = path.plain_steps(alloc)?;
-    let Some(root) = memory.root_value(path.root) else {
+    let object = path.root.object_value();
+    let Some(root) = memory.root_value(path.root, &object) else {
         return Err(OrMemory::Fault(Bad::Raise(13)));
     };
     match inner_value(root, steps.as_slice()) {
@@ -131,7 +132,8 @@ fn erased_at(
         (erased_value (declarations_view declared.now) path.now.is_bounded (value_at (memory_view memory.now) (path_view path.now)) m) }
 {
     let steps = path.plain_steps(alloc)?;
-    let Some(root) = memory.root_value(path.root) else {
+    let object = path.root.object_value();
+    let Some(root) = memory.root_value(path.root, &object) else {
         return Err(OrMemory::Fault(Bad::Raise(9)));
     };
     match inner_value(root, steps.as_slice()) {

@@ -4,3 +4,4 @@ pub mod Assigned
 pub mod Written
 pub mod Cells
 pub mod Clears
+pub mod Placed

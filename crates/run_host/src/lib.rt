@@ -11,6 +11,7 @@ mod counts;
 mod events;
 mod indexing;
 mod members;
+mod places;
 mod ranges;
 mod reading;
 mod sheets;
@@ -18,5 +19,7 @@ mod writing;
 
 pub use assigning::{member_assigned, written_default};
 pub use events::{Event, Told};
+pub use indexing::item_by;
 pub use members::{member_called, member_there};
+pub use places::{assigned_at, place_at};
 pub use sheets::first_sheet;

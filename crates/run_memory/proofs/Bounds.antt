@@ -1,6 +1,6 @@
 -- Names of classes by number; UBound and LBound, as functions of the library, by the number of a Long.
 use Rattle.std.proofs.Common.{◌≡◌, ℕ, zero, suc, ◌-◌, Bool, true, false, ℤ, ◌∷◌, [], ap, sym, subst, ◌∙◌, refl, arith}
-use Rattle.std.specs.Prelude.{if◌then◌else◌, pos, nat_eq, FitsSigned, Result, Ok, Err, Some}
+use Rattle.std.specs.Prelude.{if◌then◌else◌, pos, nat_eq, FitsSigned, Result, Ok, Err, Option, Some}
 use Rattle.std.specs.Int.{w32}
 use Rattle.vba_base.specs.Answer.{Gives}
 use Rattle.vba_base.specs.declared.fault.OrMemory.{OrMemory}
@@ -16,10 +16,9 @@ use Rattle.vba_values.proofs.TwoNumbers.{fits_long}
 use Rattle.vba_lib.specs.declared.function.LibraryFunction.TheVariants as function
 use Rattle.vba_lib.specs.Library.{library_of}
 use Rattle.bound_project.specs.Project.{Declarations}
-use Rattle.vba_meaning.specs.Paths.{Path}
-use Rattle.vba_meaning.specs.Memory.{Memory, value_at}
+use Rattle.vba_meaning.specs.Memory.{Memory}
 use Rattle.vba_meaning.specs.Effects.{answered}
-use Rattle.vba_meaning.specs.Library.{bound_at, bound_in, class_name}
+use Rattle.vba_meaning.specs.Library.{bound_in, class_name}
 use Rattle.run_memory.specs.Acts.{Acts}
 use Rattle.run_memory.specs.Named.{a_bound, class_spelling}
 
@@ -43,6 +42,6 @@ bound_acted upper z v (Ok w) m f h = ap (λ x. answered x m) (bound_called upper
 bound_acted upper z v (Err (Fault bad)) m f h = ap (λ x. answered x m) (bound_called upper v z f ∙ h)
 bound_acted upper z v (Err NoMemory) m f h = tt
 
-pub bound_acted_at : (upper : Bool) (z : ℤ) (p : Path) (v : Val) (r : Result Value (OrMemory Bad)) (m : Memory) → FitsSigned w32 z → value_at m p ≡ Some v → Gives view r (a_bound upper v z)
-    → Acts view r m (bound_at upper z p m)
-bound_acted_at upper z p v r m f e h = subst (λ o. Acts view r m (bound_in upper z o m)) (sym e) (bound_acted upper z v r m f h)
+pub bound_acted_at : (upper : Bool) (z : ℤ) (o : Option Val) (v : Val) (r : Result Value (OrMemory Bad)) (m : Memory) → FitsSigned w32 z → o ≡ Some v → Gives view r (a_bound upper v z)
+    → Acts view r m (bound_in upper z o m)
+bound_acted_at upper z o v r m f e h = subst (λ p. Acts view r m (bound_in upper z p m)) (sym e) (bound_acted upper z v r m f h)

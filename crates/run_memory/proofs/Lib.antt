@@ -14,3 +14,4 @@ pub mod Ids
 pub mod KeptInOrder
 pub mod Bounds
 pub mod Named
+pub mod Received

@@ -5,7 +5,7 @@ use Rattle.vba_values.specs.Val.{Val}
 use Rattle.run_memory.specs.Exchanges.{frame_exchanged, frames_with, root_exchanged}
 use Rattle.run_memory.specs.Keeps.{frame_keeping}
 use Rattle.run_memory.proofs.Exchanged.{kept_changed, slot_changed}
-use Rattle.vba_meaning.specs.Paths.{Root, in_frame, in_project, in_block}
+use Rattle.vba_meaning.specs.Paths.{Root, in_frame, in_project, in_block, in_object}
 use Rattle.vba_meaning.specs.Memory.{Frame, no_frame, Slot, value, Kept, only, Memory, frame_at, with_slot, with_kept, value_in, value_kept, found, put, root_value, with_root}
 
 set_there : {A : Type 0} (xs : List A) (i : ℕ) (a v : A) → slice_get xs i ≡ Some v → slice_get (slice_set xs i a) i ≡ Some a
@@ -86,15 +86,19 @@ slot_there fs k x v w e =
     of_value None g n = absurd (search rules)
     of_value (Some s) g n = set_there (frame_at fs k).slots x (value w) s g
 
-pub root_there : (m : Memory) (r : Root) (v w : Val) → root_value m r ≡ Some v → root_value (root_exchanged m r (Some v) w) r ≡ Some w
-root_there m (in_project x) v w e = set_there m.shared x w v e
-root_there m (in_frame k x) v w e = ap (λ fs. value_in (slice_get (frame_at fs k).slots x)) (sym (slot_changed x v w m.frames k)) ∙ slot_there m.frames k x v w e
-root_there m (in_block k i) v w e =
+there_in_project : (m : Memory) (x : ℕ) (v w : Val) → root_value m (in_project x) ≡ Some v → root_value (with_root m (in_project x) w) (in_project x) ≡ Some w
+there_in_project m x v w e = set_there m.shared x w v e
+
+there_in_frame : (m : Memory) (k x : ℕ) (v w : Val) → root_value m (in_frame k x) ≡ Some v → root_value (with_root m (in_frame k x) w) (in_frame k x) ≡ Some w
+there_in_frame m k x v w e = ap (λ fs. value_in (slice_get (frame_at fs k).slots x)) (sym (slot_changed x v w m.frames k)) ∙ slot_there m.frames k x v w e
+
+there_in_block : (m : Memory) (k i : ℕ) (v w : Val) → root_value m (in_block k i) ≡ Some v → root_value (with_root m (in_block k i) w) (in_block k i) ≡ Some w
+there_in_block m k i v w e =
     ap (λ fs. value_kept (found (frame_at fs k).keeps i)) (sym (kept_changed i w m.frames k))
     ∙ ap (λ f. value_kept (found f.keeps i)) (at_changed (λ f. value_kept (found f.keeps i) ≡ Some v) (λ n. search rules) (frame_keeping i (only w)) m.frames k e)
     ∙ ap value_kept (put_there i (only w) (frame_at m.frames k).keeps)
 
-pub root_twice : (m : Memory) (r : Root) (v w : Val) → with_root (with_root m r v) r w ≡ with_root m r w
+root_twice : (m : Memory) (r : Root) (v w : Val) → with_root (with_root m r v) r w ≡ with_root m r w
 root_twice m (in_project x) v w = ap (λ xs. record m { shared = xs }) (set_twice m.shared x v w)
 root_twice m (in_frame k x) v w =
     ap (λ fs. record m { frames = fs })
@@ -110,3 +114,16 @@ root_twice m (in_block k i) v w =
     ∙ with_twice (frame_keeping i (only w)) (frame_keeping i (only v)) m.frames k
     ∙ with_same (λ f. frame_keeping i (only w) (frame_keeping i (only v) f)) (frame_keeping i (only w)) (λ f. ap (λ ks. record f { keeps = ks }) (put_twice i (only v) (only w) f.keeps)) m.frames k
     ∙ kept_changed i w m.frames k)
+root_twice m (in_object o) v w = refl
+
+-- a value takes the place of one that was put there: as if it came at once
+here_again : (m : Memory) (r : Root) (w x : Val) → root_value (with_root m r w) r ≡ Some w
+    → root_exchanged (with_root m r w) r (root_value (with_root m r w) r) x ≡ with_root m r x
+here_again m r w x e = ap (λ o. root_exchanged (with_root m r w) r o x) e ∙ root_twice m r w x
+
+pub root_again : (m : Memory) (r : Root) (v w x : Val) → root_value m r ≡ Some v
+    → root_exchanged (with_root m r w) r (root_value (with_root m r w) r) x ≡ with_root m r x
+root_again m (in_project y) v w x e = here_again m (in_project y) w x (there_in_project m y v w e)
+root_again m (in_frame k y) v w x e = here_again m (in_frame k y) w x (there_in_frame m k y v w e)
+root_again m (in_block k i) v w x e = here_again m (in_block k i) w x (there_in_block m k i v w e)
+root_again m (in_object o) v w x e = refl

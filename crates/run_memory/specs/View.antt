@@ -26,6 +26,7 @@ abbrev pub root_view : Root → plain.Root
 root_view (root.Frame k x) = plain.in_frame k x
 root_view (root.Project x) = plain.in_project x
 root_view (root.Block k i) = plain.in_block k i
+root_view (root.Object o) = plain.in_object o
 
 abbrev pub step_view : Step → plain.Step
 step_view s = record { step = s.step; moves = s.moves }

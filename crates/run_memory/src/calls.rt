@@ -2,15 +2,15 @@
 ghost use Rattle.std.specs.Prelude.{◌≡◌, ◌∷◌, OnOk, map, reverse, slice_get};
 ghost use Rattle.vba_values.specs.View.{view};
 ghost use Rattle.bound_project.specs.Project.{Declarations, procedure_at};
-ghost use Rattle.vba_meaning.specs.Memory.{calling, entered, frame_left, no_frame, own_slots, result as call_result, value_in, value_or_empty, without_paths};
+ghost use Rattle.vba_meaning.specs.Memory.{calling, entered, frame_left, no_frame, own_slots, received, result as call_result, value_in, value_or_empty, without_paths};
 ghost use Rattle.vba_meaning.specs.Meaning.{left};
-ghost use Rattle.run_memory.specs.Calls.{stands_with};
+ghost use Rattle.run_memory.specs.Calls.{received_from, stands_with};
 ghost use Rattle.run_memory.specs.View.{frame_view, memory_view, path_view, slot_view};
 
 use crate::exchange::exchange_in_slots;
 use crate::frame::{Frame, Slot};
 use crate::memory::Memory;
-use crate::path::Path;
+use crate::path::{Path, Root};
 use std::alloc::Global;
 use std::mem;
 use vba_base::NoMemory;
@@ -48,6 +48,7 @@ impl Memory {
         self.release_paths(arguments.as_slice());
         let mut slots = own;
         let mut arguments = arguments;
+        receive(&mut arguments);
         slots.append(&mut arguments)?;
         self.push_frame(alloc, called_frame(alloc, is_called, procedure, me, slots))
     }
@@ -139,5 +140,34 @@ fn release(pending: &mut Vec<Path>, arguments: &[Slot])
             }
             release(pending, arguments);
         }
+    }
+}
+
+/// What parameters have: an object that an index gave is no variable, so it is copied.
+#[tactic(auto, using(crate::proofs::Received::received_all))]
+fn receive(arguments: &mut Vec<Slot>)
+    ensures { map slot_view arguments.new.items ≡ map received (map slot_view arguments.old.items) }
+{
+    receive_from(arguments, 0);
+}
+
+/// The same from a number on.
+#[tactic(auto, using(crate::proofs::Received::received_next, crate::proofs::Received::received_past))]
+fn receive_from(arguments: &mut Vec<Slot>, from: usize)
+    ensures { map slot_view arguments.new.items ≡ received_from from (map slot_view arguments.old.items) }
+{
+    if from < arguments.len() {
+        receive_one(&mut arguments[from]);
+        receive_from(arguments, from + 1);
+    }
+}
+
+fn receive_one(argument: &mut Slot)
+    ensures { slot_view argument.new ≡ received (slot_view argument.old) }
+{
+    if let Slot::Path(path) = argument
+        && let Root::Object { reference } = path.root
+    {
+        *argument = Slot::Value(Value::Object(reference));
     }
 }

@@ -154,7 +154,8 @@ impl Memory {
             (element_found (value_at (memory_view self.now) (path_view path.now)) (slot_values (map slot_view slots.now)) m) }
     {
         let steps = path.plain_steps(alloc)?;
-        let Some(root) = self.root_value(path.root) else {
+        let object = path.root.object_value();
+        let Some(root) = self.root_value(path.root, &object) else {
             return nowhere(alloc, slots);
         };
         match inner_value(root, steps.as_slice()) {

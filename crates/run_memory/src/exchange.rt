@@ -33,7 +33,7 @@ impl Memory {
         exchange_below(&mut self.callers, frame, variable, new)
     }
 
-    /// A value takes the place of that of a variable; of a block's it takes a copy.
+    /// A value takes the place of that of a variable; of a block's it takes a copy, and an object is no variable.
     #[tactic(auto, using(crate::proofs::Exchanged::local_exchanged, crate::proofs::Exchanged::shared_exchanged))]
     pub fn exchange(
         &mut self,
@@ -51,6 +51,7 @@ impl Memory {
                 Ok(exchange_in_values(&mut self.shared, variable as usize, new))
             }
             Root::Block { frame, header } => self.exchange_block(alloc, frame, header, new),
+            Root::Object { reference } => Ok(Some(Value::Object(reference))),
         }
     }
 
@@ -67,7 +68,7 @@ impl Memory {
         ensures new { IfOk result (λ old. memory_view self.new
             ≡ root_exchanged (memory_view self.old) (in_block frame header) (option_map view old) (view new)) }
     {
-        let old = match self.root_value(Root::Block { frame, header }) {
+        let old = match self.root_value(Root::Block { frame, header }, &new) {
             Some(value) => copy_value(alloc, value)?,
             None => return Ok(None),
         };

@@ -2,10 +2,11 @@
 ghost use Rattle.std.specs.Prelude.{◌≡◌, ◌≤ℤ◌, ◌++◌, codes, map, option_map, pos, IfOk};
 ghost use Rattle.vba_base.specs.Answer.{Gives};
 ghost use Rattle.vba_values.specs.View.{array_view, view};
+ghost use Rattle.arrays_udt.specs.Paths.{path_value};
 ghost use Rattle.vba_lib.specs.Arrays.{numbered_bound};
 ghost use Rattle.bound_project.specs.View.{base_view, declarations_view};
-ghost use Rattle.vba_meaning.specs.Memory.{value_at};
-ghost use Rattle.vba_meaning.specs.Library.{bound_at, class_name, library_answer, library_called};
+ghost use Rattle.vba_meaning.specs.Memory.{Memory as PlainMemory};
+ghost use Rattle.vba_meaning.specs.Library.{bound_at, bound_in, class_name, library_answer, library_called};
 ghost use Rattle.run_memory.specs.Acts.{Acts};
 ghost use Rattle.run_memory.specs.Named.{Named, Told, a_bound, class_spelling, type_spelling};
 ghost use Rattle.run_memory.specs.View.{memory_view, path_view};
@@ -13,6 +14,7 @@ ghost use Rattle.run_memory.specs.View.{memory_view, path_view};
 use crate::looking::inner_value;
 use crate::memory::Memory;
 use crate::path::Path;
+use arrays_udt::PathStep;
 use bound_project::Declarations;
 use std::alloc::Global;
 use vba_base::{NoMemory, OrMemory, Units};
@@ -173,22 +175,27 @@ impl Memory {
     ) -> Result<Value, OrMemory<Bad>>
         ensures { Acts view result (memory_view self.now) (bound_at is_upper dimension (path_view path.now) (memory_view self.now)) }
     {
-        let found = self.value_at(alloc, path)?;
-        match found {
-            Some(value) => a_bound(is_upper, dimension, value),
-            None => Err(OUT_OF_RANGE),
-        }
-    }
-
-    /// The value at a path.
-    fn value_at(&self, alloc: Global, path: &Path) -> Result<Option<&Value>, NoMemory>
-        ensures { IfOk result (λ value. option_map (λ found. view found.now) value ≡ value_at (memory_view self.now) (path_view path.now)) }
-    {
         let steps = path.plain_steps(alloc)?;
-        let Some(root) = self.root_value(path.root) else {
-            return Ok(None);
+        let object = path.root.object_value();
+        let Some(root) = self.root_value(path.root, &object) else {
+            return Err(OUT_OF_RANGE);
         };
-        Ok(inner_value(root, steps.as_slice()))
+        bound_inside(is_upper, dimension, root, steps.as_slice())
+    }
+}
+
+/// The same of what is at a path inside a value.
+fn bound_inside(
+    is_upper: bool,
+    dimension: i32,
+    root: &Value,
+    steps: &[PathStep],
+) -> Result<Value, OrMemory<Bad>>
+    ensures { (m : PlainMemory) → Acts view result m (bound_in is_upper dimension (path_value (view root.now) steps.now) m) }
+{
+    match inner_value(root, steps) {
+        Some(value) => a_bound(is_upper, dimension, value),
+        None => Err(OUT_OF_RANGE),
     }
 }
 

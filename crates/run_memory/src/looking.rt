@@ -3,8 +3,8 @@ ghost use Rattle.std.specs.Prelude.{◌≡◌, option_map, slice_get, map, IfOk}
 ghost use Rattle.arrays_udt.specs.Paths.{path_value};
 ghost use Rattle.vba_values.specs.View.{view};
 ghost use Rattle.bound_project.specs.View.{variable_view};
-ghost use Rattle.vba_meaning.specs.Memory.{found, frame_at, path_of, root_value, value_in, value_kept};
-ghost use Rattle.run_memory.specs.Looks.{frame_or};
+ghost use Rattle.vba_meaning.specs.Memory.{found, frame_at, path_of, value_in, value_kept};
+ghost use Rattle.run_memory.specs.Looks.{frame_or, root_or};
 ghost use Rattle.run_memory.specs.View.{frame_view, kept_at_view, kept_view, memory_view, path_view, root_view, slot_view};
 
 use crate::frame::{Frame, Kept, Slot};
@@ -31,14 +31,15 @@ impl Memory {
         caller_at(&self.callers, number)
     }
 
-    /// The value of a variable or a block.
-    pub fn root_value(&self, root: Root) -> Option<&Value>
-        ensures { option_map (λ value. view value.now) result ≡ root_value (memory_view self.now) (root_view root) }
+    /// The value of a variable or a block, or this object.
+    pub fn root_value<'a>(&'a self, root: Root, object: &'a Value) -> Option<&'a Value>
+        ensures { option_map (λ value. view value.now) result ≡ root_or (memory_view self.now) (root_view root) (view object.now) }
     {
         match root {
             Root::Frame { frame, variable } => self.frame_at(frame)?.value_of(variable),
             Root::Project { variable } => self.shared.get(variable as usize),
             Root::Block { frame, header } => self.frame_at(frame)?.value_kept(header),
+            Root::Object { .. } => Some(object),
         }
     }
 

@@ -178,7 +178,7 @@ impl Memory {
         }
     }
 
-    /// The step is added to the counter.
+    /// The step is added to the counter; an object gives way to its default value.
     #[tactic(auto, using(crate::proofs::Refused::refused_then))]
     fn stepped(
         &mut self,
@@ -190,6 +190,7 @@ impl Memory {
     {
         let path = self.path_of(alloc, counter)?;
         let value = self.read_path(alloc, &path)?;
+        let value = self.plain(alloc, value)?;
         let value = operated(
             alloc,
             OpKind::Add,

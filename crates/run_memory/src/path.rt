@@ -2,22 +2,26 @@ ghost use Rattle.std.specs.Prelude.{◌≡◌, IfOk, OnOk, map};
 ghost use Rattle.arrays_udt.specs.Paths.{same_step};
 ghost use Rattle.bound_project.specs.View.{declared_view};
 ghost use Rattle.vba_values.specs.Types.{declared};
-ghost use Rattle.vba_meaning.specs.Paths.{any_moves, element_path, field_path, is_below, leads_through, plain_steps, same_root};
+ghost use Rattle.vba_values.specs.View.{view};
+ghost use Rattle.vba_meaning.specs.Memory.{Memory as PlainMemory, root_value};
+ghost use Rattle.vba_meaning.specs.Paths.{any_moves, element_path, field_path, is_below, leads_through, object_path, plain_steps, same_root};
+ghost use Rattle.run_memory.specs.Looks.{root_or};
 ghost use Rattle.run_memory.specs.View.{path_view, root_view, step_view};
 
 use arrays_udt::PathStep;
 use bound_project::DeclaredType;
 use std::alloc::Global;
 use vba_base::NoMemory;
-use vba_values::{VType, copy_type};
+use vba_values::{ObjRef, VType, Value, copy_type};
 
-/// Where a path begins: a variable of a frame, whose number is that of the frames below it, or of the project; or the
-/// value that a With block of a frame keeps.
+/// Where a path begins: a variable of a frame, whose number is that of the frames below it, or of the project; the value
+/// that a With block of a frame keeps; or an object that an index gave, which no variable has.
 #[derive(Clone, Copy)]
 pub enum Root {
     Frame { frame: usize, variable: u32 },
     Project { variable: u32 },
     Block { frame: usize, header: u32 },
+    Object { reference: ObjRef },
 }
 
 /// A step, and whether it leads into an array that can be replaced: one that isn't declared with bounds.
@@ -47,7 +51,31 @@ impl Drop for Path {
     }
 }
 
+impl Root {
+    /// The object that a path begins at; of other paths Empty.
+    pub fn object_value(self) -> Value
+        ensures { (m : PlainMemory) → root_or m (root_view self) (view result) ≡ root_value m (root_view self) }
+    {
+        match self {
+            Root::Object { reference } => Value::Object(reference),
+            Root::Frame { .. } | Root::Project { .. } | Root::Block { .. } => Value::Empty,
+        }
+    }
+}
+
 impl Path {
+    /// Where an object is that no variable has.
+    pub fn of_object(alloc: Global, reference: ObjRef) -> Path
+        ensures { path_view result ≡ object_path reference }
+    {
+        Path {
+            root: Root::Object { reference },
+            steps: Vec::new(alloc),
+            of: VType::Variant,
+            is_bounded: false,
+        }
+    }
+
     /// A copy of the path.
     pub fn copy(&self, alloc: Global) -> Result<Path, NoMemory>
         ensures { IfOk result (λ copy. path_view copy ≡ path_view self.now) }

@@ -7,6 +7,7 @@ ghost use Rattle.vba_meaning.specs.References.{replaced};
 ghost use Rattle.vba_meaning.specs.Effects.{assignable, assigned, done, has_parts, lent, read_path, replaceable, stored, unlent};
 ghost use Rattle.run_memory.specs.Acts.{Acts};
 ghost use Rattle.run_memory.specs.Exchanges.{inside_exchanged};
+ghost use Rattle.run_memory.specs.Looks.{object_here};
 ghost use Rattle.run_memory.specs.View.{memory_view, path_view, root_view};
 
 use crate::looking::inner_value;
@@ -15,7 +16,7 @@ use crate::path::{Path, Root};
 use arrays_udt::{PathStep, path_write};
 use std::alloc::Global;
 use vba_base::{NoMemory, OrMemory};
-use vba_values::{Bad, Value, coerce_owned, copy_value};
+use vba_values::{Bad, ObjRef, Value, coerce_owned, copy_value};
 
 impl Memory {
     /// The value at a path, which the running statement holds then; where the path leads nowhere any more it raises 9.
@@ -34,10 +35,23 @@ impl Memory {
         ensures { IfOk result (λ value. option_map view value ≡ value_at (memory_view self.now) (path_view path.now)) }
     {
         let steps = path.plain_steps(alloc)?;
-        let Some(root) = self.root_value(path.root) else {
+        let object = path.root.object_value();
+        let Some(root) = self.root_value(path.root, &object) else {
             return Ok(None);
         };
         copy_inner(alloc, root, steps.as_slice())
+    }
+
+    /// The object at a path, where one is there.
+    pub fn object_there(&self, alloc: Global, path: &Path) -> Result<Option<ObjRef>, NoMemory>
+        ensures { IfOk result (λ reference. reference ≡ object_here (value_at (memory_view self.now) (path_view path.now))) }
+    {
+        let steps = path.plain_steps(alloc)?;
+        let object = path.root.object_value();
+        let Some(root) = self.root_value(path.root, &object) else {
+            return Ok(None);
+        };
+        Ok(inner_object(root, steps.as_slice()))
     }
 
     /// Whether the value at a path has parts; where there is none the answer is None.
@@ -45,18 +59,23 @@ impl Memory {
         ensures { IfOk result (λ parts. parts ≡ option_map has_parts (value_at (memory_view self.now) (path_view path.now))) }
     {
         let steps = path.plain_steps(alloc)?;
-        let Some(root) = self.root_value(path.root) else {
+        let object = path.root.object_value();
+        let Some(root) = self.root_value(path.root, &object) else {
             return Ok(None);
         };
         Ok(inner_parts(root, steps.as_slice()))
     }
 
-    /// Whether a value may be replaced: there is one (9), and no frame holds a path through an array there (10).
+    /// Whether a value may be replaced: there is one (9), and no frame holds a path through an array there (10). An object
+    /// that an index gave has no place (438).
     pub fn replaceable(&self, alloc: Global, path: &Path) -> Result<(), OrMemory<Bad>>
         ensures acts { Acts (λ done. value_or_empty (value_at (memory_view self.now) (path_view path.now))) result
             (memory_view self.now) (replaceable (path_view path.now) (memory_view self.now)) }
         ensures there { OnOk result (IsSome (value_at (memory_view self.now) (path_view path.now))) }
     {
+        if let Root::Object { .. } = path.root {
+            return Err(OrMemory::Fault(Bad::Raise(438)));
+        }
         match self.parts_at(alloc, path)? {
             None => Err(OrMemory::Fault(Bad::Raise(9))),
             Some(has_parts) => {
@@ -97,7 +116,7 @@ impl Memory {
         self.exchange_inside(alloc, path.root, steps.as_slice(), new)
     }
 
-    #[tactic(auto, using(crate::proofs::Roots::root_there, crate::proofs::Roots::root_twice))]
+    #[tactic(auto, using(crate::proofs::Roots::root_again))]
     fn exchange_inside(
         &mut self,
         alloc: Global,
@@ -176,6 +195,15 @@ pub fn copy_inner(
     match inner_value(root, steps) {
         Some(value) => Ok(Some(copy_value(alloc, value)?)),
         None => Ok(None),
+    }
+}
+
+fn inner_object(root: &Value, steps: &[PathStep]) -> Option<ObjRef>
+    ensures { result ≡ object_here (path_value (view root.now) steps.now) }
+{
+    match inner_value(root, steps) {
+        Some(Value::Object(reference)) => Some(*reference),
+        _ => None,
     }
 }
 

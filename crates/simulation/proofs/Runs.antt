@@ -16,10 +16,10 @@ use Rattle.bound_project.specs.Project.{Project, class_at, statement_at, next_of
 use Rattle.vba_meaning.specs.Paths.{Path, field_path}
 use Rattle.vba_meaning.specs.Memory.{Error, Ended, Faulted, Going, opening, Slot, value, path, Memory, Object, top, at_statement, frame_left, path_of, result, entered, error_here, number_or}
 use Rattle.vba_meaning.specs.References.{objects_in, objects_in_values, is_last, hold, next_waiting, taken_off, let_held, held_by, let_frame, object_at, as_told, gone, closed}
-use Rattle.vba_meaning.specs.Effects.{Raised, Term, Effect, operated, operated_alone, fitted, plain, condition, read_path, assigned, lent, unlent, slot_values, packed, reordered, show_value, printed, loop_off, loop_on, next_round, keep, selected, fits, fits_between, gone_sub, returned_sub, policy_of, err_off, policy_on, handler_off, failed_statement, resumed, taken_by, with_taken, raised_by, err_of, set_object, stop_here}
-use Rattle.vba_meaning.specs.Arrays.{indexed, part_of, element_at, redimmed, erased, keep_path, block_over, dot_at, each_off, each_begun, each_next}
+use Rattle.vba_meaning.specs.Effects.{Raised, Term, Effect, operated, operated_alone, fitted, plain, condition, read_path, lent, unlent, slot_values, packed, reordered, show_value, printed, loop_off, loop_on, next_round, keep, selected, fits, fits_between, gone_sub, returned_sub, policy_of, err_off, policy_on, handler_off, failed_statement, resumed, taken_by, with_taken, raised_by, err_of, set_object, stop_here}
+use Rattle.vba_meaning.specs.Arrays.{part_of, redimmed, erased, keep_path, block_over, dot_at, each_off, each_begun, each_next}
 use Rattle.vba_meaning.specs.Objects.{compared, typed_as, set_at}
-use Rattle.vba_meaning.specs.Host.{first_sheet, member_there, member_called, written_default, member_assigned}
+use Rattle.vba_meaning.specs.Host.{first_sheet, item_by, place_at, assigned_at, member_there, member_called, written_default, member_assigned}
 use Rattle.vba_meaning.specs.Library.{library_called, bound_at, plain_if_any}
 use Rattle.vba_meaning.specs.Meaning.{State, Res, Got, Failed, Over, Told, Turn, ◌>>=◌, turn, turned, with_memory, raise_error, perform, Callee, eval, eval_node, eval_place, evals, eval_list, eval_prints, tested, cases, resizes, erases, exec, Doing, nowhere, enter, called_by, callees, terminate_by, tell, finish, end_of, one, let_go, lets_held, lets_frame, leave, left, pass_on, next_here, decide_by, decide, settle, at_statement_or, level, doing, close, Run, run_of, first_state, meaning}
 use Rattle.pcode.specs.Instructions.{Instr, Begin, Push, LoadErr, PathOf, ReadThrough, ElementOf, ElementIn, FieldOf, Dot, Index, PartOf, Operate, OperateAlone, Plain, PlainIfAny, PushHost, FirstSheet, MemberThere, MemberOf, Same, IsType, Library, BoundAt, Fit, FitObject, Drop, Lend, Pack, Reorder, Lift, Call, Store, SetAt, StoreDefault, StoreMember, ShowText, Show, Throw, LoopOff, LoopOn, NextRound, EachOff, EachOn, NextItem, Keep, Selected, IfFits, IfBetween, Redim, EraseAt, KeepPath, DropKept, PutReturn, TakeReturn, SetPolicy, HandlerOff, ErrOff, Again, Behind, Resumes, Finish, Branch, Halt, StopHere, Leave, Code}
@@ -186,8 +186,8 @@ module _ (pr : Project) (code : Code) (bound n : ℕ) (callee : Callee) (known :
         first (on_value st bs) (eval e callee pr s) (expr_code e) _ pc to _ has (λ mid h. expr_runs e pc mid st bs s h good) (λ v s1 g1 i h1.
         first_each (on_args (value v ∷ st) bs) (eval_list es callee pr s1) (list_code es) _ i to _ h1 (list_counts es callee pr s1) (λ mid h. list_runs es i mid (value v ∷ st) bs s1 h g1) (λ xs s2 len g2 j h2.
         instr (Index (length xs)) j (pushed xs (value v ∷ st)) bs s2 (h2.0 ∙ ap (λ m. Some (Index m)) (sym len))
-        (subst (λ m. Runs code bound n m (on_value st bs to) (failed bs) (perform (indexed v (slot_values xs)) s2)) (sym (all_taken xs (value v ∷ st) _))
-        (ends_at (on_value st bs) h2.1 (performs (indexed v (slot_values xs)) bs s2 g2)))))
+        (subst (λ m. Runs code bound n m (on_value st bs to) (failed bs) (perform (item_by v (slot_values xs)) s2)) (sym (all_taken xs (value v ∷ st) _))
+        (ends_at (on_value st bs) h2.1 (performs (item_by v (slot_values xs)) bs s2 g2)))))
     node_runs (field_value e i) pc to st bs s has good =
         first (on_value st bs) (eval e callee pr s) (expr_code e) _ pc to _ has (λ mid h. expr_runs e pc mid st bs s h good) (λ v s1 g1 j h.
         instr (PartOf i) j (value v ∷ st) bs s1 h.0 (ends_at (on_value st bs) h.1 (performs (part_of i v) bs s1 g1)))
@@ -254,14 +254,14 @@ module _ (pr : Project) (code : Code) (bound n : ℕ) (callee : Callee) (known :
         first_each (on_args st bs) (eval_list es callee pr s) (list_code es) _ pc to _ has (list_counts es callee pr s) (λ mid h. list_runs es pc mid st bs s h good) (λ xs s1 len g1 j h.
         instr (PathOf x) j (pushed xs st) bs s1 h.0
         (instr (ElementOf (length xs)) (j + 1) (path (path_of s1.memory x) ∷ pushed xs st) bs s1 (h.1.0 ∙ ap (λ m. Some (ElementOf m)) (sym len))
-        (subst (λ m. Runs code bound n m (on_path st bs to) (failed bs) (perform (element_at (path_of s1.memory x) (slot_values xs)) s1)) (sym (all_taken xs st _))
-        (ends_at (on_path st bs) h.1.1 (performs (element_at (path_of s1.memory x) (slot_values xs)) bs s1 g1)))))
+        (subst (λ m. Runs code bound n m (on_path st bs to) (failed bs) (perform (place_at (path_of s1.memory x) (slot_values xs)) s1)) (sym (all_taken xs st _))
+        (ends_at (on_path st bs) h.1.1 (performs (place_at (path_of s1.memory x) (slot_values xs)) bs s1 g1)))))
     place_runs (element x es) pc to st bs s has good =
         first (on_path st bs) (eval_place x callee pr s) (place_code x) _ pc to _ has (λ mid h. place_runs x pc mid st bs s h good) (λ q s1 g1 i h1.
         first_each (on_args (path q ∷ st) bs) (eval_list es callee pr s1) (list_code es) _ i to _ h1 (list_counts es callee pr s1) (λ mid h. list_runs es i mid (path q ∷ st) bs s1 h g1) (λ xs s2 len g2 j h2.
         instr (ElementIn (length xs)) j (pushed xs (path q ∷ st)) bs s2 (h2.0 ∙ ap (λ m. Some (ElementIn m)) (sym len))
-        (subst (λ m. Runs code bound n m (on_path st bs to) (failed bs) (perform (element_at q (slot_values xs)) s2)) (sym (all_taken xs (path q ∷ st) _))
-        (ends_at (on_path st bs) h2.1 (performs (element_at q (slot_values xs)) bs s2 g2)))))
+        (subst (λ m. Runs code bound n m (on_path st bs to) (failed bs) (perform (place_at q (slot_values xs)) s2)) (sym (all_taken xs (path q ∷ st) _))
+        (ends_at (on_path st bs) h2.1 (performs (place_at q (slot_values xs)) bs s2 g2)))))
     place_runs (field x i of bounded) pc to st bs s has good =
         first (on_path st bs) (eval_place x callee pr s) (place_code x) _ pc to _ has (λ mid h. place_runs x pc mid st bs s h good) (λ q s1 g1 j h.
         instr (FieldOf i of bounded) j (path q ∷ st) bs s1 h.0 (ends_at (on_path st bs) h.1 (here (field_path q i of bounded) s1 g1)))
@@ -458,7 +458,7 @@ module _ (pr : Project) (code : Code) (entry : ℕ → Entry) (laid : Laid pr en
   action_runs (assign x e) i k pc to bs s has good =
       then_value pr code bound n callee known laid.declared e _ pc to [] bs s has good (λ v s1 g1 mid h.
       then_place pr code bound n callee known laid.declared x _ mid to (value v ∷ []) bs s1 h g1 (λ q s2 g2 j h2.
-      instr Store j (path q ∷ value v ∷ []) bs s2 h2.0 (used (assigned q v) k (j + 1) bs s2 h2.1.0 g2)))
+      instr Store j (path q ∷ value v ∷ []) bs s2 h2.0 (used (assigned_at q v) k (j + 1) bs s2 h2.1.0 g2)))
   action_runs (assign_none x e) i k pc to bs s has good =
       then_value pr code bound n callee known laid.declared e _ pc to [] bs s has good (λ v s1 g1 i1 h1.
       then_value pr code bound n callee known laid.declared x _ i1 to (value v ∷ []) bs s1 h1 g1 (λ w s2 g2 j h.

@@ -105,3 +105,42 @@ fn long_file(rt: HostRuntime) -> Result<(), Fail> {
     let source = vec![in rt.alloc(); 0u8; 67_108_865]?;
     answers(&rt, given, source, (9, b"", b"vbarun: too long: m.bas\n"))
 }
+
+/// The list, the module and the sheets of a run that saves.
+const SAVED: [(&str, &[u8]); 4] = [
+    (
+        "p.txt",
+        b"Module=m.bas\nSheet=S;s.csv\nSheet=T;t.csv\nStartup=Module1.Main\n",
+    ),
+    ("m.bas", b"Sub Main()\nDebug.Print 1\nEnd Sub\n"),
+    ("s.csv", b"a,007\n"),
+    ("t.csv", b"b\n"),
+];
+
+/// A disk that is full at the second save, the sixth call behind four reads: the first sheet is saved, the second isn't.
+#[test]
+fn full_disk(rt: HostRuntime) -> Result<(), Fail> {
+    let alloc = rt.alloc();
+    let words = words_of(alloc, &["run", "--save", ".out", "p.txt"])?;
+    let mut held = Vec::new(alloc);
+    for (name, bytes) in SAVED {
+        held.push((
+            String::from_str(alloc, name)?,
+            Vec::from_slice(alloc, bytes)?,
+        ))?;
+    }
+    assert!(rt; MemFiles::are_different(&held));
+    let mut files = MemFiles::new(alloc, held, Vec::from_slice(alloc, &[6])?);
+    let mut out = MemSink::new(alloc, Vec::new(alloc));
+    let mut err = MemSink::new(alloc, Vec::new(alloc));
+    let status = run_cli(alloc, &words, &mut files, &mut out, &mut err);
+    assert_eq!(rt; status.code(), 7);
+    assert_eq!(rt; out.taken(), b" 1 \n".as_slice());
+    assert_eq!(rt; err.taken(), b"vbarun: cannot write\n".as_slice());
+    match files.held("s.csv.out") {
+        Some(bytes) => assert_eq!(rt; bytes.as_slice(), b"a,007\n".as_slice()),
+        None => assert!(rt; false),
+    }
+    assert!(rt; files.held("t.csv.out").is_none());
+    Ok(())
+}

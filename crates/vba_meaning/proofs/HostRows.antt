@@ -12,56 +12,60 @@ use Rattle.vba_values.specs.declared.object.HostRef.TheVariants as host
 use Rattle.vba_values.specs.declared.object.ObjRef.TheVariants.{Nothing}
 use Rattle.vba_values.specs.declared.types.OpKind.TheVariants as op
 use Rattle.vba_values.specs.Types as type
-use Rattle.vba_values.specs.Val.{boolean, object}
+use Rattle.vba_values.specs.Val.{object}
 use Rattle.sheet_host.specs.Books.{Sheets}
-use Rattle.bound_project.specs.Expressions.{Variable, Expr, constant, host_object, active_sheet, host_member, item, Exprs, no_exprs, also, no_prints, shown}
+use Rattle.bound_project.specs.Expressions.{Variable, Expr, constant, host_object, active_sheet, host_member, Exprs, no_exprs, also, no_prints, shown}
 use Rattle.bound_project.specs.Statements.{Action, skipped, assign_default, assign_member, print, for_each, next_each, on_error}
 use Rattle.bound_project.specs.Project.{Project}
 use Rattle.vba_meaning.specs.Memory.{Ended, Stopped, outside}
 use Rattle.vba_meaning.specs.Effects.{Raised}
 use Rattle.vba_meaning.specs.Meaning.{meaning}
-use Rattle.vba_meaning.proofs.Programs.{e, n, words, two, half, any, v, show, flat, jumping, main, told, line, of_type, one}
+use Rattle.vba_meaning.proofs.Programs.{e, n, words, two, half, any, v, show, flat, jumping, main, told, line, of_type}
 
 -- the sheets S and T: id,price and 007,1.50
-abbrev rows : List (List (List ℕ))
+abbrev pub rows : List (List (List ℕ))
 rows = (codes "id" ∷ codes "price" ∷ []) ∷ (codes "007" ∷ codes "1.50" ∷ []) ∷ []
 
-abbrev book : Sheets
+abbrev pub book : Sheets
 book = record { name = codes "S"; content = record { rows = rows; cells = cells.empty } } ∷ record { name = codes "T"; content = record { rows = rows; cells = cells.empty } } ∷ []
 
 -- members: of the first sheet, of the book's sheets, and of another object
-abbrev pair : Expr → Expr → Exprs
+abbrev pub pair : Expr → Expr → Exprs
 pair a b = also a (also b no_exprs)
 
-abbrev member : type.Declared → Expr → List ℕ → Exprs → Expr
+abbrev pub member : type.Declared → Expr → List ℕ → Exprs → Expr
 member of a name es = e of (host_member a name es)
 
-abbrev property_of : type.Declared → Expr → List ℕ → Expr
+abbrev pub property_of : type.Declared → Expr → List ℕ → Expr
 property_of of a name = member of a name no_exprs
 
-abbrev here : Expr
+abbrev pub here : Expr
 here = e type.worksheet active_sheet
 
-abbrev cell_at : ℕ → ℕ → Expr
+abbrev pub cell_at : ℕ → ℕ → Expr
 cell_at r c = member type.range here (codes "cells") (pair (n r) (n c))
 
-abbrev range_at : List ℕ → Expr
+abbrev pub range_at : List ℕ → Expr
 range_at address = member type.range here (codes "range") (also (words address) no_exprs)
 
-abbrev sheets : Expr
+abbrev pub sheets : Expr
 sheets = e type.object (host_object host.Sheets)
 
-abbrev sheet_called : List ℕ → Expr
+abbrev pub sheet_called : List ℕ → Expr
 sheet_called name = member type.worksheet sheets (codes "item") (also (words name) no_exprs)
 
-abbrev address_of : Expr → Expr
+abbrev pub address_of : Expr → Expr
 address_of a = property_of type.text a (codes "address")
 
-abbrev value_of : Expr → Expr
+abbrev pub value_of : Expr → Expr
 value_of a = property_of type.variant a (codes "value")
 
-abbrev becomes_value : Expr → Expr → Action
+abbrev pub becomes_value : Expr → Expr → Action
 becomes_value a b = assign_member a (codes "value") no_exprs b
+
+-- a.Value(1 \ 0, 1)
+abbrev pub half_at : Expr → Expr
+half_at a = member type.variant a (codes "value") (pair half (n 1))
 
 abbrev nothing : Expr
 nothing = e type.object (constant (object Nothing))

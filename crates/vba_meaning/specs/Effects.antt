@@ -30,7 +30,7 @@ use Rattle.error_frames.specs.Resume as resumption
 use Rattle.bound_project.specs.Expressions.{Variable, ErrMember, err_number, err_source, err_description}
 use Rattle.bound_project.specs.Statements.{Handling, passed_on, skipped, handled_at}
 use Rattle.bound_project.specs.Project.{Declarations, Module, no_name, procedure_at}
-use Rattle.vba_meaning.specs.Paths.{Path}
+use Rattle.vba_meaning.specs.Paths.{Root, in_object, Path}
 use Rattle.vba_meaning.specs.Memory.{Error, Why, stop_said, outside, Slot, value, path, Loop, Kept, only, Memory, top, with_top, found, without, put, value_at, path_of, is_locked, no_error, number_or}
 use Rattle.vba_meaning.specs.References.{hold, displaced, replaced, kept_value, object_at}
 use Rattle.vba_values.specs.Messages.{message_of}
@@ -158,7 +158,8 @@ read_value (Some v) m = Fine v (hold v m)
 abbrev pub read_path : Path → Memory → Effect Val
 read_path p m = read_value (value_at m p) m
 
--- whether a value may be replaced: there is one, and no frame holds a path through an array there
+-- whether a value may be replaced: there is one, and no frame holds a path through an array there; an object that an
+-- index gave has no place of its own
 abbrev pub has_parts : Val → Bool
 has_parts (array bounds of items) = true
 has_parts (udt number fields) = true
@@ -169,7 +170,11 @@ replaceable_by p None m = Bad-at 9 m
 replaceable_by p (Some old) m = if has_parts old && is_locked m p then Bad-at 10 m else Fine old m
 
 abbrev pub replaceable : Path → Memory → Effect Val
-replaceable p m = replaceable_by p (value_at m p) m
+replaceable p m = at p.root
+  where
+    at : Root → Effect Val
+    at (in_object o) = Bad-at 438 m
+    at root = replaceable_by p (value_at m p) m
 
 -- an array that is declared with bounds is never replaced by another one
 abbrev pub assignable : Path → Memory → Effect Val
@@ -282,7 +287,8 @@ abbrev pub stepped : Option Loop → Variable → Memory → Effect Bool
 stepped None x m = Bad-at 92 m
 stepped (Some l) x m =
     on_fine (read_path (path_of m x) m) (λ v m1.
-    on_fine (operated op.Add l.compare x.of l.step.of v l.step.value m1) (λ w m2. counted x w l m2))
+    on_fine (plain v m1) (λ a m2.
+    on_fine (operated op.Add l.compare x.of l.step.of a l.step.value m2) (λ w m3. counted x w l m3)))
 
 -- Next adds the step
 abbrev pub next_round : Variable → ℕ → Memory → Effect Bool

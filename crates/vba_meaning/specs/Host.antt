@@ -1,5 +1,5 @@
 -- Host objects: their members, and what writes cells, by the host's tables.
-use Rattle.std.specs.Prelude.{ℕ, zero, suc, ◌+◌, ◌*◌, ◌-◌, min, max, nat_lt, ◌==◌, ◌&&◌, ℤ, pos, ◌-ℤ◌, List, [], ◌∷◌, length, Bool, true, false, if◌then◌else◌, Result, slice_index_or}
+use Rattle.std.specs.Prelude.{ℕ, zero, suc, ◌+◌, ◌*◌, ◌-◌, min, max, nat_lt, ◌==◌, ◌&&◌, ℤ, pos, ◌-ℤ◌, List, [], ◌∷◌, length, Bool, true, false, if◌then◌else◌, Option, Some, Result, slice_index_or}
 use Rattle.vba_base.specs.Fold.{folded}
 use Rattle.vba_values.specs.declared.fault.Bad.{Bad}
 use Rattle.vba_values.specs.declared.fault.OutKind.TheVariants as limit
@@ -28,9 +28,10 @@ use Rattle.sheet_host.specs.Size.{sheet_rows, sheet_columns}
 use Rattle.sheet_host.specs.Writing.{cells_of}
 use Rattle.bound_project.specs.Expressions.{err_number, err_source, err_description}
 use Rattle.bound_project.specs.Project.{Declarations}
-use Rattle.vba_meaning.specs.Memory.{Memory, outside}
-use Rattle.vba_meaning.specs.Effects.{Event, Effect, Fine, Bad-at, Out, Tell, Cell, on_fine, done, answered, plain, err_of, err_off, is_true, range_value, area_in}
-use Rattle.vba_meaning.specs.Arrays.{number_in, indexed}
+use Rattle.vba_meaning.specs.Paths.{Root, in_object, Path, object_path}
+use Rattle.vba_meaning.specs.Memory.{Memory, outside, value_at as value_at_path}
+use Rattle.vba_meaning.specs.Effects.{Event, Effect, Fine, Bad-at, Out, Tell, Cell, on_fine, done, answered, plain, err_of, err_off, is_true, range_value, area_in, assigned}
+use Rattle.vba_meaning.specs.Arrays.{number_in, indexed, element_at}
 
 -- ---- what is where
 
@@ -268,6 +269,29 @@ written_default (object (Host (host.Area s t l r c))) v m = area_written (area_i
 written_default (object (Host host.Sheets)) v m = Bad-at 449 m
 written_default (object o) v m = Bad-at 438 m
 written_default w v m = Bad-at 424 m
+
+-- ---- places that numbers lead to
+
+-- an array's element, or the item of an object, which is no variable ([MS-VBAL] 5.6.13)
+abbrev pub path_to : Val → Path
+path_to (object o) = object_path o
+path_to v = object_path Nothing
+
+abbrev pub place_at : Path → List Val → Memory → Effect Path
+place_at p vs m = at (value_at_path m p)
+  where
+    at : Option Val → Effect Path
+    at (Some (object o)) = on_fine (item_by (object o) vs m) (λ w m1. Fine (path_to w) m1)
+    at found = element_at p vs m
+
+-- Let at a place: an object gives way to its default value, and of an object that an index gave the default member is
+-- written ([MS-VBAL] 5.4.3.8)
+abbrev pub assigned_at : Path → Val → Memory → Effect (Unit {0})
+assigned_at p v m = at p.root
+  where
+    at : Root → Effect (Unit {0})
+    at (in_object o) = written_default (object o) v m
+    at root = on_fine (plain v m) (λ w m1. assigned p w m1)
 
 -- one of the three marks of Application
 abbrev pub with_mark : (number : ℕ) → Bool → Memory → Memory

@@ -15,10 +15,10 @@ use Rattle.bound_project.specs.Project.{Project, class_at, statement_at, next_of
 use Rattle.vba_meaning.specs.Paths.{Path, field_path}
 use Rattle.vba_meaning.specs.Memory.{Error, Ending, Ended, Faulted, Stopped, Going, Slot, value, path, Memory, Object, top, at_statement, frame_left, path_of, result, entered, error_here, number_or, opening}
 use Rattle.vba_meaning.specs.References.{objects_in, objects_in_values, is_last, hold, next_waiting, taken_off, let_held, held_by, let_frame, object_at, as_told, gone, closed}
-use Rattle.vba_meaning.specs.Effects.{Event, Raised, Term, Effect, Fine, Bad-at, Out, Tell, operated, operated_alone, fitted, plain, condition, read_path, assigned, lent, unlent, slot_values, packed, reordered, show_value, printed, loop_off, loop_on, next_round, keep, selected, fits, fits_between, gone_sub, returned_sub, policy_of, err_off, policy_on, handler_off, failed_statement, resumed, taken_by, with_taken, raised_by, err_of, set_object, stop_here}
-use Rattle.vba_meaning.specs.Arrays.{indexed, part_of, element_at, redimmed, erased, keep_path, block_over, dot_at, each_off, each_begun, each_next}
+use Rattle.vba_meaning.specs.Effects.{Event, Raised, Term, Effect, Fine, Bad-at, Out, Tell, operated, operated_alone, fitted, plain, condition, read_path, lent, unlent, slot_values, packed, reordered, show_value, printed, loop_off, loop_on, next_round, keep, selected, fits, fits_between, gone_sub, returned_sub, policy_of, err_off, policy_on, handler_off, failed_statement, resumed, taken_by, with_taken, raised_by, err_of, set_object, stop_here}
+use Rattle.vba_meaning.specs.Arrays.{part_of, redimmed, erased, keep_path, block_over, dot_at, each_off, each_begun, each_next}
 use Rattle.vba_meaning.specs.Objects.{compared, typed_as, set_at}
-use Rattle.vba_meaning.specs.Host.{first_sheet, member_there, member_called, written_default, member_assigned}
+use Rattle.vba_meaning.specs.Host.{first_sheet, item_by, member_there, member_called, written_default, place_at, assigned_at, member_assigned}
 use Rattle.vba_meaning.specs.Library.{library_called, bound_at, plain_if_any}
 
 -- the memory, and how many turns were begun
@@ -91,7 +91,7 @@ abbrev mutual
   eval_node not_given callee pr s = Got missing s
   eval_node (constant v) callee pr s = Got v s
   eval_node (load x) callee pr s = eval_place x callee pr s >>= λ p s1. perform (read_path p) s1
-  eval_node (element_value e es) callee pr s = eval e callee pr s >>= λ v s1. eval_list es callee pr s1 >>= λ xs s2. perform (indexed v (slot_values xs)) s2
+  eval_node (element_value e es) callee pr s = eval e callee pr s >>= λ v s1. eval_list es callee pr s1 >>= λ xs s2. perform (item_by v (slot_values xs)) s2
   eval_node (field_value e i) callee pr s = eval e callee pr s >>= λ v s1. perform (part_of i v) s1
   eval_node (unary o a) callee pr s = eval a callee pr s >>= λ v s1. perform (operated_alone o (operand_type a) v) s1
   eval_node (binary o compare a b) callee pr s =
@@ -115,8 +115,8 @@ abbrev mutual
   pub eval_place : Lvalue → Callee → Project → State → Res Path
   eval_place (variable x) callee pr s = Got (path_of s.memory x) s
   -- a variable is found once the numbers are evaluated; any other place before, and its path waits
-  eval_place (item x es) callee pr s = eval_list es callee pr s >>= λ xs s1. perform (element_at (path_of s1.memory x) (slot_values xs)) s1
-  eval_place (element x es) callee pr s = eval_place x callee pr s >>= λ q s1. eval_list es callee pr s1 >>= λ xs s2. perform (element_at q (slot_values xs)) s2
+  eval_place (item x es) callee pr s = eval_list es callee pr s >>= λ xs s1. perform (place_at (path_of s1.memory x) (slot_values xs)) s1
+  eval_place (element x es) callee pr s = eval_place x callee pr s >>= λ q s1. eval_list es callee pr s1 >>= λ xs s2. perform (place_at q (slot_values xs)) s2
   eval_place (field x i of bounded) callee pr s = eval_place x callee pr s >>= λ q s1. Got (field_path q i of bounded) s1
   eval_place (kept_place i) callee pr s = perform (dot_at i) s
 
@@ -170,7 +170,7 @@ erases (an_array x xs) callee pr s =
 
 -- a statement's effect and the number of the statement to go on at, for the statement of this number in this procedure
 abbrev pub exec : Action → Callee → Project → (procedure statement following : ℕ) → State → Res ℕ
-exec (assign x e) callee pr p i k s = eval e callee pr s >>= λ v s1. eval_place x callee pr s1 >>= λ q s2. perform (assigned q v) s2 >>= λ u s3. Got k s3
+exec (assign x e) callee pr p i k s = eval e callee pr s >>= λ v s1. eval_place x callee pr s1 >>= λ q s2. perform (assigned_at q v) s2 >>= λ u s3. Got k s3
 exec (assign_none x e) callee pr p i k s = eval e callee pr s >>= λ v s1. eval x callee pr s1 >>= λ w s2. Got k s2
 exec (set x e) callee pr p i k s = eval e callee pr s >>= λ v s1. eval_place x callee pr s1 >>= λ q s2. perform (set_at q v) s2 >>= λ u s3. Got k s3
 exec (assign_default x e) callee pr p i k s = eval e callee pr s >>= λ v s1. eval x callee pr s1 >>= λ w s2. perform (written_default w v) s2 >>= λ u s3. Got k s3

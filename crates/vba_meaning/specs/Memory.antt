@@ -3,14 +3,14 @@ use Rattle.std.specs.Prelude.{ℕ, ◌==◌, nat_lt, ℤ, pos, List, [], ◌∷�
 use Rattle.vba_values.specs.declared.types.Compare.{Compare}
 use Rattle.vba_values.specs.declared.fault.OutKind.{OutKind}
 use Rattle.vba_values.specs.Types.{Declared}
-use Rattle.vba_values.specs.Val.{Val, empty}
+use Rattle.vba_values.specs.Val.{Val, empty, object}
 use Rattle.arrays_udt.specs.declared.paths.PathStep.{PathStep}
 use Rattle.arrays_udt.specs.Paths.{path_value, with_path}
 use Rattle.error_frames.specs.declared.frame.FrameErrors.{FrameErrors}
 use Rattle.sheet_host.specs.Books.{Sheets}
 use Rattle.error_frames.specs.Decision as decision
 use Rattle.bound_project.specs.Expressions.{Storage, local, shared, Variable}
-use Rattle.vba_meaning.specs.Paths.{Root, in_frame, in_project, in_block, Path, plain_steps, any_below}
+use Rattle.vba_meaning.specs.Paths.{Root, in_frame, in_project, in_block, in_object, Path, plain_steps, any_below}
 use Rattle.bound_project.specs.Project.{Declarations, Procedure, procedure_at, first_value, first_values}
 
 -- an error on its way, and what Err keeps of the last one: its number, a source and a description where they were
@@ -178,11 +178,13 @@ abbrev pub root_value : Memory → Root → Option Val
 root_value m (in_frame k x) = value_in (slice_get (frame_at m.frames k).slots x)
 root_value m (in_project x) = slice_get m.shared x
 root_value m (in_block k i) = value_kept (found (frame_at m.frames k).keeps i)
+root_value m (in_object o) = Some (object o)
 
 abbrev pub with_root : Memory → Root → Val → Memory
 with_root m (in_frame k x) v = record m { frames = with_slot m.frames k x (value v) }
 with_root m (in_project x) v = record m { shared = slice_set m.shared x v }
 with_root m (in_block k i) v = record m { frames = with_kept m.frames k i (only v) }
+with_root m (in_object o) v = m
 
 abbrev pub inner_or_none : Option Val → List PathStep → Option Val
 inner_or_none None steps = None
@@ -255,12 +257,21 @@ abbrev pub calling : List Slot → List Frame → List Frame
 calling xs [] = []
 calling xs (f ∷ fs) = record f { pending = without_paths xs f.pending } ∷ fs
 
+-- what a parameter has: an object that an index gave is no variable, so it is copied
+abbrev pub received : Slot → Slot
+received (value v) = value v
+received (path p) = at p.root
+  where
+    at : Root → Slot
+    at (in_object o) = value (object o)
+    at root = path p
+
 abbrev pub own_slots : Declarations → Procedure → List Slot
 own_slots d p = value (first_value d p.result) ∷ map value (first_values d p.locals)
 
 -- a call of a procedure stands
 abbrev pub entered : Declarations → Bool → ℕ → Val → List Slot → Memory → Memory
-entered d called p me xs m = record m { frames = record no_frame { called = called; procedure = p; me = me; slots = own_slots d (procedure_at d p) ++ xs } ∷ calling xs m.frames }
+entered d called p me xs m = record m { frames = record no_frame { called = called; procedure = p; me = me; slots = own_slots d (procedure_at d p) ++ map received xs } ∷ calling xs m.frames }
 
 -- ---- Err
 

@@ -1,16 +1,19 @@
 -- Paths: where values are. A path is no value; frames hold paths, and what they lead through can't be replaced.
 use Rattle.std.specs.Prelude.{ℕ, ◌==◌, List, [], ◌∷◌, ◌++◌, Bool, false, not, ◌&&◌, ◌||◌}
+use Rattle.vba_values.specs.declared.object.ObjRef.{ObjRef}
 use Rattle.vba_values.specs.Types.{Declared}
+use Rattle.vba_values.specs.Types as type
 use Rattle.arrays_udt.specs.declared.paths.PathStep.{PathStep}
 use Rattle.arrays_udt.specs.declared.paths.PathStep.TheVariants.{Field, Element}
 use Rattle.arrays_udt.specs.Paths.{same_step}
 
--- where a path begins: a variable of a frame, whose number is that of the frames below it, or of the project; or the
--- value that a With block of a frame keeps
+-- where a path begins: a variable of a frame, whose number is that of the frames below it, or of the project; the value
+-- that a With block of a frame keeps; or an object that an index gave, which no variable has
 pub data Root : Type 0 where
   in_frame : (frame variable : ℕ) → Root
   in_project : ℕ → Root
   in_block : (frame header : ℕ) → Root
+  in_object : ObjRef → Root
 
 -- a step, and whether it leads into an array that can be replaced: one that isn't declared with bounds
 pub record Step : Type 0 where
@@ -35,6 +38,10 @@ element_path p offset of = record { root = p.root; steps = p.steps ++ record { s
 
 abbrev pub field_path : Path → (field : ℕ) → Declared → (bounded : Bool) → Path
 field_path p i of bounded = record { root = p.root; steps = p.steps ++ record { step = Field i; moves = false } ∷ []; of = of; bounded = bounded }
+
+-- where an object is that no variable has
+abbrev pub object_path : ObjRef → Path
+object_path o = record { root = in_object o; steps = []; of = type.variant; bounded = false }
 
 abbrev pub same_root : Root → Root → Bool
 same_root (in_frame k x) (in_frame j y) = k == j && x == y

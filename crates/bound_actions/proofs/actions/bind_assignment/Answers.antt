@@ -6,5 +6,5 @@ use Rattle.bound_actions.proofs.actions.bind_assignment.Goals as goal
 
 pub returns : goal.returns
 returns c =
-    action_assigned (env_view c.args.env) (expression_view c.args.value.now) (expression_view c.args.place.now) (draft_view c.args.draft.now) (draft_view c.bind_assigned.new.draft) (draft_view c.assign_to.new.draft) c.in_ok-kind.kind
-    c.requires.empty c.in_ok-bind_assigned.ensures c.in_ok-kind.ensures
+    action_assigned (env_view c.args.env) (expression_view c.args.value.now) (expression_view c.args.place.now) (draft_view c.args.draft.now) (draft_view c.bind_assigned.new.draft) (draft_view c.assign_to.new.draft) c.in_ok-done.done.kind c.in_ok-done.done.is_given
+    c.requires.empty c.in_ok-bind_assigned.ensures c.in_ok-done.ensures

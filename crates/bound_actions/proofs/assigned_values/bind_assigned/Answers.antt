@@ -14,11 +14,11 @@ returns c =
     let value = expression_view c.args.value.now in
     let d = draft_view c.args.draft.now in
     let f = draft_view c.tree_of.new.draft in
-    let e = draft_view c.push_object.new.draft in
-    on_ok_weaker c.push_object.result (λ h. value_bound env place value c.in_ok-tree.tree c.in_ok-given.given d f e c.in_ok-given.ensures c.in_ok-tree.ensures h) c.push_object.ensures
+    let e = draft_view c.push_assigned.new.draft in
+    on_ok_weaker c.push_assigned.result (λ h. value_bound env place value c.in_ok-tree.tree c.in_ok-given.given d f e c.in_ok-given.ensures c.in_ok-tree.ensures h) c.push_assigned.ensures
 
-pub returns-then-not-refers : goal.returns-then-not-refers
-returns-then-not-refers c =
+pub returns-then-is_plain : goal.returns-then-is_plain
+returns-then-is_plain c =
     let env = env_view c.args.env in
     let place = expression_view c.args.place.now in
     let value = expression_view c.args.value.now in

@@ -1,28 +1,30 @@
-use Rattle.std.proofs.Common.{[], subst}
+use Rattle.std.proofs.Common.{true, subst}
 use Rattle.std.specs.Prelude.{option_map}
 use Rattle.std.proofs.lemmas.Result.{IfOk-weaker}
 use Rattle.bound_project.specs.DraftView.{draft_view}
 use Rattle.vba_expression.specs.View.{view}
 use Rattle.vba_expression.specs.Tree.{Expr}
 use Rattle.binder.specs.ExpressionsBound.{term_of}
-use Rattle.bound_actions.specs.Called.{AssignsTo, Lets}
+use Rattle.bound_actions.specs.Called.{AssignsTo}
 use Rattle.bound_actions.specs.Members.{AssignsTree, NamedBy}
 use Rattle.bound_terms.specs.View.{env_view}
-use Rattle.bound_actions.proofs.Assigned.{assigns_bare, assigns_tree}
+use Rattle.bound_actions.proofs.Assigned.{assigns_bare, assigns_tree, done_is}
 use Rattle.bound_actions.proofs.assigning.assign_bare.Goals as goal
 
 pub let_bare-requires-clause-writer : goal.let_bare-requires-clause-writer
 let_bare-requires-clause-writer c = c.in-Some.ensures.writer
 
-pub returns-in-Some : goal.returns-in-Some
-returns-in-Some c =
+pub returns-in_ok-kind-in-Some : goal.returns-in_ok-kind-in-Some
+returns-in_ok-kind-in-Some c =
     let env = env_view c.args.env in
     let place = view c.args.place.now in
     let w = c.in-Some.writer in
+    let k = c.in_ok-kind-in-Some.kind in
     let d = draft_view c.args.draft.now in
     let f = draft_view c.tree_of.new.draft in
     let e = draft_view c.let_bare.new.draft in
-    IfOk-weaker c.let_bare.result (λ k. Lets env w.routine [] f e k) (λ k. AssignsTo env place d e k) (λ k h. assigns_bare env place c.in_ok-tree.tree w d f e k c.requires.bare c.in_ok-tree.ensures c.in-Some.ensures h) c.let_bare.ensures
+    done_is env place d e k c.as_given.result.kind true c.as_given.result.is_given c.as_given.ensures.kind c.as_given.ensures.given
+    (assigns_bare env place c.in_ok-tree.tree w d f e k c.requires.bare c.in_ok-tree.ensures c.in-Some.ensures c.in_ok-kind-in-Some.ensures)
 
 pub returns-in-None : goal.returns-in-None
 returns-in-None c =
@@ -34,5 +36,5 @@ returns-in-None c =
     let e = draft_view c.assign_tree.new.draft in
     let name = option_map (λ name. name.now) c.member_name.result in
     let A : Expr → Type 0 = λ t. NamedBy name (term_of env t) in
-    IfOk-weaker c.assign_tree.result (λ k. AssignsTree x name f e k) (λ k. AssignsTo env place d e k)
-    (λ k h. assigns_tree env place x name d f e k c.requires.bare (subst A c.nodes.ensures (c.member_name.ensures env)) c.in_ok-tree.ensures h) c.assign_tree.ensures
+    IfOk-weaker c.assign_tree.result (λ done. AssignsTree x name f e done.kind done.is_given) (λ done. AssignsTo env place d e done.kind done.is_given)
+    (λ done h. assigns_tree env place x name d f e done.kind done.is_given c.requires.bare (subst A c.nodes.ensures (c.member_name.ensures env)) c.in_ok-tree.ensures h) c.assign_tree.ensures

@@ -1,11 +1,10 @@
-use Rattle.std.proofs.lemmas.Result.{IfOk-weaker}
+use Rattle.std.proofs.Common.{true, refl, sym, ◌∙◌}
 use Rattle.bound_project.specs.DraftView.{draft_view}
 use Rattle.vba_expression.specs.Nodes.{tree_in}
-use Rattle.bound_actions.specs.Called.{AssignsTo, LetsOn}
-use Rattle.bound_actions.specs.Members.{AssignsItem}
+use Rattle.bound_actions.specs.Targets.{is_variant_term}
 use Rattle.bound_terms.specs.View.{env_view}
-use Rattle.bound_actions.proofs.Assigned.{assigns_member, assigns_split, assigns_place}
-use Rattle.bound_actions.proofs.NodeTrees.{continued, still_named}
+use Rattle.bound_actions.proofs.Assigned.{assigns_indexed, assigns_member, assigns_split, done_is}
+use Rattle.bound_actions.proofs.NodeTrees.{still_named}
 use Rattle.bound_actions.proofs.assigning.assign_split.Goals as goal
 
 pub let_given-requires-clause-writer : goal.let_given-requires-clause-writer
@@ -20,25 +19,13 @@ returns-in-Some c =
     let env = env_view c.args.env in
     let ns = c.args.nodes.now in
     let w = c.in-Some.writer in
+    let k = c.in_ok-kind.kind in
     let d = draft_view c.args.draft.now in
     let f = draft_view c.nodes_tree.new.draft in
     let g = draft_view c.callee_term.new.draft in
     let e = draft_view c.let_given.new.draft in
-    IfOk-weaker c.let_given.result (λ k. LetsOn env w.routine c.args.split.arguments.now g e k) (λ k. AssignsTo env (tree_in ns) d e k)
-    (λ k h. assigns_split env c.args.split ns c.in_ok-tree.tree c.in_ok-term.term w d f g e k c.requires.split c.in_ok-tree.ensures c.in_ok-term.ensures c.in-Some.ensures h) c.let_given.ensures
-
-pub returns-in_ok-assign-in-None : goal.returns-in_ok-assign-in-None
-returns-in_ok-assign-in-None c =
-    let env = env_view c.args.env in
-    let ns = c.args.nodes.now in
-    let x = c.in_ok-tree.tree in
-    let y = c.in_ok-more-in-None.more in
-    let d = draft_view c.args.draft.now in
-    let f = draft_view c.nodes_tree.new.draft in
-    let g = draft_view c.callee_term.new.draft in
-    let h = draft_view c.continue_tree.new.draft in
-    let leaves = continued env c.args.split.target.now c.args.split.closed.now ns x y d f g h c.requires.split.is c.in_ok-tree.ensures c.in_ok-term.ensures.grown c.in_ok-term.ensures.pieces c.in_ok-more-in-None.ensures in
-    assigns_place env (tree_in ns) y d h (draft_view c.assign.new.draft) leaves c.in_ok-assign-in-None.ensures
+    done_is env (tree_in ns) d e k c.as_given.result.kind true c.as_given.result.is_given c.as_given.ensures.kind c.as_given.ensures.given
+    (assigns_split env c.args.split ns c.in_ok-tree.tree c.in_ok-term.term w d f g e k c.requires.split c.in_ok-tree.ensures c.in_ok-term.ensures c.in-Some.ensures c.in_ok-kind.ensures)
 
 pub returns-then-takes_item : goal.returns-then-takes_item
 returns-then-takes_item c =
@@ -46,9 +33,27 @@ returns-then-takes_item c =
     let ns = c.args.nodes.now in
     let x = c.in_ok-tree.tree in
     let y = c.in_ok-term.term in
+    let k = c.in_ok-kind-2.kind in
+    let done = c.as_given-then-takes_item in
     let d = draft_view c.args.draft.now in
     let f = draft_view c.nodes_tree.new.draft in
     let g = draft_view c.callee_term.new.draft in
     let e = draft_view c.assign_item.new.draft in
-    IfOk-weaker c.assign_item.result (λ k. AssignsItem env x.place y c.args.split.arguments.now g e k) (λ k. AssignsTo env (tree_in ns) d e k)
-    (λ k h. assigns_member env c.args.split ns x y d f g e k c.requires.split c.in_ok-tree.ensures c.in_ok-term.ensures h) c.assign_item.ensures
+    done_is env (tree_in ns) d e k done.result.kind true done.result.is_given done.ensures.kind done.ensures.given
+    (assigns_member env c.args.split ns x y d f g e k c.requires.split c.in_ok-tree.ensures c.in_ok-term.ensures c.in_ok-kind-2.ensures)
+
+pub returns : goal.returns
+returns c =
+    let env = env_view c.args.env in
+    let ns = c.args.nodes.now in
+    let x = c.in_ok-tree.tree in
+    let y = c.in_ok-term.term in
+    let k = c.in_ok-kind-3.kind in
+    let d = draft_view c.args.draft.now in
+    let f = draft_view c.nodes_tree.new.draft in
+    let g = draft_view c.callee_term.new.draft in
+    let h = draft_view c.continue_tree.new.draft in
+    let e = draft_view c.assign_indexed.new.draft in
+    done_is env (tree_in ns) d e k k (is_variant_term y) c.is_variant_term.result refl c.is_variant_term.ensures
+    (assigns_indexed env c.args.split ns x c.in_ok-more.more y d f g h e k c.requires.split c.if-not-adds_one.ensures c.in_ok-tree.ensures c.in_ok-term.ensures c.in_default.ensures (sym c.takes_item.ensures ∙ c.if-takes_item.false)
+    c.in_ok-more.ensures c.in_ok-kind-3.ensures)

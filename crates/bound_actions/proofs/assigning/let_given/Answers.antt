@@ -1,13 +1,22 @@
+use Rattle.std.proofs.Common.{sym, subst}
 use Rattle.bound_project.specs.DraftView.{draft_view}
+use Rattle.bound_project.specs.declared.statement.ActionKind.{ActionKind}
 use Rattle.declared_names.specs.View.{written_view}
 use Rattle.bound_terms.specs.View.{env_view}
+use Rattle.bound_actions.specs.Called.{LetsOn}
 use Rattle.bound_actions.proofs.Assigned.{lets_given}
 use Rattle.bound_actions.proofs.assigning.let_given.Goals as goal
 
 pub returns : goal.returns
 returns c =
+    let env = env_view c.args.env in
     let w = c.args.writer in
     let i = c.requires.writer.entry in
-    lets_given (env_view c.args.env) w c.in_ok-procedure.procedure c.in_ok-parameters.parameters.now c.in-Some.front.now c.in-Some.last.now c.args.nodes.now c.in_ok-_written._written c.in_ok-_written.arguments
-    (draft_view c.args.draft.now) (draft_view c.push_arguments.new.draft) c.requires.writer c.in_ok-procedure.ensures (λ placed. c.in_ok-parameters.ensures i.entry (written_view w.written) placed i.at i.what) c.in-Some.ensures.cases.0
-    c.in_ok-_written.ensures
+    let ns = c.args.nodes.now in
+    let d = draft_view c.args.draft.now in
+    let e = draft_view c.push_arguments.new.draft in
+    let P : ActionKind → Type 0 = λ (k : ActionKind). LetsOn env w.routine ns d e k in
+    subst P (sym c.property_kind.ensures)
+    (lets_given env w c.in_ok-procedure.procedure c.in_ok-parameters.parameters.now c.in-Some.front.now c.in-Some.last.now ns c.in_ok-_written._written c.in_ok-_written.arguments
+    d e c.requires.writer c.in_ok-procedure.ensures (λ placed. c.in_ok-parameters.ensures i.entry (written_view w.written) placed i.at i.what) c.in-Some.ensures.cases.0
+    c.in_ok-_written.ensures)

@@ -12,10 +12,10 @@ returns-in_ok-with_place-in-Some c =
 
 pub returns-in_ok-push_given-in-None : goal.returns-in_ok-push_given-in-None
 returns-in_ok-push_given-in-None c =
-    with_value_bound (env_view c.args.env) (view c.args.expression.now) c.in_ok-tree.tree c.in_ok-push_given-in-None.field-0 (draft_view c.args.draft.now) (draft_view c.tree_of.new.draft) (draft_view c.push_given.new.draft) c.requires.empty c.in_ok-tree.ensures
+    with_value_bound (env_view c.args.env) (view c.args.expression.now) c.in_ok-tree.tree c.in_ok-push_given-in-None.field-0 (draft_view c.args.draft.now) (draft_view c.tree_of.new.draft) (draft_view c.push_given-in-None.new.draft) c.requires.empty c.in_ok-tree.ensures
     (sym c.in-None.ensures) c.in_ok-push_given-in-None.ensures
 
-pub returns-then-is_host_type : goal.returns-then-is_host_type
-returns-then-is_host_type c =
-    with_object_bound (env_view c.args.env) (view c.args.expression.now) c.in_ok-tree.tree c.in-Some.at c.in_ok-push_reference-in-Some.field-0 (draft_view c.args.draft.now) (draft_view c.tree_of.new.draft)
-    (draft_view c.push_reference.new.draft) c.requires.empty c.in_ok-tree.ensures (sym c.in-Some.ensures) (sym c.is_host_type.ensures ∙ c.if-is_host_type.true) c.in_ok-push_reference-in-Some.ensures
+pub returns-then-may_be_object : goal.returns-then-may_be_object
+returns-then-may_be_object c =
+    with_object_bound (env_view c.args.env) (view c.args.expression.now) c.in_ok-tree.tree c.in-Some.at c.in_ok-push_given-in-Some.field-0 (draft_view c.args.draft.now) (draft_view c.tree_of.new.draft)
+    (draft_view c.push_given.new.draft) c.requires.empty c.in_ok-tree.ensures (sym c.in-Some.ensures) (sym c.may_be_object.ensures ∙ c.if-may_be_object.true) c.in_ok-push_given-in-Some.ensures

@@ -1,13 +1,8 @@
 use Rattle.std.proofs.Common.{sym}
 use Rattle.std.proofs.lemmas.Result.{on_ok_weaker}
 use Rattle.bound_project.specs.DraftView.{draft_view}
-use Rattle.bound_calls.proofs.Arguing.{passed_lent, passed_anyway, nothing_lent}
+use Rattle.bound_calls.proofs.Arguing.{passed_anyway, nothing_lent}
 use Rattle.bound_calls.proofs.arguments.pass_by_reference.Goals as goal
-
-pub returns-in-Some : goal.returns-in-Some
-returns-in-Some c =
-    on_ok_weaker c.lend_to.result
-    (λ h. passed_lent c.args.parameter.now c.args.tree c.in-Some.lent (draft_view c.args.draft.now) (draft_view c.lend_to.new.draft) c.requires.one c.requires.reference (sym c.in-Some.ensures) h) c.lend_to.ensures
 
 pub returns-in-None : goal.returns-in-None
 returns-in-None c =

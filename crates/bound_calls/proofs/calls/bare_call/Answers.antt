@@ -1,4 +1,4 @@
-use Rattle.std.proofs.Common.{refl, sym, subst, Option}
+use Rattle.std.proofs.Common.{sym, subst, Option}
 use Rattle.bound_project.specs.DraftView.{draft_view}
 use Rattle.bound_calls.specs.declared.term.Ending.{Ending}
 use Rattle.bound_calls.specs.Taking.{CallsBare}
@@ -9,6 +9,6 @@ pub returns : goal.returns
 returns c =
     let r = c.args.routine in
     let d = draft_view c.args.draft.now in
-    let e = draft_view c.call_ending.new.draft in
+    let e = draft_view c.routine_ending.new.draft in
     let A : Option Ending → Type 0 = λ o. CallsBare r d e o in
-    subst A (sym c.no_object.ensures) (calls_bare r (record { left = r.parameters; count = 0 }) d e c.in_ok-ending.ending refl refl c.in_ok-ending.ensures)
+    subst A (sym c.no_object.ensures) (calls_bare r d e c.in_ok-ending.ending c.in_ok-ending.ensures)

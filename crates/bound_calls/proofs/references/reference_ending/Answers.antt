@@ -4,16 +4,16 @@ use Rattle.std.proofs.lemmas.Result.{IfOk-weaker}
 use Rattle.bound_project.specs.DraftView.{draft_view}
 use Rattle.bound_calls.specs.declared.term.Term.{Term}
 use Rattle.bound_calls.specs.declared.term.Term.TheVariants as term
-use Rattle.bound_calls.specs.References.{TakesReference, refers}
+use Rattle.bound_calls.specs.References.{TakesReference, may_refer}
 use Rattle.bound_calls.specs.Standing.{TermNamed}
-use Rattle.bound_calls.specs.Taking.{ReadsMember}
-use Rattle.bound_calls.proofs.Referring.{takes_place, takes_member, takes_sheet_member, takes_err, err_reference}
+use Rattle.bound_calls.specs.Taking.{CallsRoutine, ReadsMember}
+use Rattle.bound_calls.proofs.Referring.{takes_place, takes_routine, takes_member, takes_sheet_member, takes_err, err_reference}
 use Rattle.bound_project.specs.declared.node.NodeKind.TheVariants as node
 use Rattle.bound_calls.proofs.Taking.{named_still}
 use Rattle.bound_calls.proofs.references.reference_ending.Goals as goal
 
 Refers : Term → Type 0
-Refers t = refers t ≡ true
+Refers t = may_refer t ≡ true
 
 pub returns-in_ok-push_node-in-Place : goal.returns-in_ok-push_node-in-Place
 unfolding Refers
@@ -52,3 +52,12 @@ returns-in_ok-push_sheet-in-SheetMember c =
 
 pub returns-in-Err : goal.returns-in-Err
 returns-in-Err c = (let P : Term → Type 0 = λ t. TakesReference t (draft_view c.args.draft.now) (draft_view c.args.draft.now) err_reference in subst P (sym c.in-Err.is) (takes_err (draft_view c.args.draft.now)))
+
+pub returns-in-Routine : goal.returns-in-Routine
+unfolding Refers
+returns-in-Routine c =
+    let r = c.in-Routine.routine in
+    let d = draft_view c.args.draft.now in
+    let e = draft_view c.routine_ending.new.draft in
+    let P : Term → Type 0 = λ t. IfOk c.routine_ending.result (λ v. TakesReference t d e v) in
+    subst P (sym c.in-Routine.is) (IfOk-weaker c.routine_ending.result (λ v. CallsRoutine r d e v) (λ v. TakesReference (term.Routine r) d e v) (λ v h. takes_routine r d e v (subst Refers c.in-Routine.is c.requires.refers) h) c.routine_ending.ensures)

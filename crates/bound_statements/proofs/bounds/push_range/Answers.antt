@@ -1,4 +1,4 @@
-use Rattle.binder.specs.ExpressionsBound.{bound_value}
+use Rattle.binder.specs.ExpressionsBound.{bound_operand}
 use Rattle.binder.specs.Options.{from_two}
 use Rattle.binder.specs.StatementsBound.{redim_bounds}
 use Rattle.bound_project.specs.DraftView.{draft_view}
@@ -15,5 +15,5 @@ returns c =
     let high = expression_view c.args.upper.now in
     λ all rest base to_word read.
     c.in_ok-both.ensures all (redim_bounds env rest) base
-    (c.in_ok-low.ensures all (from_two also (bound_value env high) (redim_bounds env rest)) base
+    (c.in_ok-low.ensures all (from_two also (bound_operand env high) (redim_bounds env rest)) base
     (range_read env low high to_word rest all c.args.before base (draft_view c.args.draft.now) read))

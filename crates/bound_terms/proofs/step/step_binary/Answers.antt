@@ -1,15 +1,18 @@
-use Rattle.std.proofs.Common.{◌∷◌, sym, ap, ◌∙◌}
+use Rattle.std.proofs.Common.{sym, subst}
 use Rattle.std.specs.Prelude.{reverse}
+use Rattle.std.proofs.lemmas.Result.{on_ok_weaker}
+use Rattle.vba_expression.specs.declared.node.ExpressionNode.TheVariants as node
+use Rattle.vba_expression.specs.declared.operator.BinaryOperator.{BinaryOperator}
+use Rattle.vba_expression.specs.Nodes.{behind_node}
 use Rattle.bound_project.specs.DraftView.{draft_view}
-use Rattle.bound_calls.proofs.Steps.{goes_binary}
+use Rattle.bound_calls.specs.Steps.{Goes}
 use Rattle.bound_terms.proofs.step.step_binary.Goals as goal
 
-pub returns : goal.returns
-returns c =
-    let x = c.in-Some-Tree.right in
-    let between = reverse c.take_item.new.stack.items in
-    let xs = reverse c.take_item-2.new.stack.items in
+pub returns-in-Is : goal.returns-in-Is
+returns-in-Is c =
     let d = draft_view c.args.draft.now in
-    let e = draft_view c.push_operand.new.draft in
-    λ env token compare. goes_binary env c.in-Some-Operand.left x c.args.operator token c.in_ok-of.of c.in_ok-term.term xs (reverse c.args.stack.now.items) between (reverse c.put_item.new.stack.items) d e c.args.compare (sym c.is_same.ensures ∙ c.if-is_same.false) compare
-    (c.in-Some-Tree.ensures ∙ ap (λ i. i ∷ between) c.in-Some-Tree.field-0-is) (c.in-Some-Operand.ensures ∙ ap (λ i. i ∷ xs) c.in-Some-Operand.field-0-is) c.in_ok-put_item.ensures c.requires c.in_ok-of.ensures c.in_ok-term.ensures
+    let e = draft_view c.step_same.new.draft in
+    let xs = reverse c.args.stack.now.items in
+    let ys = reverse c.step_same.new.stack.items in
+    on_ok_weaker c.step_same.result
+    (λ g env token compare. (let A : BinaryOperator → Type 0 = λ o. Goes env d xs e ys (behind_node (node.Binary o token)) in subst A (sym c.in-Is.is) (g env token))) c.step_same.ensures

@@ -1,6 +1,6 @@
 use Rattle.std.proofs.Common.{◌+◌, refl}
 use Rattle.run_memory.specs.View.{memory_view}
-use Rattle.pcode.specs.Machine.{at, then_at}
+use Rattle.pcode.specs.Machine.{then_at}
 use Rattle.pcode_vm.specs.View.{backs_view, operands_view, state_view}
 use Rattle.pcode_vm.specs.declared.backs.Mode.TheVariants as mode
 use Rattle.pcode_vm.proofs.Tellings.{told_raised, told_stopped, told_value}

@@ -1,7 +1,6 @@
 use Rattle.std.proofs.Common.{◌+◌, refl, sym, ap}
 use Rattle.vba_values.specs.View.{view}
 use Rattle.vba_meaning.specs.Meaning.{with_memory}
-use Rattle.vba_meaning.specs.Memory.{value}
 use Rattle.run_memory.specs.View.{memory_view}
 use Rattle.pcode.specs.Machine.{Goes, at, then_push}
 use Rattle.pcode_vm.specs.View.{backs_view, operands_view, state_view}

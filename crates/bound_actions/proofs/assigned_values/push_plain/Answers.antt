@@ -1,0 +1,13 @@
+use Rattle.std.proofs.Common.{Option, subst}
+use Rattle.bound_project.specs.DraftView.{draft_view}
+use Rattle.bound_project.specs.declared.declared_type.DeclaredType.{DeclaredType}
+use Rattle.bound_calls.specs.Steps.{PushesValue}
+use Rattle.bound_actions.proofs.GivenValues.{plain_pushed}
+use Rattle.bound_actions.proofs.assigned_values.push_plain.Goals as goal
+
+pub returns : goal.returns
+returns c =
+    let d = draft_view c.args.draft.now in
+    let e = draft_view c.push_value.new.draft in
+    let A : Option DeclaredType → Type 0 = λ o. PushesValue c.args.tree d e o in
+    λ given. plain_pushed given c.args.tree c.in-Some._of d e c.requires.plain (subst A c.in-Some.is c.in_ok-_of.ensures)

@@ -1,0 +1,209 @@
+//! Places and values that are assigned to, other than members of objects.
+
+ghost use Rattle.std.specs.Prelude.{◌≡◌, true, false, Bool, Option, IfOk, MatchBool};
+ghost use Rattle.vba_words.specs.declared.identifier.Identifier.{Identifier};
+ghost use Rattle.bound_project.specs.DraftView.{draft_view};
+ghost use Rattle.bound_project.specs.Drafts.{NodeNamed};
+ghost use Rattle.bound_project.specs.View.{declared_view};
+ghost use Rattle.binder.specs.StatementsBound as plain;
+ghost use Rattle.binder.specs.Types as types;
+ghost use Rattle.bound_actions.specs.Actions.{may_be_object};
+ghost use Rattle.bound_actions.specs.Members.{AssignsTerm};
+ghost use Rattle.bound_actions.specs.Targets.{AssignsIndexed, EndsObject, element_action, ends_value, is_element_kind, is_variant_term};
+ghost use Rattle.bound_calls.specs.declared.term.Term.TheVariants as term;
+ghost use Rattle.bound_calls.specs.Standing.{TermNamed};
+
+use bound_calls::{Ending, Term, has_object, is_variant, push_node};
+use bound_declarations::NotYet;
+use bound_project::{ActionKind, DeclaredType, Draft, ElementType, NodeKind};
+use declared_names::is_object;
+use vba_base::{NoMemory, OrMemory, Place};
+
+/// Is a type one of what may be an object?
+pub fn may_be_object(of: DeclaredType) -> bool
+    ensures { result ≡ may_be_object of }
+{
+    is_object(of) || is_variant(of)
+}
+
+/// Has an object of a type a default member that is written? Of a Variant the run decides.
+pub fn has_written_default(of: DeclaredType) -> bool
+    ensures { result ≡ plain.has_written_default (declared_view of) }
+{
+    match of {
+        DeclaredType::Plain(ElementType::Object) => true,
+        DeclaredType::Plain(ElementType::Range) => true,
+        DeclaredType::Plain(ElementType::Variant) => true,
+        _ => false,
+    }
+}
+
+/// Is a term a place of type Variant?
+pub fn is_variant_term<'a>(term: Term<'a>) -> bool
+    ensures { result ≡ is_variant_term term.entry }
+{
+    match term {
+        Term::Place { of, .. } => is_variant(of),
+        _ => false,
+    }
+}
+
+/// Ends such a node an element of a value?
+fn is_element(kind: NodeKind) -> bool
+    ensures { result ≡ is_element_kind kind }
+{
+    match kind {
+        NodeKind::ElementValue { .. } => true,
+        _ => false,
+    }
+}
+
+/// Ends such a node a value, other than an element, that may give an object?
+fn ends_value(kind: NodeKind) -> bool
+    ensures { result ≡ ends_value kind }
+{
+    match kind {
+        NodeKind::Load => true,
+        NodeKind::FieldValue { .. } => true,
+        NodeKind::Call { .. } => true,
+        NodeKind::CallInOrder { .. } => true,
+        NodeKind::Library { .. } => true,
+        NodeKind::HostMember { .. } => true,
+        NodeKind::HostObject(_) => true,
+        NodeKind::ActiveSheet => true,
+        _ => false,
+    }
+}
+
+/// Is a value that is no element an object, or what may be one?
+fn gives_object(ending: Ending) -> bool
+    ensures { MatchBool result (EndsObject ending) (Unit {0}) }
+{
+    if !ends_value(ending.kind) {
+        return false;
+    }
+    if is_object(ending.of) {
+        return true;
+    }
+    match has_object(ending) {
+        Some(gives) => gives,
+        None => false,
+    }
+}
+
+/// A place of a type that is no object's, behind the value that it is given.
+fn assign_plain(draft: &mut Draft, at: Ending, place: Place) -> Result<ActionKind, NoMemory>
+    requires named { NodeNamed (draft_view draft.old).tables at.kind }
+    requires plain { types.is_object (declared_view at.of) ≡ false }
+    ensures { IfOk result (λ kind. (bounded lends : Bool) (name : Option Identifier)
+        → AssignsTerm place (term.Place at.kind at.of bounded lends) name (draft_view draft.old) (draft_view draft.new) kind false) }
+{
+    push_node(draft, at.kind, at.of, place)?;
+    Ok(ActionKind::Assign)
+}
+
+/// A place of an object, whose default member is written, behind the value that it is given.
+fn assign_object(draft: &mut Draft, at: Ending, place: Place) -> Result<ActionKind, NoMemory>
+    requires named { NodeNamed (draft_view draft.old).tables at.kind }
+    requires object { types.is_object (declared_view at.of) ≡ true }
+    requires written { plain.has_written_default (declared_view at.of) ≡ true }
+    ensures { IfOk result (λ kind. (bounded lends : Bool) (name : Option Identifier)
+        → AssignsTerm place (term.Place at.kind at.of bounded lends) name (draft_view draft.old) (draft_view draft.new) kind false) }
+{
+    push_node(draft, at.kind, at.of, place)?;
+    push_node(draft, NodeKind::Load, at.of, place)?;
+    Ok(ActionKind::AssignDefault)
+}
+
+/// A place, behind the value that it is given.
+pub fn assign_place(
+    draft: &mut Draft,
+    at: Ending,
+    place: Place,
+) -> Result<ActionKind, OrMemory<NotYet>>
+    requires { NodeNamed (draft_view draft.old).tables at.kind }
+    ensures { IfOk result (λ kind. (bounded lends : Bool) (name : Option Identifier)
+        → AssignsTerm place (term.Place at.kind at.of bounded lends) name (draft_view draft.old) (draft_view draft.new) kind false) }
+{
+    if !is_object(at.of) {
+        return Ok(assign_plain(draft, at, place)?);
+    }
+    if !has_written_default(at.of) {
+        return Err(OrMemory::Fault(NotYet));
+    }
+    Ok(assign_object(draft, at, place)?)
+}
+
+/// What a value gives that is no element, whose default member is written, behind the value that it is given.
+pub fn assign_value(
+    draft: &mut Draft,
+    ending: Ending,
+    place: Place,
+) -> Result<ActionKind, OrMemory<NotYet>>
+    requires { NodeNamed (draft_view draft.old).tables ending.kind }
+    ensures { IfOk result (λ kind. (name : Option Identifier)
+        → AssignsTerm place (term.Value ending) name (draft_view draft.old) (draft_view draft.new) kind false) }
+{
+    if !gives_object(ending) {
+        return Err(OrMemory::Fault(NotYet));
+    }
+    if !has_written_default(ending.of) {
+        return Err(OrMemory::Fault(NotYet));
+    }
+    push_node(draft, ending.kind, ending.of, place)?;
+    Ok(ActionKind::AssignDefault)
+}
+
+/// What is done to an element of a value: the default member of an object is written, and what nothing has is read and
+/// left. None where it may be one of an object that a Variant has, or has no such member.
+fn element_action(of: DeclaredType) -> Option<ActionKind>
+    ensures { result ≡ element_action (declared_view of) }
+{
+    if is_variant(of) {
+        None
+    } else if !is_object(of) {
+        Some(ActionKind::AssignNone)
+    } else if has_written_default(of) {
+        Some(ActionKind::AssignDefault)
+    } else {
+        None
+    }
+}
+
+/// An element of an array that a value gives, behind the value that it is given.
+fn assign_element(
+    draft: &mut Draft,
+    ending: Ending,
+    place: Place,
+) -> Result<ActionKind, OrMemory<NotYet>>
+    requires named { NodeNamed (draft_view draft.old).tables ending.kind }
+    requires element { is_element_kind ending.kind ≡ true }
+    ensures { IfOk result (λ kind. AssignsIndexed place (term.Value ending) (draft_view draft.old) (draft_view draft.new) kind) }
+{
+    let Some(kind) = element_action(ending.of) else {
+        return Err(OrMemory::Fault(NotYet));
+    };
+    push_node(draft, ending.kind, ending.of, place)?;
+    Ok(kind)
+}
+
+/// What brackets made of a term, behind the value that it is given.
+pub fn assign_indexed<'a>(
+    draft: &mut Draft,
+    term: Term<'a>,
+    place: Place,
+) -> Result<ActionKind, OrMemory<NotYet>>
+    requires { TermNamed (draft_view draft.old).tables term }
+    ensures { IfOk result (λ kind. AssignsIndexed place term.entry (draft_view draft.old) (draft_view draft.new) kind) }
+{
+    match term {
+        Term::Place { kind, of, .. } => assign_place(draft, Ending { kind, of }, place),
+        Term::Value(ending) => {
+            if is_element(ending.kind) {
+                return assign_element(draft, ending, place);
+            }
+            assign_value(draft, ending, place)
+        }
+        _ => Err(OrMemory::Fault(NotYet)),
+    }
+}

@@ -1,0 +1,193 @@
+-- What holds of the last piece that a node makes: a test that misfits pass, and whether it may be an object.
+use Rattle.std.proofs.Common.{◌≡◌, ℕ, Bool, true, false, ◌&&◌, not, List, [], ◌∷◌, Option, Some, None, if◌then◌else◌, refl, sym, ap, ◌∙◌}
+use Rattle.std.specs.Prelude.{IfSome}
+use Rattle.bound_project.specs.declared.declared_type.DeclaredType.TheVariants.{Plain}
+use Rattle.bound_project.specs.declared.declared_type.ElementType.TheVariants as element
+use Rattle.bound_project.specs.declared.node.Node.{Node}
+use Rattle.bound_project.specs.declared.node.NodeKind.{NodeKind}
+use Rattle.bound_project.specs.declared.node.NodeKind.TheVariants as node
+use Rattle.bound_project.specs.Expressions.{Expr, expr, load, element_value, field_value, unary, binary, call, same, library, host_member, no_args, in_order, Exprs, no_exprs, Lvalue}
+use Rattle.bound_project.specs.Expressions as bound
+use Rattle.bound_project.specs.Pieces.{Piece, nothing, an_expr, a_place, a_member, an_argument, a_value_shown, a_zone, a_test_begun, a_test_is, a_test_range, a_resize, an_erased, Tables, arguments_off, as_operand, expr_of, exprs_off, is_member, misfit, name_in, of_both, of_found, of_member, of_member_found, of_place, of_value, of_value_found, order_in, put_kind}
+use Rattle.bound_project.specs.Project.{nowhere}
+use Rattle.bound_project.specs.View.{base_view, declared_view}
+use Rattle.binder.specs.Constants.{is_variant}
+use Rattle.binder.specs.ExpressionsBound.{may_be_object, may_give_object}
+use Rattle.bound_calls.specs.declared.term.Ending.{Ending}
+use Rattle.bound_calls.specs.References.{EndingGives, kind_gives}
+
+-- ---- a test of pieces that misfits pass
+
+pub value_passes : (test : List Piece → Bool) → test misfit ≡ true → (make : Expr → Piece) → ((e : Expr) (st : List Piece) → test (make e ∷ st) ≡ true) → (st : List Piece) → test (of_value make st) ≡ true
+value_passes test m make h [] = m
+value_passes test m make h (nothing ∷ st) = m
+value_passes test m make h ((an_expr a) ∷ st) = h a st
+value_passes test m make h ((a_place a) ∷ st) = m
+value_passes test m make h ((a_member a b c) ∷ st) = m
+value_passes test m make h ((an_argument a) ∷ st) = m
+value_passes test m make h ((a_value_shown a) ∷ st) = m
+value_passes test m make h (a_zone ∷ st) = m
+value_passes test m make h (a_test_begun ∷ st) = m
+value_passes test m make h ((a_test_is a b) ∷ st) = m
+value_passes test m make h ((a_test_range a b) ∷ st) = m
+value_passes test m make h ((a_resize a b c) ∷ st) = m
+value_passes test m make h ((an_erased a) ∷ st) = m
+
+pub place_passes : (test : List Piece → Bool) → test misfit ≡ true → (make : Lvalue → Piece) → ((x : Lvalue) (st : List Piece) → test (make x ∷ st) ≡ true) → (st : List Piece) → test (of_place make st) ≡ true
+place_passes test m make h [] = m
+place_passes test m make h (nothing ∷ st) = m
+place_passes test m make h ((an_expr a) ∷ st) = m
+place_passes test m make h ((a_place a) ∷ st) = h a st
+place_passes test m make h ((a_member a b c) ∷ st) = m
+place_passes test m make h ((an_argument a) ∷ st) = m
+place_passes test m make h ((a_value_shown a) ∷ st) = m
+place_passes test m make h (a_zone ∷ st) = m
+place_passes test m make h (a_test_begun ∷ st) = m
+place_passes test m make h ((a_test_is a b) ∷ st) = m
+place_passes test m make h ((a_test_range a b) ∷ st) = m
+place_passes test m make h ((a_resize a b c) ∷ st) = m
+place_passes test m make h ((an_erased a) ∷ st) = m
+
+pub both_pass : (test : List Piece → Bool) → test misfit ≡ true → (make : Expr → Expr → Piece) → ((a b : Expr) (st : List Piece) → test (make a b ∷ st) ≡ true) → (st : List Piece) → test (of_both make st) ≡ true
+both_pass test m make h [] = m
+both_pass test m make h (nothing ∷ st) = m
+both_pass test m make h (an_expr y ∷ []) = m
+both_pass test m make h (an_expr y ∷ nothing ∷ st) = m
+both_pass test m make h (an_expr y ∷ (an_expr a) ∷ st) = h a y st
+both_pass test m make h (an_expr y ∷ (a_place a) ∷ st) = m
+both_pass test m make h (an_expr y ∷ (a_member a b c) ∷ st) = m
+both_pass test m make h (an_expr y ∷ (an_argument a) ∷ st) = m
+both_pass test m make h (an_expr y ∷ (a_value_shown a) ∷ st) = m
+both_pass test m make h (an_expr y ∷ a_zone ∷ st) = m
+both_pass test m make h (an_expr y ∷ a_test_begun ∷ st) = m
+both_pass test m make h (an_expr y ∷ (a_test_is a b) ∷ st) = m
+both_pass test m make h (an_expr y ∷ (a_test_range a b) ∷ st) = m
+both_pass test m make h (an_expr y ∷ (a_resize a b c) ∷ st) = m
+both_pass test m make h (an_expr y ∷ (an_erased a) ∷ st) = m
+both_pass test m make h ((a_place a) ∷ st) = m
+both_pass test m make h ((a_member a b c) ∷ st) = m
+both_pass test m make h ((an_argument a) ∷ st) = m
+both_pass test m make h ((a_value_shown a) ∷ st) = m
+both_pass test m make h (a_zone ∷ st) = m
+both_pass test m make h (a_test_begun ∷ st) = m
+both_pass test m make h ((a_test_is a b) ∷ st) = m
+both_pass test m make h ((a_test_range a b) ∷ st) = m
+both_pass test m make h ((a_resize a b c) ∷ st) = m
+both_pass test m make h ((an_erased a) ∷ st) = m
+
+pub found_passes : {A : Type 0} (test : List Piece → Bool) → test misfit ≡ true → (make : A → Piece) → ((a : A) (st : List Piece) → test (make a ∷ st) ≡ true) → (o : Option (A × List Piece)) → test (of_found make o) ≡ true
+found_passes test m make h None = m
+found_passes test m make h (Some found) = h found.0 found.1
+
+pub value_found_passes : (test : List Piece → Bool) → test misfit ≡ true → (make : Expr → Exprs → Piece) → ((e : Expr) (es : Exprs) (st : List Piece) → test (make e es ∷ st) ≡ true) → (o : Option (Exprs × List Piece))
+    → test (of_value_found make o) ≡ true
+value_found_passes test m make h None = m
+value_found_passes test m make h (Some found) = value_passes test m (λ e. make e found.0) (λ e st. h e found.0 st) found.1
+
+if_passes : (test : List Piece → Bool) → test misfit ≡ true → (b : Bool) (ps : List Piece) → test ps ≡ true → test (if b then ps else misfit) ≡ true
+if_passes test m true ps h = h
+if_passes test m false ps h = m
+
+member_passes : (test : List Piece → Bool) → test misfit ≡ true → (name : List ℕ) (make : Expr → Exprs → Piece) → ((e : Expr) (es : Exprs) (st : List Piece) → test (make e es ∷ st) ≡ true) → (es : Exprs) (st : List Piece)
+    → test (of_member name make es st) ≡ true
+member_passes test m name make h es [] = m
+member_passes test m name make h es (nothing ∷ st) = m
+member_passes test m name make h es ((an_expr a) ∷ st) = m
+member_passes test m name make h es ((a_place a) ∷ st) = m
+member_passes test m name make h es (a_member a other given ∷ st) = if_passes test m (is_member name other given es) (make a es ∷ st) (h a es st)
+member_passes test m name make h es ((an_argument a) ∷ st) = m
+member_passes test m name make h es ((a_value_shown a) ∷ st) = m
+member_passes test m name make h es (a_zone ∷ st) = m
+member_passes test m name make h es (a_test_begun ∷ st) = m
+member_passes test m name make h es ((a_test_is a b) ∷ st) = m
+member_passes test m name make h es ((a_test_range a b) ∷ st) = m
+member_passes test m name make h es ((a_resize a b c) ∷ st) = m
+member_passes test m name make h es ((an_erased a) ∷ st) = m
+
+pub member_found_passes : (test : List Piece → Bool) → test misfit ≡ true → (name : List ℕ) (make : Expr → Exprs → Piece) → ((e : Expr) (es : Exprs) (st : List Piece) → test (make e es ∷ st) ≡ true) → (o : Option (Exprs × List Piece))
+    → test (of_member_found name make o) ≡ true
+member_found_passes test m name make h None = m
+member_found_passes test m name make h (Some found) = member_passes test m name make h found.0 found.1
+
+-- ---- what may be an object
+
+pub any_node : Node
+any_node = record { kind = node.NotGiven; place = nowhere; of = Plain element.Variant; operand = Plain element.Variant }
+
+abbrev agree : Bool → Bool → Bool
+agree true g = g
+agree false g = not g
+
+agree_same : (g b : Bool) → Some g ≡ Some b → agree b g ≡ true
+agree_same true true h = refl
+agree_same false false h = refl
+agree_same true false h = absurd cc
+agree_same false true h = absurd cc
+
+agree_is : (g b : Bool) → agree b g ≡ true → g ≡ b
+agree_is true true h = refl
+agree_is false false h = refl
+agree_is true false h = let e : false ≡ true = h in absurd cc
+agree_is false true h = let e : false ≡ true = h in absurd cc
+
+-- a value on top may be an object, or is none
+gives_on_top : Bool → List Piece → Bool
+gives_on_top b (an_expr (expr made place of operand) ∷ st) = agree b (may_be_object made)
+gives_on_top b st = true
+
+kind_agrees : (t : Tables) (n : Node) (k : NodeKind) (st : List Piece) (b : Bool) → kind_gives k ≡ Some b → gives_on_top b (put_kind t n k st) ≡ true
+unfolding gives_on_top
+kind_agrees t n node.Load st b h = place_passes (gives_on_top b) refl (λ x. expr_of n (load x)) (λ x rest. agree_same true b h) st
+kind_agrees t n (node.ElementValue count) st b h = value_found_passes (gives_on_top b) refl (λ e es. expr_of n (element_value e es)) (λ e es rest. agree_same true b h) (exprs_off count st no_exprs)
+kind_agrees t n (node.FieldValue i) st b h = value_passes (gives_on_top b) refl (λ e. expr_of n (field_value e i)) (λ e rest. agree_same true b h) st
+kind_agrees t n (node.Call p count) st b h = found_passes (gives_on_top b) refl (λ args. expr_of n (call p args)) (λ args rest. agree_same true b h) (arguments_off count st no_args)
+kind_agrees t n (node.CallInOrder p count order) st b h =
+    found_passes (gives_on_top b) refl (λ args. expr_of n (call p (in_order (order_in t order) args))) (λ args rest. agree_same true b h) (arguments_off count st no_args)
+kind_agrees t n (node.HostMember i count) st b h =
+    member_found_passes (gives_on_top b) refl (name_in t i) (λ e es. expr_of n (host_member e (name_in t i) es)) (λ e es rest. agree_same true b h) (exprs_off count st no_exprs)
+kind_agrees t n (node.Library f text_form count compare one) st b h =
+    found_passes (gives_on_top b) refl (λ es. expr_of n (library f text_form es compare (base_view one))) (λ es rest. agree_same (may_give_object f) b h) (exprs_off count st no_exprs)
+kind_agrees t n (node.Constant i) st b h = agree_same false b h
+kind_agrees t n (node.Unary o of) st b h = value_passes (gives_on_top b) refl (λ a. expr_of n (unary o (as_operand of a))) (λ e rest. agree_same false b h) st
+kind_agrees t n (node.Binary o compare left right) st b h =
+    both_pass (gives_on_top b) refl (λ x y. expr_of n (binary o compare (as_operand left x) (as_operand right y))) (λ x y rest. agree_same false b h) st
+kind_agrees t n (node.ErrValue _) st b h = agree_same false b h
+kind_agrees t n node.Same st b h = both_pass (gives_on_top b) refl (λ x y. expr_of n (same x y)) (λ x y rest. agree_same false b h) st
+kind_agrees t n (node.HostObject reference) st b h = agree_same false b h
+kind_agrees t n node.ActiveSheet st b h = agree_same false b h
+kind_agrees t n node.NotGiven st b h = let e : None ≡ Some b = h in absurd cc
+kind_agrees t n (node.Variable x) st b h = let e : None ≡ Some b = h in absurd cc
+kind_agrees t n (node.Item x count) st b h = let e : None ≡ Some b = h in absurd cc
+kind_agrees t n (node.Element count) st b h = let e : None ≡ Some b = h in absurd cc
+kind_agrees t n (node.Field i of bounded) st b h = let e : None ≡ Some b = h in absurd cc
+kind_agrees t n (node.KeptPlace header) st b h = let e : None ≡ Some b = h in absurd cc
+kind_agrees t n (node.BoundOf upper z) st b h = let e : None ≡ Some b = h in absurd cc
+kind_agrees t n node.DefaultOf st b h = let e : None ≡ Some b = h in absurd cc
+kind_agrees t n node.DefaultIfAny st b h = let e : None ≡ Some b = h in absurd cc
+kind_agrees t n (node.IsType of) st b h = let e : None ≡ Some b = h in absurd cc
+kind_agrees t n (node.MemberThere i given) st b h = let e : None ≡ Some b = h in absurd cc
+kind_agrees t n node.ByPlace st b h = let e : None ≡ Some b = h in absurd cc
+kind_agrees t n (node.ByCopy of) st b h = let e : None ≡ Some b = h in absurd cc
+kind_agrees t n (node.ByDefault i) st b h = let e : None ≡ Some b = h in absurd cc
+kind_agrees t n (node.ByList count) st b h = let e : None ≡ Some b = h in absurd cc
+kind_agrees t n node.Shown st b h = let e : None ≡ Some b = h in absurd cc
+kind_agrees t n node.Zone st b h = let e : None ≡ Some b = h in absurd cc
+kind_agrees t n node.TestBegins st b h = let e : None ≡ Some b = h in absurd cc
+kind_agrees t n (node.TestIs o of) st b h = let e : None ≡ Some b = h in absurd cc
+kind_agrees t n (node.TestRange low high) st b h = let e : None ≡ Some b = h in absurd cc
+kind_agrees t n (node.Resize count of) st b h = let e : None ≡ Some b = h in absurd cc
+kind_agrees t n node.Erased st b h = let e : None ≡ Some b = h in absurd cc
+
+made_gives : (t : Tables) (k : NodeKind) (b : Bool) (made : bound.Node) (ps below : List Piece) → kind_gives k ≡ Some b → put_kind t any_node k ps ≡ expr_of any_node made ∷ below → may_be_object made ≡ b
+unfolding gives_on_top
+made_gives t k b made ps below h e = agree_is (may_be_object made) b (sym (ap (gives_on_top b) e) ∙ kind_agrees t any_node k ps b h)
+
+pub ending_gives : (e : Ending) (b : Bool) → is_variant (declared_view e.of) ≡ true → kind_gives e.kind ≡ Some b → EndingGives e b
+ending_gives e b v h = λ t made ps below ends. ap (λ c. c && may_be_object made) v ∙ made_gives t e.kind b made ps below h (ends any_node)
+
+pub ending_plain : (e : Ending) → is_variant (declared_view e.of) ≡ false → EndingGives e false
+ending_plain e v = λ t made ps below ends. ap (λ c. c && may_be_object made) v
+
+pub gives_some : (e : Ending) (o : Option Bool) → is_variant (declared_view e.of) ≡ true → o ≡ kind_gives e.kind → IfSome o (λ b. EndingGives e b)
+gives_some e None v h = tt
+gives_some e (Some b) v h = ending_gives e b v (sym h)
