@@ -9,7 +9,7 @@ use vba_cli::{Status, run_cli};
 
 /// What a loop does in each of its rounds.
 #[derive(Clone, Copy)]
-enum Pattern {
+pub enum Pattern {
     /// A sum of Longs.
     Sums,
     /// A call of a function.
@@ -24,6 +24,10 @@ enum Pattern {
     Texts,
     /// A cell that is written and read.
     Cells,
+    /// A unit of a text of as many units as there are rounds, and the text's length.
+    Scans,
+    /// An error that is trapped.
+    Errors,
 }
 
 impl Pattern {
@@ -36,6 +40,8 @@ impl Pattern {
             Pattern::Tests => "run tests",
             Pattern::Texts => "run texts",
             Pattern::Cells => "run cells",
+            Pattern::Scans => "run scans",
+            Pattern::Errors => "run errors",
         }
     }
 
@@ -49,6 +55,13 @@ impl Pattern {
                 "Sub Main()\nDim i As Long, k As Long, a(9, 9) As Long\nFor i = 1 To "
             }
             Pattern::Texts => "Sub Main()\nDim i As Long, s As String\nFor i = 1 To ",
+            Pattern::Scans => {
+                "Sub Main()\nDim i As Long, k As Long, n As Long, s As String\nn = "
+            }
+            Pattern::Errors => {
+                "Sub Main()\nDim i As Long, k As Long, z As Long\nOn Error Resume Next\n\
+                 For i = 1 To "
+            }
             Pattern::Calls => {
                 "Function Up(ByVal n As Long) As Long\nUp = n + 1\nEnd Function\n\
                  Sub Main()\nDim i As Long, s As Long\nFor i = 1 To "
@@ -65,6 +78,11 @@ impl Pattern {
             Pattern::Grids => "\nk = i Mod 10\na(k, 3) = a(3, k) + 1\nNext\nEnd Sub\n",
             Pattern::Tests => "\nIf i Mod 3 = 0 Then s = s Xor i\nNext\nEnd Sub\n",
             Pattern::Texts => "\ns = s & \"a\"\nNext\nEnd Sub\n",
+            Pattern::Scans => {
+                "\ns = String(n, \"a\")\nFor i = 1 To n\n\
+                 If Mid(s, i, 1) = \"a\" Then k = k Xor Len(s)\nNext\nEnd Sub\n"
+            }
+            Pattern::Errors => "\nk = i \\ z\nNext\nEnd Sub\n",
             Pattern::Cells => {
                 "\nCells(i Mod 1000 + 1, 1).Value = i\ns = s Xor Cells(i Mod 1000 + 1, 1).Value\n\
                  Next\nEnd Sub\n"
@@ -86,16 +104,27 @@ pub fn bench_machine(rt: &(impl Print + CpuClock + AllocGlobal), size: u32) -> i
         Pattern::Tests,
         Pattern::Texts,
         Pattern::Cells,
+        Pattern::Scans,
+        Pattern::Errors,
     ] {
-        let size = match pattern {
-            Pattern::Texts => size.min(MOST_UNITS),
-            _ => size,
-        };
-        let once = time_run(rt, pattern, size)?;
-        let twice = time_run(rt, pattern, size.saturating_mul(2))?;
-        tell(rt, pattern.name(), size, once, twice)?;
+        bench_pattern(rt, pattern, size)?;
     }
     Ok(())
+}
+
+/// Runs a loop with so many rounds, and with twice as many.
+pub fn bench_pattern(
+    rt: &(impl Print + CpuClock + AllocGlobal),
+    pattern: Pattern,
+    size: u32,
+) -> io::Result<()> {
+    let size = match pattern {
+        Pattern::Texts | Pattern::Scans => size.min(MOST_UNITS),
+        _ => size,
+    };
+    let once = time_run(rt, pattern, size)?;
+    let twice = time_run(rt, pattern, size.saturating_mul(2))?;
+    tell(rt, pattern.name(), size, once, twice)
 }
 
 // The microseconds that a run takes, reading and compiling included.

@@ -20,7 +20,7 @@ use conditions::bench_conditions;
 use expressions::bench_expressions;
 use lexing::bench_lex;
 use links::bench_links;
-use machine::bench_machine;
+use machine::{Pattern, bench_machine, bench_pattern};
 use modules::{bench_modules, bench_places};
 use operators::bench_operators;
 use sheets::bench_sheets;
@@ -58,6 +58,10 @@ fn main(rt: HostRuntime) -> io::Result<ExitCode> {
         "arrays" => bench_arrays(&rt, size)?,
         "links" => bench_links(&rt, size)?,
         "machine" => bench_machine(&rt, size)?,
+        "calls" => bench_pattern(&rt, Pattern::Calls, size)?,
+        "scans" => bench_pattern(&rt, Pattern::Scans, size)?,
+        "errors" => bench_pattern(&rt, Pattern::Errors, size)?,
+        "members" => bench_pattern(&rt, Pattern::Cells, size)?,
         "modules" => bench_modules(&rt, size)?,
         "places" if size <= MOST_PLACES => bench_places(&rt, size)?,
         "cells" if size <= MOST_CELLS => bench_cells(&rt, size)?,
@@ -72,6 +76,7 @@ fn usage(rt: &impl Eprint) -> io::Result<ExitCode> {
     eprintln!(rt;
         "lex, conditions, expressions, operators, arrays, links, machine, modules: SIZE at most {MOST}"
     )?;
+    eprintln!(rt; "calls, scans, errors, members, which machine does too: SIZE at most {MOST}")?;
     eprintln!(rt; "cells: SIZE at most {MOST_CELLS}; sheets: SIZE at most {MOST_ROWS}")?;
     eprintln!(rt; "places: SIZE at most {MOST_PLACES}")?;
     Ok(ExitCode::from(2))

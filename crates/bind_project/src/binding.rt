@@ -22,7 +22,7 @@ use project_tables::{
     Rows, Signatures, Startup, declarations, project_rows, project_signatures, startup_number,
 };
 use std::alloc::Global;
-use vba_base::{NoMemory, OrMemory, Place};
+use vba_base::{NoMemory, OrMemory, Place, Refusal};
 
 /// What calls and module variables need of a project.
 fn signatures_of<'a>(
@@ -106,6 +106,24 @@ fn project_of<'a>(
     let draft = bind_bodies(alloc, &*spaces, &rows, &declared)?;
     let startup = startup_of(&*spaces, startup)?;
     Ok(draft.finish(declared, startup))
+}
+
+/// S33: the macro to begin with isn't there, which is told at the front of the project.
+///
+/// It fails only where numbers of procedures outgrow their type.
+pub fn startup_fault<'a>(
+    spaces: &'a [Space<'a>],
+    startup: Startup,
+) -> Result<Option<Refusal>, NoMemory>
+    ensures { IfOk result (λ fault. fault ≡ plain.startup_fault the_outside (map space_view spaces.now) (startup_view startup.entry)) }
+{
+    match startup_number(spaces, startup)? {
+        Some(_) => Ok(None),
+        None => Ok(Some(Refusal {
+            rule: 33,
+            place: front(),
+        })),
+    }
 }
 
 /// Binds the modules of a project, which break no rule.

@@ -11,6 +11,6 @@ mod procedures;
 mod spaces;
 mod walk;
 
-pub use binding::bind;
+pub use binding::{bind, startup_fault};
 pub use bound::Bound;
 pub use project_tables::Startup;

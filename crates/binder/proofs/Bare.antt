@@ -1,7 +1,7 @@
 -- Statements without their places, to compare them.
 use Rattle.std.specs.Prelude.{List, [], ◌∷◌}
 use Rattle.bound_project.specs.Expressions.{Expr, expr, Node, not_given, constant, load, element_value, field_value, unary, binary, call, err_value, default_of, default_if_any, host_object, active_sheet, host_member, same, is_type, library, bound_of, Lvalue, variable, item, element, field, kept_place, Args, no_args, by_place, by_copy, by_default, by_list, in_order, Exprs, no_exprs, also, Prints, no_prints, shown, zone}
-use Rattle.bound_project.specs.Statements.{Tests, no_tests, test_is, test_range, Action, assign, assign_none, set, assign_default, assign_member, evaluate, let_property, print, raise, test, for_to, for_each, select, case_of, with_place, with_value, Statement}
+use Rattle.bound_project.specs.Statements.{Tests, no_tests, test_is, test_range, Action, assign, assign_item, set, assign_default, assign_member, set_member, evaluate, let_property, print, raise, test, for_to, for_each, select, case_of, with_place, with_value, Statement}
 use Rattle.bound_project.specs.Project.{nowhere}
 
 abbrev mutual
@@ -59,7 +59,8 @@ bare_tests (test_range a b ts) = test_range (bare a) (bare b) (bare_tests ts)
 
 abbrev pub bare_action : Action → Action
 bare_action (assign x e) = assign (bare_place x) (bare e)
-bare_action (assign_none x e) = assign_none (bare x) (bare e)
+bare_action (assign_item x es e) = assign_item (bare x) (bare_exprs es) (bare e)
+bare_action (set_member x e) = set_member (bare x) (bare e)
 bare_action (set x e) = set (bare_place x) (bare e)
 bare_action (assign_default x e) = assign_default (bare x) (bare e)
 bare_action (assign_member base name es e) = assign_member (bare base) name (bare_exprs es) (bare e)

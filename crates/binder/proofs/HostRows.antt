@@ -38,3 +38,9 @@ given : ran_over (codes "Sub Main()\nDim r As Range\nSet r = Range(\"A1\")\nMove
     ≡ ends (Printed (codes "$A$2") true ∷ [])
 unfolding ran_over folded caseless digits division join nearest read read_digits
 given = refl
+
+-- TypeOf of an object, Set of its property and Err.Raise, where the object is found in the run
+late : ran_over (codes "Sub Main()\nDim o As Object\nSet o = Range(\"A1\")\nDebug.Print TypeOf o Is Range; TypeOf o Is Worksheet\nOn Error Resume Next\nSet o.Value = o\nSet o = Err\no.Raise 7, , \"x\"\nDebug.Print Err.Description\nEnd Sub")
+    ≡ ends (Printed (codes "TrueFalse") true ∷ Raised (pos 438) ∷ Raised (pos 7) ∷ Printed (codes "x") true ∷ [])
+unfolding ran_over folded caseless digits division join nearest read read_digits
+late = refl

@@ -4,7 +4,7 @@ use Rattle.std.specs.Fmt.{digits}
 use Rattle.caseless.proofs.Computing.{caseless}
 use Rattle.vba_base.specs.Fold.{folded}
 use Rattle.vba_values.specs.Arithmetic.{division}
-use Rattle.binder.proofs.Reading.{judged}
+use Rattle.binder.proofs.Reading.{judged, ran, broken_rule, ends}
 
 -- a module that breaks no rule
 fine : judged ((false, codes "Option Explicit\nDim a As Long\nSub Main()\nDim b As Long\na = b\nEnd Sub") ∷ []) ≡ []
@@ -130,3 +130,20 @@ source_wrong = refl
 source_fine : judged ((true, codes "Attribute VB_Name = \"C\"\nPrivate WithEvents x As D") ∷ (true, codes "Attribute VB_Name = \"D\"\nEvent E()") ∷ []) ≡ []
 unfolding judged folded caseless digits division
 source_fine = refl
+
+-- S33: Main isn't there, or wants an argument; a rule of names is told before it
+no_startup : ran (codes "\nSub Other()\nEnd Sub") ≡ broken_rule ((33, 1, 1, 1) ∷ [])
+unfolding ran folded caseless digits division
+no_startup = refl
+
+wanting_startup : ran (codes "Sub Main(x, Optional y)\nEnd Sub") ≡ broken_rule ((33, 1, 1, 1) ∷ [])
+unfolding ran folded caseless digits division
+wanting_startup = refl
+
+names_first : ran (codes "Sub Other()\nGoTo a\nEnd Sub") ≡ broken_rule ((18, 1, 2, 6) ∷ [])
+unfolding ran folded caseless digits division
+names_first = refl
+
+optional_startup : ran (codes "Private Sub Main(Optional x, ParamArray y())\nEnd Sub") ≡ ends []
+unfolding ran folded caseless digits division
+optional_startup = refl

@@ -1,7 +1,7 @@
 -- The bound project of modules, or why there is none: a rule that is broken, or a part that the bound project can't say
 -- yet.
 use Rattle.std.specs.Prelude.{ℕ, suc, Bool, true, false, ◌&&◌, ◌||◌, not, List, [], ◌∷◌, ◌++◌, map, flat_map, Option, Some, None, is_some, is_none, option_map, bytes_eq, if◌then◌else◌, unwrap_or, length}
-use Rattle.std.specs.List.{list_all}
+use Rattle.std.specs.List.{list_all, list_any}
 use Rattle.vba_base.specs.declared.place.Place.{Place}
 use Rattle.vba_base.specs.declared.place.Refusal.{Refusal}
 use Rattle.vba_lexer.specs.declared.number.TypeSuffix.{TypeSuffix}
@@ -12,7 +12,7 @@ use Rattle.vba_tree.specs.declared.procedure.ProcedureWords.{ProcedureWords}
 use Rattle.vba_tree.specs.declared.procedure.ProcedureWords.TheVariants as words
 use Rattle.vba_tree.specs.Tree.{DeclaredType, named, fixed_text, TypeClause, NewTypeClause, Variable, Parameter, ResultType, variables, simple, type_member, procedure_header}
 use Rattle.vba_module.specs.Parts.{Part, statement, whole_line, place_of}
-use Rattle.vba_module.specs.Headers.{all_of, parameters_of}
+use Rattle.vba_module.specs.Headers.{all_of, parameters_of, is_required}
 use Rattle.bound_project.specs.Statements.{Statement}
 use Rattle.bound_project.specs.Project as bound
 use Rattle.bound_project.specs.Project.{Declarations, Procedure, Module, Class, Body, Project}
@@ -177,11 +177,12 @@ pub record Startup : Type 0 where
   pub module_fold : List ℕ
   pub sub_fold : List ℕ
 
+-- a Sub of that name that can be called without an argument
 abbrev pub is_startup : Startup → Written → Bool
 is_startup st p = at p.kind
   where
     at : ProcedureWords → Bool
-    at (words.Sub token) = bytes_eq p.name.name st.sub_fold
+    at (words.Sub token) = bytes_eq p.name.name st.sub_fold && not (list_any is_required p.parameters)
     at kind = false
 
 abbrev pub startup_in : Scope → Startup → List (ℕ × Written) → Option ℕ
@@ -191,7 +192,8 @@ startup_in s st (p ∷ ps) = if is_startup st p.1 then Some (procedure_number s 
 abbrev pub startup_number : Scope → Startup → List Space → Option ℕ
 startup_number s st [] = None
 startup_number s st (space ∷ spaces) =
-    if bytes_eq space.name.fold st.module_fold then startup_in (home s space) st (numbered 0 space.entries) else startup_number s st spaces
+    if bytes_eq space.name.fold st.module_fold && not space.source.is_class then startup_in (home s space) st (numbered 0 space.entries)
+    else startup_number s st spaces
 
 -- a project by its declarations; where the startup isn't there, no procedure has its number
 abbrev pub project_with : Declarations → Option ℕ → List Body → Project
@@ -220,6 +222,18 @@ answer_by None (Some place) project = not_built_at place
 answer_by None None (Some project) = bound_as project
 answer_by None None None = not_built_at bound.nowhere
 
+-- a macro to begin with that isn't there is told at the front of the project
+abbrev pub startup_fault : Outside → List Space → Startup → Option Refusal
+startup_fault o spaces st = at (startup_number (scope_of o spaces no_space) st spaces)
+  where
+    at : Option ℕ → Option Refusal
+    at None = Some (record { rule = 33; place = record { «module» = 1; line = 1; column = 1 } })
+    at (Some number) = None
+
+-- the first rule that is broken: of names in their modules, and then of the macro to begin with
+abbrev pub broken_rule : Outside → List Source → Startup → Option Refusal
+broken_rule o sources st = or_else (verdict o sources) (startup_fault o (spaces_from 0 sources) st)
+
 -- modules in the order of the project, bound
 abbrev pub bind_of : Outside → List Source → Startup → Answer
-bind_of o sources st = answer_by (verdict o sources) (not_built o sources) (project_of o sources st)
+bind_of o sources st = answer_by (broken_rule o sources st) (not_built o sources) (project_of o sources st)

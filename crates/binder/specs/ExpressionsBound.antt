@@ -26,7 +26,7 @@ use Rattle.binder.specs.Sources.{base_of}
 use Rattle.binder.specs.Declarations.{Written, What, a_variable, a_constant, a_member, a_procedure, Entry, Own, the_result, a_parameter, a_local_constant, Local}
 use Rattle.binder.specs.Scopes.{Space, Scope, plainly, called, Meant, of_procedure, of_module, of_host, of_library, Qualifier, declares, behind, qualifier_of, is_named, first_at, seen_from, has_dollar}
 use Rattle.binder.specs.Names.{scope_in}
-use Rattle.binder.specs.Types.{is_object}
+use Rattle.binder.specs.Types.{is_object, type_meant, meant_type}
 use Rattle.binder.specs.Constants.{is_variant, literal_meant, value_type, operator_kind, unary_kind, compare_in, meant_by, names_in, home, place_of_expression}
 use Rattle.binder.specs.Storage.{parameter_type, result_type, parameters_of, own_declaration, declared_variable, user_types, module_storage, own_storage, procedure_number, gives_value}
 use Rattle.binder.specs.Terms.{Within, Env, HostMember, Term, a_place, a_value, a_routine, a_function, a_host_member, err_object, err_raise, err_clear, error_word, no_term, expression_of, value_with, Given, listed_values, bound_arguments, has_names}
@@ -188,6 +188,7 @@ may_be_object (host_member e member_name es) = true
 may_be_object (bound.library f text_form es compare base) = may_give_object f
 may_be_object node = false
 
+-- an expression of a Variant's type that may be an object
 abbrev pub has_object : Node → Declared → Bool
 has_object node of = is_variant of && may_be_object node
 
@@ -344,11 +345,12 @@ pub data Taking : Type 0 where
   default_if_any : Taking
   by_default : Taking
 
--- by the number of the argument, from 0
+-- the first argument as it is, the others by their default values
 abbrev pub first_as_it_is : ℕ → Taking
 first_as_it_is zero = as_it_is
 first_as_it_is i = by_default
 
+-- by the number of the argument, from 0
 abbrev pub taking : LibraryFunction → ℕ → Taking
 taking function.IsEmpty i = default_if_any
 taking function.IsNull i = default_if_any
@@ -377,17 +379,15 @@ taken_as env as_it_is t place = given_as env t place
 taken_as env default_if_any t place = option_map if_any (given_as env t place)
 taken_as env by_default t place = operand_of env t place
 
+-- the arguments of a function, from one with this number on
 abbrev pub function_values : Env → LibraryFunction → ℕ → List Given → Option Exprs
 function_values env f i [] = Some no_exprs
-function_values env f i (g ∷ gs) = from_two also (option_and_then value g.term) (function_values env f (suc i) gs)
+function_values env f i (g ∷ gs) = from_two also (value g.term) (function_values env f (suc i) gs)
   where
-    value : Term → Option bound.Expr
-    value t = option_and_then plain_value (taken_as env (taking f i) t g.place)
-
--- its arguments: each is given, and none by a name
-abbrev pub all_given : List Given → Bool
-all_given [] = true
-all_given (g ∷ gs) = (is_some g.term && not (is_some g.name)) && all_given gs
+    -- one that isn't written is Missing
+    value : Option Term → Option bound.Expr
+    value None = Some (expression_of bound.not_given g.place type.variant)
+    value (Some t) = option_and_then plain_value (taken_as env (taking f i) t g.place)
 
 -- whether it takes so many: 255 is no limit
 abbrev pub takes_count : LibraryFunction → ℕ → Bool
@@ -398,13 +398,13 @@ takes_count f count = at (arity_of f)
 
 abbrev pub function_called : Env → LibraryFunction → (text_form : Bool) → (base : ℕ) → List Given → Term
 function_called env f text_form base gs =
-    if all_given gs && takes_count f (length gs)
+    if not (has_names gs) && takes_count f (length gs)
     then if_there (option_map (λ es. a_value (bound.library f text_form es (compare_in env.scope) (pos base)) (declared_of f text_form)) (function_values env f 0 gs))
     else no_term
 
--- the arguments of a member: each is given, and none by a name
+-- the arguments of a member, none by a name: one that isn't written is Missing
 abbrev pub host_arguments : Env → List Given → Option Exprs
-host_arguments env gs = if all_given gs then listed_values (given_as env) gs else None
+host_arguments env gs = if has_names gs then None else listed_values (given_as env) gs
 
 -- whether a member takes so many arguments; behind one that takes none they index what it gives
 abbrev pub takes_behind : Declared → ℕ → Bool
@@ -536,6 +536,10 @@ binary_term env kind left right =
 abbrev pub same_term : (left right : Option bound.Expr) → Term
 same_term left right = if_there (from_two (λ a b. a_value (bound.same a b) type.boolean) left right)
 
+-- TypeOf: whether an object is one of a type ([MS-VBAL] 5.6.9.8)
+abbrev pub typed_term : Option bound.Expr → Declared → Term
+typed_term operand of = if_there (option_map (λ a. a_value (bound.is_type a of) type.boolean) operand)
+
 -- a parenthesised expression is a value, and an object as it is
 abbrev pub value_term : bound.Expr → Term
 value_term (bound.expr node place of operand) = a_value node of
@@ -557,7 +561,7 @@ abbrev mutual
       indexed env (place_of_expression base) (item_of (place_of_expression base) (callee env base (term_of env base))) (givens env args)
   term_of env (parenthesised left e right) = as_value env (term_of env e) (place_of_expression e)
   term_of env (new new_word t) = no_term
-  term_of env (type_of type_of_word e is_word t) = no_term
+  term_of env (type_of type_of_word e is_word t) = typed_term (given_as env (term_of env e) (place_of_expression e)) (meant_type (type_meant env.scope t))
   term_of env (unary o token e) = unary_term (unary_kind o) (operand_of env (term_of env e) (place_of_expression e))
   term_of env (binary l operator.Is token r) =
       same_term (reference_of env (term_of env l) (place_of_expression l)) (reference_of env (term_of env r) (place_of_expression r))

@@ -176,15 +176,14 @@ abbrev pub member_written : Env → bound.Expr → HostMember → List Given →
 member_written env e m gs v =
     if is_written_member m && fits_written m gs then option_map (λ es. to.assign_member e m.name es v) (host_arguments env gs) else None
 
--- an element that nothing has is read and left, where it is one of an array, and isn't built where it may be an object's
--- item; of another value the default member is written
+-- an item of a value that no variable has: of an array of objects the default member of the element is written, and else
+-- the run decides whether there is an array or an object; of another value the default member is written
 abbrev pub value_written : Place → bound.Expr → Node → Declared → Option Action
 value_written place v (element_value e es) of =
-    if is_variant (bound.operand_type e) then None
-    else if is_object of then default_written (expression_of (element_value e es) place of) of v
-    else Some (to.assign_none (expression_of (element_value e es) place of) v)
+    if is_object of then default_written (expression_of (element_value e es) place of) of v else Some (to.assign_item e es v)
 value_written place v node of = if is_object of || has_object node of then default_written (expression_of node place of) of v else None
 
+-- a value is assigned to what a term means
 abbrev pub assigned : Env → Place → bound.Expr → List Given → Term → Option Action
 assigned env place v gs (a_place x of bounded lends) = if is_object of then default_written (expression_of (load x) place of) of v else Some (to.assign x v)
 assigned env place v gs (a_routine space number p) = option_and_then (let_to env space gs v) (writer env.scope space p)
@@ -209,12 +208,14 @@ assigned_to env (index base left args right) v =
     else assigned env (place_of_expression base) v [] (indexed env (place_of_expression base) t (givens env args))
 assigned_to env e v = assigned env (place_of_expression e) v [] (term_of env e)
 
--- the value of an assignment: where the target takes it with arguments, and for an element of a Variant, an object comes as
--- it is
+-- a Variant of which numbers mean an item
 abbrev pub is_variant_place : Term → Bool
 is_variant_place (a_place x of bounded lends) = is_variant of
+is_variant_place (a_value node of) = is_variant of
 is_variant_place t = false
 
+-- the value of an assignment: where the target takes it with arguments, and for an item of a Variant, an object comes as it
+-- is
 abbrev pub is_given_with : Env → Expr → Bool
 is_given_with env (index base left args right) = takes_value env (target_before env base) || is_variant_place (target_before env base)
 is_given_with env e = takes_value env (term_of env e)
@@ -222,10 +223,21 @@ is_given_with env e = takes_value env (term_of env e)
 abbrev pub value_for : Env → Expr → Expr → Option bound.Expr
 value_for env x e = if is_given_with env x then bound_as_given env e else bound_operand env e
 
--- Set: a variable of an object type, or a Variant, is given a reference ([MS-VBAL] 5.4.3.9)
+-- Set: a variable of an object type, or a Variant, is given a reference; of a member that is found in the run the run
+-- decides ([MS-VBAL] 5.4.3.9)
 abbrev pub set_to : Term → bound.Expr → Option Action
 set_to (a_place x of bounded lends) v = if is_object of || is_variant of then Some (to.set x v) else None
+set_to (a_host_member e m) v = if is_some m.greatest then None else Some (to.set_member e v)
 set_to other v = None
+
+-- the target of a Set: of a member with arguments the member itself, since none that takes Set is found
+abbrev pub set_target : Env → Expr → Term
+set_target env (index base left args right) = at (target_before env base)
+  where
+    at : Term → Term
+    at (a_host_member e m) = if is_some m.greatest then indexed env (place_of_expression base) (a_host_member e m) (givens env args) else a_host_member e m
+    at t = indexed env (place_of_expression base) t (givens env args)
+set_target env e = term_of env e
 
 -- ReDim: the base of the module where no low bound is written
 abbrev pub integer : Place → ℕ → bound.Expr
@@ -416,7 +428,7 @@ block_action a s line = at line
 
 abbrev pub simple_action : Around → Standing → Simple → Option Action
 simple_action a s (assignment let_word x equal e) = option_and_then (assigned_to (env_at a s) x) (value_for (env_at a s) x e)
-simple_action a s (set_assignment set_word x equal e) = option_and_then (set_to (term_of (env_at a s) x)) (bound_reference (env_at a s) e)
+simple_action a s (set_assignment set_word x equal e) = option_and_then (set_to (set_target (env_at a s) x)) (bound_reference (env_at a s) e)
 simple_action a s (call_place call_word e) = called_place (env_at a s) e
 simple_action a s (call e args) = called_with (env_at a s) e (givens (env_at a s) args)
 simple_action a s (re_dim redim_word preserve_word arrays) = option_map (to.redim (is_some preserve_word)) (redim_arrays (env_at a s) (all_of arrays))

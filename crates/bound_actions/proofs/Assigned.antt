@@ -48,7 +48,7 @@ use Rattle.bound_actions.specs.Actions.{ActionStands}
 use Rattle.bound_actions.specs.Assigning.{ValueFor}
 use Rattle.bound_actions.specs.Members.{AssignsItem, AssignsTree, NamedBy}
 use Rattle.bound_calls.specs.Calls.{PassesRest}
-use Rattle.bound_actions.specs.Called.{ActionIs, AllPassed, AssignsTo, Continues, IsBare, LeavesAlone, Lets, LetsOn, PassesAll, SplitAt, args_on, property_kind}
+use Rattle.bound_actions.specs.Called.{ActionIs, AllPassed, AssignsTo, Continues, IsBare, LeavesAlone, LetMade, Lets, LetsOn, LetsWith, SplitAt, args_on, property_kind}
 use Rattle.bound_actions.specs.Heights.{AddsOne}
 use Rattle.bound_actions.specs.Targets.{AssignsIndexed, is_variant_term}
 use Rattle.bound_terms.specs.Callee.{CalleeIs, IsWriter, NoWriter, WriterOf}
@@ -60,7 +60,6 @@ use Rattle.bound_calls.proofs.CallSteps.{parameters_long}
 use Rattle.bound_calls.proofs.Passing.{arguments_bound}
 use Rattle.bound_actions.proofs.Called.{index_is}
 use Rattle.bound_actions.proofs.NodeTrees.{behind_both, behind_push, continued}
-use Rattle.bound_actions.proofs.Indexing.{indexed_fits}
 use Rattle.bound_calls.proofs.Reading.{let_is, written_by}
 
 -- ---- properties that are assigned to
@@ -89,28 +88,31 @@ let_fits env parameters gs written all procedure of t ps below value alone h =
     by_type true = ap (λ o. behind_value o (λ args e. to.set_property procedure args e (declared_view of))) (args_are h.made (an_expr value ∷ []))
     by_type false = ap (λ o. behind_value o (λ args e. to.let_property procedure args e (declared_view of))) (args_are h.made (an_expr value ∷ []))
 
-let_stands : (env : Env) (w : Writer) (procedure : ℕ) (parameters front : List Parameter) (last : Parameter) (gs : List Given) (written all : ℕ) (d e : Drafted) → IsWriter env.scope w
+let_stands : (env : Env) (w : Writer) (procedure : ℕ) (parameters front : List Parameter) (last : Parameter) (gs : List Given) (kind : ActionKind) (t : Tables) (qs : List Piece) → IsWriter env.scope w
     → procedure ≡ procedure_number env.scope (space_view w.routine.space.now) w.number
     → (slice_get env.scope.spaces (space_view w.routine.space.now).number ≡ Some (space_view w.routine.space.now) → map parameter_view parameters ≡ parameters_in env.scope (space_view w.routine.space.now) (written_view w.written))
-    → parameters ≡ front ++ last ∷ [] → AllPassed env (map parameter_view front) gs written all e.pieces d.pieces
-    → (y : plain.Term) (place : Place) (value : bound.Expr) (ps below : List Piece) → RoutineStands env w.routine y ps below → d.pieces ≡ an_expr value ∷ []
-    → ActionIs (property_kind procedure all last.of) (assigned env place value gs y) e.tables e.pieces
-let_stands env w procedure parameters front last gs written all d e is number_is found split h y place value ps below s alone =
+    → parameters ≡ front ++ last ∷ [] → (y : plain.Term) (place : Place) (value : bound.Expr) (ps below : List Piece) → LetMade env (map parameter_view front) procedure last.of gs value kind t qs → RoutineStands env w.routine y ps below
+    → ActionIs kind (assigned env place value gs y) t qs
+let_stands env w procedure parameters front last gs kind t qs is number_is found split y place value ps below m s =
     let space = space_view w.routine.space.now in
     let name = written_view w.routine.written in
     let f : ℕ × Written = (w.number, written_view w.written) in
     let P : Space → Type 0 = λ q. slice_get env.scope.spaces q.number ≡ Some q in
     let all_are : parameters_in env.scope space f.1 ≡ map parameter_view front ++ parameter_view last ∷ [] =
     sym (found (subst P s.space_is s.placed)) ∙ ap (λ l. map parameter_view l) split ∙ map-append parameter_view front (last ∷ []) in
-    let done = let_is env place value gs space s.number name f (map parameter_view front) (parameter_view last) (args_of h.made) is.found all_are h.bound in
+    let done = let_is env place value gs space s.number name f (map parameter_view front) (parameter_view last) m.args is.found all_are m.bound_is in
     let term_is : y ≡ a_routine space s.number name = s.is ∙ ap (λ q. a_routine q s.number s.written) s.space_is ∙ ap (λ q. a_routine space s.number q) s.written_is in
     record {
-      made = written_by procedure (args_of h.made) value (declared_view last.of);
-      is = ap (λ z. assigned env place value gs z) term_is ∙ done ∙ ap (λ n. Some (written_by n (args_of h.made) value (declared_view last.of))) (sym number_is);
-      fits = let_fits env (map parameter_view front) gs written all procedure last.of e.tables e.pieces d.pieces value alone h;
+      made = written_by procedure m.args value (declared_view last.of);
+      is = ap (λ z. assigned env place value gs z) term_is ∙ done ∙ ap (λ n. Some (written_by n m.args value (declared_view last.of))) (sym number_is);
+      fits = m.fits;
     }
 
-property_named : (t : Tables) (procedure all : ℕ) (of : DeclaredType) → ActionNamed t (property_kind procedure all of)
+pub let_made : (env : Env) (parameters : List project.Parameter) (gs : List Given) (written all procedure : ℕ) (of : DeclaredType) (t : Tables) (ps below : List Piece) (value : bound.Expr) → AllPassed env parameters gs written all ps below → below ≡ an_expr value ∷ []
+    → LetMade env parameters procedure of gs value (property_kind procedure all of) t ps
+let_made env parameters gs written all procedure of t ps below value h alone = record { args = args_of h.made; bound_is = h.bound; fits = let_fits env parameters gs written all procedure of t ps below value alone h }
+
+pub property_named : (t : Tables) (procedure all : ℕ) (of : DeclaredType) → ActionNamed t (property_kind procedure all of)
 property_named t procedure all of = by_type (is_object (declared_view of))
   where
     by_type : (b : Bool) → ActionNamed t (if b then action.SetProperty procedure all of else action.LetProperty procedure all of)
@@ -124,19 +126,22 @@ pub lets_bare : (env : Env) (w : Writer) (procedure : ℕ) (parameters front : L
 lets_bare env w procedure parameters front last all d e is number_is found split a h = record {
   grown = h.grown;
   named = property_named e.tables procedure all last.of;
-  stands = let_stands env w procedure parameters front last [] 0 all d e is number_is found split (passes_front env front d e all h a);
+  stands = λ y place value ps below s alone.
+      let m = let_made env (map parameter_view front) [] 0 all procedure last.of e.tables e.pieces d.pieces value (passes_front env front d e all h a) alone in
+      let_stands env w procedure parameters front last [] (property_kind procedure all last.of) e.tables e.pieces is number_is found split y place value ps below m s;
 }
 
-pub lets_given : (env : Env) (w : Writer) (procedure : ℕ) (parameters front : List Parameter) (last : Parameter) (ns : List ExpressionNode) (written all : ℕ) (d e : Drafted) → IsWriter env.scope w
+pub lets_given : (env : Env) (w : Writer) (procedure : ℕ) (parameters front : List Parameter) (last : Parameter) (ns : List ExpressionNode) (d e : Drafted) (kind : ActionKind) → IsWriter env.scope w
     → procedure ≡ procedure_number env.scope (space_view w.routine.space.now) w.number
     → (slice_get env.scope.spaces (space_view w.routine.space.now).number ≡ Some (space_view w.routine.space.now) → map parameter_view parameters ≡ parameters_in env.scope (space_view w.routine.space.now) (written_view w.written))
-    → parameters ≡ front ++ last ∷ [] → PassesAll env (map parameter_view front) ns d e written all → LetsOn env w.routine ns d e (property_kind procedure all last.of)
-lets_given env w procedure parameters front last ns written all d e is number_is found split h = record {
+    → parameters ≡ front ++ last ∷ [] → LetsWith env (map parameter_view front) procedure last.of ns d e kind → LetsOn env w.routine ns d e kind
+lets_given env w procedure parameters front last ns d e kind is number_is found split h = record {
   framed = h.framed;
   lets = λ items. record {
     grown = h.grown;
-    named = property_named e.tables procedure all last.of;
-    stands = let_stands env w procedure parameters front last (givens env (args_on items ns)) written all d e is number_is found split (h.stands items);
+    named = h.named;
+    stands = λ y place value ps below s alone.
+        let_stands env w procedure parameters front last (givens env (args_on items ns)) kind e.tables e.pieces is number_is found split y place value ps below (h.stands items value alone) s;
   };
 }
 
@@ -278,13 +283,12 @@ untaken env t place term.ErrorWord z ps below i n h = other_untaken env place te
 untaken env t place term.Nothing z ps below i n h = other_untaken env place term.Nothing z plain.no_term h refl refl refl
 
 -- arguments that are one more item
-index_at : (split : Split) (all : List ExpressionNode) (s : SplitAt split all) → behind_nodes [] split.target.now ≡ nodes.tree (tree_in split.target.now) ∷ [] → AddsOne split.arguments.now
+pub index_at : (split : Split) (all : List ExpressionNode) (s : SplitAt split all) → behind_nodes [] split.target.now ≡ nodes.tree (tree_in split.target.now) ∷ [] → AddsOne split.arguments.now
     → (args : Args) × (tree_in all ≡ index (tree_in split.target.now) s.left args s.right)
 index_at split all s alone one =
-    let base = nodes.tree (tree_in split.target.now) ∷ [] in
-    let h = one base in (
-      last_arguments (h.0 ∷ base),
-      all_is split all s alone ∙ ap last_tree (behind_push base split.arguments.now (node.Index s.left s.right)) ∙ ap (λ (l : List nodes.Item). last_tree (behind_node (node.Index s.left s.right) l)) h.1,
+    let base = nodes.tree (tree_in split.target.now) ∷ [] in (
+      last_arguments (one.added ∷ base),
+      all_is split all s alone ∙ ap last_tree (behind_push base split.arguments.now (node.Index s.left s.right)) ∙ ap (λ (l : List nodes.Item). last_tree (behind_node (node.Index s.left s.right) l)) (one.is base),
     )
 
 pub assigns_indexed : (env : Env) (split : Split) (all : List ExpressionNode) (x more : Tree) (y : Term) (d f g h e : Drafted) (kind : ActionKind) → SplitAt split all → AddsOne split.arguments.now → LeavesAlone env split.target.now d f x
@@ -312,7 +316,7 @@ assigns_indexed env split all x more y d f g h e kind at one l c none item r a =
           let A : List Piece → Type 0 = λ (ps : List Piece). TermStands env h.tables more.term (term_of env tree) h.pieces ps in
           let front : place_of_expression tree ≡ p = expression_front base (marked at.left mark.LeftParenthesis ∷ (spell_args args ++ marked at.right mark.RightParenthesis ∷ [])) in
           let B : Place → Type 0 = λ (q : Place). ActionIs kind (assigned env q value [] (term_of env tree)) e.tables e.pieces in
-          let m = subst B (leaves.stands.place_is ∙ front) (a.stands env (term_of env tree) value (indexed_fits env p t gs) (subst A alone leaves.stands.term_is)) in
+          let m = subst B (leaves.stands.place_is ∙ front) (a.stands env (term_of env tree) value (subst A alone leaves.stands.term_is)) in
           record {
             made = m.made;
             is = ap (λ (b : Bool). if b then assigned env p value gs t else assigned env p value [] (indexed env p t gs)) takes ∙ m.is;

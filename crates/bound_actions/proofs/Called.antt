@@ -151,7 +151,7 @@ routine_called env place y space number w gs made is h =
 
 -- ---- values and objects as statements
 
-none_there : (e : bound.Expr) → None ≡ Some e → ⊥
+pub none_there : (e : bound.Expr) → None ≡ Some e → ⊥
 none_there e h = subst T (ap (λ (o : Option bound.Expr). is_some o) (sym h)) tt
 
 -- what a procedure gives that is called without arguments

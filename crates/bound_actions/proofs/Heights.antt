@@ -6,19 +6,18 @@ use Rattle.std.proofs.lemmas.List.{at_drop_all, drop_more}
 use Rattle.vba_expression.specs.Nodes.{Item, behind_node, behind_nodes}
 use Rattle.vba_expression.specs.declared.node.ExpressionNode.{ExpressionNode}
 use Rattle.vba_expression.specs.declared.node.ExpressionNode.TheVariants as node
-use Rattle.bound_actions.specs.Heights.{AddsOne, height_behind, height_of, taking}
+use Rattle.bound_actions.specs.Heights.{AddsOne, height_behind, height_of, items_taken}
 
--- what stands above other items
-pub record Above (height : ℕ) (all items : List Item) : Type 0 where
-  pub above : List Item
+-- so many items stand above others
+pub record Above (height : ℕ) (all above items : List Item) : Type 0 where
   pub long : length above ≡ height
   pub is : all ≡ above ++ items
 
-made : (k : ℕ) (all items : List Item) (above : List Item) → Some (length above) ≡ Some k → all ≡ above ++ items → Above k all items
-made k all items above h is = record { above = above; long = (cc); is = is }
+made : (k : ℕ) (all items : List Item) (above : List Item) → Some (length above) ≡ Some k → all ≡ above ++ items → Above k all above items
+made k all items above h is = record { long = (cc); is = is }
 
 -- behind one node
-node_above : (n : ExpressionNode) (xs items : List Item) (k : ℕ) → height_behind (taking n) (length xs) ≡ Some k → Above k (behind_node n (xs ++ items)) items
+node_above : (n : ExpressionNode) (xs items : List Item) (k : ℕ) → height_behind (items_taken n) (length xs) ≡ Some k → Above k (behind_node n (xs ++ items)) (behind_node n xs) items
 node_above (node.Literal l) xs items k h = made k (behind_node (node.Literal l) (xs ++ items)) items (behind_node (node.Literal l) xs) h refl
 node_above (node.Me token) xs items k h = made k (behind_node (node.Me token) (xs ++ items)) items (behind_node (node.Me token) xs) h refl
 node_above (node.Name x) xs items k h = made k (behind_node (node.Name x) (xs ++ items)) items (behind_node (node.Name x) xs) h refl
@@ -44,30 +43,29 @@ node_above (node.Binary operator token) (i ∷ j ∷ xs) items k h =
     made k (behind_node (node.Binary operator token) (i ∷ j ∷ xs ++ items)) items (behind_node (node.Binary operator token) (i ∷ j ∷ xs)) h refl
 
 -- behind nodes
-behind_first : (n : ExpressionNode) (ns : List ExpressionNode) (xs items : List Item) (height k : ℕ) (o : Option ℕ) → length xs ≡ height → height_behind (taking n) height ≡ o → height_of (n ∷ ns) height ≡ Some k
-    → ((ys : List Item) (m : ℕ) → length ys ≡ m → height_of ns m ≡ Some k → Above k (behind_nodes (ys ++ items) ns) items) → Above k (behind_nodes (behind_node n (xs ++ items)) ns) items
+behind_first : (n : ExpressionNode) (ns : List ExpressionNode) (xs items : List Item) (height k : ℕ) (o : Option ℕ) → length xs ≡ height → height_behind (items_taken n) height ≡ o → height_of (n ∷ ns) height ≡ Some k
+    → ((ys : List Item) (m : ℕ) → length ys ≡ m → height_of ns m ≡ Some k → Above k (behind_nodes (ys ++ items) ns) (behind_nodes ys ns) items) → Above k (behind_nodes (behind_node n (xs ++ items)) ns) (behind_nodes (behind_node n xs) ns) items
 behind_first n ns xs items height k None long e h others = let none : None ≡ Some k = sym (ap (λ (o : Option ℕ). option_and_then (height_of ns) o) e) ∙ h in absurd cc
 behind_first n ns xs items height k (Some m) long e h others =
-    let first = node_above n xs items m (ap (λ (l : ℕ). height_behind (taking n) l) long ∙ e) in
+    let first = node_above n xs items m (ap (λ (l : ℕ). height_behind (items_taken n) l) long ∙ e) in
     let more : height_of ns m ≡ Some k = sym (ap (λ (o : Option ℕ). option_and_then (height_of ns) o) e) ∙ h in
-    let P : List Item → Type 0 = λ (l : List Item). Above k (behind_nodes l ns) items in
-    subst P (sym first.is) (others first.above m first.long more)
+    let P : List Item → Type 0 = λ (l : List Item). Above k (behind_nodes l ns) (behind_nodes (behind_node n xs) ns) items in
+    subst P (sym first.is) (others (behind_node n xs) m first.long more)
 
-nodes_above : (ns : List ExpressionNode) (xs items : List Item) (height k : ℕ) → length xs ≡ height → height_of ns height ≡ Some k → Above k (behind_nodes (xs ++ items) ns) items
-nodes_above [] xs items height k long h = record { above = xs; long = (cc); is = refl }
+nodes_above : (ns : List ExpressionNode) (xs items : List Item) (height k : ℕ) → length xs ≡ height → height_of ns height ≡ Some k → Above k (behind_nodes (xs ++ items) ns) (behind_nodes xs ns) items
+nodes_above [] xs items height k long h = record { long = (cc); is = refl }
 nodes_above (n ∷ ns) xs items height k long h =
-    behind_first n ns xs items height k (height_behind (taking n) height) long refl h (λ ys m l e. nodes_above ns ys items m k l e)
+    behind_first n ns xs items height k (height_behind (items_taken n) height) long refl h (λ ys m l e. nodes_above ns ys items m k l e)
 
-one_above : (all items : List Item) → Above 1 all items → (i : Item) × (all ≡ i ∷ items)
-one_above all items a = at a.above a.long a.is
-  where
-    at : (xs : List Item) → length xs ≡ 1 → all ≡ xs ++ items → (i : Item) × (all ≡ i ∷ items)
-    at [] long is = absurd cc
-    at (i ∷ []) long is = (i, is)
-    at (i ∷ j ∷ xs) long is = absurd cc
+one_item : (xs : List Item) → length xs ≡ 1 → (i : Item) × (xs ≡ i ∷ [])
+one_item [] long = absurd cc
+one_item (i ∷ []) long = (i, refl)
+one_item (i ∷ j ∷ xs) long = absurd cc
 
 adds_one : (ns : List ExpressionNode) → height_of ns 0 ≡ Some 1 → AddsOne ns
-adds_one ns h items = one_above (behind_nodes items ns) items (nodes_above ns [] items 0 1 refl h)
+adds_one ns h =
+    let one = one_item (behind_nodes [] ns) (nodes_above ns [] [] 0 1 refl h).long in
+    record { added = one.0; is = λ items. (nodes_above ns [] items 0 1 refl h).is ∙ ap (λ (l : List Item). l ++ items) one.1 }
 
 pub one_or_none : (ns : List ExpressionNode) (height : ℕ) → height_of ns 0 ≡ Some height → MatchBool (eqb height 1) (AddsOne ns) (Unit {0})
 one_or_none ns height h = by_test (eqb height 1) (λ e. adds_one ns (h ∙ ap (λ (k : ℕ). Some k) (eqb-true height 1 e)))
@@ -77,7 +75,7 @@ one_or_none ns height h = by_test (eqb height 1) (λ e. adds_one ns (h ∙ ap (�
     by_test false k = tt
 
 -- nodes are read one after another
-pub height_goes_on : (ns : List ExpressionNode) (i height more : ℕ) (n : ExpressionNode) → i < length ns → n ≡ get_or ns i n → height_behind (taking n) height ≡ Some more → height_of (drop i ns) height ≡ height_of ns 0
+pub height_goes_on : (ns : List ExpressionNode) (i height more : ℕ) (n : ExpressionNode) → i < length ns → n ≡ get_or ns i n → height_behind (items_taken n) height ≡ Some more → height_of (drop i ns) height ≡ height_of ns 0
     → height_of (drop (i + 1) ns) more ≡ height_of ns 0
 height_goes_on ns i height more n there is behind h =
     let P : ExpressionNode → Type 0 = λ (m : ExpressionNode). drop i ns ≡ m ∷ drop (i + 1) ns in

@@ -9,5 +9,7 @@ pub mod NamesOfMembers
 pub mod WrittenMembers
 pub mod GivenValues
 pub mod Heights
-pub mod Indexing
 pub mod WrittenTargets
+pub mod IndexedCalls
+pub mod NamedLets
+pub mod SetTargets

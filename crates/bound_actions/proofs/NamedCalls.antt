@@ -112,7 +112,7 @@ pushes_named r x named place d d1 e ending some h p = record {
 below_values : (env : Env) (t : Tables) (n : ℕ) (x : Passed) (args : Args) (is : List nodes.Item) (ps : List Piece) (base : Base) → Stands env t (with_gathered n (item.Listed x ∷ [])) (nodes.arguments args ∷ is) ps base → is ≡ base.items
 below_values env t zero x args is ps base h = h.1.1.0
 below_values env t (suc n) x no_args is ps base h = absurd h
-below_values env t (suc n) x (missing before comma) is ps base h = absurd h
+below_values env t (suc n) x (missing before comma) is ps base h = below_values env t n x before is h.0 base h.1.1
 below_values env t (suc n) x (tree.named before comma name sign e) is ps base h = absurd h
 below_values env t (suc n) x (tree.plain before comma e) is ps base h = below_values env t n x before is h.0 base h.1.1
 
@@ -239,7 +239,7 @@ acts_routine env r x named place ns d d1 e a p = record {
 
 -- ---- Err.Raise
 
-bound_on : (env : Env) (parameters : List Parameter) (x : Passed) (named : List ℕ) (o : Ordered) (d e : Drafted) (gs : List Given) (before : Args) (given : List Given) (made : List Argument) (between below : List Piece) → (named ≡ [] → ⊥)
+pub bound_on : (env : Env) (parameters : List Parameter) (x : Passed) (named : List ℕ) (o : Ordered) (d e : Drafted) (gs : List Given) (before : Args) (given : List Given) (made : List Argument) (between below : List Piece) → (named ≡ [] → ⊥)
     → EndsInOrder parameters x named d e o → gs ≡ givens env before ++ given → AllNamedTaken (argument_of env) x.count (map parameter_view x.left.now) given named made → d.pieces ≡ above (map an_argument made) between
     → PassedStands env (map parameter_view parameters) x before between below → InOrderBound env e.tables (map parameter_view parameters) o gs e.pieces below
 bound_on env parameters x [] o d e gs before given made between below some h is names a p = absurd (some refl)

@@ -9,7 +9,7 @@ use Rattle.vba_lexer.specs.declared.token.Token.{Token}
 use Rattle.vba_lib.specs.declared.function.LibraryFunction.{LibraryFunction}
 use Rattle.vba_lib.specs.Names.{function_named}
 use Rattle.vba_expression.specs.Tree.{Expr, literal, me, name, with_member, member, index, parenthesised, new, type_of, unary, binary}
-use Rattle.vba_expression.specs.Reader.{behind_dot, new_behind_dot, type_of_behind_dot}
+use Rattle.vba_expression.specs.Reader.{behind_dot, long_type, new_behind_dot, type_of_behind_dot}
 use Rattle.vba_expression.specs.declared.tree.TypeQualifier.{TypeQualifier}
 use Rattle.vba_lexer.specs.declared.number.TypeSuffix.{TypeSuffix}
 use Rattle.vba_expression.specs.Nodes as nodes
@@ -26,7 +26,8 @@ use Rattle.binder.specs.Scopes.{Space, Meant, of_procedure, of_module, a_module,
 use Rattle.binder.specs.Storage.{declared_variable, module_storage, own_declaration, own_storage}
 use Rattle.binder.specs.Terms.{Env, Within, HostMember, a_place, a_value, a_routine, a_function, a_host_member, err_object, err_raise, err_clear, error_word, no_term, expression_of}
 use Rattle.binder.specs.Terms as plain
-use Rattle.binder.specs.ExpressionsBound.{HostKind, application, workbook, sheets, sheet, area, any_object, array_base, bare_call, behind_term, constant_term, declared_place, entry_term, err_member, field_named, field_of_place, field_of_value, from_zero, has_bounds, host_kind, host_term, if_there, kept_member, library_term, listed_member, mark_members, meant_term, member_of, member_of_kind, node_or, object_member, own_term, place_term, sheet_members, sheet_term, sheets_members, sheets_value, area_members, term_of}
+use Rattle.binder.specs.Types.{meant_type, type_meant}
+use Rattle.binder.specs.ExpressionsBound.{HostKind, application, workbook, sheets, sheet, area, any_object, array_base, bare_call, behind_term, constant_term, declared_place, entry_term, err_member, field_named, field_of_place, field_of_value, from_zero, given_as, has_bounds, host_kind, host_term, if_there, kept_member, library_term, listed_member, mark_members, meant_term, member_of, member_of_kind, node_or, object_member, own_term, place_term, sheet_members, sheet_term, sheets_members, sheets_value, area_members, term_of, typed_term}
 use Rattle.bound_actions.specs.Members.{MemberNamed, NamedBy}
 use Rattle.bound_actions.proofs.NodeTrees.{behind_push}
 
@@ -242,9 +243,14 @@ new_named env word None first dot x None = tt
 new_named env word None first dot x (Some s) = dotted_named env (new word (record { qualifier = None; name = first })) dot x
 new_named env word (Some q) first dot x s = dotted_named env (new word (record { qualifier = Some q; name = first })) dot x
 
+typed_named : (fold : List ℕ) (operand : Option bound.Expr) (of : Declared) → MemberNamed fold (typed_term operand of)
+typed_named fold None of = tt
+typed_named fold (Some a) of = tt
+
 type_of_named : (env : Env) (word : Token) (operand : Expr) (is_word : Token) (q : Option TypeQualifier) (first : Identifier) (dot : Token) (x : Identifier) (s : Option TypeSuffix)
     → MemberNamed x.name (term_of env (type_of_behind_dot word operand is_word q first dot x s))
-type_of_named env word operand is_word None first dot x None = tt
+type_of_named env word operand is_word None first dot x None =
+    typed_named x.name (given_as env (term_of env operand) (place_of_expression operand)) (meant_type (type_meant env.scope (long_type first dot x)))
 type_of_named env word operand is_word None first dot x (Some s) = dotted_named env (type_of word operand is_word (record { qualifier = None; name = first })) dot x
 type_of_named env word operand is_word (Some q) first dot x s = dotted_named env (type_of word operand is_word (record { qualifier = Some q; name = first })) dot x
 

@@ -53,7 +53,7 @@ continues env ns x y ys xs start d e s a b g =
     let B : List Item → Type 0 = λ l. Goes env d (item.Tree x ∷ []) e l (λ is. behind_nodes is ns) in
     record { goes = subst B all (subst A s g) }
 
-only_tree : (env : Env) (t : Tables) (x : Tree) (is : List nodes.Item) (ps below : List Piece) → Stands env t (item.Tree x ∷ []) is ps (on_pieces below) → TreeStands env t x (last_tree is) ps below
+pub only_tree : (env : Env) (t : Tables) (x : Tree) (is : List nodes.Item) (ps below : List Piece) → Stands env t (item.Tree x ∷ []) is ps (on_pieces below) → TreeStands env t x (last_tree is) ps below
 only_tree env t x [] ps below h = absurd h
 only_tree env t x (nodes.arguments args ∷ is) ps below h = absurd h
 only_tree env t x (nodes.tree tree ∷ is) ps below h = let A : List Piece → Type 0 = λ l. TreeStands env t x tree ps l in subst A h.1.1.1 h.1.0

@@ -1,6 +1,6 @@
 -- Members of objects that are assigned to.
 use Rattle.std.proofs.Common.{◌≡◌, ◌≢◌, ℕ, ◌==◌, Bool, true, false, ◌&&◌, ◌||◌, not, is_some, List, [], ◌∷◌, map, length, Option, Some, None, option_map, if◌then◌else◌, refl, sym, ap, subst, ◌∙◌, arith}
-use Rattle.std.specs.Prelude.{◌<◌, suc, bytes_eq, codes}
+use Rattle.std.specs.Prelude.{◌<◌, bytes_eq, codes}
 use Rattle.std.specs.List.{list_any}
 use Rattle.vba_base.specs.declared.place.Place.{Place}
 use Rattle.vba_lexer.specs.declared.token.Token.{Token}
@@ -26,7 +26,7 @@ use Rattle.binder.specs.Types.{is_object}
 use Rattle.binder.specs.Constants.{place_of_expression}
 use Rattle.binder.specs.Terms.{Env, Given, a_host_member, listed_values}
 use Rattle.binder.specs.Terms as plain
-use Rattle.binder.specs.ExpressionsBound.{all_given, callee, given_as, givens, host_arguments, indexed, item_of, mark_members, takes_arguments, term_of}
+use Rattle.binder.specs.ExpressionsBound.{callee, given_as, givens, host_arguments, indexed, item_of, mark_members, takes_arguments, term_of}
 use Rattle.binder.specs.StatementsBound.{assigned, assigned_to, fits_written, has_written_default, is_given_with, is_variant_place, is_written_member, member_written, takes_value, target_before}
 use Rattle.bound_calls.specs.declared.term.HostMember.{HostMember}
 use Rattle.bound_calls.specs.declared.term.MemberCall.{MemberCall}
@@ -36,11 +36,11 @@ use Rattle.bound_calls.specs.declared.term.Term.{Term}
 use Rattle.bound_calls.specs.declared.term.Term.TheVariants as term
 use Rattle.bound_calls.specs.declared.term.Tree.{Tree}
 use Rattle.bound_calls.specs.Calls.{node_of}
-use Rattle.bound_calls.specs.Standing.{AllGiven, AllNumbers, MemberStands, Stands, TermStands, member_is, on_pieces}
+use Rattle.bound_calls.specs.Standing.{AllListed, MemberStands, Stands, TermStands, member_is, on_pieces}
 use Rattle.bound_calls.specs.Taking.{PushesSheet, sheet_expression}
 use Rattle.bound_calls.proofs.Growing.{grown_pieces, grown_twice}
 use Rattle.bound_calls.proofs.Taking.{sheet_stands}
-use Rattle.bound_members.proofs.Listing.{all_listed, given_all, given_long}
+use Rattle.bound_members.proofs.Listing.{all_written, every_listed, listed_long, listed_nameless}
 use Rattle.bound_members.specs.MemberCalls.{OpensMember}
 use Rattle.bound_terms.specs.Items.{MakesItem}
 use Rattle.bound_actions.specs.Called.{ActionIs}
@@ -131,18 +131,14 @@ tree_assigned x name t d e kind k given g is same flag a =
 
 -- ---- with arguments
 
-given_count_is : (es : List bound.Expr) → AllGiven es → given_count (exprs_of es) ≡ length es
-given_count_is [] h = refl
-given_count_is (e ∷ es) h = h.0 (exprs_of es) ∙ ap (λ (n : ℕ). suc n) (given_count_is es h.1)
-
 some_fit : (m : plain.HostMember) (gs : List Given) → length gs ≢ 0 → takes_arguments m (length gs) ≡ true → has_written_default m.of ≡ true → fits_written m gs ≡ true
 some_fit m [] some takes k = absurd (some refl)
 some_fit m (g ∷ gs) some takes k = ap (λ (b : Bool). b && has_written_default m.of) takes ∙ k
 
 call_written : (env : Env) (object : bound.Expr) (m : plain.HostMember) (count : ℕ) (gs : List Given) (es : List bound.Expr) (value : bound.Expr) → count ≡ length es → count ≢ 0 → takes_arguments m count ≡ true → has_written_default m.of ≡ true
-    → (not (is_some m.greatest) || is_object m.of) ≡ true → AllNumbers (given_as env) gs es → member_written env object m gs value ≡ Some (assign_member object m.name (exprs_of es) value)
+    → (not (is_some m.greatest) || is_object m.of) ≡ true → AllListed (given_as env) gs es → member_written env object m gs value ≡ Some (assign_member object m.name (exprs_of es) value)
 call_written env object m count gs es value c some takes k late values =
-    let long : count ≡ length gs = omega (arith, c, given_long (given_as env) gs es values) in
+    let long : count ≡ length gs = omega (arith, c, listed_long (given_as env) gs es values) in
     let N : ℕ → Type 0 = λ (n : ℕ). n ≢ 0 in
     let T : ℕ → Type 0 = λ (n : ℕ). takes_arguments m n ≡ true in
     let written : is_written_member m ≡ true =
@@ -150,14 +146,13 @@ call_written env object m count gs es value c some takes k late values =
     let fits : fits_written m gs ≡ true = some_fit m gs (subst N long some) (subst T long takes) k in
     let done : Option Exprs → Option Action = λ (o : Option Exprs). option_map (λ (xs : Exprs). assign_member object m.name xs value) o in
     ap (λ (b : Bool). if b && fits_written m gs then done (host_arguments env gs) else None) written ∙ ap (λ (b : Bool). if b then done (host_arguments env gs) else None) fits
-    ∙ ap (λ (b : Bool). done (if b then listed_values (given_as env) gs else None)) (given_all (given_as env) gs es values) ∙ ap done (all_listed (given_as env) gs es values)
+    ∙ ap (λ (b : Bool). done (if b then None else listed_values (given_as env) gs)) (listed_nameless (given_as env) gs es values) ∙ ap done (every_listed (given_as env) gs es values)
 
-call_fits : (t : Tables) (name given count : ℕ) (object value : bound.Expr) (es : List bound.Expr) (ps : List Piece) → count ≡ length es → given ≡ count → AllGiven es
+call_fits : (t : Tables) (name given count : ℕ) (object value : bound.Expr) (es : List bound.Expr) (ps : List Piece) → count ≡ length es → given ≡ given_count (exprs_of es)
     → ps ≡ above (map an_expr es) (a_member object (name_in t name) given ∷ an_expr value ∷ []) → action_of t (action.AssignMember name count) ps ≡ Some (assign_member object (name_in t name) (exprs_of es) value)
-call_fits t name given count object value es ps c g all on_top =
+call_fits t name given count object value es ps c g on_top =
     let n = name_in t name in
-    let same : given ≡ given_count (exprs_of es) = g ∙ c ∙ sym (given_count_is es all) in
-    let top : ps ≡ above (map an_expr es) (a_member object n (given_count (exprs_of es)) ∷ an_expr value ∷ []) = on_top ∙ ap (λ (k : ℕ). above (map an_expr es) (a_member object n k ∷ an_expr value ∷ [])) same in
+    let top : ps ≡ above (map an_expr es) (a_member object n (given_count (exprs_of es)) ∷ an_expr value ∷ []) = on_top ∙ ap (λ (k : ℕ). above (map an_expr es) (a_member object n k ∷ an_expr value ∷ [])) g in
     ap (λ (k : ℕ). member_found n (exprs_off k ps no_exprs)) c ∙ ap (λ (st : List Piece). member_found n (exprs_off (length es) st no_exprs)) top
     ∙ ap (λ o. member_found n o) (exprs_are es (a_member object n (given_count (exprs_of es)) ∷ an_expr value ∷ []))
     ∙ ap (λ (b : Bool). if b then Some (assign_member object n (exprs_of es) value) else None) (is_itself n (exprs_of es))
@@ -189,7 +184,7 @@ member_given env x kind left right t (nodes.arguments args ∷ nodes.tree base �
           record {
             made = assign_member s.object M.name (exprs_of s.made) value;
             is = indexed_assigned env base left right args s.object M value s.is ∙ call_written env s.object M x.count (givens env args) s.made value s.count_is w.some (w.takes t) w.default w.written s.values;
-            fits = call_fits t x.member.name x.given x.count s.object value s.made ps s.count_is w.given_is s.all_given
+            fits = call_fits t x.member.name x.given x.count s.object value s.made ps s.count_is (w.given_is ∙ sym (all_written s.made x.written s.written_is))
                 (s.on_top ∙ ap (λ (qs : List Piece). above (map an_expr s.made) (a_member s.object (name_in t x.member.name) x.given ∷ qs)) low);
           };
     })

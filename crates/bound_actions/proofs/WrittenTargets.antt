@@ -1,5 +1,5 @@
 -- Places and values that are assigned to.
-use Rattle.std.proofs.Common.{◌≡◌, Bool, true, false, List, [], ◌∷◌, Option, Some, None, if◌then◌else◌, refl, sym, ap, subst, ◌∙◌}
+use Rattle.std.proofs.Common.{◌≡◌, ℕ, Bool, true, false, List, [], ◌∷◌, Option, Some, None, if◌then◌else◌, refl, sym, ap, subst, ◌∙◌}
 use Rattle.std.specs.Prelude.{◌||◌, not, MatchBool}
 use Rattle.vba_base.specs.declared.place.Place.{Place}
 use Rattle.vba_values.specs.Types.{Declared}
@@ -9,16 +9,15 @@ use Rattle.bound_project.specs.declared.node.NodeKind.TheVariants as kinds
 use Rattle.bound_project.specs.declared.node.Node.{Node}
 use Rattle.bound_project.specs.declared.statement.ActionKind.{ActionKind}
 use Rattle.bound_project.specs.declared.statement.ActionKind.TheVariants as action
-use Rattle.bound_project.specs.Bodies.{action_of}
-use Rattle.bound_project.specs.Expressions.{Lvalue, no_exprs, expr, load, element_value, field_value, call, library, host_member, no_args, in_order, operand_type}
+use Rattle.bound_project.specs.Bodies.{action_of, item_found}
+use Rattle.bound_project.specs.Expressions.{Exprs, Lvalue, no_exprs, expr, load, element_value, field_value, call, library, host_member, no_args, in_order}
 use Rattle.bound_project.specs.Expressions as bound
-use Rattle.bound_project.specs.Pieces.{Piece, Tables, a_place, an_expr, arguments_off, expr_of, exprs_off, name_in, of_place, order_in, put, put_kind}
-use Rattle.bound_project.specs.Drafts.{Drafted, ActionNamed}
-use Rattle.bound_project.specs.Statements.{assign, assign_default, assign_none}
+use Rattle.bound_project.specs.Pieces.{Piece, Tables, a_place, an_expr, arguments_off, expr_of, exprs_off, misfit, name_in, of_place, of_value, of_value_found, order_in, put, put_kind}
+use Rattle.bound_project.specs.Drafts.{Drafted}
+use Rattle.bound_project.specs.Statements.{assign, assign_default, assign_item}
 use Rattle.bound_project.specs.View.{base_view, declared_view}
 use Rattle.binder.specs.Types.{is_object}
-use Rattle.binder.specs.Constants.{is_variant}
-use Rattle.binder.specs.Terms.{Env, a_value, expression_of}
+use Rattle.binder.specs.Terms.{Env, expression_of}
 use Rattle.binder.specs.Terms as plain
 use Rattle.binder.specs.ExpressionsBound.{has_object}
 use Rattle.binder.specs.StatementsBound.{assigned, default_written, has_written_default, takes_value, value_written}
@@ -28,11 +27,10 @@ use Rattle.bound_calls.specs.declared.term.Term.TheVariants as term
 use Rattle.bound_calls.specs.Calls.{node_of}
 use Rattle.bound_calls.specs.References.{EndingGives}
 use Rattle.bound_calls.specs.Standing.{ValueEnds}
-use Rattle.bound_calls.proofs.Growing.{grown_pieces}
-use Rattle.bound_calls.proofs.LastNodes.{any_node, found_passes, member_found_passes, place_passes, value_found_passes, value_passes}
-use Rattle.bound_actions.specs.Called.{ActionIs}
+use Rattle.bound_calls.proofs.Growing.{grown_pieces, grown_same}
+use Rattle.bound_calls.proofs.LastNodes.{any_node, found_passes, member_found_passes, place_passes, value_passes}
 use Rattle.bound_actions.specs.Members.{AssignsTerm}
-use Rattle.bound_actions.specs.Targets.{AssignsIndexed, EndsObject, element_action, element_done, ends_value, is_element, is_element_kind, is_of_array}
+use Rattle.bound_actions.specs.Targets.{AssignsIndexed, EndsItem, EndsObject, ends_value, gives_object}
 
 -- ---- places
 
@@ -91,26 +89,26 @@ object_assigned place at d f e object written first second bounded lends name =
 
 -- ---- values that are no elements
 
--- no element is on top, or else one is
-abbrev element_or_not : Bool → Bool → Bool
-element_or_not true b = b
-element_or_not false b = not b
+abbrev is_element : bound.Node → Bool
+is_element (element_value e es) = true
+is_element node = false
 
-element_on_top : Bool → List Piece → Bool
-element_on_top wanted (an_expr (expr made place of operand) ∷ st) = element_or_not wanted (is_element made)
-element_on_top wanted st = true
+-- no element is on top
+none_on_top : List Piece → Bool
+none_on_top (an_expr (expr made place of operand) ∷ st) = not (is_element made)
+none_on_top st = true
 
-no_element_there : (t : Tables) (n : Node) (k : NodeKind) (st : List Piece) → ends_value k ≡ true → element_on_top false (put_kind t n k st) ≡ true
-unfolding element_on_top
-no_element_there t n kinds.Load st h = place_passes (element_on_top false) refl (λ x. expr_of n (load x)) (λ x rest. refl) st
-no_element_there t n (kinds.FieldValue i) st h = value_passes (element_on_top false) refl (λ e. expr_of n (field_value e i)) (λ e rest. refl) st
-no_element_there t n (kinds.Call p count) st h = found_passes (element_on_top false) refl (λ args. expr_of n (call p args)) (λ args rest. refl) (arguments_off count st no_args)
+no_element_there : (t : Tables) (n : Node) (k : NodeKind) (st : List Piece) → ends_value k ≡ true → none_on_top (put_kind t n k st) ≡ true
+unfolding none_on_top
+no_element_there t n kinds.Load st h = place_passes none_on_top refl (λ x. expr_of n (load x)) (λ x rest. refl) st
+no_element_there t n (kinds.FieldValue i) st h = value_passes none_on_top refl (λ e. expr_of n (field_value e i)) (λ e rest. refl) st
+no_element_there t n (kinds.Call p count) st h = found_passes none_on_top refl (λ args. expr_of n (call p args)) (λ args rest. refl) (arguments_off count st no_args)
 no_element_there t n (kinds.CallInOrder p count order) st h =
-    found_passes (element_on_top false) refl (λ args. expr_of n (call p (in_order (order_in t order) args))) (λ args rest. refl) (arguments_off count st no_args)
+    found_passes none_on_top refl (λ args. expr_of n (call p (in_order (order_in t order) args))) (λ args rest. refl) (arguments_off count st no_args)
 no_element_there t n (kinds.Library f text_form count compare one) st h =
-    found_passes (element_on_top false) refl (λ es. expr_of n (library f text_form es compare (base_view one))) (λ es rest. refl) (exprs_off count st no_exprs)
+    found_passes none_on_top refl (λ es. expr_of n (library f text_form es compare (base_view one))) (λ es rest. refl) (exprs_off count st no_exprs)
 no_element_there t n (kinds.HostMember i count) st h =
-    member_found_passes (element_on_top false) refl (name_in t i) (λ e es. expr_of n (host_member e (name_in t i) es)) (λ e es rest. refl) (exprs_off count st no_exprs)
+    member_found_passes none_on_top refl (name_in t i) (λ e es. expr_of n (host_member e (name_in t i) es)) (λ e es rest. refl) (exprs_off count st no_exprs)
 no_element_there t n (kinds.HostObject reference) st h = refl
 no_element_there t n kinds.ActiveSheet st h = refl
 no_element_there t n k st h = let e : false ≡ true = h in absurd cc
@@ -120,8 +118,8 @@ not_true false h = refl
 not_true true h = absurd cc
 
 no_element : (t : Tables) (k : NodeKind) (made : bound.Node) (ps below : List Piece) → ends_value k ≡ true → ValueEnds t k made ps below → is_element made ≡ false
-unfolding element_on_top
-no_element t k made ps below h ends = not_true (is_element made) (sym (ap (element_on_top false) (ends any_node)) ∙ no_element_there t any_node k ps h)
+unfolding none_on_top
+no_element t k made ps below h ends = not_true (is_element made) (sym (ap none_on_top (ends any_node)) ∙ no_element_there t any_node k ps h)
 
 or_left : (a b : Bool) → a ≡ true → (a || b) ≡ true
 or_left a b h = ap (λ (c : Bool). c || b) h
@@ -130,23 +128,27 @@ or_right : (a b : Bool) → b ≡ true → (a || b) ≡ true
 or_right true b h = refl
 or_right false b h = h
 
-pub ends_object : (e : Ending) → ends_value e.kind ≡ true → is_object (declared_view e.of) ≡ true → EndsObject e
-ends_object e value object t made ps below ends = record {
-  no_element = no_element t e.kind made ps below value ends;
-  object = or_left (is_object (declared_view e.of)) (has_object made (declared_view e.of)) object;
-}
+pub ends_object : (e : Ending) → is_object (declared_view e.of) ≡ true → EndsObject e
+ends_object e object t made ps below ends = any_made made
+  where
+    any_made : (made : bound.Node) → gives_object made (declared_view e.of) ≡ true
+    any_made (element_value x es) = object
+    any_made made = or_left (is_object (declared_view e.of)) (has_object made (declared_view e.of)) object
+
+variant_gives : (made : bound.Node) (of : Declared) → is_element made ≡ false → has_object made of ≡ true → gives_object made of ≡ true
+variant_gives (element_value x es) of n h = let e : true ≡ false = n in absurd cc
+variant_gives made of n h = or_right (is_object of) (has_object made of) h
 
 pub ends_variant : (e : Ending) (gives : Bool) → ends_value e.kind ≡ true → EndingGives e gives → MatchBool gives (EndsObject e) (Unit {0})
-ends_variant e true value g = λ t made ps below ends. record {
-  no_element = no_element t e.kind made ps below value ends;
-  object = or_right (is_object (declared_view e.of)) (has_object made (declared_view e.of)) (g t made ps below ends);
-}
+ends_variant e true value g = λ t made ps below ends. variant_gives made (declared_view e.of) (no_element t e.kind made ps below value ends) (g t made ps below ends)
 ends_variant e false value g = tt
 
-value_done : (place : Place) (v : bound.Expr) (made : bound.Node) (of : Declared) → is_element made ≡ false → (is_object of || has_object made of) ≡ true → has_written_default of ≡ true
+value_done : (place : Place) (v : bound.Expr) (made : bound.Node) (of : Declared) → gives_object made of ≡ true → has_written_default of ≡ true
     → value_written place v made of ≡ Some (assign_default (expression_of made place of) v)
-value_done place v (element_value x es) of n h k = let e : true ≡ false = n in absurd cc
-value_done place v made of n h k =
+value_done place v (element_value x es) of h k =
+    let target = expression_of (element_value x es) place of in
+    ap (λ (b : Bool). if b then default_written target of v else Some (assign_item x es v)) h ∙ ap (λ (b : Bool). if b then Some (assign_default target v) else None) k
+value_done place v made of h k =
     let target = expression_of made place of in
     ap (λ (b : Bool). if b then default_written target of v else None) h ∙ ap (λ (b : Bool). if b then Some (assign_default target v) else None) k
 
@@ -161,77 +163,53 @@ value_assigned place ending d e gives written eq name =
       takes = λ env z ps below h. ap (λ (y : plain.Term). takes_value env y) h.is;
       stands = λ env z value k h.
           let of = declared_view ending.of in
-          let g = gives d.tables h.made d.pieces (an_expr value ∷ []) h.ends in
           record {
             made = assign_default (expression_of h.made place of) value;
-            is = ap (λ (y : plain.Term). assigned env place value [] y) h.is ∙ value_done place value h.made of g.no_element g.object written;
+            is = ap (λ (y : plain.Term). assigned env place value [] y) h.is ∙ value_done place value h.made of (gives d.tables h.made d.pieces (an_expr value ∷ []) h.ends) written;
             fits = ap (λ (ps : List Piece). action_of d.tables action.AssignDefault ps) (h.ends n);
           };
     })
 
 -- ---- elements
 
-element_there : (t : Tables) (n : Node) (k : NodeKind) (st : List Piece) → is_element_kind k ≡ true → element_on_top true (put_kind t n k st) ≡ true
-unfolding element_on_top
-element_there t n (kinds.ElementValue count) st h = value_found_passes (element_on_top true) refl (λ e es. expr_of n (element_value e es)) (λ e es rest. refl) (exprs_off count st no_exprs)
-element_there t n k st h = let e : false ≡ true = h in absurd cc
+-- numbers stand above a value of which they mean an item
+record ItemThere (made : bound.Node) (o : Option (Exprs × List Piece)) (below : List Piece) : Type 0 where
+  pub base : bound.Expr
+  pub numbers : Exprs
+  pub made_is : made ≡ element_value base numbers
+  pub is : o ≡ Some (numbers, an_expr base ∷ below)
 
-is_one : (t : Tables) (k : NodeKind) (made : bound.Node) (ps below : List Piece) → is_element_kind k ≡ true → ValueEnds t k made ps below → is_element made ≡ true
-unfolding element_on_top
-is_one t k made ps below h ends = sym (ap (element_on_top true) (ends any_node)) ∙ element_there t any_node k ps h
+item_at : (made : bound.Node) (es : Exprs) (st below : List Piece) → of_value (λ x. expr_of any_node (element_value x es)) st ≡ expr_of any_node made ∷ below → ItemThere made (Some (es, st)) below
+item_at made es (an_expr x ∷ st) below h =
+    let same : element_value x es ≡ made = (let e : expr_of any_node (element_value x es) ∷ st ≡ expr_of any_node made ∷ below = h in cc) in
+    let rest : st ≡ below = (let e : expr_of any_node (element_value x es) ∷ st ≡ expr_of any_node made ∷ below = h in cc) in
+    record { base = x; numbers = es; made_is = sym same; is = ap (λ (l : List Piece). Some (es, an_expr x ∷ l)) rest }
+item_at made es st below h = let e : misfit ≡ expr_of any_node made ∷ below = h in absurd cc
 
--- what is done, by whether it is a Variant, is an object and has a default member that is written, and whether it is one of a
--- Variant
-element_does : (variant object written of_variant : Bool) (kind : ActionKind) (target v : bound.Expr) (t : Tables) → Some kind ≡ element_done variant object written → (variant || not of_variant) ≡ true
-    → ActionIs kind (if of_variant then None else (if object then (if written then Some (assign_default target v) else None) else Some (assign_none target v))) t (an_expr target ∷ an_expr v ∷ [])
-element_does true object written of_variant kind target v t is fits = let e : Some kind ≡ None = is in absurd cc
-element_does false object written true kind target v t is fits = let e : false ≡ true = fits in absurd cc
-element_does false false written false kind target v t is fits =
-    let P : ActionKind → Type 0 = λ (k : ActionKind). ActionIs k (Some (assign_none target v)) t (an_expr target ∷ an_expr v ∷ []) in
-    let same : action.AssignNone ≡ kind = (let e : Some kind ≡ Some action.AssignNone = is in cc) in
-    subst P same (record { made = assign_none target v; is = refl; fits = refl })
-element_does false true true false kind target v t is fits =
-    let P : ActionKind → Type 0 = λ (k : ActionKind). ActionIs k (Some (assign_default target v)) t (an_expr target ∷ an_expr v ∷ []) in
-    let same : action.AssignDefault ≡ kind = (let e : Some kind ≡ Some action.AssignDefault = is in cc) in
-    subst P same (record { made = assign_default target v; is = refl; fits = refl })
-element_does false true false false kind target v t is fits = let e : Some kind ≡ None = is in absurd cc
+item_there : (made : bound.Node) (o : Option (Exprs × List Piece)) (below : List Piece) → of_value_found (λ x es. expr_of any_node (element_value x es)) o ≡ expr_of any_node made ∷ below → ItemThere made o below
+item_there made None below h = let e : misfit ≡ expr_of any_node made ∷ below = h in absurd cc
+item_there made (Some found) below h = item_at made found.0 found.1 below h
 
-element_acts : (place : Place) (v : bound.Expr) (made : bound.Node) (of : Declared) (kind : ActionKind) (t : Tables) → is_element made ≡ true → is_of_array (a_value made of) ≡ true → Some kind ≡ element_action of
-    → ActionIs kind (value_written place v made of) t (an_expr (expression_of made place of) ∷ an_expr v ∷ [])
-element_acts place v (element_value x es) of kind t n fits is =
-    element_does (is_variant of) (is_object of) (has_written_default of) (is_variant (operand_type x)) kind (expression_of (element_value x es) place of) v t is fits
-element_acts place v made of kind t n fits is = let e : false ≡ true = n in absurd cc
+item_written : (place : Place) (v base : bound.Expr) (numbers : Exprs) (of : Declared) → is_object of ≡ false → value_written place v (element_value base numbers) of ≡ Some (assign_item base numbers v)
+item_written place v base numbers of h =
+    ap (λ (b : Bool). if b then default_written (expression_of (element_value base numbers) place of) of v else Some (assign_item base numbers v)) h
 
-element_named : (t : Tables) (variant object written : Bool) (kind : ActionKind) → Some kind ≡ element_done variant object written → ActionNamed t kind
-element_named t true object written kind is = let e : Some kind ≡ None = is in absurd cc
-element_named t false false written kind is =
-    let N : ActionKind → Type 0 = λ (k : ActionKind). ActionNamed t k in
-    let same : action.AssignNone ≡ kind = (let e : Some kind ≡ Some action.AssignNone = is in cc) in
-    subst N same tt
-element_named t false true true kind is =
-    let N : ActionKind → Type 0 = λ (k : ActionKind). ActionNamed t k in
-    let same : action.AssignDefault ≡ kind = (let e : Some kind ≡ Some action.AssignDefault = is in cc) in
-    subst N same tt
-element_named t false true false kind is = let e : Some kind ≡ None = is in absurd cc
-
-pub element_assigned : (place : Place) (ending : Ending) (kind : ActionKind) (d e : Drafted) → is_element_kind ending.kind ≡ true → Some kind ≡ element_action (declared_view ending.of)
-    → e ≡ record d { pieces = put d.tables (node_of ending.kind place ending.of) d.pieces } → AssignsIndexed place (term.Value ending) d e kind
-element_assigned place ending kind d e element is eq =
-    let P : Drafted → Type 0 = λ (z : Drafted). AssignsIndexed place (term.Value ending) d z kind in
-    let of = declared_view ending.of in
-    let n = node_of ending.kind place ending.of in
-    let ps = put d.tables n d.pieces in
-    subst P (sym eq) (record {
-      grown = grown_pieces d ps;
-      named = element_named d.tables (is_variant of) (is_object of) (has_written_default of) kind is;
-      stands = λ env z value fits h.
-          let F : plain.Term → Type 0 = λ (y : plain.Term). is_of_array y ≡ true in
-          let Q : List Piece → Type 0 = λ (l : List Piece). ActionIs kind (value_written place value h.made of) d.tables l in
-          let one = is_one d.tables ending.kind h.made d.pieces (an_expr value ∷ []) element h.ends in
-          let done = subst Q (sym (h.ends n)) (element_acts place value h.made of kind d.tables one (subst F h.is fits) is) in
-          record { made = done.made; is = ap (λ (y : plain.Term). assigned env place value [] y) h.is ∙ done.is; fits = done.fits };
-    })
+pub item_indexed : (place : Place) (ending : Ending) (count : ℕ) (d : Drafted) → EndsItem ending count → AssignsIndexed place (term.Value ending) d d (action.AssignItem count)
+item_indexed place ending count d ends = record {
+  grown = grown_same d;
+  named = tt;
+  stands = λ env z value h.
+      let of = declared_view ending.of in
+      let below : List Piece = an_expr value ∷ [] in
+      let K : NodeKind → Type 0 = λ (k : NodeKind). put_kind d.tables any_node k d.pieces ≡ expr_of any_node h.made ∷ below in
+      let there = item_there h.made (exprs_off count d.pieces no_exprs) below (subst K ends.kind_is (h.ends any_node)) in
+      record {
+        made = assign_item there.base there.numbers value;
+        is = ap (λ (y : plain.Term). assigned env place value [] y) h.is ∙ ap (λ (n : bound.Node). value_written place value n of) there.made_is ∙ item_written place value there.base there.numbers of ends.no_object;
+        fits = ap (λ o. item_found o) there.is;
+      };
+}
 
 -- what brackets made
 pub term_indexed : (place : Place) (x : Term) (d e : Drafted) (kind : ActionKind) → AssignsTerm place x None d e kind false → AssignsIndexed place x d e kind
-term_indexed place x d e kind a = record { grown = a.grown; named = a.named; stands = λ env z value fits h. a.stands env z value tt h }
+term_indexed place x d e kind a = record { grown = a.grown; named = a.named; stands = λ env z value h. a.stands env z value tt h }

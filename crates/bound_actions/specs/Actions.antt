@@ -1,20 +1,19 @@
 -- Serves the code: statements whose nodes were pushed.
-use Rattle.std.specs.Prelude.{◌≡◌, Bool, ◌||◌, List, [], ◌∷◌, Option, Some, None}
+use Rattle.std.specs.Prelude.{◌≡◌, Bool, ◌||◌, List, ◌∷◌, Option, Some, None}
 use Rattle.bound_project.specs.declared.statement.ActionKind.{ActionKind}
 use Rattle.bound_project.specs.declared.declared_type.DeclaredType.{DeclaredType}
 use Rattle.bound_project.specs.Expressions.{Lvalue}
-use Rattle.bound_project.specs.Expressions as bound
 use Rattle.bound_project.specs.declared.variable.Variable.{Variable}
 use Rattle.bound_project.specs.View.{declared_view, variable_view}
-use Rattle.bound_project.specs.Pieces.{Piece, Tables, an_expr, a_place}
-use Rattle.bound_project.specs.Statements.{Action, set}
+use Rattle.bound_project.specs.Pieces.{Piece, Tables, a_place}
+use Rattle.bound_project.specs.Statements.{Action}
 use Rattle.bound_project.specs.Bodies.{action_of}
 use Rattle.bound_project.specs.Drafts.{Drafted, ActionNamed}
 use Rattle.binder.specs.Types.{is_object}
 use Rattle.binder.specs.Constants.{is_variant}
 use Rattle.binder.specs.Terms.{Env}
 use Rattle.binder.specs.Terms as plain
-use Rattle.binder.specs.StatementsBound.{plain_variable, set_to}
+use Rattle.binder.specs.StatementsBound.{plain_variable}
 use Rattle.bound_calls.specs.declared.term.Term.{Term}
 use Rattle.bound_calls.specs.Standing.{TermStands, Grown}
 
@@ -47,9 +46,3 @@ pub record PlacePushed (found : Option Lvalue) (d e : Drafted) : Type 0 where
   pub made : Lvalue
   pub is : found ≡ Some made
   pub on_top : e.pieces ≡ a_place made ∷ d.pieces
-
--- the place of an object that is set was pushed, behind a reference
-pub record SetsPlace (x : Term) (d e : Drafted) : Type 0 where
-  pub grown : Grown d e
-  pub stands : (env : Env) (y : plain.Term) (value : bound.Expr) → TermStands env d.tables x y d.pieces (an_expr value ∷ [])
-      → (at : Lvalue) × (set_to y value ≡ Some (set at value)) × (e.pieces ≡ a_place at ∷ an_expr value ∷ [])

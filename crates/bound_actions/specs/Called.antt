@@ -2,6 +2,7 @@
 use Rattle.std.specs.Prelude.{◌≡◌, ℕ, ◌+◌, length, Bool, false, List, [], ◌∷◌, ◌++◌, map, Option, Some, if◌then◌else◌}
 use Rattle.vba_base.specs.declared.place.Place.{Place}
 use Rattle.vba_lexer.specs.declared.token.Token.{Token}
+use Rattle.vba_values.specs.Types.{Declared}
 use Rattle.vba_expression.specs.Tree.{Expr, Args, index}
 use Rattle.vba_expression.specs.Nodes as nodes
 use Rattle.vba_expression.specs.Nodes.{behind_nodes, items_of, last_arguments, tree_in}
@@ -18,6 +19,7 @@ use Rattle.bound_project.specs.Lists.{above, args_of}
 use Rattle.bound_project.specs.Pieces.{Argument, Piece, Tables, an_argument, an_expr}
 use Rattle.bound_project.specs.Project as project
 use Rattle.bound_project.specs.Statements.{Action}
+use Rattle.bound_project.specs.Statements as to
 use Rattle.binder.specs.Types.{is_object}
 use Rattle.binder.specs.Terms.{Env, Given, bound_arguments, has_names}
 use Rattle.binder.specs.Terms as plain
@@ -25,6 +27,7 @@ use Rattle.binder.specs.ExpressionsBound.{argument_of, givens}
 use Rattle.binder.specs.StatementsBound.{assigned, assigned_to, called_term, called_with, is_given_with}
 use Rattle.bound_actions.specs.declared.trees.Split.{Split}
 use Rattle.bound_calls.specs.declared.term.Item.TheVariants as item
+use Rattle.bound_calls.specs.declared.term.Ordered.{Ordered}
 use Rattle.bound_calls.specs.declared.term.Passed.{Passed}
 use Rattle.bound_calls.specs.declared.term.Routine.{Routine}
 use Rattle.bound_calls.specs.declared.term.Term.{Term}
@@ -124,6 +127,27 @@ pub record CallsTreeOn (env : Env) (x : Tree) (ns : List ExpressionNode) (d e : 
 abbrev pub property_kind : (procedure arguments : ℕ) → DeclaredType → ActionKind
 property_kind procedure arguments of =
     if is_object (declared_view of) then action.SetProperty procedure arguments of else action.LetProperty procedure arguments of
+
+-- the same of arguments of which the last ones have names
+abbrev pub ordered_kind : (procedure : ℕ) → Ordered → DeclaredType → ActionKind
+ordered_kind procedure o of =
+    if is_object (declared_view of) then action.SetPropertyInOrder procedure o.arguments o.order of else action.LetPropertyInOrder procedure o.arguments o.order of
+
+-- what is done with arguments and a value
+abbrev pub let_action : (procedure : ℕ) → bound.Args → bound.Expr → Declared → Action
+let_action procedure args value of = if is_object of then to.set_property procedure args value of else to.let_property procedure args value of
+
+-- arguments were pushed for these parameters, behind the value
+pub record LetMade (env : Env) (parameters : List project.Parameter) (procedure : ℕ) (of : DeclaredType) (gs : List Given) (value : bound.Expr) (kind : ActionKind) (t : Tables) (ps : List Piece) : Type 0 where
+  pub args : bound.Args
+  pub bound_is : bound_arguments (argument_of env) parameters gs ≡ Some args
+  pub fits : action_of t kind ps ≡ Some (let_action procedure args value (declared_view of))
+
+pub record LetsWith (env : Env) (parameters : List project.Parameter) (procedure : ℕ) (of : DeclaredType) (ns : List ExpressionNode) (d e : Drafted) (kind : ActionKind) : Type 0 where
+  pub grown : Grown d e
+  pub named : ActionNamed e.tables kind
+  pub framed : Framed ns
+  pub stands : (items : List nodes.Item) (value : bound.Expr) → d.pieces ≡ an_expr value ∷ [] → LetMade env parameters procedure of (givens env (args_on items ns)) value kind e.tables e.pieces
 
 -- its arguments were pushed behind the value that it is given
 pub record Lets (env : Env) (r : Routine) (gs : List Given) (d e : Drafted) (kind : ActionKind) : Type 0 where

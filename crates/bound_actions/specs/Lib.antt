@@ -6,3 +6,4 @@ pub mod Members
 pub mod Assigning
 pub mod Targets
 pub mod Heights
+pub mod Setting

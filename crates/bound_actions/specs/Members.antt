@@ -75,7 +75,7 @@ pub record ReadsOnto (env : Env) (x : MemberCall) (ns : List ExpressionNode) (d 
 -- a member that has all its arguments, some, is assigned the value below its object
 pub record WritesCall (x : MemberCall) (kind : ActionKind) : Type 0 where
   pub kind_is : kind ≡ action.AssignMember x.member.name x.count
-  pub given_is : x.given ≡ x.count
+  pub given_is : x.given ≡ x.written
   pub some : x.count ≢ 0
   pub takes : (t : Tables) → takes_arguments (member_is t x.member) x.count ≡ true
   pub default : has_written_default (declared_view x.member.of) ≡ true

@@ -16,7 +16,7 @@ use Rattle.binder.specs.ExpressionsBound.{argument_of, given_as, givens, indexed
 use Rattle.bound_calls.specs.declared.term.Routine.{Routine}
 use Rattle.bound_calls.specs.declared.term.Passed.{Passed}
 use Rattle.bound_calls.specs.InOrder.{AllNamedTaken, with_named}
-use Rattle.bound_calls.specs.Standing.{AllNumbers, Grown, PassedStands, RoutineStands, Stands, is_gathering}
+use Rattle.bound_calls.specs.Standing.{AllListed, Grown, PassedStands, RoutineStands, Stands, is_gathering}
 use Rattle.bound_calls.specs.declared.term.Item.TheVariants as item
 use Rattle.bound_terms.specs.Gathering.{with_gathered}
 use Rattle.bound_actions.specs.Assigning.{ExprPushed}
@@ -58,7 +58,7 @@ pub record ValuesPassed (env : Env) (parameters : List Parameter) (x : Passed) (
   pub givens_are : givens env args ≡ givens env before ++ given
   pub many : is_gathering (map parameter_view x.left.now) ≡ true
   pub made : List bound.Expr
-  pub taken : AllNumbers (given_as env) given made
+  pub taken : AllListed (given_as env) given made
   pub count_is : length made ≡ values
   pub between : List Piece
   pub on_top : ps ≡ above (map an_expr made) between

@@ -1,23 +1,20 @@
-ghost use Rattle.std.specs.Prelude.{◌≡◌, [], IfOk, OnOk, option_map, option_and_then};
+ghost use Rattle.std.specs.Prelude.{◌≡◌, [], IfOk, option_map, option_and_then};
 ghost use Rattle.vba_expression.specs.View.{view as expression_view, arguments_view};
 ghost use Rattle.bound_project.specs.DraftView.{draft_view};
 ghost use Rattle.bound_project.specs.View.{variable_view};
-ghost use Rattle.binder.specs.ExpressionsBound.{bound_reference, givens, term_of};
+ghost use Rattle.binder.specs.ExpressionsBound.{givens};
 ghost use Rattle.binder.specs.StatementsBound as plain;
-ghost use Rattle.bound_actions.specs.Actions.{ActionStands, IsVariable, SetsPlace};
-ghost use Rattle.bound_calls.specs.Standing.{TermNamed};
-ghost use Rattle.bound_actions.specs.Called.{IsBare};
+ghost use Rattle.bound_actions.specs.Actions.{ActionStands, IsVariable};
 ghost use Rattle.bound_terms.specs.View.{EnvStands, env_view};
 
 use crate::assigned_values::bind_assigned;
 use crate::assigning::assign_to;
 use crate::statement_calls::{call_bare, call_tree};
-use crate::targets::may_be_object;
 use crate::trees::{ends_bare, nodes_tree, split_call};
-use bound_calls::{Term, Tree, push_node};
+use bound_calls::Term;
 use bound_declarations::NotYet;
 use bound_project::{ActionKind, Draft, NodeKind, Variable};
-use bound_terms::{Env, bind_reference, meant_variable, tree_of};
+use bound_terms::{Env, meant_variable, tree_of};
 use declared_names::{Use, declares};
 use std::alloc::Global;
 use vba_base::OrMemory;
@@ -43,41 +40,6 @@ pub fn bind_assignment<'a>(
     Ok(Some(done.kind))
 }
 
-/// Pushes the place that is set, which has or may have an object.
-fn set_place<'a>(draft: &mut Draft, tree: Tree<'a>) -> Result<(), OrMemory<NotYet>>
-    requires { TermNamed (draft_view draft.old).tables tree.term }
-    ensures { OnOk result (SetsPlace tree.entry.term (draft_view draft.old) (draft_view draft.new)) }
-{
-    let Term::Place { kind, of, .. } = tree.term else {
-        return Err(OrMemory::Fault(NotYet));
-    };
-    if !may_be_object(of) {
-        return Err(OrMemory::Fault(NotYet));
-    }
-    push_node(draft, kind, of, tree.place)?;
-    Ok(())
-}
-
-/// `Set place = value`
-pub fn bind_set<'a>(
-    alloc: Global,
-    draft: &mut Draft,
-    env: Env<'a>,
-    place: &'a Expression,
-    value: &'a Expression,
-) -> Result<Option<ActionKind>, OrMemory<NotYet>>
-    requires env { EnvStands env }
-    requires empty { (draft_view draft.old).pieces ≡ [] }
-    ensures { IfOk result (λ kind. ActionStands kind
-        (option_and_then (plain.set_to (term_of (env_view env.entry) (expression_view place.now))) (bound_reference (env_view env.entry) (expression_view value.now)))
-        (draft_view draft.old) (draft_view draft.new)) }
-{
-    bind_reference(alloc, draft, env, value)?;
-    let tree = tree_of(alloc, draft, env, place)?;
-    set_place(draft, tree)?;
-    Ok(Some(ActionKind::Set))
-}
-
 /// `target arguments`
 pub fn bind_call<'a>(
     alloc: Global,
@@ -97,47 +59,7 @@ pub fn bind_call<'a>(
     Ok(Some(kind))
 }
 
-/// `Call place` without brackets at its end
-fn bind_bare_place<'a>(
-    alloc: Global,
-    draft: &mut Draft,
-    env: Env<'a>,
-    place: &'a Expression,
-) -> Result<Option<ActionKind>, OrMemory<NotYet>>
-    requires env { EnvStands env }
-    requires empty { (draft_view draft.old).pieces ≡ [] }
-    requires bare { IsBare (expression_view place.now) }
-    ensures { IfOk result (λ kind. ActionStands kind
-        (plain.called_place (env_view env.entry) (expression_view place.now))
-        (draft_view draft.old) (draft_view draft.new)) }
-{
-    let tree = tree_of(alloc, draft, env, place)?;
-    let kind = call_bare(alloc, draft, env, tree)?;
-    Ok(Some(kind))
-}
-
-/// `Call place(arguments)`
-fn bind_called_place<'a>(
-    alloc: Global,
-    draft: &mut Draft,
-    env: Env<'a>,
-    place: &'a Expression,
-) -> Result<Option<ActionKind>, OrMemory<NotYet>>
-    requires env { EnvStands env }
-    requires empty { (draft_view draft.old).pieces ≡ [] }
-    ensures { IfOk result (λ kind. ActionStands kind
-        (plain.called_place (env_view env.entry) (expression_view place.now))
-        (draft_view draft.old) (draft_view draft.new)) }
-{
-    let Some(split) = split_call(place.nodes()) else {
-        return Err(OrMemory::Fault(NotYet));
-    };
-    let tree = nodes_tree(alloc, draft, env, split.target)?;
-    let kind = call_tree(alloc, draft, env, tree, split.arguments)?;
-    Ok(Some(kind))
-}
-
-/// `Call place`
+/// `Call place`: the last brackets have the arguments
 pub fn bind_call_place<'a>(
     alloc: Global,
     draft: &mut Draft,
@@ -150,11 +72,17 @@ pub fn bind_call_place<'a>(
         (plain.called_place (env_view env.entry) (expression_view place.now))
         (draft_view draft.old) (draft_view draft.new)) }
 {
-    if ends_bare(place.nodes()) {
-        bind_bare_place(alloc, draft, env, place)
-    } else {
-        bind_called_place(alloc, draft, env, place)
+    let nodes = place.nodes();
+    if ends_bare(nodes) {
+        let tree = tree_of(alloc, draft, env, place)?;
+        return Ok(Some(call_bare(alloc, draft, env, tree)?));
     }
+    let Some(split) = split_call(nodes) else {
+        return Err(OrMemory::Fault(NotYet));
+    };
+    let tree = nodes_tree(alloc, draft, env, split.target)?;
+    let kind = call_tree(alloc, draft, env, tree, split.arguments)?;
+    Ok(Some(kind))
 }
 
 /// The variable that a term is.

@@ -1,10 +1,11 @@
 //! What the value of an assignment goes to.
 
-ghost use Rattle.std.specs.Prelude.{◌≡◌, true, false, [], IfOk, option_map};
+ghost use Rattle.std.specs.Prelude.{◌≡◌, true, false, [], IfOk, map, option_map};
 ghost use Rattle.vba_expression.specs.View.{view as expression_view};
 ghost use Rattle.vba_expression.specs.Nodes.{tree_in};
 ghost use Rattle.bound_project.specs.DraftView.{draft_view};
-ghost use Rattle.bound_actions.specs.Called.{AssignsTo, IsBare, Lets, LetsOn, SplitAt, property_kind};
+ghost use Rattle.bound_project.specs.View.{parameter_view};
+ghost use Rattle.bound_actions.specs.Called.{AssignsTo, IsBare, Lets, LetsOn, LetsWith, SplitAt, ordered_kind, property_kind};
 ghost use Rattle.bound_actions.specs.Members.{AssignsTree};
 ghost use Rattle.bound_terms.specs.Callee.{IsWriter};
 ghost use Rattle.bound_calls.specs.Standing.{TermNamed};
@@ -12,14 +13,14 @@ ghost use Rattle.bound_terms.specs.View.{EnvStands, env_view};
 ghost use Rattle.declared_names.specs.View.{scope_view};
 
 use crate::member_targets::{assign_item, assign_member, assign_sheet};
-use crate::statement_calls::push_arguments;
+use crate::statement_calls::{push_rest, read_named};
 use crate::targets::{assign_indexed, assign_place, assign_value, is_variant_term};
 use crate::trees::{
     Split, adds_one, continue_tree, ends_bare, member_name, nodes_tree, split_call,
 };
-use bound_calls::{Ending, Term, Tree, count_of, pass_rest};
+use bound_calls::{Ending, Ordered, Term, Tree, count_of, pass_rest, push_in_order};
 use bound_declarations::{NotYet, procedure_number};
-use bound_project::{ActionKind, DeclaredType, Draft};
+use bound_project::{ActionKind, DeclaredType, Draft, Parameter};
 use bound_terms::{Env, Writer, callee_term, takes_item, tree_of, writer_of};
 use declared_names::is_object;
 use std::alloc::Global;
@@ -28,7 +29,7 @@ use vba_expression::{Expression, ExpressionNode};
 use vba_words::Identifier;
 
 /// What is done with a value that was pushed, where it is assigned, and whether it comes as it is: where its target takes
-/// it with arguments or is an element of a Variant.
+/// it with arguments or is an item of a Variant.
 #[derive(Clone, Copy)]
 pub struct Assignment {
     pub kind: ActionKind,
@@ -76,6 +77,55 @@ fn property_kind(procedure: u32, arguments: u32, of: DeclaredType) -> ActionKind
     }
 }
 
+/// A procedure that writes a property, and the type of its last parameter.
+#[derive(Clone, Copy)]
+struct Property {
+    procedure: u32,
+    of: DeclaredType,
+}
+
+/// The same of arguments of which the last ones have names.
+fn ordered_kind(property: Property, ordered: Ordered) -> ActionKind
+    ensures { result ≡ ordered_kind property.procedure ordered property.of }
+{
+    if is_object(property.of) {
+        ActionKind::SetPropertyInOrder {
+            procedure: property.procedure,
+            arguments: ordered.arguments,
+            order: ordered.order,
+            of: property.of,
+        }
+    } else {
+        ActionKind::LetPropertyInOrder {
+            procedure: property.procedure,
+            arguments: ordered.arguments,
+            order: ordered.order,
+            of: property.of,
+        }
+    }
+}
+
+/// An assignment to a property whose arguments, for these parameters, are pushed.
+fn let_passed<'a>(
+    alloc: Global,
+    draft: &mut Draft,
+    env: Env<'a>,
+    property: Property,
+    front: &'a [Parameter],
+    nodes: &'a [ExpressionNode],
+) -> Result<ActionKind, OrMemory<NotYet>>
+    requires { EnvStands env }
+    ensures { IfOk result (λ kind. LetsWith (env_view env.entry) (map parameter_view front.now) property.procedure property.of nodes.now (draft_view draft.old) (draft_view draft.new) kind) }
+{
+    let (passed, named) = read_named(alloc, draft, env, front, nodes)?;
+    if named.is_empty() {
+        let (_written, arguments) = push_rest(alloc, draft, passed)?;
+        return Ok(property_kind(property.procedure, arguments, property.of));
+    }
+    let ordered = push_in_order(alloc, draft, front, passed, named)?;
+    Ok(ordered_kind(property, ordered))
+}
+
 /// `property = value`
 fn let_bare<'a>(
     alloc: Global,
@@ -120,8 +170,11 @@ fn let_given<'a>(
     let Some((last, front)) = parameters.split_last() else {
         return Err(OrMemory::Fault(NotYet));
     };
-    let (_written, arguments) = push_arguments(alloc, draft, env, front, nodes)?;
-    Ok(property_kind(procedure, arguments, last.of))
+    let property = Property {
+        procedure,
+        of: last.of,
+    };
+    let_passed(alloc, draft, env, property, front, nodes)
 }
 
 /// An expression that doesn't end with arguments in brackets, by the name behind its dot, behind the value that it is given.

@@ -17,7 +17,7 @@ use bound_calls::{HostMember, Item, MemberCall, Term, push_node, push_sheet, put
 use bound_declarations::NotYet;
 use bound_members::{is_word, open_member, takes_arguments};
 use bound_project::{ActionKind, DeclaredType, Draft, NodeKind};
-use bound_terms::{Env, item_member, run};
+use bound_terms::{Env, given_at, item_member, run};
 use declared_names::is_object;
 use std::alloc::Global;
 use vba_base::{OrMemory, Place};
@@ -33,7 +33,7 @@ fn is_mark(name: &[u16]) -> bool
 }
 
 /// Is how many arguments a member takes told by the run alone?
-fn is_late(greatest: Option<u32>) -> bool
+pub fn is_late(greatest: Option<u32>) -> bool
     ensures { result ≡ not (is_some greatest) }
 {
     match greatest {
@@ -94,23 +94,12 @@ pub fn assign_sheet(
     assign_member(draft, member, name, place)
 }
 
-/// How many arguments these nodes of arguments are.
-fn arguments_in(nodes: &[ExpressionNode]) -> u32 {
-    let mut count: u32 = 0;
-    let mut depth: u32 = 0;
-    for node in nodes {
-        match node {
-            ExpressionNode::NoArguments => depth = depth.saturating_add(1),
-            ExpressionNode::Index { .. } => depth = depth.saturating_sub(1),
-            ExpressionNode::PlainArgument { .. } => {
-                if depth == 1 {
-                    count = count.saturating_add(1);
-                }
-            }
-            _ => {}
-        }
+/// How many arguments are to come in these nodes of arguments.
+fn given_in(nodes: &[ExpressionNode]) -> u32 {
+    match nodes.first() {
+        Some(first) => given_at(nodes, first, 0),
+        None => 0,
     }
-    count
 }
 
 /// Reads arguments behind a member whose object was looked at.
@@ -145,7 +134,7 @@ fn read_member<'a>(
 fn written_call(call: MemberCall) -> Result<ActionKind, OrMemory<NotYet>>
     ensures { IfOk result (λ kind. WritesCall call kind) }
 {
-    if call.count != call.given || call.count == 0 {
+    if call.written != call.given || call.count == 0 {
         return Err(OrMemory::Fault(NotYet));
     }
     let member = call.member;
@@ -177,7 +166,7 @@ pub fn assign_item<'a>(
     ensures { IfOk result (λ kind. AssignsItem (env_view env.entry) place term.entry nodes.now (draft_view draft.old) (draft_view draft.new) kind) }
 {
     let member = item_member(alloc, draft, place, term)?;
-    let opened = open_member(draft, place, member, arguments_in(nodes))?;
+    let opened = open_member(draft, place, member, given_in(nodes))?;
     let call = read_member(alloc, draft, env, opened, nodes)?;
     written_call(call)
 }

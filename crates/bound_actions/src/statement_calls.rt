@@ -6,16 +6,17 @@ ghost use Rattle.bound_project.specs.DraftView.{draft_view};
 ghost use Rattle.bound_project.specs.View.{parameter_view};
 ghost use Rattle.binder.specs.Terms as plain;
 ghost use Rattle.bound_actions.specs.Called.{Acts, ActsOn, CallsTree, CallsTreeOn, PassesAll, Reads, RestPushed};
-ghost use Rattle.bound_actions.specs.Assigning.{GivenPushed};
 ghost use Rattle.bound_actions.specs.NamedCalls.{PushesCall, PushesNamed, PushesValues, ReadsNamed, ReadsWritten};
 ghost use Rattle.bound_calls.specs.Standing.{TermNamed};
 ghost use Rattle.bound_terms.specs.View.{EnvStands, env_view};
 ghost use Rattle.bound_calls.specs.declared.term.Term.TheVariants as term;
 
+use crate::indexed_calls::call_indexed;
+use crate::pushed_terms::push_term;
 use crate::raising::{raise, raise_number};
 use bound_calls::{
-    Item, Passed, Routine, Term, Tree, call_ending, count_of, given_ending, named_ending,
-    pass_rest, push_node, put_item, sum, take_item, take_numbers,
+    Item, Passed, Routine, Term, Tree, call_ending, count_of, named_ending, pass_rest, put_item,
+    sum, take_item, take_numbers,
 };
 use bound_declarations::NotYet;
 use bound_project::{ActionKind, Draft, Parameter};
@@ -124,27 +125,6 @@ pub fn push_arguments<'a>(
 {
     let passed = read_arguments(alloc, draft, env, parameters, nodes)?;
     push_rest(alloc, draft, passed)
-}
-
-/// Pushes a term as it is, a value or an object.
-fn push_term<'a>(
-    alloc: Global,
-    draft: &mut Draft,
-    term: Term<'a>,
-    place: Place,
-) -> Result<(), OrMemory<NotYet>>
-    requires { TermNamed (draft_view draft.old).tables term }
-    ensures { OnOk result (GivenPushed term.entry place (draft_view draft.old) (draft_view draft.new)) }
-{
-    let tree = Tree {
-        place,
-        name: None,
-        is_qualifier: false,
-        term,
-    };
-    let ending = given_ending(alloc, draft, tree)?;
-    push_node(draft, ending.kind, ending.of, place)?;
-    Ok(())
 }
 
 /// Pushes what a call gives whose written arguments were pushed.
@@ -266,7 +246,7 @@ fn bare_term<'a>(
     }
 }
 
-/// A statement that calls with arguments. Values that are indexed aren't bound as statements.
+/// A statement that calls a procedure, Err.Raise or Error with arguments.
 fn given_term<'a>(
     alloc: Global,
     draft: &mut Draft,
@@ -316,6 +296,18 @@ fn call_term<'a>(
     }
 }
 
+/// Do brackets index a term, or take a member of an object there?
+fn is_indexed<'a>(term: Term<'a>) -> bool {
+    match term {
+        Term::Place { .. } => true,
+        Term::Value(_) => true,
+        Term::Function(_) => true,
+        Term::HostMember(_) => true,
+        Term::SheetMember(_) => true,
+        _ => false,
+    }
+}
+
 /// A statement that calls an expression with arguments.
 pub fn call_tree<'a>(
     alloc: Global,
@@ -329,6 +321,9 @@ pub fn call_tree<'a>(
     ensures { IfOk result (λ kind. CallsTreeOn (env_view env.entry) tree.entry nodes.now (draft_view draft.old) (draft_view draft.new) kind) }
 {
     let term = callee_term(alloc, draft, env, tree)?;
+    if is_indexed(term) && !are_none(nodes) {
+        return call_indexed(alloc, draft, env, tree, nodes);
+    }
     call_term(alloc, draft, env, term, tree.place, nodes)
 }
 

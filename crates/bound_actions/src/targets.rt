@@ -1,6 +1,6 @@
 //! Places and values that are assigned to, other than members of objects.
 
-ghost use Rattle.std.specs.Prelude.{◌≡◌, true, false, Bool, Option, IfOk, MatchBool};
+ghost use Rattle.std.specs.Prelude.{◌≡◌, true, false, Bool, Option, IfOk, IfSome, MatchBool};
 ghost use Rattle.vba_words.specs.declared.identifier.Identifier.{Identifier};
 ghost use Rattle.bound_project.specs.DraftView.{draft_view};
 ghost use Rattle.bound_project.specs.Drafts.{NodeNamed};
@@ -9,7 +9,7 @@ ghost use Rattle.binder.specs.StatementsBound as plain;
 ghost use Rattle.binder.specs.Types as types;
 ghost use Rattle.bound_actions.specs.Actions.{may_be_object};
 ghost use Rattle.bound_actions.specs.Members.{AssignsTerm};
-ghost use Rattle.bound_actions.specs.Targets.{AssignsIndexed, EndsObject, element_action, ends_value, is_element_kind, is_variant_term};
+ghost use Rattle.bound_actions.specs.Targets.{AssignsIndexed, EndsItem, EndsObject, ends_value, is_variant_term};
 ghost use Rattle.bound_calls.specs.declared.term.Term.TheVariants as term;
 ghost use Rattle.bound_calls.specs.Standing.{TermNamed};
 
@@ -38,22 +38,13 @@ pub fn has_written_default(of: DeclaredType) -> bool
     }
 }
 
-/// Is a term a place of type Variant?
+/// Is a term a place or a value of type Variant?
 pub fn is_variant_term<'a>(term: Term<'a>) -> bool
     ensures { result ≡ is_variant_term term.entry }
 {
     match term {
         Term::Place { of, .. } => is_variant(of),
-        _ => false,
-    }
-}
-
-/// Ends such a node an element of a value?
-fn is_element(kind: NodeKind) -> bool
-    ensures { result ≡ is_element_kind kind }
-{
-    match kind {
-        NodeKind::ElementValue { .. } => true,
+        Term::Value(ending) => is_variant(ending.of),
         _ => false,
     }
 }
@@ -75,15 +66,15 @@ fn ends_value(kind: NodeKind) -> bool
     }
 }
 
-/// Is a value that is no element an object, or what may be one?
+/// Is a value an object, or, where it is no element, what may be one?
 fn gives_object(ending: Ending) -> bool
     ensures { MatchBool result (EndsObject ending) (Unit {0}) }
 {
-    if !ends_value(ending.kind) {
-        return false;
-    }
     if is_object(ending.of) {
         return true;
+    }
+    if !ends_value(ending.kind) {
+        return false;
     }
     match has_object(ending) {
         Some(gives) => gives,
@@ -134,7 +125,7 @@ pub fn assign_place(
     Ok(assign_object(draft, at, place)?)
 }
 
-/// What a value gives that is no element, whose default member is written, behind the value that it is given.
+/// What a value gives, whose default member is written, behind the value that it is given.
 pub fn assign_value(
     draft: &mut Draft,
     ending: Ending,
@@ -154,37 +145,33 @@ pub fn assign_value(
     Ok(ActionKind::AssignDefault)
 }
 
-/// What is done to an element of a value: the default member of an object is written, and what nothing has is read and
-/// left. None where it may be one of an object that a Variant has, or has no such member.
-fn element_action(of: DeclaredType) -> Option<ActionKind>
-    ensures { result ≡ element_action (declared_view of) }
+/// How many numbers of an item end a value, where it is an element that is no object.
+fn item_numbers(ending: Ending) -> Option<u32>
+    ensures { IfSome result (λ numbers. EndsItem ending numbers) }
 {
-    if is_variant(of) {
-        None
-    } else if !is_object(of) {
-        Some(ActionKind::AssignNone)
-    } else if has_written_default(of) {
-        Some(ActionKind::AssignDefault)
-    } else {
-        None
+    if is_object(ending.of) {
+        return None;
+    }
+    match ending.kind {
+        NodeKind::ElementValue { numbers } => Some(numbers),
+        _ => None,
     }
 }
 
-/// An element of an array that a value gives, behind the value that it is given.
-fn assign_element(
+/// A value that brackets made, behind the value that it is given. The run finds what an element is an item of, so that the
+/// last node of one isn't pushed.
+fn assign_indexed_value(
     draft: &mut Draft,
     ending: Ending,
     place: Place,
 ) -> Result<ActionKind, OrMemory<NotYet>>
-    requires named { NodeNamed (draft_view draft.old).tables ending.kind }
-    requires element { is_element_kind ending.kind ≡ true }
+    requires { NodeNamed (draft_view draft.old).tables ending.kind }
     ensures { IfOk result (λ kind. AssignsIndexed place (term.Value ending) (draft_view draft.old) (draft_view draft.new) kind) }
 {
-    let Some(kind) = element_action(ending.of) else {
-        return Err(OrMemory::Fault(NotYet));
-    };
-    push_node(draft, ending.kind, ending.of, place)?;
-    Ok(kind)
+    match item_numbers(ending) {
+        Some(numbers) => Ok(ActionKind::AssignItem { numbers }),
+        None => assign_value(draft, ending, place),
+    }
 }
 
 /// What brackets made of a term, behind the value that it is given.
@@ -198,12 +185,7 @@ pub fn assign_indexed<'a>(
 {
     match term {
         Term::Place { kind, of, .. } => assign_place(draft, Ending { kind, of }, place),
-        Term::Value(ending) => {
-            if is_element(ending.kind) {
-                return assign_element(draft, ending, place);
-            }
-            assign_value(draft, ending, place)
-        }
+        Term::Value(ending) => assign_indexed_value(draft, ending, place),
         _ => Err(OrMemory::Fault(NotYet)),
     }
 }

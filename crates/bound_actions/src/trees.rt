@@ -6,7 +6,7 @@ ghost use Rattle.bound_project.specs.DraftView.{draft_view};
 ghost use Rattle.binder.specs.ExpressionsBound.{term_of};
 ghost use Rattle.binder.specs.Terms as plain;
 ghost use Rattle.bound_actions.specs.Called.{Continues, IsBare, LeavesAlone, SplitAt};
-ghost use Rattle.bound_actions.specs.Heights.{AddsOne, height_behind, taking};
+ghost use Rattle.bound_actions.specs.Heights.{AddsOne, height_behind, items_taken};
 ghost use Rattle.bound_actions.specs.Members.{NamedBy};
 ghost use Rattle.bound_calls.specs.Standing.{TermNamed};
 ghost use Rattle.bound_terms.specs.View.{EnvStands, env_view};
@@ -136,7 +136,7 @@ pub fn member_name<'a>(nodes: &'a [ExpressionNode]) -> Option<&'a Identifier>
 
 /// How many items stand there behind a node where so many did; none where it takes one below those.
 fn height_behind(node: &ExpressionNode, height: usize) -> Option<usize>
-    ensures { IfSome result (λ more. height_behind (taking node.now) height ≡ Some more) }
+    ensures { IfSome result (λ more. height_behind (items_taken node.now) height ≡ Some more) }
 {
     match node {
         ExpressionNode::Literal(_)

@@ -33,10 +33,10 @@ use Rattle.bound_calls.specs.declared.term.Term.TheVariants as term
 use Rattle.bound_calls.specs.declared.term.Tree.{Tree}
 use Rattle.bound_calls.specs.declared.term.Passed.{Passed}
 use Rattle.bound_calls.specs.Passing.{Taken, AllTaken, NotGiven, AllLeft}
-use Rattle.bound_calls.specs.Standing.{PlaceEnds, TermStands, TermNamed, TreeStands, PassedStands, Grown}
+use Rattle.bound_calls.specs.Standing.{PlaceEnds, TermStands, TermNamed, TreeStands, PassedStands, Grown, plain_given}
 use Rattle.bound_calls.specs.Steps.{AddsConstant, PushesOperand}
 use Rattle.bound_calls.specs.References.{PushesGiven}
-use Rattle.bound_calls.specs.Calls.{node_of, plain_given, lent_in, may_be_item, is_copied, keeps_object, PushesArgument, Lends, Copies, TakenIs, PassesTree, PassesNone, PassesRest, PassesPlain, PassesMissing}
+use Rattle.bound_calls.specs.Calls.{node_of, lent_in, may_be_item, is_copied, keeps_object, PushesArgument, Lends, Copies, TakenIs, PassesTree, PassesNone, PassesRest, PassesPlain, PassesMissing}
 use Rattle.bound_calls.proofs.Growing.{grown_same, grown_twice, grown_pieces, grown_constant}
 use Rattle.bound_calls.proofs.LastNodes.{any_node, found_passes}
 use Rattle.bound_calls.proofs.Passing.{taken_push}

@@ -9,7 +9,7 @@ use Rattle.vba_words.specs.declared.mark.Mark.TheVariants as mark
 use Rattle.vba_words.specs.Spelling.{marked}
 use Rattle.vba_expression.specs.Spelling.{spell_args}
 use Rattle.vba_expression.specs.declared.node.ExpressionNode.TheVariants as node
-use Rattle.vba_expression.specs.Tree.{Expr, name, Args, missing, plain}
+use Rattle.vba_expression.specs.Tree.{Expr, index, name, Args, missing, plain}
 use Rattle.vba_expression.specs.Reader.{name_in}
 use Rattle.vba_expression.specs.Nodes as nodes
 use Rattle.vba_expression.specs.Nodes.{behind_node}
@@ -34,6 +34,7 @@ use Rattle.binder.specs.ExpressionsBound.{argument_of, call_with, bare_call, cal
 use Rattle.module_parts.proofs.Firsts.{expression_front}
 use Rattle.bound_calls.specs.declared.term.Ending.{Ending}
 use Rattle.bound_calls.specs.declared.term.Routine.{Routine}
+use Rattle.bound_calls.specs.declared.term.Term.{Term}
 use Rattle.bound_calls.specs.declared.term.Term.TheVariants as term
 use Rattle.bound_calls.specs.declared.term.Tree.{Tree}
 use Rattle.bound_calls.specs.declared.term.Passed.{Passed}
@@ -41,7 +42,7 @@ use Rattle.bound_calls.specs.declared.term.Call.{Call}
 use Rattle.bound_calls.specs.declared.term.Item.{Item}
 use Rattle.bound_calls.specs.declared.term.Item.TheVariants as item
 use Rattle.bound_calls.specs.Passing.{AllTaken}
-use Rattle.bound_calls.specs.Standing.{RoutineStands, ValueStands, PassedStands, Stands, ItemNamed, AllNamed, Base}
+use Rattle.bound_calls.specs.Standing.{RoutineStands, TermStands, TreeStands, ValueStands, PassedStands, Stands, ItemNamed, AllNamed, Base}
 use Rattle.bound_calls.specs.Taking.{BareIs, CallsBare, CallsRoutine, no_object}
 use Rattle.bound_calls.specs.Steps.{Goes}
 use Rattle.bound_calls.specs.Calls.{PassesPlain, PassesMissing, PassesRest, passed_in, with_passed, EndsCall}
@@ -221,7 +222,7 @@ passed_named t (item.Named x) q p f = absurd (none_there p f)
 passed_named t item.Gathered q p f = absurd (none_there p f)
 
 -- an argument that isn't written
-missing_stands : (env : Env) (i : Item) (xs : List Item) (p q : Passed) (comma : Option Token) (d e : Drafted) → passed_in i ≡ Some p → AllNamed d.tables xs → PassesMissing p d e q → (is : List nodes.Item) (base : Base)
+pub missing_stands : (env : Env) (i : Item) (xs : List Item) (p q : Passed) (comma : Option Token) (d e : Drafted) → passed_in i ≡ Some p → AllNamed d.tables xs → PassesMissing p d e q → (is : List nodes.Item) (base : Base)
     → Stands env d.tables (i ∷ xs) is d.pieces base → Stands env e.tables (with_passed i q ∷ xs) (behind_node (node.MissingArgument comma) is) e.pieces base
 missing_stands env i xs p q comma d e f k m [] base h = absurd (none_open env d.tables i xs p d.pieces base f h)
 missing_stands env i xs p q comma d e f k m (nodes.tree x ∷ is) base h = absurd (tree_open env d.tables i xs p x is d.pieces base f h)
@@ -261,6 +262,18 @@ adds_passed i p q x d e f m = record { grown = m.grown; named = passed_named e.t
 pub routine_item : (place : Place) (z : plain_terms.Term) (space : Space) (number : ℕ) (w : Written) → z ≡ a_routine space number w → item_of place z ≡ z
 routine_item place z space number w h = ap (λ y. item_of place y) h ∙ sym h
 
+-- what brackets make of an expression
+pub tree_ended : (env : Env) (t : Tables) (y : Term) (place : Place) (b : Expr) (args : Args) (left right : Token) (ps below : List Piece) → place ≡ place_of_expression b
+    → TermStands env t y (indexed env (place_of_expression b) (item_of (place_of_expression b) (callee env b (term_of env b))) (givens env args)) ps below
+    → TreeStands env t (record { place = place; name = None; is_qualifier = false; term = y }) (index b left args right) ps below
+tree_ended env t y place b args left right ps below at h = record {
+  term_is = h;
+  place_is = at ∙ sym (expression_front b (marked left mark.LeftParenthesis ∷ (spell_args args ++ marked right mark.RightParenthesis ∷ [])));
+  name_is = refl;
+  qualifier_is = refl;
+  leaf = tt;
+}
+
 -- arguments end
 index_stands : (env : Env) (x : Call) (ending : Ending) (left right : Token) (xs : List Item) (d e : Drafted) → AllNamed d.tables xs → EndsCall x.routine x.passed d e ending → (is : List nodes.Item) (base : Base)
     → Stands env d.tables (item.Call x ∷ xs) is d.pieces base
@@ -274,14 +287,9 @@ index_stands env x ending left right xs d e k c (nodes.arguments args ∷ nodes.
     let A : plain_terms.Term → Type 0 = λ z. ValueStands e.tables ending (indexed env (place_of_expression y) z (givens env args)) e.pieces h.0 in (
       h.0,
       (
-        record {
-          term_is = subst A (sym (routine_item (place_of_expression y) (callee env y (term_of env y)) s.routine.space s.routine.number s.routine.written s.routine.is))
-              (call_stands env e.tables x.routine x.passed d e ending (callee env y (term_of env y)) (place_of_expression y) args h.0 h.0 c s.routine s.passed);
-          place_is = s.place_is ∙ sym (expression_front y (marked left mark.LeftParenthesis ∷ (spell_args args ++ marked right mark.RightParenthesis ∷ [])));
-          name_is = refl;
-          qualifier_is = refl;
-          leaf = tt;
-        },
+        tree_ended env e.tables (term.Value ending) x.place y args left right e.pieces h.0 s.place_is
+            (subst A (sym (routine_item (place_of_expression y) (callee env y (term_of env y)) s.routine.space s.routine.number s.routine.written s.routine.is))
+            (call_stands env e.tables x.routine x.passed d e ending (callee env y (term_of env y)) (place_of_expression y) args h.0 h.0 c s.routine s.passed)),
         stands_grows env d.tables e.tables c.grown.tables xs k is h.0 base h.1.1,
       ),
     )

@@ -131,7 +131,7 @@ member_grows env t u e x k tree args ps below h = record {
   place_is = h.place_is;
   made = h.made;
   values = h.values;
-  all_given = h.all_given;
+  written_is = h.written_is;
   count_is = h.count_is;
   on_top = h.on_top ∙ ap (λ (n : List ℕ). above (map an_expr h.made) (a_member h.object n x.given ∷ below)) (sym (name_same t u e x.member.name k));
 }
@@ -184,7 +184,8 @@ stands_grows env t u e (item.Named x ∷ xs) k (nodes.arguments (named before co
 stands_grows env t u e (item.Gathered ∷ xs) k [] ps base h = absurd h
 stands_grows env t u e (item.Gathered ∷ xs) k (nodes.tree tree ∷ is) ps base h = absurd h
 stands_grows env t u e (item.Gathered ∷ xs) k (nodes.arguments no_args ∷ is) ps base h = absurd h
-stands_grows env t u e (item.Gathered ∷ xs) k (nodes.arguments (missing before comma) ∷ is) ps base h = absurd h
+stands_grows env t u e (item.Gathered ∷ xs) k (nodes.arguments (missing before comma) ∷ is) ps base h =
+    (h.0, (h.1.0, stands_grows env t u e xs k.1 (nodes.arguments before ∷ is) h.0 base h.1.1))
 stands_grows env t u e (item.Gathered ∷ xs) k (nodes.arguments (named before comma name mark tree) ∷ is) ps base h = absurd h
 stands_grows env t u e (item.Gathered ∷ xs) k (nodes.arguments (plain before comma tree) ∷ is) ps base h =
     (h.0, (h.1.0, stands_grows env t u e xs k.1 (nodes.arguments before ∷ is) h.0 base h.1.1))

@@ -29,17 +29,13 @@ use Rattle.bound_calls.specs.declared.term.Passed.{Passed}
 use Rattle.bound_calls.specs.declared.term.Item.{Item}
 use Rattle.bound_calls.specs.declared.term.Item.TheVariants as item
 use Rattle.bound_calls.specs.Passing.{Taken, NotGiven, AllLeft}
-use Rattle.bound_calls.specs.Standing.{PlaceEnds, TreeStands, PassedStands, Grown}
+use Rattle.bound_calls.specs.Standing.{PlaceEnds, TreeStands, PassedStands, Grown, plain_given}
 
 -- ---- one argument
 
 -- a node of a type that it has as an operand too
 abbrev pub node_of : NodeKind → Place → DeclaredType → Node
 node_of kind place of = record { kind = kind; place = place; of = of; operand = of }
-
--- an expression that is given without a name
-abbrev pub plain_given : Env → Expr → Given
-plain_given env e = record { name = None; term = Some (term_of env e); place = place_of_expression e }
 
 -- a place is lent
 pub record Lends (kind : NodeKind) (d e : Drafted) : Type 0 where

@@ -64,6 +64,13 @@ pub record AddsArgument (i : Item) (x : Tree) (d e : Drafted) (j : Item) : Type 
   pub stands : (env : Env) (comma : Option Token) (items : List Item) (is : List nodes.Item) (base : Base) → AllNamed d.tables items → Stands env d.tables (item.Tree x ∷ i ∷ items) is d.pieces base
       → Stands env e.tables (j ∷ items) (behind_node (node.PlainArgument comma) is) e.pieces base
 
+-- an argument that isn't written
+pub record AddsMissing (i : Item) (d e : Drafted) (j : Item) : Type 0 where
+  pub grown : Grown d e
+  pub named : ItemNamed e.tables j
+  pub stands : (env : Env) (comma : Option Token) (items : List Item) (is : List nodes.Item) (base : Base) → AllNamed d.tables items → Stands env d.tables (i ∷ items) is d.pieces base
+      → Stands env e.tables (j ∷ items) (behind_node (node.MissingArgument comma) is) e.pieces base
+
 -- arguments end
 pub record Closes (i : Item) (d e : Drafted) (y : Tree) : Type 0 where
   pub grown : Grown d e

@@ -1,11 +1,11 @@
 -- Serves the code: what stands on the stack of a pass over the nodes of an expression, beside the pieces of the draft.
-use Rattle.std.specs.Prelude.{◌≡◌, ℕ, suc, ◌<◌, length, Bool, true, false, List, [], ◌∷◌, map, Option, Some, None, is_some, option_map, option_and_then, slice_get}
+use Rattle.std.specs.Prelude.{◌≡◌, ℕ, suc, ◌+◌, ◌<◌, length, Bool, true, false, List, [], ◌∷◌, ◌++◌, map, Option, Some, None, is_some, option_map, slice_get}
 use Rattle.vba_base.specs.declared.place.Place.{Place}
 use Rattle.vba_values.specs.Types.{Declared}
 use Rattle.vba_values.specs.Types as type
 use Rattle.vba_words.specs.declared.identifier.Identifier.{Identifier}
 use Rattle.vba_lib.specs.declared.function.LibraryFunction.{LibraryFunction}
-use Rattle.vba_expression.specs.Tree.{Expr, Args, named}
+use Rattle.vba_expression.specs.Tree.{Expr, Args, missing, named}
 use Rattle.vba_expression.specs.Tree as tree
 use Rattle.vba_expression.specs.Reader.{name_in}
 use Rattle.vba_expression.specs.Nodes as nodes
@@ -14,9 +14,9 @@ use Rattle.bound_project.specs.declared.node.NodeKind.{NodeKind}
 use Rattle.bound_project.specs.declared.node.Node.{Node}
 use Rattle.bound_project.specs.declared.variable.Variable.{Variable}
 use Rattle.bound_project.specs.View.{declared_view, parameter_view, variable_view}
-use Rattle.bound_project.specs.Expressions.{expr, active_sheet, Exprs, also, given_count, Lvalue, operand_type}
+use Rattle.bound_project.specs.Expressions.{expr, not_given, active_sheet, Exprs, also, given_count, Lvalue, operand_type}
 use Rattle.bound_project.specs.Expressions as bound
-use Rattle.bound_project.specs.Lists.{above}
+use Rattle.bound_project.specs.Lists.{above, exprs_of}
 use Rattle.bound_project.specs.Pieces.{Argument, Piece, Tables, a_member, an_argument, an_expr, expr_of, put_kind, with_argument}
 use Rattle.bound_project.specs.Pieces as piece
 use Rattle.bound_project.specs.Project.{Parameter, nowhere}
@@ -24,12 +24,13 @@ use Rattle.bound_project.specs.Drafts.{Drafted, NodeNamed}
 use Rattle.bound_project.proofs.Drafts.{Extends}
 use Rattle.binder.specs.Declarations.{Written}
 use Rattle.declared_names.specs.View.{space_view, written_view}
+use Rattle.binder.specs.Options.{from_two}
 use Rattle.binder.specs.Scopes.{Space, qualifier_of}
 use Rattle.binder.specs.Constants.{compare_in, place_of_expression}
 use Rattle.binder.specs.Storage.{procedure_number}
-use Rattle.binder.specs.Terms.{Env, Given, a_place, a_value, a_routine, a_function, a_host_member, err_object, err_raise, err_clear, error_word, no_term, expression_of, parameter_named, taken_by}
+use Rattle.binder.specs.Terms.{Env, Given, a_place, a_value, a_routine, a_function, a_host_member, err_object, err_raise, err_clear, error_word, no_term, expression_of, listed_values, parameter_named, taken_by}
 use Rattle.binder.specs.Terms as plain
-use Rattle.binder.specs.ExpressionsBound.{reader, parameters_in, call_type, callee, item_of, element_place, element_type, argument_of, plain_value, taking, taken_as, givens, given_as, term_of, operand_of, reference_of}
+use Rattle.binder.specs.ExpressionsBound.{reader, parameters_in, call_type, callee, item_of, element_place, element_type, argument_of, function_values, givens, given_as, term_of, operand_of, reference_of}
 use Rattle.bound_calls.specs.declared.term.Ending.{Ending}
 use Rattle.bound_calls.specs.declared.term.Routine.{Routine}
 use Rattle.bound_calls.specs.declared.term.Function.{Function}
@@ -179,6 +180,17 @@ pub record CallStands (env : Env) (x : Call) (e : Expr) (args : Args) (ps below 
   pub place_is : x.place ≡ place_of_expression e
   pub passed : PassedStands env (map parameter_view x.routine.parameters.now) x.passed args ps below
 
+-- an expression that is given without a name, and an argument that isn't written
+abbrev pub plain_given : Env → Expr → Given
+plain_given env e = record { name = None; term = Some (term_of env e); place = place_of_expression e }
+
+abbrev pub missing_given : Given
+missing_given = record { name = None; term = None; place = nowhere }
+
+-- what an argument is that isn't written
+abbrev pub missing_value : bound.Expr
+missing_value = expression_of not_given nowhere type.variant
+
 -- numbers that were pushed: each was given without a name, and is a value
 pub record NumberIs (value : plain.Term → Place → Option bound.Expr) (g : Given) (e : bound.Expr) : Type 0 where
   pub no_name : g.name ≡ None
@@ -232,13 +244,24 @@ pub record IndexedStands (env : Env) (x : Indexed) (e : Expr) (args : Args) (ps 
   pub count_is : x.count ≡ length made
   pub on_top : ps ≡ above (map an_expr made) between
 
--- a function that is called, and the values that were pushed: each was given without a name
-abbrev pub function_value : Env → LibraryFunction → ℕ → plain.Term → Place → Option bound.Expr
-function_value env f i t place = option_and_then plain_value (taken_as env (taking f i) t place)
+-- values that were pushed for arguments without names: each is what the list says of the first argument
+pub record ValueIs (value : plain.Term → Place → Option bound.Expr) (g : Given) (e : bound.Expr) : Type 0 where
+  pub no_name : g.name ≡ None
+  pub is : (gs : List Given) → listed_values value (g ∷ gs) ≡ from_two also (Some e) (listed_values value gs)
+
+abbrev pub AllListed : (plain.Term → Place → Option bound.Expr) → List Given → List bound.Expr → Type 0
+AllListed value [] [] = Unit {0}
+AllListed value (g ∷ gs) (e ∷ es) = ValueIs value g e × AllListed value gs es
+AllListed value gs es = ⊥
+
+-- the same of a function that is called, by the numbers of its arguments
+pub record ArgumentIs (env : Env) (f : LibraryFunction) (i : ℕ) (g : Given) (e : bound.Expr) : Type 0 where
+  pub no_name : g.name ≡ None
+  pub is : (gs : List Given) → function_values env f i (g ∷ gs) ≡ from_two also (Some e) (function_values env f (suc i) gs)
 
 abbrev pub AllValues : Env → LibraryFunction → ℕ → List Given → List bound.Expr → Type 0
 AllValues env f i [] [] = Unit {0}
-AllValues env f i (g ∷ gs) (e ∷ es) = NumberIs (function_value env f i) g e × AllValues env f (suc i) gs es
+AllValues env f i (g ∷ gs) (e ∷ es) = ArgumentIs env f i g e × AllValues env f (suc i) gs es
 AllValues env f i gs es = ⊥
 
 pub record FunctionStands (env : Env) (x : FunctionCall) (e : Expr) (args : Args) (ps below : List Piece) : Type 0 where
@@ -249,19 +272,15 @@ pub record FunctionStands (env : Env) (x : FunctionCall) (e : Expr) (args : Args
   pub count_is : x.count ≡ length made
   pub on_top : ps ≡ above (map an_expr made) below
 
--- values that count as given
-abbrev pub AllGiven : List bound.Expr → Type 0
-AllGiven [] = Unit {0}
-AllGiven (e ∷ es) = ((rest : Exprs) → given_count (also e rest) ≡ suc (given_count rest)) × AllGiven es
-
--- a member whose object was looked at, and the values that were pushed for it: each was given without a name
+-- a member whose object was looked at, and the values that were pushed for it: none was given by a name, and so many of
+-- them are written
 pub record MemberStands (env : Env) (t : Tables) (x : MemberCall) (e : Expr) (args : Args) (ps below : List Piece) : Type 0 where
   pub object : bound.Expr
   pub is : item_of (place_of_expression e) (callee env e (term_of env e)) ≡ a_host_member object (member_is t x.member)
   pub place_is : x.place ≡ place_of_expression e
   pub made : List bound.Expr
-  pub values : AllNumbers (given_as env) (givens env args) made
-  pub all_given : AllGiven made
+  pub values : AllListed (given_as env) (givens env args) made
+  pub written_is : (more : List bound.Expr) → given_count (exprs_of (made ++ more)) ≡ x.written + given_count (exprs_of more)
   pub count_is : x.count ≡ length made
   pub on_top : ps ≡ above (map an_expr made) (a_member object (piece.name_in t x.member.name) x.given ∷ below)
 
@@ -296,16 +315,17 @@ gathered_below (item.Call x ∷ items) = Some x.passed
 gathered_below (item.Listed x ∷ items) = Some x
 gathered_below items = None
 
--- a value that was pushed for a ParamArray, which is the first parameter that the arguments before leave
-pub record GatheredStands (env : Env) (passed : Passed) (e : Expr) (ps below : List Piece) : Type 0 where
+-- a value that was pushed for a ParamArray, which is the first parameter that the arguments before leave; one that isn't
+-- written is Missing
+pub record GatheredStands (env : Env) (passed : Passed) (g : Given) (ps below : List Piece) : Type 0 where
   pub many : is_gathering (map parameter_view passed.left.now) ≡ true
   pub made : bound.Expr
-  pub is : given_as env (term_of env e) (place_of_expression e) ≡ Some made
+  pub is : ValueIs (given_as env) g made
   pub on_top : ps ≡ an_expr made ∷ below
 
-abbrev pub GatheredAbove : Env → Option Passed → Expr → (ps below : List Piece) → Type 0
-GatheredAbove env None e ps below = ⊥
-GatheredAbove env (Some passed) e ps below = GatheredStands env passed e ps below
+abbrev pub GatheredAbove : Env → Option Passed → Given → (ps below : List Piece) → Type 0
+GatheredAbove env None g ps below = ⊥
+GatheredAbove env (Some passed) g ps below = GatheredStands env passed g ps below
 
 -- what is below the stack: pieces, the parameters of the statement whose arguments are read, and items
 pub record Base : Type 0 where
@@ -335,7 +355,9 @@ Stands env t (item.Member x ∷ items) (nodes.arguments args ∷ nodes.tree e �
 Stands env t (item.Named x ∷ items) (nodes.arguments (named before comma name mark e) ∷ is) ps base =
     (below : List Piece) × (NamedAbove env (passed_below items) x name e ps below × Stands env t items (nodes.arguments before ∷ is) below base)
 Stands env t (item.Gathered ∷ items) (nodes.arguments (tree.plain before comma e) ∷ is) ps base =
-    (below : List Piece) × (GatheredAbove env (gathered_below items) e ps below × Stands env t items (nodes.arguments before ∷ is) below base)
+    (below : List Piece) × (GatheredAbove env (gathered_below items) (plain_given env e) ps below × Stands env t items (nodes.arguments before ∷ is) below base)
+Stands env t (item.Gathered ∷ items) (nodes.arguments (missing before comma) ∷ is) ps base =
+    (below : List Piece) × (GatheredAbove env (gathered_below items) missing_given ps below × Stands env t items (nodes.arguments before ∷ is) below base)
 Stands env t items is ps base = ⊥
 
 -- ---- numbers of constants that are in the tables

@@ -125,14 +125,15 @@ pub struct FunctionCall {
     pub count: u32,
 }
 
-/// A member of an object of the host whose arguments are read: the place of its first token, the member, how many
-/// arguments are to come, and how many were pushed behind the object.
+/// A member of an object of the host whose arguments are read: the place of its first token, the member, how many written
+/// arguments are to come, how many values were pushed behind the object, and how many of these are written.
 #[derive(Clone, Copy)]
 pub struct MemberCall {
     pub place: Place,
     pub member: HostMember,
     pub given: u32,
     pub count: u32,
+    pub written: u32,
 }
 
 /// What is indexed: a plain variable, for which nothing is pushed, or another place or a value, which was pushed.

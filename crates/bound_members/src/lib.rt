@@ -6,6 +6,6 @@ mod calls;
 mod kinds;
 mod members;
 
-pub use calls::{add_given, close_member, open_member};
+pub use calls::{add_given, add_missing, close_member, open_member};
 pub use kinds::{HostKind, kind_of_ending, kind_of_type};
 pub use members::{find_member, is_word, takes_arguments};

@@ -11,7 +11,7 @@ use Rattle.bound_project.specs.declared.project.Block.{Block}
 use Rattle.bound_project.specs.declared.project.Body.{Body}
 use Rattle.bound_project.specs.declared.project.Project.{Project}
 use Rattle.bound_project.specs.Expressions.{Expr, Lvalue, Args, no_args, in_order, Exprs, no_exprs, no_prints}
-use Rattle.bound_project.specs.Statements.{no_tests, no_resizes, no_arrays, Action, assign, assign_none, set, assign_default, assign_member, evaluate, let_property, set_property, print, raise, test, go_to, for_to, next, for_each, next_each, exit_each, select, case_of, redim, erase, with_place, with_value, end_with, go_sub, return_sub, exit_to, on_error, end_handler, clear_err, resume_again, resume_next, resume_at, stop, end_run}
+use Rattle.bound_project.specs.Statements.{no_tests, no_resizes, no_arrays, Action, assign, assign_item, set, assign_default, assign_member, set_member, evaluate, let_property, set_property, print, raise, test, go_to, for_to, next, for_each, next_each, exit_each, select, case_of, redim, erase, with_place, with_value, end_with, go_sub, return_sub, exit_to, on_error, end_handler, clear_err, resume_again, resume_next, resume_at, stop, end_run}
 use Rattle.bound_project.specs.Statements as plain
 use Rattle.bound_project.specs.Project as project
 use Rattle.bound_project.specs.View.{declared_view, variable_view, declarations_view}
@@ -51,6 +51,15 @@ abbrev pub member_found : (name : List ℕ) → Option (Exprs × List Piece) →
 member_found name None = None
 member_found name (Some (es, st)) = behind_member name es st
 
+-- numbers behind a value of which they mean an item, behind a value
+abbrev pub behind_base : Exprs → List Piece → Option Action
+behind_base es (an_expr base ∷ an_expr e ∷ []) = Some (assign_item base es e)
+behind_base es st = None
+
+abbrev pub item_found : Option (Exprs × List Piece) → Option Action
+item_found None = None
+item_found (Some (es, st)) = behind_base es st
+
 -- nothing is there
 abbrev pub alone : List Piece → Action → Option Action
 alone [] a = Some a
@@ -60,13 +69,14 @@ alone (p ∷ st) a = None
 abbrev pub action_of : Tables → ActionKind → List Piece → Option Action
 action_of t kind.Assign (a_place x ∷ an_expr e ∷ []) = Some (assign x e)
 action_of t kind.Assign st = None
-action_of t kind.AssignNone (an_expr x ∷ an_expr e ∷ []) = Some (assign_none x e)
-action_of t kind.AssignNone st = None
+action_of t (kind.AssignItem count) st = item_found (exprs_off count st no_exprs)
 action_of t kind.Set (a_place x ∷ an_expr e ∷ []) = Some (set x e)
 action_of t kind.Set st = None
 action_of t kind.AssignDefault (an_expr x ∷ an_expr e ∷ []) = Some (assign_default x e)
 action_of t kind.AssignDefault st = None
 action_of t (kind.AssignMember i count) st = member_found (name_in t i) (exprs_off count st no_exprs)
+action_of t kind.SetMember (an_expr x ∷ an_expr e ∷ []) = Some (set_member x e)
+action_of t kind.SetMember st = None
 action_of t kind.Evaluate st = one_value st (λ e. evaluate e)
 action_of t (kind.LetProperty p count of) st = behind_value (arguments_off count st no_args) (λ args e. let_property p args e (declared_view of))
 action_of t (kind.LetPropertyInOrder p count order of) st =

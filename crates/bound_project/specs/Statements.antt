@@ -35,8 +35,9 @@ pub data Arrays : Type 0 where
 pub data Action : Type 0 where
   -- [Let] target = value
   assign : Lvalue → Expr → Action
-  -- the same where nothing has the target, as an element of the array that a function gives: nothing is stored
-  assign_none : (target value : Expr) → Action
+  -- the same where the target is an item of a value that no variable has, as of what a function gives: of an object the
+  -- item's default member is written, and in an array nothing is stored
+  assign_item : (base : Expr) → Exprs → (value : Expr) → Action
   -- Set target = value
   set : Lvalue → Expr → Action
   -- [Let] target = value where the target gives an object, as a variable of an object type does: the default member of
@@ -44,6 +45,8 @@ pub data Action : Type 0 where
   assign_default : (target value : Expr) → Action
   -- [Let] base.name(arguments) = value, for a member of an object of the host
   assign_member : (base : Expr) → (name : List ℕ) → Exprs → Expr → Action
+  -- Set base.name = value, for a member of an object that is found in the run
+  set_member : (base value : Expr) → Action
   -- a call whose value isn't used
   evaluate : Expr → Action
   -- an assignment to a property of a standard module: its Property Let, that one's other arguments, the value and its

@@ -6,7 +6,7 @@ use Rattle.vba_values.specs.Types.{Declared}
 use Rattle.vba_values.specs.Types as type
 use Rattle.vba_values.specs.Val.{Val, empty, null, missing, boolean, whole, currency, text, object}
 use Rattle.bound_project.specs.Expressions.{Storage, local, shared, Variable, Expr, expr, Node, not_given, constant, load, element_value, field_value, unary, binary, call, err_value, default_of, default_if_any, same, is_type, library, bound_of, host_object, active_sheet, host_member, Lvalue, variable, item, element, field, kept_place, Args, no_args, by_place, by_copy, by_default, by_list, in_order, Exprs, no_exprs, also, Prints, no_prints, shown, zone}
-use Rattle.bound_project.specs.Statements.{Handling, passed_on, skipped, handled_at, Resizes, no_resizes, resize, Arrays, no_arrays, an_array, Tests, no_tests, test_is, test_range, Action, assign, assign_none, set, assign_default, assign_member, evaluate, let_property, set_property, print, raise, test, go_to, for_to, next, for_each, next_each, exit_each, select, case_of, redim, erase, with_place, with_value, end_with, go_sub, return_sub, exit_to, on_error, end_handler, clear_err, resume_again, resume_next, resume_at, stop, end_run, Statement}
+use Rattle.bound_project.specs.Statements.{Handling, passed_on, skipped, handled_at, Resizes, no_resizes, resize, Arrays, no_arrays, an_array, Tests, no_tests, test_is, test_range, Action, assign, assign_item, set, assign_default, assign_member, set_member, evaluate, let_property, set_property, print, raise, test, go_to, for_to, next, for_each, next_each, exit_each, select, case_of, redim, erase, with_place, with_value, end_with, go_sub, return_sub, exit_to, on_error, end_handler, clear_err, resume_again, resume_next, resume_at, stop, end_run, Statement}
 use Rattle.bound_project.specs.Project.{Class, Declarations, Body, Project, procedure_at, statements_at}
 
 -- each item of a list is so
@@ -140,10 +140,11 @@ WholeHandling pr p (handled_at i) = HasTarget pr p i
 
 abbrev pub WholeAction : Project → (procedure : ℕ) → Action → Type 0
 WholeAction pr p (assign x e) = WholeExpr pr p e × WholePlace pr p x
-WholeAction pr p (assign_none x e) = WholeExpr pr p e × WholeExpr pr p x
+WholeAction pr p (assign_item base es e) = WholeExpr pr p e × (WholeExpr pr p base × WholeExprs pr p es)
 WholeAction pr p (set x e) = WholeExpr pr p e × WholePlace pr p x
 WholeAction pr p (assign_default x e) = WholeExpr pr p e × WholeExpr pr p x
 WholeAction pr p (assign_member base name es e) = WholeExpr pr p e × (WholeExpr pr p base × WholeExprs pr p es)
+WholeAction pr p (set_member base e) = WholeExpr pr p e × WholeExpr pr p base
 WholeAction pr p (evaluate e) = WholeExpr pr p e
 WholeAction pr p (let_property q args e of) = WholeExpr pr p e × (WholeArgs pr p args × (HasType pr.declared of × HasProcedure pr.declared q (suc (argument_count args))))
 WholeAction pr p (set_property q args e of) = WholeExpr pr p e × (WholeArgs pr p args × (HasType pr.declared of × HasProcedure pr.declared q (suc (argument_count args))))

@@ -7,7 +7,7 @@ ghost use Rattle.bound_project.specs.declared.statement.ActionKind.TheVariants a
 ghost use Rattle.bound_project.specs.declared.variable.Variable.{Variable};
 ghost use Rattle.bound_project.specs.View.{base_view, variable_view};
 ghost use Rattle.bound_project.specs.Expressions.{Expr, call, given_count, host_member, item, library};
-ghost use Rattle.bound_project.specs.Statements.{assign_member, print};
+ghost use Rattle.bound_project.specs.Statements.{assign_item, assign_member, print};
 ghost use Rattle.bound_project.specs.Pieces.{Argument, Piece, Tables, a_member, a_place, an_argument, an_expr, expr_of, name_in, put_kind};
 ghost use Rattle.bound_project.specs.Bodies.{action_of};
 ghost use Rattle.bound_project.specs.Lists.{above, args_of, exprs_of, item_piece, prints_of};
@@ -46,6 +46,13 @@ pub fn assignments_take_their_arguments()
     ensures { (t : Tables) (i : ℕ) (value object : Expr) (es : List Expr)
         → action_of t (kind.AssignMember i (length es)) (above (map an_expr es) (a_member object (name_in t i) (given_count (exprs_of es)) ∷ an_expr value ∷ []))
         ≡ Some (assign_member object (name_in t i) (exprs_of es) value) }
+{}
+
+/// An assignment to an item of a value takes just the numbers that were put for it. It holds of the definitions alone, and
+/// changes nothing.
+pub fn items_take_their_numbers()
+    ensures { (t : Tables) (value base : Expr) (es : List Expr)
+        → action_of t (kind.AssignItem (length es)) (above (map an_expr es) (an_expr base ∷ an_expr value ∷ [])) ≡ Some (assign_item base (exprs_of es) value) }
 {}
 
 /// An element takes just the numbers that were put for it. It holds of the definitions alone, and changes nothing.

@@ -17,8 +17,11 @@ pub enum Handling {
 pub enum ActionKind {
     /// `[Let] target = value`, behind the value and the target's place.
     Assign,
-    /// The same where nothing has the target, behind the value and the target's value.
-    AssignNone,
+    /// The same where the target is an item of a value that no variable has, behind the value, that one and so many
+    /// numbers.
+    AssignItem {
+        numbers: u32,
+    },
     /// `Set target = value`, behind the value and the target's place.
     Set,
     /// `[Let] target = value` where the target gives an object, behind the value and the target's value.
@@ -29,6 +32,8 @@ pub enum ActionKind {
         name: u32,
         arguments: u32,
     },
+    /// `Set base.name = value`, behind the value and the base.
+    SetMember,
     Evaluate,
     /// An assignment to a property, behind the value and so many other arguments, and its parameter's type.
     LetProperty {

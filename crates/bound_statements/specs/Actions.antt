@@ -21,7 +21,7 @@ use Rattle.binder.specs.Constants.{compare_in, place_of_expression}
 use Rattle.binder.specs.Numbering.{Opened, Standing, Sought, here, an_arm, behind_block, sought_behind}
 use Rattle.binder.specs.Terms as terms
 use Rattle.binder.specs.ExpressionsBound.{bound_as_given, bound_operand, bound_reference, givens, term_of}
-use Rattle.binder.specs.StatementsBound.{Around, assigned_to, called_place, called_with, redim_arrays, erased_arrays, value_shown, items_shown, ends_line, simple_action, block_action, loop_variable, next_action, loop_action, for_action, step_value, case_tests, selected, line_of, header_of, set_to, value_for, with_action}
+use Rattle.binder.specs.StatementsBound.{Around, assigned_to, called_place, called_with, redim_arrays, erased_arrays, value_shown, items_shown, ends_line, simple_action, block_action, loop_variable, next_action, loop_action, for_action, step_value, case_tests, selected, line_of, header_of, set_target, set_to, value_for, with_action}
 use Rattle.bound_calls.specs.Standing.{PushedIs}
 
 -- a condition of a line: where it holds, control goes to the first statement of its block
@@ -59,7 +59,7 @@ block_in env a s line = block_action a s line
 -- a statement other than a single-line If, in this scope
 abbrev pub simple_in : terms.Env → Around → Standing → Simple → Option Action
 simple_in env a s (tree.assignment let_word x equal e) = option_and_then (assigned_to env x) (value_for env x e)
-simple_in env a s (tree.set_assignment set_word x equal e) = option_and_then (set_to (term_of env x)) (bound_reference env e)
+simple_in env a s (tree.set_assignment set_word x equal e) = option_and_then (set_to (set_target env x)) (bound_reference env e)
 simple_in env a s (tree.call_place call_word e) = called_place env e
 simple_in env a s (tree.call e args) = called_with env e (givens env args)
 simple_in env a s (tree.re_dim redim_word preserve_word arrays) = option_map (to.redim (is_some preserve_word)) (redim_arrays env (all_of arrays))

@@ -72,29 +72,8 @@ fn push_next<'a>(
     Ok(plus(before, 1)?)
 }
 
-/// Pushes the arrays behind commas behind so many; answers how many there are then.
-fn push_behind<'a>(
-    alloc: Global,
-    draft: &mut Draft,
-    env: Env<'a>,
-    others: &'a [Next<Expression>],
-    before: u32,
-) -> Result<u32, OrMemory<NotYet>>
-    requires { EnvStands env }
-    ensures { IfOk result (λ count. (all : Option Arrays) (base : Drafted)
-        → Read Arrays arrays_off all (plain.erased_arrays (env_view env.entry) (items_of (map (λ next. (next.mark, expression_view next.item)) others.now))) before base (draft_view draft.old)
-        → Read Arrays arrays_off all (Some no_arrays) count base (draft_view draft.new)) }
-{
-    let mut pushed = before;
-    let mut left = others;
-    'arrays: while let [next, behind @ ..] = left {
-        pushed = push_next(alloc, draft, env, &next.item, pushed)?;
-        left = behind;
-    }
-    Ok(pushed)
-}
-
 /// Pushes arrays; answers how many they are.
+#[tactic(auto, using(crate::proofs::Arrays::arrays_begin))]
 fn push_arrays<'a>(
     alloc: Global,
     draft: &mut Draft,
@@ -105,8 +84,12 @@ fn push_arrays<'a>(
     ensures { IfOk result (λ count. Read Arrays arrays_off (plain.erased_arrays (env_view env.entry) (all_of (listed_view expression_view list.now))) (Some no_arrays) count
         (draft_view draft.old) (draft_view draft.new)) }
 {
-    let pushed = push_next(alloc, draft, env, &list.first, 0)?;
-    let count = push_behind(alloc, draft, env, list.others.as_slice(), pushed)?;
+    let mut count = push_next(alloc, draft, env, &list.first, 0)?;
+    let mut left = list.others.as_slice();
+    'others: while let [next, behind @ ..] = left {
+        count = push_next(alloc, draft, env, &next.item, count)?;
+        left = behind;
+    }
     Ok(count)
 }
 

@@ -1,12 +1,9 @@
 -- What numbers in brackets make of places and values.
-use Rattle.std.proofs.Common.{◌≡◌, ℕ, ◌<◌, ◌+◌, Bool, true, false, ◌&&◌, ◌||◌, not, List, [], ◌∷◌, ◌++◌, map, length, Option, Some, None, is_some, if◌then◌else◌, refl, sym, ap, subst, ◌∙◌, arith, length-append}
+use Rattle.std.proofs.Common.{◌≡◌, ℕ, ◌<◌, ◌+◌, Bool, true, false, ◌&&◌, not, List, [], ◌∷◌, ◌++◌, map, length, Option, Some, None, is_some, if◌then◌else◌, refl, sym, ap, subst, ◌∙◌, arith, length-append}
 use Rattle.std.proofs.lemmas.List.{map-append}
 use Rattle.std.specs.Prelude.{codes}
 use Rattle.vba_base.specs.declared.place.Place.{Place}
 use Rattle.vba_lexer.specs.declared.token.Token.{Token}
-use Rattle.vba_words.specs.declared.mark.Mark.TheVariants as mark
-use Rattle.vba_words.specs.Spelling.{marked}
-use Rattle.vba_expression.specs.Spelling.{spell_args}
 use Rattle.vba_expression.specs.Tree.{Expr, name, no_args, plain}
 use Rattle.vba_expression.specs.Nodes as nodes
 use Rattle.vba_expression.specs.Nodes.{behind_node}
@@ -29,7 +26,6 @@ use Rattle.binder.specs.Constants.{place_of_expression}
 use Rattle.binder.specs.Terms.{Env, Given, a_value, expression_of, has_names, listed_values}
 use Rattle.binder.specs.Terms as terms
 use Rattle.binder.specs.ExpressionsBound.{are_numbers, numbers_of, element_place, element_type, with_type, indexed, is_host_type, item_of, object_member, callee, term_of, operand_of, givens}
-use Rattle.module_parts.proofs.Firsts.{expression_front}
 use Rattle.bound_calls.specs.declared.term.Ending.{Ending}
 use Rattle.bound_calls.specs.declared.term.Routine.{Routine}
 use Rattle.bound_calls.specs.declared.term.Term.{Term}
@@ -42,15 +38,17 @@ use Rattle.bound_calls.specs.declared.term.Indexed.{Indexed}
 use Rattle.bound_calls.specs.declared.term.MemberCall.{MemberCall}
 use Rattle.bound_calls.specs.declared.term.Item.{Item}
 use Rattle.bound_calls.specs.declared.term.Item.TheVariants as items
-use Rattle.bound_calls.specs.Calls.{node_of}
-use Rattle.bound_calls.specs.Standing.{AllNumbers, PlaceStands, ValueStands, RoutineStands, TargetStands, TermStands, Stands, AllNamed, Base}
+use Rattle.bound_calls.specs.declared.term.Passed.{Passed}
+use Rattle.bound_calls.specs.Calls.{PassesMissing, node_of, passed_in, with_passed}
+use Rattle.bound_calls.specs.Standing.{AllNumbers, ItemNamed, PlaceStands, ValueStands, RoutineStands, TargetStands, TermStands, Stands, AllNamed, Base}
 use Rattle.bound_calls.specs.Steps.{Goes, PushesOperand}
 use Rattle.bound_members.specs.MemberCalls.{OpensMember}
 use Rattle.bound_terms.specs.Callee.{CalleeIs}
 use Rattle.bound_terms.specs.Items.{MakesItem}
-use Rattle.bound_calls.specs.Indexing.{TargetAt, PushesTarget, Opens, OpensTerm, AddsArgument, Closes, EndsIndexed, is_part}
-use Rattle.bound_members.proofs.Listing.{all_listed, numbers_more, taken_off}
-use Rattle.bound_calls.proofs.Growing.{grown_same, grown_twice, grown_pieces, all_named, stands_grows}
+use Rattle.bound_calls.specs.Indexing.{TargetAt, PushesTarget, Opens, OpensTerm, AddsArgument, AddsMissing, Closes, EndsIndexed, is_part}
+use Rattle.bound_members.proofs.Listing.{all_listed, no_names, numbers_more, taken_off}
+use Rattle.bound_calls.proofs.Growing.{grown_same, grown_twice, grown_pieces, all_named, item_named, stands_grows}
+use Rattle.bound_calls.proofs.CallSteps.{goes_missing, tree_ended}
 
 -- ---- numbers
 
@@ -59,11 +57,6 @@ all_numbers value g [] e es h = ap (λ (o : Option terms.Term). is_some o) h.0.g
 all_numbers value g (other ∷ gs) e [] h = absurd h.1
 all_numbers value g (other ∷ gs) e (f ∷ es) h =
     ap (λ (o : Option terms.Term). is_some o && are_numbers (other ∷ gs)) h.0.given ∙ all_numbers value other gs f es h.1
-
-pub no_names : (value : terms.Term → Place → Option bound.Expr) (gs : List Given) (es : List bound.Expr) → AllNumbers value gs es → has_names gs ≡ false
-no_names value [] es h = refl
-no_names value (g ∷ gs) [] h = absurd h
-no_names value (g ∷ gs) (e ∷ es) h = ap (λ (o : Option (List ℕ)). is_some o || has_names gs) h.0.no_name ∙ no_names value gs es h.1
 
 pub numbers_are : (value : terms.Term → Place → Option bound.Expr) (gs : List Given) (es : List bound.Expr) → AllNumbers value gs es → 0 < length es → numbers_of value gs ≡ Some (exprs_of es)
 numbers_are value gs [] h lt = absurd (omega (arith, lt))
@@ -403,16 +396,7 @@ ended_stands env x y left right xs d m (nodes.arguments args ∷ []) base h = ab
 ended_stands env x y left right xs d m (nodes.arguments args ∷ nodes.arguments more ∷ is) base h = absurd h
 ended_stands env x y left right xs d m (nodes.arguments args ∷ nodes.tree b ∷ is) base h = (
   h.0,
-  (
-    record {
-      term_is = m.stands env d.tables b args d.pieces h.0 h.1.0;
-      place_is = h.1.0.place_is ∙ sym (expression_front b (marked left mark.LeftParenthesis ∷ (spell_args args ++ marked right mark.RightParenthesis ∷ [])));
-      name_is = refl;
-      qualifier_is = refl;
-      leaf = tt;
-    },
-    h.1.1,
-  ),
+  (tree_ended env d.tables y x.place b args left right d.pieces h.0 h.1.0.place_is (m.stands env d.tables b args d.pieces h.0 h.1.0), h.1.1),
 )
 
 pub closes_indexed : (x : Indexed) (y : Term) (d : Drafted) → EndsIndexed x y → Closes (items.Indexed x) d d (ended x y)
@@ -433,3 +417,32 @@ goes_end env i y left right xs old new d e o n k c =
     let A : List Item → Type 0 = λ (l : List Item). Goes env d l e new g in
     let B : List Item → Type 0 = λ (l : List Item). Goes env d (i ∷ xs) e l g in
     subst A (sym o) (subst B (sym n) (end_stands env i y left right xs d e (subst N o k) c))
+
+-- ---- an argument that isn't written
+
+-- an item with others is named as it was
+passed_item : (t : Tables) (i : Item) (q : Passed) → ItemNamed t i → ItemNamed t (with_passed i q)
+passed_item t (items.Call x) q h = tt
+passed_item t (items.Listed x) q h = tt
+passed_item t i q h = h
+
+pub misses_passed : (i : Item) (p q : Passed) (d e : Drafted) → passed_in i ≡ Some p → ItemNamed d.tables i → PassesMissing p d e q → AddsMissing i d e (with_passed i q)
+misses_passed i p q d e f n m = record {
+  grown = m.grown;
+  named = passed_item e.tables i q (item_named d.tables e.tables m.grown.tables i n);
+  stands = λ env comma xs is base k h. (goes_missing env i xs (i ∷ xs) (with_passed i q ∷ xs) p q comma d e refl refl f (n, k) m).stands is base h;
+}
+
+pub goes_skipped : (env : Env) (i j : Item) (xs old new : List Item) (comma : Option Token) (d e : Drafted) → old ≡ i ∷ xs → new ≡ j ∷ xs → AllNamed d.tables old → AddsMissing i d e j
+    → Goes env d old e new (behind_node (node.MissingArgument comma))
+goes_skipped env i j xs old new comma d e o n k m =
+    let g = behind_node (node.MissingArgument comma) in
+    let N : List Item → Type 0 = λ (l : List Item). AllNamed d.tables l in
+    let A : List Item → Type 0 = λ (l : List Item). Goes env d l e new g in
+    let B : List Item → Type 0 = λ (l : List Item). Goes env d (i ∷ xs) e l g in
+    let all = subst N o k in
+    subst A (sym o) (subst B (sym n) (record {
+      grown = m.grown;
+      named = (m.named, all_named d.tables e.tables m.grown.tables xs all.1);
+      stands = λ is base h. m.stands env comma xs is base all.1 h;
+    }))

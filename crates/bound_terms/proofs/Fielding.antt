@@ -32,7 +32,8 @@ use Rattle.binder.specs.Scopes.{Space, Qualifier, qualifier_of, enum_behind}
 use Rattle.binder.specs.Storage.{types_from, types_of_space, user_types}
 use Rattle.binder.specs.Terms.{Env, Within, a_place as a_place_term, a_value, a_routine, a_host_member, err_object, no_term, expression_of}
 use Rattle.binder.specs.Terms as terms
-use Rattle.binder.specs.ExpressionsBound.{bare_call, behind_term, err_member, field_named, field_of_place, field_of_value, has_bounds, kept_member, member_of, node_or, object_member, sheets_value, term_of, with_field}
+use Rattle.binder.specs.ExpressionsBound.{bare_call, behind_term, err_member, field_named, field_of_place, field_of_value, has_bounds, kept_member, member_of, node_or, object_member, sheets_value, term_of, with_field, given_as, typed_term}
+use Rattle.binder.specs.Types.{meant_type, type_meant}
 use Rattle.declared_names.specs.Outside.{the_outside}
 use Rattle.declared_names.specs.View.{scope_view}
 use Rattle.declared_names.specs.declared.scope.Scope.{Scope as ScopeHere}
@@ -47,7 +48,7 @@ use Rattle.bound_calls.specs.declared.term.Tree.{Tree}
 use Rattle.bound_calls.specs.declared.term.Item.{Item}
 use Rattle.bound_calls.specs.declared.term.Item.TheVariants as items
 use Rattle.bound_calls.specs.Calls.{node_of}
-use Rattle.bound_terms.specs.Fields.{FieldFound, KeepsField, MakesBehind, MakesField, MakesFieldValue, user_type_in}
+use Rattle.bound_terms.specs.Fields.{FieldFound, KeepsField, MakesBehind, MakesField, MakesFieldValue, user_type_in, may_be_class}
 use Rattle.bound_terms.specs.Items.{FindsBehindPlace, FindsBehindValue}
 use Rattle.bound_terms.specs.Owned.{IsQualifier, IsSheets, MakesMember}
 use Rattle.bound_calls.specs.Standing.{TermStands, TreeStands, Stands, Base, member_is}
@@ -209,12 +210,23 @@ behind_place env place at bounded lends f d e y m eq =
           let A : terms.Term → Type 0 = λ (w : terms.Term). TermStands env d.tables y (member_of env place w f) (put d.tables (node_of at.kind place at.of) d.pieces) below in
           let B : List Piece → Type 0 = λ (ps : List Piece). TermStands env d.tables y (field_of_place env place k.at (declared_view at.of) lends f) ps below in
           subst A (sym k.is) (subst B (sym (k.ends (node_of at.kind place at.of))) (m.stands d.tables place k.at below));
-      there = λ t z ps below k h. (let e : a_place_term k.at (declared_view at.of) bounded lends ≡ no_term = sym k.is ∙ h in absurd cc);
+      there = λ z below k. ap (λ (w : terms.Term). may_be_class w) k.is;
     })
 
-pub behind_value : (env : Env) (place : Place) (ending : Ending) (f : Identifier) (d e : Drafted) (y : Term) → MakesFieldValue env ending.of f y
+-- neither a value of a user type nor one with members is a Boolean
+type_is_none : (made : bound.Node) (of : DeclaredType) → is_some (user_type_in of) ≡ true → may_be_class (a_value made (declared_view of)) ≡ false
+type_is_none (host_object reference) of h = refl
+type_is_none made (Plain (element.UserType number)) h = refl
+type_is_none made of h = let e : false ≡ true = h in absurd cc
+
+object_is_none : (place : Place) (made : bound.Node) (of : Declared) (fold : List ℕ) (object : bound.Expr) (m : terms.HostMember) → object_member place made of fold ≡ a_host_member object m → may_be_class (a_value made of) ≡ false
+object_is_none place (host_object reference) of fold object m h = refl
+object_is_none place made type.boolean fold object m h = let e : no_term ≡ a_host_member object m = h in absurd cc
+object_is_none place made of fold object m h = refl
+
+pub behind_value : (env : Env) (place : Place) (ending : Ending) (f : Identifier) (d e : Drafted) (y : Term) → is_some (user_type_in ending.of) ≡ true → MakesFieldValue env ending.of f y
     → e ≡ record d { pieces = put d.tables (node_of ending.kind place ending.of) d.pieces } → MakesBehind env place (term.Value ending) f d e y
-behind_value env place ending f d e y m eq =
+behind_value env place ending f d e y typed m eq =
     let P : Drafted → Type 0 = λ (z : Drafted). MakesBehind env place (term.Value ending) f d z y in
     subst P (sym eq) (record {
       grown = grown_pieces d (put d.tables (node_of ending.kind place ending.of) d.pieces);
@@ -223,7 +235,7 @@ behind_value env place ending f d e y m eq =
           let A : terms.Term → Type 0 = λ (w : terms.Term). TermStands env d.tables y (member_of env place w f) (put d.tables (node_of ending.kind place ending.of) d.pieces) below in
           let B : List Piece → Type 0 = λ (ps : List Piece). TermStands env d.tables y (field_of_value env place k.made (declared_view ending.of) f) ps below in
           subst A (sym k.is) (subst B (sym (k.ends (node_of ending.kind place ending.of))) (m.stands d.tables place k.made below));
-      there = λ t z ps below k h. (let e : a_value k.made (declared_view ending.of) ≡ no_term = sym k.is ∙ h in absurd cc);
+      there = λ z below k. ap (λ (w : terms.Term). may_be_class w) k.is ∙ type_is_none k.made ending.of typed;
     })
 
 -- an object at a place, and one that a value gives
@@ -235,7 +247,7 @@ behind_object_place env place at bounded lends f d e m none h = record {
   stands = λ z below k.
       let A : terms.Term → Type 0 = λ (w : terms.Term). TermStands env e.tables (term.HostMember m) w e.pieces below in
       subst A (sym (ap (λ (w : terms.Term). member_of env place w f) k.is ∙ no_type_place env place k.at at.of lends f none)) (h.stands env k.at below k.ends);
-  there = λ t z ps below k h. (let e : a_place_term k.at (declared_view at.of) bounded lends ≡ no_term = sym k.is ∙ h in absurd cc);
+  there = λ z below k. ap (λ (w : terms.Term). may_be_class w) k.is;
 }
 
 pub behind_object_value : (env : Env) (place : Place) (v : Ending) (f : Identifier) (d e : Drafted) (m : HostMember) → user_type_in v.of ≡ None → FindsBehindValue place v f.name d e m
@@ -246,7 +258,8 @@ behind_object_value env place v f d e m none h = record {
   stands = λ z below k.
       let A : terms.Term → Type 0 = λ (w : terms.Term). TermStands env e.tables (term.HostMember m) w e.pieces below in
       subst A (sym (ap (λ (w : terms.Term). member_of env place w f) k.is ∙ no_type_value env place k.made v.of f none)) (h.stands env k.made below k.ends);
-  there = λ t z ps below k h. (let e : a_value k.made (declared_view v.of) ≡ no_term = sym k.is ∙ h in absurd cc);
+  there = λ z below k.
+      let found = h.stands env k.made below k.ends in ap (λ (w : terms.Term). may_be_class w) k.is ∙ object_is_none place k.made (declared_view v.of) f.name found.object (member_is e.tables m) found.is;
 }
 
 -- a member that is read
@@ -264,7 +277,7 @@ behind_member env place read v f d b e m r h = record {
       let A : terms.Term → Type 0 = λ (w : terms.Term). TermStands env e.tables (term.HostMember m) w e.pieces below in
       subst A (sym (ap (λ (w : terms.Term). member_of env place w f) k.is ∙ read_when (read.least == 0) (T read.of) (ap (λ (n : ℕ). n == 0) r.least_is) ∙ ap T (sym r.of_is)))
       (h.stands env node below (r.ends k.object below k.on_top));
-  there = λ t z ps below k h. (let e : a_host_member k.object (member_is t read) ≡ no_term = sym k.is ∙ h in absurd cc);
+  there = λ z below k. ap (λ (w : terms.Term). may_be_class w) k.is;
 }
 
 pub behind_sheet : (env : Env) (place : Place) (read : HostMember) (f : Identifier) (d s e : Drafted) (y : Term) → PushesSheet d s → MakesBehind env place (term.HostMember read) f s e y → MakesBehind env place (term.SheetMember read) f d e y
@@ -272,7 +285,7 @@ behind_sheet env place read f d s e y p m = record {
   grown = grown_twice d s e p.grown m.grown;
   named = m.named;
   stands = λ z below k. m.stands z below (sheet_stands read d s p env z below k);
-  there = λ t z ps below k h. (let e : a_host_member (expression_of active_sheet nowhere type.worksheet) (member_is t read) ≡ no_term = sym k.0 ∙ h in absurd cc);
+  there = λ z below k. ap (λ (w : terms.Term). may_be_class w) k.0;
 }
 
 -- the sheets of the workbook
@@ -304,7 +317,10 @@ behind_workbook env place v f d y book none s =
                 ∙ sheets_of place (declared_view v.of) f.name s.named;
             ends = λ n. ap (λ (st : List Piece). expr_of n (host_object host.Sheets) ∷ st) (workbook_below any_node k.made d.pieces below put);
           };
-      there = λ t z ps below k h. (let e : a_value k.made (declared_view v.of) ≡ no_term = sym k.is ∙ h in absurd cc);
+      there = λ z below k.
+          let K : NodeKind → Type 0 = λ (x : NodeKind). put_kind d.tables any_node x d.pieces ≡ expr_of any_node k.made ∷ below in
+          let made = workbook_made any_node k.made d.pieces below (subst K book (k.ends any_node)) in
+          ap (λ (w : terms.Term). may_be_class w) k.is ∙ ap (λ (n : bound.Node). may_be_class (a_value n (declared_view v.of))) made;
     })
 
 -- a procedure that is called
@@ -320,7 +336,7 @@ behind_routine env place r ending f d e g y b m = record {
       ap (λ (w : terms.Term). member_of env place w f) c.called.is ∙ sym (ap (λ (w : terms.Term). member_of env place w f) c.is ∙ ap (λ (w : terms.Term). node_or w V) c.called.is) in
       let A : terms.Term → Type 0 = λ (w : terms.Term). TermStands env g.tables y w g.pieces below in
       subst A same (m.stands (bare_call env c.space c.number c.written) below c.called);
-  there = λ t z ps below k h. (let e : a_routine k.space k.number k.written ≡ no_term = sym k.is ∙ h in absurd cc);
+  there = λ z below k. ap (λ (w : terms.Term). may_be_class w) k.is;
 }
 
 pub behind_err : (env : Env) (place : Place) (f : Identifier) (d : Drafted) (y : Term) → MakesLeaf env d d y (err_member f.name) → MakesBehind env place term.Err f d d y
@@ -331,12 +347,16 @@ behind_err env place f d y m = record {
       let A : terms.Term → Type 0 = λ (w : terms.Term). TermStands env d.tables y (member_of env place w f) d.pieces below in
       let B : List Piece → Type 0 = λ (ps : List Piece). TermStands env d.tables y (err_member f.name) d.pieces ps in
       subst A (sym k.0) (subst B k.1 (m.stands d.pieces));
-  there = λ t z ps below k h. (let e : err_object ≡ no_term = sym k.0 ∙ h in absurd cc);
+  there = λ z below k. ap (λ (w : terms.Term). may_be_class w) k.0;
 }
 
 -- ---- behind an expression
 
-dotted_base : (env : Env) (base : Expr) (dot : Token) (f : Identifier) → (term_of env base ≡ no_term → ⊥) → behind_dot base dot f ≡ member base dot f
+typed_class : (o : Option bound.Expr) (of : Declared) → may_be_class (typed_term o of) ≡ true
+typed_class None of = refl
+typed_class (Some e) of = refl
+
+dotted_base : (env : Env) (base : Expr) (dot : Token) (f : Identifier) → may_be_class (term_of env base) ≡ false → behind_dot base dot f ≡ member base dot f
 dotted_base env (literal l) dot f h = refl
 dotted_base env (me token) dot f h = refl
 dotted_base env (name y) dot f h = refl
@@ -344,8 +364,9 @@ dotted_base env (with_member first y) dot f h = refl
 dotted_base env (member base first y) dot f h = refl
 dotted_base env (index base left args right) dot f h = refl
 dotted_base env (parenthesised left inner right) dot f h = refl
-dotted_base env (new word of) dot f h = absurd (h refl)
-dotted_base env (type_of word operand is_word of) dot f h = absurd (h refl)
+dotted_base env (new word of) dot f h = let e : true ≡ false = h in absurd cc
+dotted_base env (type_of word operand is_word of) dot f h =
+    let e : true ≡ false = sym (typed_class (given_as env (term_of env operand) (place_of_expression operand)) (meant_type (type_meant env.scope of))) ∙ h in absurd cc
 dotted_base env (unary o token operand) dot f h = refl
 dotted_base env (binary l o token r) dot f h = refl
 
@@ -358,7 +379,7 @@ tree_stands env x f d e y m false_is k base dot below h =
     let P : Place → Type 0 = λ (place : Place). TermStands env e.tables y (member_of env place (term_of env base) f) e.pieces below in
     let Q : terms.Term → Type 0 = λ (z : terms.Term). TermStands env e.tables y z e.pieces below in
     let A : Expr → Type 0 = λ (z : Expr). TreeStands env e.tables (made_tree x false y) z e.pieces below in
-    subst A (sym (dotted_base env base dot f (m.there d.tables (term_of env base) d.pieces below h.term_is))) (record {
+    subst A (sym (dotted_base env base dot f (m.there (term_of env base) below h.term_is))) (record {
       term_is = subst Q (sym member_is) (subst P h.place_is (m.stands (term_of env base) below h.term_is));
       place_is = h.place_is ∙ sym (member_place base dot f);
       name_is = refl;

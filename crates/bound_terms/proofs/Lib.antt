@@ -10,3 +10,4 @@ pub mod Fielding
 pub mod Callees
 pub mod RoutineTerms
 pub mod ParamArrays
+pub mod TypesAsked

@@ -1,13 +1,10 @@
 -- Functions of the library: what their names are, and calls of them.
-use Rattle.std.proofs.Common.{◌≡◌, ℕ, suc, ◌+◌, ◌==◌, Bool, true, false, ◌&&◌, not, is_some, List, [], ◌∷◌, ◌++◌, map, length, Option, Some, None, option_map, if◌then◌else◌, refl, sym, ap, subst, ◌∙◌, arith, length-append}
+use Rattle.std.proofs.Common.{◌≡◌, ℕ, suc, ◌+◌, ◌==◌, Bool, true, false, ◌&&◌, ◌||◌, not, is_some, List, [], ◌∷◌, ◌++◌, map, length, Option, Some, None, option_map, if◌then◌else◌, refl, sym, ap, subst, ◌∙◌, arith, length-append}
 use Rattle.std.specs.Prelude.{ℤ, pos, option_and_then, bytes_eq, codes}
 use Rattle.std.proofs.lemmas.List.{map-append}
 use Rattle.vba_base.specs.declared.place.Place.{Place}
 use Rattle.vba_lexer.specs.declared.token.Token.{Token}
 use Rattle.vba_words.specs.declared.identifier.Identifier.{Identifier}
-use Rattle.vba_words.specs.declared.mark.Mark.TheVariants as mark
-use Rattle.vba_words.specs.Spelling.{marked}
-use Rattle.vba_expression.specs.Spelling.{spell_args}
 use Rattle.vba_expression.specs.Tree.{Expr}
 use Rattle.vba_expression.specs.Nodes as nodes
 use Rattle.vba_expression.specs.Nodes.{behind_node}
@@ -19,23 +16,26 @@ use Rattle.vba_lib.specs.declared.function.LibraryFunction.TheVariants as functi
 use Rattle.vba_lib.specs.Library.{declared_of}
 use Rattle.vba_lib.specs.Names.{function_named}
 use Rattle.bound_project.specs.declared.declared_type.DeclaredType.{DeclaredType}
+use Rattle.bound_project.specs.declared.node.Node.{Node}
 use Rattle.bound_project.specs.declared.node.NodeKind.{NodeKind}
+use Rattle.bound_project.specs.declared.declared_type.DeclaredType.TheVariants.{Plain}
+use Rattle.bound_project.specs.declared.declared_type.ElementType.TheVariants as element
+use Rattle.bound_project.specs.Project.{nowhere}
 use Rattle.bound_project.specs.declared.node.NodeKind.TheVariants as kinds
 use Rattle.bound_project.specs.View.{declared_view, base_view}
 use Rattle.bound_project.specs.Expressions.{Exprs, also, library, operand_type}
 use Rattle.bound_project.specs.Expressions as bound
 use Rattle.bound_project.specs.Lists.{above, exprs_of}
 use Rattle.bound_project.proofs.Lists.{above_push}
-use Rattle.bound_project.specs.Pieces.{Piece, Tables, an_expr, of_found, expr_of}
+use Rattle.bound_project.specs.Pieces.{Piece, Tables, an_expr, of_found, expr_of, put}
 use Rattle.bound_project.specs.Drafts.{Drafted}
 use Rattle.binder.specs.Scopes.{has_dollar, of_library}
 use Rattle.binder.specs.Sources.{Source, base_of, has_choice, is_base_one}
 use Rattle.binder.specs.Constants.{compare_in, place_of_expression}
 use Rattle.binder.specs.Options.{from_two}
-use Rattle.binder.specs.Terms.{Env, Given, a_function, a_value, error_word, no_term}
+use Rattle.binder.specs.Terms.{Env, Given, a_function, a_value, error_word, has_names, no_term}
 use Rattle.binder.specs.Terms as terms
-use Rattle.binder.specs.ExpressionsBound.{all_given, array_base, constant_term, from_zero, function_called, function_values, givens, if_there, indexed, is_user_type, item_of, library_term, plain_value, taken_as, takes_count, taking, term_of}
-use Rattle.module_parts.proofs.Firsts.{expression_front}
+use Rattle.binder.specs.ExpressionsBound.{array_base, constant_term, from_zero, function_called, function_values, givens, if_there, indexed, is_user_type, item_of, library_term, plain_value, taken_as, takes_count, taking, term_of}
 use Rattle.bound_calls.specs.declared.term.Function.{Function}
 use Rattle.bound_calls.specs.declared.term.FunctionCall.{FunctionCall}
 use Rattle.bound_calls.specs.declared.term.Term.{Term}
@@ -45,10 +45,12 @@ use Rattle.bound_calls.specs.declared.term.Item.{Item}
 use Rattle.bound_calls.specs.declared.term.Item.TheVariants as items
 use Rattle.bound_terms.specs.declared.functions.Taking.{Taking}
 use Rattle.bound_terms.specs.Functions.{EndsFunction, PushesTaken, taking_view}
-use Rattle.bound_calls.specs.Indexing.{AddsArgument, Closes, OpensTerm}
-use Rattle.bound_calls.specs.Standing.{AllValues, NumberIs, TermStands, Stands, AllNamed, Base, base_number, function_value}
+use Rattle.bound_calls.specs.Indexing.{AddsArgument, AddsMissing, Closes, OpensTerm}
+use Rattle.bound_calls.specs.Standing.{AllValues, ArgumentIs, TermStands, Stands, AllNamed, Base, base_number, missing_given, missing_value}
 use Rattle.bound_calls.specs.Steps.{MakesLeaf}
-use Rattle.bound_calls.proofs.Growing.{grown_same, stands_grows}
+use Rattle.bound_calls.proofs.Growing.{grown_pieces, grown_same, stands_grows}
+use Rattle.bound_calls.proofs.CallSteps.{tree_ended}
+use Rattle.bound_calls.specs.Calls.{node_of}
 use Rattle.bound_members.proofs.Listing.{taken_off}
 
 -- ---- names
@@ -129,9 +131,9 @@ plain_is : (e : bound.Expr) (of : DeclaredType) → operand_type e ≡ declared_
 plain_is e of same other = ap (λ (b : Bool). if b then None else Some e) (ap (λ (u : Declared). is_user_type u) same ∙ other)
 
 -- values with one more
-values_more : (env : Env) (f : LibraryFunction) (i : ℕ) (gs : List Given) (es : List bound.Expr) (g : Given) (e : bound.Expr) (n : ℕ) → n ≡ i + length es → AllValues env f i gs es → NumberIs (function_value env f n) g e
+values_more : (env : Env) (f : LibraryFunction) (i : ℕ) (gs : List Given) (es : List bound.Expr) (g : Given) (e : bound.Expr) (n : ℕ) → n ≡ i + length es → AllValues env f i gs es → ArgumentIs env f n g e
     → AllValues env f i (gs ++ g ∷ []) (es ++ e ∷ [])
-values_more env f i [] [] g e n c h k = let same : n ≡ i = omega (arith, c) in (subst (λ m. NumberIs (function_value env f m) g e) same k, tt)
+values_more env f i [] [] g e n c h k = let same : n ≡ i = omega (arith, c) in (subst (λ m. ArgumentIs env f m g e) same k, tt)
 values_more env f i [] (d ∷ es) g e n c h k = absurd h
 values_more env f i (o ∷ gs) [] g e n c h k = absurd h
 values_more env f i (o ∷ gs) (d ∷ es) g e n c h k = (h.0, values_more env f (suc i) gs es g e n (omega (arith, c)) h.1 k)
@@ -150,7 +152,8 @@ valued env x y how of count comma xs d e c w u p k (nodes.tree v ∷ nodes.argum
     let s = low.1.0 in
     let m = p.stands env v h.0 h.1.0 in
     let g : Given = record { name = None; term = Some (term_of env v); place = place_of_expression v } in
-    let found : function_value env x.function.function x.count (term_of env v) (place_of_expression v) ≡ Some m.made =
+    let f = x.function.function in
+    let found : option_and_then plain_value (taken_as env (taking f x.count) (term_of env v) (place_of_expression v)) ≡ Some m.made =
     ap (λ t. option_and_then plain_value (taken_as env t (term_of env v) (place_of_expression v))) (sym w) ∙ ap (λ (o : Option bound.Expr). option_and_then plain_value o) m.is ∙ plain_is m.made of m.operand u in (
       low.0,
       (
@@ -158,7 +161,8 @@ valued env x y how of count comma xs d e c w u p k (nodes.tree v ∷ nodes.argum
           function_is = s.function_is;
           place_is = s.place_is;
           made = s.made ++ m.made ∷ [];
-          values = values_more env x.function.function 0 (givens env args) s.made g m.made x.count (omega (arith, s.count_is)) s.values (record { no_name = refl; term = term_of env v; given = refl; is = found });
+          values = values_more env x.function.function 0 (givens env args) s.made g m.made x.count (omega (arith, s.count_is)) s.values
+              (record { no_name = refl; is = λ gs. ap (λ (o : Option bound.Expr). from_two also o (function_values env f (suc x.count) gs)) found });
           count_is = omega (arith, c, s.count_is, length-append s.made (m.made ∷ []));
           on_top = m.on_top ∙ ap (λ (ps : List Piece). an_expr m.made ∷ ps) s.on_top ∙ sym (above_push (map an_expr s.made) (an_expr m.made) low.0)
               ∙ ap (λ (ps : List Piece). above ps low.0) (sym (map-append an_expr s.made (m.made ∷ [])));
@@ -171,29 +175,53 @@ pub adds_value : (x : FunctionCall) (y : Tree) (how : Taking) (of : DeclaredType
     → PushesTaken how y d e of → AddsArgument (items.Function x) y d e (items.Function (record x { count = count }))
 adds_value x y how of count d e c w u p = record { grown = p.grown; named = tt; stands = λ env comma xs is base k h. valued env x y how of count comma xs d e c w u p k is base h }
 
+-- one more value, which isn't written
+abbrev missing_node : Node
+missing_node = node_of kinds.NotGiven nowhere (Plain element.Variant)
+
+skipped : (env : Env) (x : FunctionCall) (count : ℕ) (comma : Option Token) (xs : List Item) (d : Drafted) → count ≡ x.count + 1 → (is : List nodes.Item) (base : Base) → Stands env d.tables (items.Function x ∷ xs) is d.pieces base
+    → Stands env d.tables (items.Function (record x { count = count }) ∷ xs) (behind_node (node.MissingArgument comma) is) (put d.tables missing_node d.pieces) base
+skipped env x count comma xs d c [] base h = absurd h
+skipped env x count comma xs d c (nodes.tree z ∷ is) base h = absurd h
+skipped env x count comma xs d c (nodes.arguments args ∷ []) base h = absurd h
+skipped env x count comma xs d c (nodes.arguments args ∷ nodes.arguments more ∷ is) base h = absurd h
+skipped env x count comma xs d c (nodes.arguments args ∷ nodes.tree b ∷ is) base h =
+    let s = h.1.0 in (
+      h.0,
+      (
+        record {
+          function_is = s.function_is;
+          place_is = s.place_is;
+          made = s.made ++ missing_value ∷ [];
+          values = values_more env x.function.function 0 (givens env args) s.made missing_given missing_value x.count (omega (arith, s.count_is)) s.values (record { no_name = refl; is = λ gs. refl });
+          count_is = omega (arith, c, s.count_is, length-append s.made (missing_value ∷ []));
+          on_top = ap (λ (ps : List Piece). an_expr missing_value ∷ ps) s.on_top ∙ sym (above_push (map an_expr s.made) (an_expr missing_value) h.0) ∙ ap (λ (ps : List Piece). above ps h.0) (sym (map-append an_expr s.made (missing_value ∷ [])));
+        },
+        h.1.1,
+      ),
+    )
+
+pub misses_value : (x : FunctionCall) (count : ℕ) (d e : Drafted) → count ≡ x.count + 1 → e ≡ record d { pieces = put d.tables missing_node d.pieces } → AddsMissing (items.Function x) d e (items.Function (record x { count = count }))
+misses_value x count d e c eq =
+    let P : Drafted → Type 0 = λ (z : Drafted). AddsMissing (items.Function x) d z (items.Function (record x { count = count })) in
+    subst P (sym eq) (record { grown = grown_pieces d (put d.tables missing_node d.pieces); named = tt; stands = λ env comma xs is base k h. skipped env x count comma xs d c is base h })
+
 -- ---- what a function makes of its arguments
 
 base_is : (one : Bool) → pos (base_number one) ≡ base_view one
 base_is true = refl
 base_is false = refl
 
-one_valued : (env : Env) (f : LibraryFunction) (i : ℕ) (g : Given) (e : bound.Expr) (gs : List Given) → NumberIs (function_value env f i) g e
-    → function_values env f i (g ∷ gs) ≡ from_two also (Some e) (function_values env f (suc i) gs)
-one_valued env f i g e gs h =
-    let rest = function_values env f (suc i) gs in
-    ap (λ (o : Option terms.Term). from_two also (option_and_then (λ t. function_value env f i t g.place) o) rest) h.given ∙ ap (λ (o : Option bound.Expr). from_two also o rest) h.is
-
 all_valued : (env : Env) (f : LibraryFunction) (i : ℕ) (gs : List Given) (es : List bound.Expr) → AllValues env f i gs es → function_values env f i gs ≡ Some (exprs_of es)
 all_valued env f i [] [] h = refl
 all_valued env f i [] (e ∷ es) h = absurd h
 all_valued env f i (g ∷ gs) [] h = absurd h
-all_valued env f i (g ∷ gs) (e ∷ es) h = one_valued env f i g e gs h.0 ∙ ap (λ (o : Option Exprs). from_two also (Some e) o) (all_valued env f (suc i) gs es h.1)
+all_valued env f i (g ∷ gs) (e ∷ es) h = h.0.is gs ∙ ap (λ (o : Option Exprs). from_two also (Some e) o) (all_valued env f (suc i) gs es h.1)
 
-values_given : (env : Env) (f : LibraryFunction) (i : ℕ) (gs : List Given) (es : List bound.Expr) → AllValues env f i gs es → all_given gs ≡ true
-values_given env f i [] es h = refl
-values_given env f i (g ∷ gs) [] h = absurd h
-values_given env f i (g ∷ gs) (e ∷ es) h =
-    ap (λ (o : Option terms.Term). (is_some o && not (is_some g.name)) && all_given gs) h.0.given ∙ ap (λ (o : Option (List ℕ)). not (is_some o) && all_given gs) h.0.no_name ∙ values_given env f (suc i) gs es h.1
+values_nameless : (env : Env) (f : LibraryFunction) (i : ℕ) (gs : List Given) (es : List bound.Expr) → AllValues env f i gs es → has_names gs ≡ false
+values_nameless env f i [] es h = refl
+values_nameless env f i (g ∷ gs) [] h = absurd h
+values_nameless env f i (g ∷ gs) (e ∷ es) h = ap (λ (o : Option (List ℕ)). is_some o || has_names gs) h.0.no_name ∙ values_nameless env f (suc i) gs es h.1
 
 values_long : (env : Env) (f : LibraryFunction) (i : ℕ) (gs : List Given) (es : List bound.Expr) → AllValues env f i gs es → length gs ≡ length es
 values_long env f i [] [] h = refl
@@ -209,7 +237,7 @@ called_is env f text_form one compare count of gs es c counted takes typed value
     let found : Option Exprs → terms.Term = λ (o : Option Exprs).
     if_there (option_map (λ (xs : Exprs). a_value (library f text_form xs (compare_in env.scope) (pos (base_number one))) (declared_of f text_form)) o) in
     let listed = function_values env f 0 gs in
-    ap (λ (b : Bool). if b && takes_count f (length gs) then found listed else no_term) (values_given env f 0 gs es values)
+    ap (λ (b : Bool). if not b && takes_count f (length gs) then found listed else no_term) (values_nameless env f 0 gs es values)
     ∙ ap (λ (n : ℕ). if takes_count f n then found listed else no_term) long ∙ ap (λ (b : Bool). if b then found listed else no_term) takes
     ∙ ap found (all_valued env f 0 gs es values)
     ∙ ap (λ (k : Compare). a_value (library f text_form (exprs_of es) k (pos (base_number one))) (declared_of f text_form)) (sym c)
@@ -248,16 +276,7 @@ ended_stands env x y left right xs d m (nodes.arguments args ∷ []) base h = ab
 ended_stands env x y left right xs d m (nodes.arguments args ∷ nodes.arguments more ∷ is) base h = absurd h
 ended_stands env x y left right xs d m (nodes.arguments args ∷ nodes.tree b ∷ is) base h = (
   h.0,
-  (
-    record {
-      term_is = m.stands env d.tables b args d.pieces h.0 h.1.0;
-      place_is = h.1.0.place_is ∙ sym (expression_front b (marked left mark.LeftParenthesis ∷ (spell_args args ++ marked right mark.RightParenthesis ∷ [])));
-      name_is = refl;
-      qualifier_is = refl;
-      leaf = tt;
-    },
-    h.1.1,
-  ),
+  (tree_ended env d.tables y x.place b args left right d.pieces h.0 h.1.0.place_is (m.stands env d.tables b args d.pieces h.0 h.1.0), h.1.1),
 )
 
 pub closes_function : (x : FunctionCall) (y : Term) (d : Drafted) → EndsFunction x y → Closes (items.Function x) d d (ended_function x y)

@@ -3,9 +3,6 @@ use Rattle.std.proofs.Common.{◌≡◌, ℕ, zero, suc, ◌+◌, ◌==◌, ◌<
 use Rattle.std.proofs.lemmas.List.{map_push}
 use Rattle.vba_base.specs.declared.place.Place.{Place}
 use Rattle.vba_lexer.specs.declared.token.Token.{Token}
-use Rattle.vba_words.specs.declared.mark.Mark.TheVariants as mark
-use Rattle.vba_words.specs.Spelling.{marked}
-use Rattle.vba_expression.specs.Spelling.{spell_args}
 use Rattle.vba_expression.specs.declared.node.ExpressionNode.TheVariants as node
 use Rattle.vba_expression.specs.Tree.{Expr, Args, no_args, missing, plain}
 use Rattle.vba_expression.specs.Tree as tree
@@ -15,6 +12,9 @@ use Rattle.vba_tree.specs.Tree.{Parameter as Written_parameter}
 use Rattle.vba_values.specs.Types.{Declared}
 use Rattle.vba_values.specs.Types as type
 use Rattle.bound_project.specs.declared.declared_type.DeclaredType.{DeclaredType}
+use Rattle.bound_project.specs.declared.declared_type.DeclaredType.TheVariants.{Plain}
+use Rattle.bound_project.specs.declared.declared_type.ElementType.TheVariants as element
+use Rattle.bound_project.specs.Project.{nowhere}
 use Rattle.bound_project.specs.declared.declarations.Parameter.{Parameter}
 use Rattle.bound_project.specs.declared.node.NodeKind.{NodeKind}
 use Rattle.bound_project.specs.declared.node.NodeKind.TheVariants as kind
@@ -34,7 +34,6 @@ use Rattle.binder.specs.Storage.{bound_parameters}
 use Rattle.binder.specs.Terms.{Env, Given, Item as Taken_item, a_value, are_apart, bound_arguments, built, by_position, has_names, left_over, listed_values, taken_by}
 use Rattle.binder.specs.Terms as terms
 use Rattle.binder.specs.ExpressionsBound.{argument_of, callee, given_as, givens, indexed, term_of}
-use Rattle.module_parts.proofs.Firsts.{expression_front}
 use Rattle.bound_calls.specs.declared.term.Call.{Call}
 use Rattle.bound_calls.specs.declared.term.Ending.{Ending}
 use Rattle.bound_calls.specs.declared.term.Item.{Item}
@@ -43,19 +42,18 @@ use Rattle.bound_calls.specs.declared.term.Passed.{Passed}
 use Rattle.bound_calls.specs.declared.term.Routine.{Routine}
 use Rattle.bound_calls.specs.declared.term.Term.TheVariants as term
 use Rattle.bound_calls.specs.declared.term.Tree.{Tree}
-use Rattle.bound_calls.specs.Calls.{PassesRest, passed_in, plain_given}
+use Rattle.bound_calls.specs.Calls.{PassesRest, node_of, passed_in}
 use Rattle.bound_calls.specs.Passing.{AllLeft, AllTaken}
-use Rattle.bound_calls.specs.Standing.{AllNamed, AllNumbers, Base, GatheredAbove, GatheredStands, PushedIs, RoutineStands, Stands, ValueStands, gathered_below, is_gathering}
+use Rattle.bound_calls.specs.Standing.{AllListed, AllNamed, Base, GatheredAbove, GatheredStands, PushedIs, RoutineStands, Stands, ValueStands, gathered_below, is_gathering, missing_given, missing_value, plain_given}
 use Rattle.bound_calls.specs.References.{PushesGiven}
 use Rattle.bound_calls.specs.Steps.{Goes}
-use Rattle.bound_calls.proofs.CallSteps.{parameters_long, routine_item}
+use Rattle.bound_calls.proofs.CallSteps.{parameters_long, routine_item, tree_ended}
 use Rattle.bound_calls.proofs.Arguing.{left_long}
 use Rattle.bound_calls.proofs.Growing.{all_named, grown_pieces, grown_twice, stands_grows}
 use Rattle.bound_calls.proofs.NamedSteps.{call_is}
 use Rattle.bound_calls.proofs.Passing.{bound_by, built_rest, is_for, other_number, rest_from, rest_is}
 use Rattle.bound_terms.specs.Gathering.{EndsGathered, PassesGathered, gathers, with_gathered}
-use Rattle.bound_members.proofs.Listing.{all_listed, numbers_more}
-use Rattle.bound_terms.proofs.Elements.{no_names}
+use Rattle.bound_members.proofs.Listing.{every_listed, listed_more, listed_nameless, value_given, value_missing}
 
 -- ---- values on the stack
 
@@ -84,12 +82,14 @@ below_gathered (suc n) i xs p f = below_gathered n i xs p f
 
 -- ---- one more value
 
-one_above : (env : Env) (p : Passed) (e : Expr) (of : DeclaredType) (ps below : List Piece) → is_gathering (map parameter_view p.left.now) ≡ true → PushedIs of (given_as env (term_of env e) (place_of_expression e)) ps below → GatheredStands env p e ps below
-one_above env p e of ps below many h = record { many = many; made = h.made; is = h.is; on_top = h.on_top }
+one_above : (env : Env) (p : Passed) (e : Expr) (of : DeclaredType) (ps below : List Piece) → is_gathering (map parameter_view p.left.now) ≡ true → PushedIs of (given_as env (term_of env e) (place_of_expression e)) ps below
+    → GatheredStands env p (plain_given env e) ps below
+one_above env p e of ps below many h = record { many = many; made = h.made; is = value_given (given_as env) (term_of env e) (place_of_expression e) h.made h.is; on_top = h.on_top }
 
-another_above : (env : Env) (o : Option Passed) (e f : Expr) (of : DeclaredType) (ps between below : List Piece) → GatheredAbove env o e between below → PushedIs of (given_as env (term_of env f) (place_of_expression f)) ps between → GatheredAbove env o f ps between
-another_above env None e f of ps between below h k = absurd h
-another_above env (Some p) e f of ps between below h k = one_above env p f of ps between h.many k
+another_above : (env : Env) (o : Option Passed) (g : Given) (f : Expr) (of : DeclaredType) (ps between below : List Piece) → GatheredAbove env o g between below → PushedIs of (given_as env (term_of env f) (place_of_expression f)) ps between
+    → GatheredAbove env o (plain_given env f) ps between
+another_above env None g f of ps between below h k = absurd h
+another_above env (Some p) g f of ps between below h k = one_above env p f of ps between h.many k
 
 gather_stands : (env : Env) (x : Tree) (i : Item) (xs : List Item) (comma : Option Token) (of : DeclaredType) (d e : Drafted) → gathers i ≡ true → AllNamed d.tables (i ∷ xs) → PushesGiven x d e of → (is : List nodes.Item) (base : Base)
     → Stands env d.tables (item.Tree x ∷ i ∷ xs) is d.pieces base → Stands env e.tables (item.Gathered ∷ i ∷ xs) (behind_node (node.PlainArgument comma) is) e.pieces base
@@ -112,12 +112,18 @@ gather_stands env x (item.Listed y) xs comma of d e g k m (nodes.tree a ∷ node
 gather_stands env x item.Gathered xs comma of d e g k m (nodes.tree a ∷ []) base h = absurd h.1.1
 gather_stands env x item.Gathered xs comma of d e g k m (nodes.tree a ∷ nodes.tree b ∷ is) base h = absurd h.1.1
 gather_stands env x item.Gathered xs comma of d e g k m (nodes.tree a ∷ nodes.arguments no_args ∷ is) base h = absurd h.1.1
-gather_stands env x item.Gathered xs comma of d e g k m (nodes.tree a ∷ nodes.arguments (missing before other) ∷ is) base h = absurd h.1.1
+gather_stands env x item.Gathered xs comma of d e g k m (nodes.tree a ∷ nodes.arguments (missing before other) ∷ is) base h = (
+  h.0,
+  (
+    another_above env (gathered_below xs) missing_given a of e.pieces h.0 h.1.1.0 h.1.1.1.0 (m.stands env a h.0 h.1.0),
+    stands_grows env d.tables e.tables m.grown.tables (item.Gathered ∷ xs) k (nodes.arguments (missing before other) ∷ is) h.0 base h.1.1,
+  ),
+)
 gather_stands env x item.Gathered xs comma of d e g k m (nodes.tree a ∷ nodes.arguments (tree.named before other name sign b) ∷ is) base h = absurd h.1.1
 gather_stands env x item.Gathered xs comma of d e g k m (nodes.tree a ∷ nodes.arguments (plain before other b) ∷ is) base h = (
   h.0,
   (
-    another_above env (gathered_below xs) b a of e.pieces h.0 h.1.1.0 h.1.1.1.0 (m.stands env a h.0 h.1.0),
+    another_above env (gathered_below xs) (plain_given env b) a of e.pieces h.0 h.1.1.0 h.1.1.1.0 (m.stands env a h.0 h.1.0),
     stands_grows env d.tables e.tables m.grown.tables (item.Gathered ∷ xs) k (nodes.arguments (plain before other b) ∷ is) h.0 base h.1.1,
   ),
 )
@@ -132,6 +138,50 @@ goes_gathered env x i xs new comma of d e n g k m =
       stands = λ is base h. gather_stands env x i xs comma of d e g k.1 m is base h;
     })
 
+-- ---- one more value, which isn't written
+
+abbrev pub missing_put : Drafted → Drafted
+missing_put d = record d { pieces = put d.tables (node_of kind.NotGiven nowhere (Plain element.Variant)) d.pieces }
+
+none_above : (env : Env) (p : Passed) (ps : List Piece) → is_gathering (map parameter_view p.left.now) ≡ true → GatheredStands env p missing_given (an_expr missing_value ∷ ps) ps
+none_above env p ps many = record { many = many; made = missing_value; is = value_missing (given_as env); on_top = refl }
+
+another_none : (env : Env) (o : Option Passed) (g : Given) (ps below : List Piece) → GatheredAbove env o g ps below → GatheredAbove env o missing_given (an_expr missing_value ∷ ps) ps
+another_none env None g ps below h = absurd h
+another_none env (Some p) g ps below h = none_above env p ps h.many
+
+missing_stands : (env : Env) (i : Item) (xs : List Item) (comma : Option Token) (d : Drafted) → gathers i ≡ true → (is : List nodes.Item) (base : Base) → Stands env d.tables (i ∷ xs) is d.pieces base
+    → Stands env d.tables (item.Gathered ∷ i ∷ xs) (behind_node (node.MissingArgument comma) is) (an_expr missing_value ∷ d.pieces) base
+missing_stands env (item.Tree y) xs comma d g is base h = let n : false ≡ true = g in absurd cc
+missing_stands env (item.Operand y) xs comma d g is base h = let n : false ≡ true = g in absurd cc
+missing_stands env (item.Indexed y) xs comma d g is base h = let n : false ≡ true = g in absurd cc
+missing_stands env (item.Function y) xs comma d g is base h = let n : false ≡ true = g in absurd cc
+missing_stands env (item.Member y) xs comma d g is base h = let n : false ≡ true = g in absurd cc
+missing_stands env (item.Named y) xs comma d g is base h = let n : false ≡ true = g in absurd cc
+missing_stands env (item.Call y) xs comma d g [] base h = absurd h
+missing_stands env (item.Call y) xs comma d g (nodes.tree a ∷ is) base h = absurd h
+missing_stands env (item.Call y) xs comma d g (nodes.arguments args ∷ is) base h = (d.pieces, (none_above env y.passed d.pieces g, h))
+missing_stands env (item.Listed y) xs comma d g [] base h = absurd h
+missing_stands env (item.Listed y) xs comma d g (nodes.tree a ∷ is) base h = absurd h
+missing_stands env (item.Listed y) xs comma d g (nodes.arguments args ∷ is) base h = (d.pieces, (none_above env y d.pieces g, h))
+missing_stands env item.Gathered xs comma d g [] base h = absurd h
+missing_stands env item.Gathered xs comma d g (nodes.tree a ∷ is) base h = absurd h
+missing_stands env item.Gathered xs comma d g (nodes.arguments no_args ∷ is) base h = absurd h
+missing_stands env item.Gathered xs comma d g (nodes.arguments (tree.named before other name sign b) ∷ is) base h = absurd h
+missing_stands env item.Gathered xs comma d g (nodes.arguments (missing before other) ∷ is) base h = (d.pieces, (another_none env (gathered_below xs) missing_given d.pieces h.0 h.1.0, h))
+missing_stands env item.Gathered xs comma d g (nodes.arguments (plain before other b) ∷ is) base h = (d.pieces, (another_none env (gathered_below xs) (plain_given env b) d.pieces h.0 h.1.0, h))
+
+pub goes_none : (env : Env) (i : Item) (xs new : List Item) (comma : Option Token) (d e : Drafted) → new ≡ item.Gathered ∷ i ∷ xs → gathers i ≡ true → AllNamed d.tables (i ∷ xs) → e ≡ missing_put d
+    → Goes env d (i ∷ xs) e new (behind_node (node.MissingArgument comma))
+goes_none env i xs new comma d e n g k eq =
+    let A : Drafted → Type 0 = λ z. Goes env d (i ∷ xs) z new (behind_node (node.MissingArgument comma)) in
+    let B : List Item → Type 0 = λ l. Goes env d (i ∷ xs) (missing_put d) l (behind_node (node.MissingArgument comma)) in
+    subst A (sym eq) (subst B (sym n) (record {
+      grown = grown_pieces d (put d.tables (node_of kind.NotGiven nowhere (Plain element.Variant)) d.pieces);
+      named = (tt, k);
+      stands = λ is base h. missing_stands env i xs comma d g is base h;
+    }))
+
 -- ---- what stands below the values
 
 pub record Ungathered (env : Env) (t : Tables) (n : ℕ) (i : Item) (xs : List Item) (args : Args) (is : List nodes.Item) (ps : List Piece) (base : Base) : Type 0 where
@@ -139,7 +189,7 @@ pub record Ungathered (env : Env) (t : Tables) (n : ℕ) (i : Item) (xs : List I
   pub given : List Given
   pub givens_are : givens env args ≡ givens env before ++ given
   pub made : List bound.Expr
-  pub values : AllNumbers (given_as env) given made
+  pub values : AllListed (given_as env) given made
   pub count_is : length made ≡ n
   pub between : List Piece
   pub on_top : ps ≡ above (map an_expr made) between
@@ -152,16 +202,15 @@ push_long (y ∷ xs) x = ap suc (push_long xs x)
 above_value : (es : List bound.Expr) (e : bound.Expr) (st : List Piece) → above (map an_expr (es ++ e ∷ [])) st ≡ an_expr e ∷ above (map an_expr es) st
 above_value es e st = ap (λ l. above l st) (map_push an_expr es e) ∙ above_push (map an_expr es) (an_expr e) st
 
-ungathered_on : (env : Env) (t : Tables) (n : ℕ) (i : Item) (xs : List Item) (p : Passed) (before : Args) (comma : Option Token) (e : Expr) (is : List nodes.Item) (ps below : List Piece) (base : Base) → GatheredStands env p e ps below
-    → Ungathered env t n i xs before is below base → Ungathered env t (suc n) i xs (plain before comma e) is ps base
-ungathered_on env t n i xs p before comma e is ps below base s r =
-    let g = plain_given env e in
+ungathered_on : (env : Env) (t : Tables) (n : ℕ) (i : Item) (xs : List Item) (p : Passed) (before args : Args) (g : Given) (is : List nodes.Item) (ps below : List Piece) (base : Base) → givens env args ≡ givens env before ++ g ∷ [] → GatheredStands env p g ps below
+    → Ungathered env t n i xs before is below base → Ungathered env t (suc n) i xs args is ps base
+ungathered_on env t n i xs p before args g is ps below base eq s r =
     record {
       before = r.before;
       given = r.given ++ g ∷ [];
-      givens_are = ap (λ l. l ++ g ∷ []) r.givens_are ∙ append_assoc (givens env r.before) r.given (g ∷ []);
+      givens_are = eq ∙ ap (λ l. l ++ g ∷ []) r.givens_are ∙ append_assoc (givens env r.before) r.given (g ∷ []);
       made = r.made ++ s.made ∷ [];
-      values = numbers_more (given_as env) r.given r.made g s.made r.values (record { no_name = refl; term = term_of env e; given = refl; is = s.is });
+      values = listed_more (given_as env) r.given r.made g s.made r.values s.is;
       count_is = push_long r.made s.made ∙ ap suc r.count_is;
       between = r.between;
       on_top = s.on_top ∙ ap (λ st. an_expr s.made ∷ st) r.on_top ∙ sym (above_value r.made s.made r.between);
@@ -172,21 +221,25 @@ pub ungathered : (env : Env) (t : Tables) (n : ℕ) (i : Item) (xs : List Item) 
     → Stands env t (with_gathered n (i ∷ xs)) (nodes.arguments args ∷ is) ps base → Ungathered env t n i xs args is ps base
 ungathered env t zero i xs p args is ps base f h = record { before = args; given = []; givens_are = sym (append-nil (givens env args)); made = []; values = tt; count_is = refl; between = ps; on_top = refl; stands = h }
 ungathered env t (suc n) i xs p no_args is ps base f h = absurd h
-ungathered env t (suc n) i xs p (missing before comma) is ps base f h = absurd h
+ungathered env t (suc n) i xs p (missing before comma) is ps base f h =
+    let A : Option Passed → Type 0 = λ o. GatheredAbove env o missing_given ps h.0 in
+    ungathered_on env t n i xs p before (missing before comma) missing_given is ps h.0 base refl (subst A (below_gathered n i xs p f) h.1.0) (ungathered env t n i xs p before is h.0 base f h.1.1)
 ungathered env t (suc n) i xs p (tree.named before comma name sign e) is ps base f h = absurd h
 ungathered env t (suc n) i xs p (plain before comma e) is ps base f h =
-    let A : Option Passed → Type 0 = λ o. GatheredAbove env o e ps h.0 in
-    ungathered_on env t n i xs p before comma e is ps h.0 base (subst A (below_gathered n i xs p f) h.1.0) (ungathered env t n i xs p before is h.0 base f h.1.1)
+    let A : Option Passed → Type 0 = λ o. GatheredAbove env o (plain_given env e) ps h.0 in
+    ungathered_on env t n i xs p before (plain before comma e) (plain_given env e) is ps h.0 base refl (subst A (below_gathered n i xs p f) h.1.0) (ungathered env t n i xs p before is h.0 base f h.1.1)
 
 -- there is a value, so a ParamArray is left first
 pub gathering : (env : Env) (t : Tables) (n : ℕ) (i : Item) (xs : List Item) (p : Passed) (args : Args) (is : List nodes.Item) (ps : List Piece) (base : Base) → passed_in i ≡ Some p
     → Stands env t (with_gathered (suc n) (i ∷ xs)) (nodes.arguments args ∷ is) ps base → is_gathering (map parameter_view p.left.now) ≡ true
 gathering env t n i xs p no_args is ps base f h = absurd h
-gathering env t n i xs p (missing before comma) is ps base f h = absurd h
+gathering env t n i xs p (missing before comma) is ps base f h =
+    let A : Option Passed → Type 0 = λ o. GatheredAbove env o missing_given ps h.0 in
+    let s : GatheredStands env p missing_given ps h.0 = subst A (below_gathered n i xs p f) h.1.0 in s.many
 gathering env t n i xs p (tree.named before comma name sign e) is ps base f h = absurd h
 gathering env t n i xs p (plain before comma e) is ps base f h =
-    let A : Option Passed → Type 0 = λ o. GatheredAbove env o e ps h.0 in
-    let s : GatheredStands env p e ps h.0 = subst A (below_gathered n i xs p f) h.1.0 in s.many
+    let A : Option Passed → Type 0 = λ o. GatheredAbove env o (plain_given env e) ps h.0 in
+    let s : GatheredStands env p (plain_given env e) ps h.0 = subst A (below_gathered n i xs p f) h.1.0 in s.many
 
 -- ---- the arguments of a call
 
@@ -259,17 +312,17 @@ nameless_more value [] (g ∷ gs) xs left ns t h = absurd t
 nameless_more value (p ∷ ps) (g ∷ gs) [] left ns t h = absurd t
 nameless_more value (p ∷ ps) (g ∷ gs) (x ∷ xs) left ns t h = rw t.0.no_name (nameless_more value ps gs xs left ns t.1 h)
 
-first_nameless : (value : Declared → terms.Term → Place → Option bound.Expr) (g : Given) (ns : List Given) (es : List bound.Expr) → AllNumbers (value type.variant) (g ∷ ns) es → g.name ≡ None
+first_nameless : (value : Declared → terms.Term → Place → Option bound.Expr) (g : Given) (ns : List Given) (es : List bound.Expr) → AllListed (value type.variant) (g ∷ ns) es → g.name ≡ None
 first_nameless value g ns [] h = absurd h
 first_nameless value g ns (e ∷ es) h = h.0.no_name
 
 pub gathered_bound : (value : Declared → terms.Term → Place → Option bound.Expr) (ps : List project.Parameter) (gs : List Given) (xs : List Argument) (p : project.Parameter) (left : List project.Parameter) (g : Given) (ns : List Given) (es : List bound.Expr)
-    (ds : List Argument) → AllTaken value ps gs xs (p ∷ left) → p.many ≡ true → AllNumbers (value type.variant) (g ∷ ns) es → AllLeft left ds → bound_arguments value ps (gs ++ g ∷ ns) ≡ Some (args_of (xs ++ values_listed (exprs_of es) ∷ ds))
+    (ds : List Argument) → AllTaken value ps gs xs (p ∷ left) → p.many ≡ true → AllListed (value type.variant) (g ∷ ns) es → AllLeft left ds → bound_arguments value ps (gs ++ g ∷ ns) ≡ Some (args_of (xs ++ values_listed (exprs_of es) ∷ ds))
 gathered_bound value ps gs xs p left g ns es ds t many v h =
     let is = gathered_from value 0 ps gs (exprs_of es) in
-    let listed = all_listed (value type.variant) (g ∷ ns) es v in
+    let listed = every_listed (value type.variant) (g ∷ ns) es v in
     bound_by value ps (gs ++ g ∷ ns) is (behind_list 0 ps gs) (args_of (xs ++ values_listed (exprs_of es) ∷ ds)) (positions value 0 ps gs xs p left g ns (exprs_of es) t many (first_nameless value g ns es v) listed)
-    (apart value 0 ps gs (exprs_of es)) (left_is value is 0 ps gs (exprs_of es) (λ k le. refl)) (built_all value 0 ps gs xs p left (exprs_of es) ds t h) (nameless_more value ps gs xs (p ∷ left) (g ∷ ns) t (no_names (value type.variant) (g ∷ ns) es v))
+    (apart value 0 ps gs (exprs_of es)) (left_is value is 0 ps gs (exprs_of es) (λ k le. refl)) (built_all value 0 ps gs xs p left (exprs_of es) ds t h) (nameless_more value ps gs xs (p ∷ left) (g ∷ ns) t (listed_nameless (value type.variant) (g ∷ ns) es v))
 
 -- ---- the ends of calls
 
@@ -321,7 +374,7 @@ first_many first others ps e h = subst (λ l. is_gathering (map parameter_view l
 -- the value of a call, behind what was pushed
 pub called_gathered : (env : Env) (r : Routine) (x : Passed) (values : ℕ) (d e : Drafted) (ending : Ending) (y : terms.Term) (place : Place) (gs : List Given) (xs : List Argument) (given : List Given) (es : List bound.Expr) (qs between below : List Piece)
     → is_gathering (map parameter_view x.left.now) ≡ true → length es ≡ values → (values ≡ 0 → ⊥) → EndsGathered r x values d e ending → RoutineStands env r y qs qs
-    → AllTaken (argument_of env) (map parameter_view r.parameters.now) gs xs (map parameter_view x.left.now) → x.count ≡ length xs → AllNumbers (given_as env) given es → d.pieces ≡ above (map an_expr es) between → between ≡ above (map an_argument xs) below
+    → AllTaken (argument_of env) (map parameter_view r.parameters.now) gs xs (map parameter_view x.left.now) → x.count ≡ length xs → AllListed (given_as env) given es → d.pieces ≡ above (map an_expr es) between → between ≡ above (map an_argument xs) below
     → ValueStands e.tables ending (indexed env place y (gs ++ given)) e.pieces below
 called_gathered env r x values d e ending y place gs xs [] [] qs between below many long some h s taken counted v a b = absurd (some (sym long))
 called_gathered env r x values d e ending y place gs xs [] (z ∷ es) qs between below many long some h s taken counted v a b = absurd v
@@ -373,15 +426,9 @@ index_stands env x n ending left right xs d e k c (nodes.arguments args ∷ node
     let A : List Given → Type 0 = λ l. ValueStands e.tables ending (indexed env (place_of_expression y) z l) e.pieces below in (
       below,
       (
-        record {
-          term_is =
-              subst T (sym (routine_item (place_of_expression y) z s.routine.space s.routine.number s.routine.written s.routine.is)) (subst A (sym u.givens_are)
-              (called_gathered env x.routine x.passed (suc n) d e ending z (place_of_expression y) (givens env u.before) p.made u.given u.made below u.between below many u.count_is (λ e0. absurd (omega (arith, e0))) c s.routine p.taken p.count_is u.values u.on_top p.on_top));
-          place_is = s.place_is ∙ sym (expression_front y (marked left mark.LeftParenthesis ∷ (spell_args args ++ marked right mark.RightParenthesis ∷ [])));
-          name_is = refl;
-          qualifier_is = refl;
-          leaf = tt;
-        },
+        tree_ended env e.tables (term.Value ending) x.place y args left right e.pieces below s.place_is
+            (subst T (sym (routine_item (place_of_expression y) z s.routine.space s.routine.number s.routine.written s.routine.is)) (subst A (sym u.givens_are)
+            (called_gathered env x.routine x.passed (suc n) d e ending z (place_of_expression y) (givens env u.before) p.made u.given u.made below u.between below many u.count_is (λ e0. absurd (omega (arith, e0))) c s.routine p.taken p.count_is u.values u.on_top p.on_top))),
         stands_grows env d.tables e.tables c.passes.grown.tables xs k is below base u.stands.1.1,
       ),
     )

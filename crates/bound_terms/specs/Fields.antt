@@ -1,17 +1,18 @@
 -- Serves the code: fields of user types, and what a With block keeps.
-use Rattle.std.specs.Prelude.{◌≡◌, ℕ, Bool, List, ◌∷◌, Option, Some, None, bytes_eq}
+use Rattle.std.specs.Prelude.{◌≡◌, ℕ, Bool, true, false, List, ◌∷◌, Option, Some, None, bytes_eq}
 use Rattle.vba_base.specs.declared.place.Place.{Place}
 use Rattle.vba_words.specs.declared.identifier.Identifier.{Identifier}
 use Rattle.bound_project.specs.declared.declared_type.DeclaredType.{DeclaredType}
 use Rattle.bound_project.specs.declared.declared_type.DeclaredType.TheVariants.{Plain}
 use Rattle.bound_project.specs.declared.declared_type.ElementType.TheVariants as element
 use Rattle.bound_project.specs.View.{declared_view}
-use Rattle.bound_project.specs.Expressions.{Lvalue}
+use Rattle.bound_project.specs.Expressions.{Lvalue, host_object}
 use Rattle.bound_project.specs.Expressions as expressions
 use Rattle.bound_project.specs.Project.{Declaration}
 use Rattle.bound_project.specs.Pieces.{Piece, Tables, an_expr, a_place}
 use Rattle.bound_project.specs.Drafts.{Drafted}
-use Rattle.binder.specs.Terms.{Env, expression_of, no_term}
+use Rattle.vba_values.specs.Types as type
+use Rattle.binder.specs.Terms.{Env, a_value, expression_of, no_term}
 use Rattle.binder.specs.Terms as plain
 use Rattle.binder.specs.ExpressionsBound.{field_of_place, field_of_value, has_bounds, kept_member, member_of}
 use Rattle.bound_terms.specs.declared.fields.Field.{Field}
@@ -49,9 +50,16 @@ pub record KeepsField (env : Env) (place : Place) (f : Identifier) (d e : Drafte
   pub named : TermNamed e.tables x
   pub stands : TermStands env e.tables x (kept_member env place env.within f) e.pieces d.pieces
 
+-- whether a term is what New and TypeOf are, whose class a dot behind them belongs to: none, or a Boolean
+abbrev pub may_be_class : plain.Term → Bool
+may_be_class no_term = true
+may_be_class (a_value (host_object reference) of) = false
+may_be_class (a_value node type.boolean) = true
+may_be_class t = false
+
 -- what stands behind a dot, behind a term that begins at a place
 pub record MakesBehind (env : Env) (place : Place) (x : Term) (f : Identifier) (d e : Drafted) (y : Term) : Type 0 where
   pub grown : Grown d e
   pub named : TermNamed e.tables y
   pub stands : (z : plain.Term) (below : List Piece) → TermStands env d.tables x z d.pieces below → TermStands env e.tables y (member_of env place z f) e.pieces below
-  pub there : (t : Tables) (z : plain.Term) (ps below : List Piece) → TermStands env t x z ps below → z ≡ no_term → ⊥
+  pub there : (z : plain.Term) (below : List Piece) → TermStands env d.tables x z d.pieces below → may_be_class z ≡ false

@@ -10,9 +10,9 @@ ghost use Rattle.bound_calls.specs.Steps.{Goes};
 ghost use Rattle.bound_terms.specs.View.{EnvStands, env_view};
 
 use crate::env::Env;
-use crate::gathering::{gather, gathers};
-use crate::indexing::{add_argument, begin_arguments, end_arguments};
-use bound_calls::{Call, Item, Passed, pass_missing, put_item, take_item};
+use crate::gathering::{gather, gather_missing, gathers};
+use crate::indexing::{add_argument, begin_arguments, end_arguments, skip_argument};
+use bound_calls::{Call, Item, Passed, put_item, take_item};
 use bound_declarations::NotYet;
 use bound_project::Draft;
 use std::alloc::Global;
@@ -96,11 +96,12 @@ pub fn step_missing_argument<'a>(
     let Some(item) = take_item(stack) else {
         return Err(OrMemory::NoMemory);
     };
-    let Some(passed) = passed_in(item) else {
-        return Err(OrMemory::Fault(NotYet));
-    };
-    let passed = pass_missing(alloc, draft, passed)?;
-    put_item(stack, with_passed(item, passed))?;
+    if gathers(item) {
+        gather_missing(draft, stack, item)?;
+        return Ok(());
+    }
+    let item = skip_argument(alloc, draft, item)?;
+    put_item(stack, item)?;
     Ok(())
 }
 

@@ -11,7 +11,7 @@ ghost use Rattle.binder.specs.Terms as plain;
 ghost use Rattle.bound_calls.specs.declared.term.Item.TheVariants as item;
 ghost use Rattle.bound_terms.specs.Functions.{EndsFunction, PushesTaken, taking_view};
 ghost use Rattle.vba_lib.specs.declared.function.LibraryFunction.TheVariants as function;
-ghost use Rattle.bound_calls.specs.Indexing.{AddsArgument, OpensTerm};
+ghost use Rattle.bound_calls.specs.Indexing.{AddsArgument, AddsMissing, OpensTerm};
 ghost use Rattle.bound_calls.specs.Standing.{TermNamed, base_number};
 ghost use Rattle.bound_calls.specs.Steps.{MakesLeaf};
 ghost use Rattle.bound_terms.specs.View.{EnvStands, env_view};
@@ -19,7 +19,8 @@ ghost use Rattle.bound_terms.specs.View.{EnvStands, env_view};
 use crate::env::Env;
 use crate::types::element_type;
 use bound_calls::{
-    Ending, Function, FunctionCall, Term, Tree, push_given, push_if_any, push_operand, sum,
+    Ending, Function, FunctionCall, Term, Tree, nowhere, push_given, push_if_any, push_node,
+    push_operand, sum,
 };
 use bound_declarations::NotYet;
 use bound_project::{DeclaredType, Draft, ElementType, NodeKind};
@@ -177,6 +178,19 @@ pub fn add_value<'a>(
     if is_user_type(of) {
         return Err(OrMemory::Fault(NotYet));
     }
+    Ok(FunctionCall { count, ..call })
+}
+
+/// One more argument, which isn't written: Missing.
+pub fn add_missing_value(
+    draft: &mut Draft,
+    call: FunctionCall,
+) -> Result<FunctionCall, OrMemory<NotYet>>
+    ensures { IfOk result (λ more. AddsMissing (item.Function call) (draft_view draft.old) (draft_view draft.new) (item.Function more)) }
+{
+    let count = sum(call.count, 1)?;
+    let variant = DeclaredType::Plain(ElementType::Variant);
+    push_node(draft, NodeKind::NotGiven, variant, nowhere())?;
     Ok(FunctionCall { count, ..call })
 }
 

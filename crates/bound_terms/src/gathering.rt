@@ -16,7 +16,7 @@ use bound_calls::{
     put_item, sum, take_item,
 };
 use bound_declarations::NotYet;
-use bound_project::{Draft, NodeKind, Parameter};
+use bound_project::{DeclaredType, Draft, ElementType, NodeKind, Parameter};
 use std::alloc::Global;
 use vba_base::{NoMemory, OrMemory};
 
@@ -55,6 +55,23 @@ pub fn gather<'a>(
     ensures { OnOk result ((env : plain.Env) (comma : Option Token) → Goes env (draft_view draft.old) (Item.Tree tree.entry ∷ item.entry ∷ reverse stack.old.items) (draft_view draft.new) (reverse stack.new.items) (behind_node (node.PlainArgument comma))) }
 {
     push_given(alloc, draft, tree)?;
+    put_item(stack, item)?;
+    put_item(stack, Item::Gathered)?;
+    Ok(())
+}
+
+/// One more value for a ParamArray, which isn't written, behind an item: Missing.
+pub fn gather_missing<'a>(
+    draft: &mut Draft,
+    stack: &mut Vec<Item<'a>>,
+    item: Item<'a>,
+) -> Result<(), OrMemory<NotYet>>
+    requires many { gathers item ≡ true }
+    requires named { AllNamed (draft_view draft.old).tables (item ∷ reverse stack.old.items) }
+    ensures { OnOk result ((env : plain.Env) (comma : Option Token) → Goes env (draft_view draft.old) (item.entry ∷ reverse stack.old.items) (draft_view draft.new) (reverse stack.new.items) (behind_node (node.MissingArgument comma))) }
+{
+    let variant = DeclaredType::Plain(ElementType::Variant);
+    push_node(draft, NodeKind::NotGiven, variant, nowhere())?;
     put_item(stack, item)?;
     put_item(stack, Item::Gathered)?;
     Ok(())

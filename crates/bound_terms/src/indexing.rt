@@ -6,21 +6,21 @@ ghost use Rattle.bound_project.specs.Drafts.{Drafted, NodeNamed};
 ghost use Rattle.bound_project.specs.View.{declared_view};
 ghost use Rattle.binder.specs.ExpressionsBound.{element_type};
 ghost use Rattle.binder.specs.Terms as plain;
-ghost use Rattle.bound_calls.specs.Indexing.{AddsArgument, Closes, EndsIndexed, Opens, OpensTerm, PushesTarget, is_part};
+ghost use Rattle.bound_calls.specs.Indexing.{AddsArgument, AddsMissing, Closes, EndsIndexed, Opens, OpensTerm, PushesTarget, is_part};
 ghost use Rattle.bound_calls.specs.Standing.{ItemNamed, TermNamed};
 ghost use Rattle.bound_terms.specs.View.{EnvStands, env_view};
 
 use crate::call_steps::{passed_in, with_passed};
 use crate::callee::callee_term;
 use crate::env::Env;
-use crate::functions::{add_value, close_function, open_function};
+use crate::functions::{add_missing_value, add_value, close_function, open_function};
 use crate::items::{item_member, takes_item};
 use bound_calls::{
-    Call, Ending, Indexed, Item, Passed, Routine, Target, Term, Tree, call_ending, pass_plain,
-    push_node, push_operand, sum,
+    Call, Ending, Indexed, Item, Passed, Routine, Target, Term, Tree, call_ending, pass_missing,
+    pass_plain, push_node, push_operand, sum,
 };
 use bound_declarations::NotYet;
-use bound_members::{add_given, close_member, open_member};
+use bound_members::{add_given, add_missing, close_member, open_member};
 use bound_project::{DeclaredType, Draft, ElementType, NodeKind};
 use std::alloc::Global;
 use vba_base::{OrMemory, Place};
@@ -253,6 +253,44 @@ pub fn add_argument<'a>(
             Ok(Item::Function(more))
         }
         _ => add_passed(alloc, draft, item, tree),
+    }
+}
+
+/// One more argument of a procedure, which isn't written.
+fn skip_passed<'a>(
+    alloc: Global,
+    draft: &mut Draft,
+    item: Item<'a>,
+) -> Result<Item<'a>, OrMemory<NotYet>>
+    requires { ItemNamed (draft_view draft.old).tables item }
+    ensures { IfOk result (λ more. AddsMissing item.entry (draft_view draft.old) (draft_view draft.new) more) }
+{
+    let Some(passed) = passed_in(item) else {
+        return Err(OrMemory::Fault(NotYet));
+    };
+    let passed = pass_missing(alloc, draft, passed)?;
+    Ok(with_passed(item, passed))
+}
+
+/// One more argument, which isn't written.
+pub fn skip_argument<'a>(
+    alloc: Global,
+    draft: &mut Draft,
+    item: Item<'a>,
+) -> Result<Item<'a>, OrMemory<NotYet>>
+    requires { ItemNamed (draft_view draft.old).tables item }
+    ensures { IfOk result (λ more. AddsMissing item.entry (draft_view draft.old) (draft_view draft.new) more) }
+{
+    match item {
+        Item::Member(call) => {
+            let more = add_missing(draft, call)?;
+            Ok(Item::Member(more))
+        }
+        Item::Function(call) => {
+            let more = add_missing_value(draft, call)?;
+            Ok(Item::Function(more))
+        }
+        _ => skip_passed(alloc, draft, item),
     }
 }
 

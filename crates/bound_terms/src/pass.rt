@@ -12,7 +12,9 @@ use crate::env::Env;
 use crate::fields::step_with_member;
 use crate::members::step_member;
 use crate::named::{step_index, step_named_argument};
-use crate::step::{step_binary, step_literal, step_name, step_parenthesised, step_unary};
+use crate::step::{
+    step_binary, step_literal, step_name, step_parenthesised, step_type_of, step_unary,
+};
 use bound_calls::{
     Item, Tree, push_ending, push_given, push_operand, push_reference, take_item, value_ending,
 };
@@ -135,6 +137,11 @@ fn step<'a>(
         ExpressionNode::Parenthesised { left, .. } => step_parenthesised(
             alloc, draft, stack, *left,
         ),
+        ExpressionNode::TypeOf {
+            type_of_word,
+            class,
+            ..
+        } => step_type_of(alloc, draft, env, stack, *type_of_word, class),
         ExpressionNode::Unary { operator, token } => {
             step_unary(alloc, draft, stack, *operator, *token)
         }

@@ -14,13 +14,13 @@ use crate::env::Env;
 use crate::names::meant_term;
 use crate::operators::{binary_term, unary_term};
 use bound_calls::{
-    Ending, Item, Term, Tree, given_ending, push_operand, push_reference, put_item, settle,
-    take_item, value_term,
+    Ending, Item, Term, Tree, given_ending, push_given, push_operand, push_reference, put_item,
+    settle, take_item, value_term,
 };
 use bound_declarations::NotYet;
 use bound_project::{DeclaredType, Draft, ElementType, NodeKind};
 use constant_values::{literal_meant, value_type};
-use declared_names::{Use, declares};
+use declared_names::{Use, declares, meant_type, plain_type};
 use std::alloc::Global;
 use vba_base::OrMemory;
 use vba_expression::{BinaryOperator, Literal, UnaryOperator};
@@ -76,6 +76,38 @@ pub fn step_parenthesised<'a>(
             name: None,
             is_qualifier: false,
             term: Term::Value(ending),
+        }),
+    )?;
+    Ok(())
+}
+
+/// TypeOf: whether the object before it is one of a type.
+pub fn step_type_of<'a>(
+    alloc: Global,
+    draft: &mut Draft,
+    env: Env<'a>,
+    stack: &mut Vec<Item<'a>>,
+    type_of_word: Token,
+    class: &Identifier,
+) -> Result<(), OrMemory<NotYet>>
+    requires { AllNamed (draft_view draft.old).tables (reverse stack.old.items) }
+    ensures { OnOk result ((is_word : Token) → Goes (env_view env.entry) (draft_view draft.old) (reverse stack.old.items) (draft_view draft.new) (reverse stack.new.items) (behind_node (node.TypeOf type_of_word is_word class.now))) }
+{
+    let Some(Item::Tree(tree)) = take_item(stack) else {
+        return Err(OrMemory::NoMemory);
+    };
+    let meant = plain_type(env.constants.scope, class)?;
+    push_given(alloc, draft, tree)?;
+    put_item(
+        stack,
+        Item::Tree(Tree {
+            place: type_of_word.place,
+            name: None,
+            is_qualifier: false,
+            term: Term::Value(Ending {
+                kind: NodeKind::IsType(meant_type(meant)),
+                of: DeclaredType::Plain(ElementType::Boolean),
+            }),
         }),
     )?;
     Ok(())

@@ -82,6 +82,8 @@ listed (instr.Branch sense to other) = listed_as 61 (if sense then to else other
 listed instr.Halt = listed_as 62 0 0
 listed instr.StopHere = listed_as 63 0 0
 listed instr.Leave = listed_as 64 0 0
+listed (instr.StoreItem k) = listed_as 65 k 0
+listed instr.SetMember = listed_as 66 0 0
 
 -- two numbers in decimal, with a blank between them
 abbrev pub both : (left right : ℕ) → List ℕ

@@ -188,6 +188,8 @@ fn listed(code: &Code, instr: Instr) -> Line
         Instr::Halt => listed_as(62, 0, 0),
         Instr::StopHere => listed_as(63, 0, 0),
         Instr::Leave => listed_as(64, 0, 0),
+        Instr::StoreItem { numbers } => listed_as(65, number(numbers), 0),
+        Instr::SetMember => listed_as(66, 0, 0),
     }
 }
 

@@ -13,9 +13,9 @@ use Rattle.bound_project.specs.declared.statement.StatementNode.{StatementNode}
 use Rattle.bound_project.specs.declared.node.Node.{Node}
 use Rattle.bound_project.specs.View.{declared_view, variable_view}
 use Rattle.bound_project.specs.Expressions.{Expr, Exprs, no_exprs, given_count, Lvalue, Args, no_args, Prints, no_prints, shown, zone, operand_type}
-use Rattle.bound_project.specs.Statements.{Tests, no_tests, test_is, test_range, Resizes, no_resizes, resize, Arrays, no_arrays, an_array, Action, assign_member}
+use Rattle.bound_project.specs.Statements.{Tests, no_tests, test_is, test_range, Resizes, no_resizes, resize, Arrays, no_arrays, an_array, Action, assign_item, assign_member}
 use Rattle.bound_project.specs.Pieces.{Piece, an_expr, a_place, a_member, is_member, name_of, name_in, exprs_off, a_value_shown, a_zone, a_test_is, a_test_range, a_resize, an_erased, Tables, order_in, prints_off, tests_off, resizes_off, arrays_off, arguments_off, pieces}
-use Rattle.bound_project.specs.Bodies.{whole, one_value, one_place, behind_value, member_found, alone, action_of, action_or, part, statement_view, StatementFits, AllFit, BodiesFit, body_view}
+use Rattle.bound_project.specs.Bodies.{whole, one_value, one_place, behind_value, member_found, item_found, alone, action_of, action_or, part, statement_view, StatementFits, AllFit, BodiesFit, body_view}
 use Rattle.bound_project.specs.declared.project.Body.{Body}
 use Rattle.std.proofs.lemmas.Bool.{false≢true}
 use Rattle.std.proofs.lemmas.List.{length-map}
@@ -202,6 +202,19 @@ member_made around code back name h n st (Some (es, a_member base other given �
     n st off (is_member name other given es) refl
 member_made around code back name h n st (Some (es, rest)) off = tt
 
+-- an assignment to an item: numbers behind the value of which they mean one, behind a value
+item_made : (around : Around) (code : Action → List plain.Instr) (back : ℕ → List plain.Instr)
+    → ((base e : Expr) (es : Exprs) → code (assign_item base es e) ≡ expr_code e ++ (expr_code base ++ (list_code es ++ back (list_count es))))
+    → (n : ℕ) (st : List Piece) (found : Option (Exprs × List Piece)) → ExprsOff around n st no_exprs found → Made around code [] (back n) st (item_found found)
+item_made around code back h n st None off = tt
+item_made around code back h n st (Some (es, an_expr base ∷ an_expr e ∷ [])) off =
+    let k : list_count es ≡ n = omega (arith, off.1) in (
+      h base e es ∙ two (expr_code e) (expr_code base) (list_code es) (back (list_count es)) _ refl
+          ∙ all_there around st ((expr_code e ++ expr_code base) ++ list_code es) (back (list_count es)) off.0 ∙ ap (λ m. codes around st ++ back m) k,
+      off.2 (tt, (tt, tt)),
+    )
+item_made around code back h n st (Some (es, rest)) off = tt
+
 tests_made : (row : Row) (header : ℕ) (of : DeclaredType) (compare : Compare) (first other : ℕ) (code : Action → List plain.Instr) (go : Tests → Action)
     → ((ts : Tests) → code (go ts) ≡ tests_in row header of compare first other ts)
     → (st : List Piece) (found : Option (Tests × List Piece)) → TestsOff row header of compare first other st no_tests found
@@ -239,8 +252,10 @@ ActionMade t u added row p i next k st o = Made (around_of row k) (action_code (
 action_made : (t u : Tables) (added : Added) → Grown t u added → (row : Row) (p i next : ℕ) (k : ActionKind) (st : List Piece) → ActionMade t u added row p i next k st (action_of t k st)
 action_made t u added g row p i next kind.Assign (a_place x ∷ an_expr e ∷ []) = (sym (append_assoc (expr_code e) (place_code x) _), (tt, (tt, tt)))
 action_made t u added g row p i next kind.Assign st = tt
-action_made t u added g row p i next kind.AssignNone (an_expr x ∷ an_expr e ∷ []) = (sym (append_assoc (expr_code e) (expr_code x) _), (tt, (tt, tt)))
-action_made t u added g row p i next kind.AssignNone st = tt
+action_made t u added g row p i next (kind.AssignItem count) st =
+    let k = kind.AssignItem count in
+    item_made (around_of row k) (action_code (entry row) p i next) (λ n. plain.StoreItem n ∷ plain.Finish (slice_index row next) ∷ []) (λ base e es. refl)
+    count st (exprs_off count st no_exprs) (exprs_are (around_of row k) count st no_exprs)
 action_made t u added g row p i next kind.Set (a_place x ∷ an_expr e ∷ []) = (sym (append_assoc (expr_code e) (place_code x) _), (tt, (tt, tt)))
 action_made t u added g row p i next kind.Set st = tt
 action_made t u added g row p i next kind.AssignDefault (an_expr x ∷ an_expr e ∷ []) = (sym (append_assoc (expr_code e) (expr_code x) _), (tt, (tt, tt)))
@@ -250,6 +265,8 @@ action_made t u added g row p i next (kind.AssignMember m count) st =
     subst (λ (v : Val). Made (around_of row k) (action_code (entry row) p i next) [] (plain.StoreMember (name_of v) count ∷ plain.Finish (slice_index row next) ∷ []) st (action_of t k st)) (sym (g.constant m))
     (member_made (around_of row k) (action_code (entry row) p i next) (λ n. plain.StoreMember (name_in t m) n ∷ plain.Finish (slice_index row next) ∷ []) (name_in t m) (λ base e es. refl)
     count st (exprs_off count st no_exprs) (exprs_are (around_of row k) count st no_exprs))
+action_made t u added g row p i next kind.SetMember (an_expr x ∷ an_expr e ∷ []) = (sym (append_assoc (expr_code e) (expr_code x) _), (tt, (tt, tt)))
+action_made t u added g row p i next kind.SetMember st = tt
 action_made t u added g row p i next kind.Evaluate st = value_made (around_of row kind.Evaluate) (action_code (entry row) p i next) [] _ _ (λ e. refl) st
 action_made t u added g row p i next (kind.LetProperty q count of) st =
     behind_made (around_of row (kind.LetProperty q count of)) (action_code (entry row) p i next) (λ n. back t u added row p i next (kind.LetProperty q n of)) _ (λ args e. sym (append_assoc (expr_code e) (args_code args) _)) count st (arguments_off count st no_args) (args_are (around_of row (kind.LetProperty q count of)) count st no_args)

@@ -123,10 +123,11 @@ object_property_instrs q count of = instr.Lift count ∷ instr.FitObject of ∷ 
 -- what is done behind its nodes
 abbrev pub work_instrs : Added → List (List ℕ) → (statement next : ℕ) → ActionKind → List Instr
 work_instrs added orders i next kind.Assign = instr.Store ∷ []
-work_instrs added orders i next kind.AssignNone = instr.Drop ∷ instr.Drop ∷ []
+work_instrs added orders i next (kind.AssignItem count) = instr.StoreItem count ∷ []
 work_instrs added orders i next kind.Set = instr.SetAt ∷ []
 work_instrs added orders i next kind.AssignDefault = instr.StoreDefault ∷ []
 work_instrs added orders i next (kind.AssignMember n count) = instr.StoreMember (constant_number added n) count ∷ []
+work_instrs added orders i next kind.SetMember = instr.SetMember ∷ []
 work_instrs added orders i next kind.Evaluate = instr.Drop ∷ []
 work_instrs added orders i next (kind.LetProperty q count of) = property_instrs q count of
 work_instrs added orders i next (kind.LetPropertyInOrder q count order of) = instr.Reorder order count ∷ property_instrs q (order_length orders order) of

@@ -201,10 +201,11 @@ fn put_work(
     let block = statement;
     match action {
         ActionKind::Assign => put(code, Instr::Store),
-        ActionKind::AssignNone => put_two(code, Instr::Drop, Instr::Drop),
+        ActionKind::AssignItem { numbers } => put(code, Instr::StoreItem { numbers }),
         ActionKind::Set => put(code, Instr::SetAt),
         ActionKind::AssignDefault => put(code, Instr::StoreDefault),
         ActionKind::AssignMember { name, arguments } => put_member(code, added, name, arguments),
+        ActionKind::SetMember => put(code, Instr::SetMember),
         ActionKind::Evaluate => put(code, Instr::Drop),
         ActionKind::LetProperty {
             procedure,

@@ -5,7 +5,7 @@ use Rattle.std.proofs.Math.Seq.{get_or-append_seam}
 use Rattle.std.proofs.lemmas.Option.{slice_get-get_or}
 use Rattle.vba_values.specs.declared.types.Compare.{Compare}
 use Rattle.vba_values.specs.Types.{Declared}
-use Rattle.bound_project.specs.Statements.{Tests, no_tests, test_is, test_range, Action, assign, assign_none, set, assign_default, assign_member, evaluate, let_property, set_property, print, raise, test, go_to, for_to, next, for_each, next_each, exit_each, select, case_of, redim, erase, with_place, with_value, end_with, go_sub, return_sub, exit_to, on_error, end_handler, clear_err, resume_again, resume_next, resume_at, stop, end_run, Statement}
+use Rattle.bound_project.specs.Statements.{Tests, no_tests, test_is, test_range, Action, assign, assign_item, set, assign_default, assign_member, set_member, evaluate, let_property, set_property, print, raise, test, go_to, for_to, next, for_each, next_each, exit_each, select, case_of, redim, erase, with_place, with_value, end_with, go_sub, return_sub, exit_to, on_error, end_handler, clear_err, resume_again, resume_next, resume_at, stop, end_run, Statement}
 use Rattle.bound_project.specs.Project.{Project, Body, statements_or, next_or}
 use Rattle.pcode.specs.Instructions.{Instr, Leave, list_or, number_or}
 use Rattle.pcode.specs.Code.{Entry, expr_code, place_code, args_code, list_code, prints_code, resizes_code, erases_code, tests_code, action_code, statement_code}
@@ -28,10 +28,11 @@ len_tests entry (test_range a b ts) header of compare first other =
 
 len_action : (entry : Entry) (p i k : ℕ) (a : Action) → length (action_code entry p i k a) ≡ length (action_code (λ i. 0) 0 0 k a)
 len_action entry p i k (assign x e) = behind (expr_code e) _ _ (behind (place_code x) _ _ refl)
-len_action entry p i k (assign_none x e) = behind (expr_code e) _ _ (behind (expr_code x) _ _ refl)
+len_action entry p i k (assign_item base es e) = behind (expr_code e) _ _ (behind (expr_code base) _ _ (behind (list_code es) _ _ refl))
 len_action entry p i k (set x e) = behind (expr_code e) _ _ (behind (place_code x) _ _ refl)
 len_action entry p i k (assign_default x e) = behind (expr_code e) _ _ (behind (expr_code x) _ _ refl)
 len_action entry p i k (assign_member base name es e) = behind (expr_code e) _ _ (behind (expr_code base) _ _ (ap suc (behind (list_code es) _ _ refl)))
+len_action entry p i k (set_member base e) = behind (expr_code e) _ _ (behind (expr_code base) _ _ refl)
 len_action entry p i k (evaluate e) = behind (expr_code e) _ _ refl
 len_action entry p i k (let_property q args e of) = behind (expr_code e) _ _ (behind (args_code args) _ _ refl)
 len_action entry p i k (set_property q args e of) = behind (expr_code e) _ _ (behind (args_code args) _ _ refl)

@@ -4,7 +4,7 @@ use Rattle.std.specs.Prelude.{slice_get}
 use Rattle.vba_values.specs.declared.types.Compare.{Compare}
 use Rattle.vba_values.specs.Types.{Declared}
 use Rattle.bound_project.specs.Expressions.{Expr, expr, Node, not_given, constant, load, element_value, field_value, unary, binary, call, err_value, default_of, default_if_any, same, is_type, library, bound_of, host_object, active_sheet, host_member, Lvalue, variable, item, element, field, kept_place, Args, no_args, by_place, by_copy, by_default, by_list, in_order, Exprs, no_exprs, also, Prints, no_prints, shown, zone}
-use Rattle.bound_project.specs.Statements.{Handling, passed_on, skipped, handled_at, Resizes, no_resizes, resize, Arrays, no_arrays, an_array, Tests, no_tests, test_is, test_range, Action, assign, assign_none, set, assign_default, assign_member, evaluate, let_property, set_property, print, raise, test, go_to, for_to, next, for_each, next_each, exit_each, select, case_of, redim, erase, with_place, with_value, end_with, go_sub, return_sub, exit_to, on_error, end_handler, clear_err, resume_again, resume_next, resume_at, stop, end_run, Statement}
+use Rattle.bound_project.specs.Statements.{Handling, passed_on, skipped, handled_at, Resizes, no_resizes, resize, Arrays, no_arrays, an_array, Tests, no_tests, test_is, test_range, Action, assign, assign_item, set, assign_default, assign_member, set_member, evaluate, let_property, set_property, print, raise, test, go_to, for_to, next, for_each, next_each, exit_each, select, case_of, redim, erase, with_place, with_value, end_with, go_sub, return_sub, exit_to, on_error, end_handler, clear_err, resume_again, resume_next, resume_at, stop, end_run, Statement}
 use Rattle.bound_project.specs.Project.{Project, Body, statement_at, statements_at, statements_or, next_or}
 use Rattle.bound_project.specs.Whole.{All, HasProcedure, HasStatement, HasTarget, argument_count, WholeExpr, WholeNode, WholePlace, WholeArgs, WholeExprs, WholePrints, WholeTests, WholeResizes, WholeArrays, WholeHandling, WholeAction, WholeStatement, WholeBodies, IsWhole}
 use Rattle.vba_meaning.specs.Effects.{policy_of}
@@ -138,11 +138,13 @@ module _ (pr : Project) (p : ℕ) where
 
   action_sound : (a : Action) (i k : ℕ) → IsStatement (code_of pr) p i → HasTarget pr p k → WholeAction pr p a → Sounds (action_code entry p i k a)
   action_sound (assign x e) i k own on h = both (expr_code e) _ (expr_sound e h.0) (both (place_code x) _ (place_sound x h.1) (tt, (leads k on, tt)))
-  action_sound (assign_none x e) i k own on h = both (expr_code e) _ (expr_sound e h.0) (both (expr_code x) _ (expr_sound x h.1) (tt, (tt, (leads k on, tt))))
+  action_sound (assign_item base es e) i k own on h =
+      both (expr_code e) _ (expr_sound e h.0) (both (expr_code base) _ (expr_sound base h.1.0) (both (list_code es) _ (list_sound es h.1.1) (tt, (leads k on, tt))))
   action_sound (set x e) i k own on h = both (expr_code e) _ (expr_sound e h.0) (both (place_code x) _ (place_sound x h.1) (tt, (leads k on, tt)))
   action_sound (assign_default x e) i k own on h = both (expr_code e) _ (expr_sound e h.0) (both (expr_code x) _ (expr_sound x h.1) (tt, (leads k on, tt)))
   action_sound (assign_member base name es e) i k own on h =
       both (expr_code e) _ (expr_sound e h.0) (both (expr_code base) _ (expr_sound base h.1.0) (tt, both (list_code es) _ (list_sound es h.1.1) (tt, (leads k on, tt))))
+  action_sound (set_member base e) i k own on h = both (expr_code e) _ (expr_sound e h.0) (both (expr_code base) _ (expr_sound base h.1) (tt, (leads k on, tt)))
   action_sound (evaluate e) i k own on h = both (expr_code e) _ (expr_sound e h) (tt, (leads k on, tt))
   action_sound (let_property q args e of) i k own on h =
       both (expr_code e) _ (expr_sound e h.0) (both (args_code args) _ (args_sound args h.1.0) (tt, (tt, (h.1.1.0, (called_with_value q args h.1.1.1, (tt, (leads k on, tt)))))))

@@ -4,7 +4,7 @@ use Rattle.std.proofs.lemmas.List.{append-nil}
 use Rattle.vba_values.specs.declared.types.Compare.{Compare}
 use Rattle.vba_values.specs.Types.{Declared}
 use Rattle.bound_project.specs.Expressions.{Expr, expr, Node, not_given, constant, load, element_value, field_value, unary, binary, call, err_value, default_of, default_if_any, same, is_type, library, bound_of, host_object, active_sheet, host_member, Lvalue, variable, item, element, field, kept_place, Args, no_args, by_place, by_copy, by_default, by_list, in_order, Exprs, no_exprs, also, Prints, no_prints, shown, zone}
-use Rattle.bound_project.specs.Statements.{Resizes, no_resizes, resize, Arrays, no_arrays, an_array, Tests, no_tests, test_is, test_range, Action, assign, assign_none, set, assign_default, assign_member, evaluate, let_property, set_property, print, raise, test, go_to, for_to, next, for_each, next_each, exit_each, select, case_of, redim, erase, with_place, with_value, end_with, go_sub, return_sub, exit_to, on_error, end_handler, clear_err, resume_again, resume_next, resume_at, stop, end_run, Statement}
+use Rattle.bound_project.specs.Statements.{Resizes, no_resizes, resize, Arrays, no_arrays, an_array, Tests, no_tests, test_is, test_range, Action, assign, assign_item, set, assign_default, assign_member, set_member, evaluate, let_property, set_property, print, raise, test, go_to, for_to, next, for_each, next_each, exit_each, select, case_of, redim, erase, with_place, with_value, end_with, go_sub, return_sub, exit_to, on_error, end_handler, clear_err, resume_again, resume_next, resume_at, stop, end_run, Statement}
 use Rattle.bound_project.specs.Project.{Project, Body}
 use Rattle.pcode.specs.Instructions.{Instr, Plain, Fit, FitObject, Call, Drop, Finish}
 use Rattle.pcode.specs.Code.{count, list_count, prints_count, expr_code, node_code, place_code, args_code, list_code, prints_code, resizes_code, erases_code, Entry, tests_code, action_code, statement_code}
@@ -159,13 +159,16 @@ erases_give (an_array x xs) = then_gives (place_code x) _ (place_gives x []) (re
 
 action_closes : (entry : Entry) (p i k : ℕ) (a : Action) → Closes (action_code entry p i k a) []
 action_closes entry p i k (assign x e) = then_closes (expr_code e) _ (expr_gives e []) (then_closes (place_code x) _ (place_gives x (a_value ∷ [])) (record { by = λ rest. refl }))
-action_closes entry p i k (assign_none x e) = then_closes (expr_code e) _ (expr_gives e []) (then_closes (expr_code x) _ (expr_gives x (a_value ∷ [])) (record { by = λ rest. refl }))
+action_closes entry p i k (assign_item base es e) =
+    then_closes (expr_code e) _ (expr_gives e []) (then_closes (expr_code base) _ (expr_gives base (a_value ∷ [])) (then_closes (list_code es) _ (list_gives es (a_value ∷ a_value ∷ []))
+    (record { by = λ rest. counts (list_kinds es) _ _ _ (Finish (entry k) ∷ rest) _ (lists_count es) refl })))
 action_closes entry p i k (set x e) = then_closes (expr_code e) _ (expr_gives e []) (then_closes (place_code x) _ (place_gives x (a_value ∷ [])) (record { by = λ rest. refl }))
 action_closes entry p i k (assign_default x e) = then_closes (expr_code e) _ (expr_gives e []) (then_closes (expr_code x) _ (expr_gives x (a_value ∷ [])) (record { by = λ rest. refl }))
 action_closes entry p i k (assign_member base name es e) =
     then_closes (expr_code e) _ (expr_gives e []) (then_closes (expr_code base) _ (expr_gives base (a_value ∷ [])) (record {
       by = λ rest. (then_closes (list_code es) _ (list_gives es (a_value ∷ a_value ∷ a_value ∷ [])) (record { by = λ more. counts (list_kinds es) _ _ _ (Finish (entry k) ∷ more) _ (lists_count es) refl })).by rest;
     }))
+action_closes entry p i k (set_member base e) = then_closes (expr_code e) _ (expr_gives e []) (then_closes (expr_code base) _ (expr_gives base (a_value ∷ [])) (record { by = λ rest. refl }))
 action_closes entry p i k (evaluate e) = then_closes (expr_code e) _ (expr_gives e []) (record { by = λ rest. refl })
 action_closes entry p i k (let_property q args e of) =
     then_closes (expr_code e) _ (expr_gives e []) (then_closes (args_code args) _ (args_give args (a_value ∷ []))

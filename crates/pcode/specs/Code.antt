@@ -4,9 +4,9 @@ use Rattle.vba_values.specs.declared.types.Compare.{Compare}
 use Rattle.vba_values.specs.Types.{Declared}
 use Rattle.vba_values.specs.Val.{missing, empty}
 use Rattle.bound_project.specs.Expressions.{Expr, expr, Node, not_given, constant, load, element_value, field_value, unary, binary, call, err_value, default_of, default_if_any, same, is_type, library, bound_of, host_object, active_sheet, host_member, Lvalue, variable, item, element, field, kept_place, Args, no_args, by_place, by_copy, by_default, by_list, in_order, Exprs, no_exprs, also, given_count, Prints, no_prints, shown, zone, operand_type}
-use Rattle.bound_project.specs.Statements.{Resizes, no_resizes, resize, Arrays, no_arrays, an_array, Tests, no_tests, test_is, test_range, Action, assign, assign_none, set, assign_default, assign_member, evaluate, let_property, set_property, print, raise, test, go_to, for_to, next, for_each, next_each, exit_each, select, case_of, redim, erase, with_place, with_value, end_with, go_sub, return_sub, exit_to, on_error, end_handler, clear_err, resume_again, resume_next, resume_at, stop, end_run, Statement}
+use Rattle.bound_project.specs.Statements.{Resizes, no_resizes, resize, Arrays, no_arrays, an_array, Tests, no_tests, test_is, test_range, Action, assign, assign_item, set, assign_default, assign_member, set_member, evaluate, let_property, set_property, print, raise, test, go_to, for_to, next, for_each, next_each, exit_each, select, case_of, redim, erase, with_place, with_value, end_with, go_sub, return_sub, exit_to, on_error, end_handler, clear_err, resume_again, resume_next, resume_at, stop, end_run, Statement}
 use Rattle.vba_meaning.specs.Effects.{policy_of}
-use Rattle.pcode.specs.Instructions.{Instr, Begin, Push, LoadErr, PathOf, ReadThrough, ElementOf, ElementIn, FieldOf, Dot, Index, PartOf, Operate, OperateAlone, Plain, PlainIfAny, PushHost, FirstSheet, MemberThere, MemberOf, Same, IsType, Library, BoundAt, Fit, FitObject, Drop, Lend, Pack, Reorder, Lift, Call, Store, SetAt, StoreDefault, StoreMember, ShowText, Show, Throw, LoopOff, LoopOn, NextRound, EachOff, EachOn, NextItem, Keep, Selected, IfFits, IfBetween, Redim, EraseAt, KeepPath, DropKept, PutReturn, TakeReturn, SetPolicy, HandlerOff, ErrOff, Again, Behind, Resumes, Finish, Branch, Halt, StopHere}
+use Rattle.pcode.specs.Instructions.{Instr, Begin, Push, LoadErr, PathOf, ReadThrough, ElementOf, ElementIn, FieldOf, Dot, Index, PartOf, Operate, OperateAlone, Plain, PlainIfAny, PushHost, FirstSheet, MemberThere, MemberOf, Same, IsType, Library, BoundAt, Fit, FitObject, Drop, Lend, Pack, Reorder, Lift, Call, Store, SetAt, StoreDefault, StoreMember, StoreItem, SetMember, ShowText, Show, Throw, LoopOff, LoopOn, NextRound, EachOff, EachOn, NextItem, Keep, Selected, IfFits, IfBetween, Redim, EraseAt, KeepPath, DropKept, PutReturn, TakeReturn, SetPolicy, HandlerOff, ErrOff, Again, Behind, Resumes, Finish, Branch, Halt, StopHere}
 
 -- how many slots arguments are
 abbrev pub count : Args → ℕ
@@ -96,11 +96,12 @@ erases_code (an_array x xs) = place_code x ++ EraseAt ∷ erases_code xs
 -- the code of a statement: the operands, what is done with them, and where it goes on
 abbrev pub action_code : Entry → (procedure statement following : ℕ) → Action → List Instr
 action_code entry p i k (assign x e) = expr_code e ++ (place_code x ++ (Store ∷ Finish (entry k) ∷ []))
-action_code entry p i k (assign_none x e) = expr_code e ++ (expr_code x ++ (Drop ∷ Drop ∷ Finish (entry k) ∷ []))
+action_code entry p i k (assign_item base es e) = expr_code e ++ (expr_code base ++ (list_code es ++ (StoreItem (list_count es) ∷ Finish (entry k) ∷ [])))
 action_code entry p i k (set x e) = expr_code e ++ (place_code x ++ (SetAt ∷ Finish (entry k) ∷ []))
 action_code entry p i k (assign_default x e) = expr_code e ++ (expr_code x ++ (StoreDefault ∷ Finish (entry k) ∷ []))
 action_code entry p i k (assign_member base name es e) =
     expr_code e ++ (expr_code base ++ MemberThere name (given_count es) ∷ (list_code es ++ (StoreMember name (list_count es) ∷ Finish (entry k) ∷ [])))
+action_code entry p i k (set_member base e) = expr_code e ++ (expr_code base ++ (SetMember ∷ Finish (entry k) ∷ []))
 action_code entry p i k (evaluate e) = expr_code e ++ (Drop ∷ Finish (entry k) ∷ [])
 action_code entry p i k (let_property q args e of) = expr_code e ++ (args_code args ++ (Lift (count args) ∷ Plain ∷ Fit of ∷ Call q (suc (count args)) ∷ Drop ∷ Finish (entry k) ∷ []))
 action_code entry p i k (set_property q args e of) = expr_code e ++ (args_code args ++ (Lift (count args) ∷ FitObject of ∷ Call q (suc (count args)) ∷ Drop ∷ Finish (entry k) ∷ []))

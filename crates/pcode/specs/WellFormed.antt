@@ -4,7 +4,7 @@ use Rattle.std.specs.Prelude.{◌≡◌, ℕ, zero, suc, ◌<◌, ◌≤◌, Lis
 use Rattle.error_frames.specs.declared.frame.Policy.{Policy}
 use Rattle.error_frames.specs.declared.frame.Policy.TheVariants as policy
 use Rattle.bound_project.specs.Whole.{All, IfThere, IsConstant, HasType, HasVariable, HasProcedure, WholeClass}
-use Rattle.pcode.specs.Instructions.{Instr, Begin, Push, PushHost, LoadErr, PathOf, ReadThrough, ElementOf, ElementIn, FieldOf, Dot, Index, PartOf, Operate, OperateAlone, Plain, PlainIfAny, FirstSheet, MemberThere, MemberOf, Same, IsType, Library, BoundAt, Fit, FitObject, Drop, Lend, Pack, Reorder, Lift, Call, Store, SetAt, StoreDefault, StoreMember, ShowText, Show, Throw, LoopOff, LoopOn, NextRound, EachOff, EachOn, NextItem, Keep, Selected, IfFits, IfBetween, Redim, EraseAt, KeepPath, DropKept, PutReturn, TakeReturn, SetPolicy, Again, Behind, Resumes, Finish, Branch, Halt, Leave, Code, list_or, entry_of, next_statement}
+use Rattle.pcode.specs.Instructions.{Instr, Begin, Push, PushHost, LoadErr, PathOf, ReadThrough, ElementOf, ElementIn, FieldOf, Dot, Index, PartOf, Operate, OperateAlone, Plain, PlainIfAny, FirstSheet, MemberThere, MemberOf, Same, IsType, Library, BoundAt, Fit, FitObject, Drop, Lend, Pack, Reorder, Lift, Call, Store, SetAt, StoreDefault, StoreMember, StoreItem, SetMember, ShowText, Show, Throw, LoopOff, LoopOn, NextRound, EachOff, EachOn, NextItem, Keep, Selected, IfFits, IfBetween, Redim, EraseAt, KeepPath, DropKept, PutReturn, TakeReturn, SetPolicy, Again, Behind, Resumes, Finish, Branch, Halt, Leave, Code, list_or, entry_of, next_statement}
 
 -- ---- operands
 
@@ -88,6 +88,8 @@ behind (Call p n) ks = taken_off n ks [] (λ xs js. brings_value js)
 behind Store ks = path_off ks (λ js. value_off js (λ is. Some (brings is)))
 behind SetAt ks = path_off ks (λ js. value_off js (λ is. Some (brings is)))
 behind StoreDefault ks = value_off ks (λ js. value_off js (λ is. Some (brings is)))
+behind (StoreItem n) ks = taken_off n ks [] (λ xs js. value_off js (λ is. value_off is (λ hs. Some (brings hs))))
+behind SetMember ks = value_off ks (λ js. value_off js (λ is. Some (brings is)))
 behind ShowText ks = value_off ks brings_value
 behind (Show ends n) ks = taken_off n ks [] (λ xs js. Some (brings js))
 behind (Throw n) ks = taken_off n ks [] (λ xs js. statement_over js)

@@ -116,6 +116,11 @@ pub enum Instr {
         name: u32,
         arguments: u32,
     },
+    /// The item of the value below so many numbers is assigned the value below it; Set of a member.
+    StoreItem {
+        numbers: u32,
+    },
+    SetMember,
     ShowText,
     Show {
         ends: bool,

@@ -14,3 +14,4 @@ pub mod Chained
 pub mod Placed
 pub mod Uses
 pub mod Appended
+pub mod Scanned

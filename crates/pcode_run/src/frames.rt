@@ -17,24 +17,29 @@ use crate::letting::{finish_object, letting};
 use bound_project::Declarations;
 use error_frames::{At, Taken};
 use pcode::Code;
-use pcode_vm::{After, Back, Ending, Event, Machine, Mode, Step};
+use pcode_vm::{After, Back, Event, Machine, Mode, Step, StepEnd};
 use run_memory::{RunError, shared_values};
 use std::alloc::Global;
 use vba_base::NoMemory;
 use vba_values::Value;
 
 // An error is raised that no frame takes.
-pub fn fault(machine: &mut Machine, turns: u64, error: RunError) -> Result<Step, NoMemory>
+pub fn fault(
+    machine: &mut Machine,
+    alloc: Global,
+    turns: u64,
+    error: RunError,
+) -> Result<Step, NoMemory>
     ensures { IfOk result (λ step. Does turns (raises_then (error_view error) (state_view machine.old) (λ s. Ends (Faulted (error_view error)) s)) machine.old machine.new step) }
 {
     if machine.begun >= turns {
-        return Ok(Step::Ended(Ending::Going));
+        return Ok(Step::Ended(StepEnd::Going));
     }
     machine.begun += 1;
     machine.told.push(Event::Raised {
         number: error.number,
     })?;
-    Ok(Step::Ended(Ending::Faulted(error)))
+    Ok(Step::Ended(StepEnd::Faulted(Box::new(alloc, error)?)))
 }
 
 // The end of the run: module variables take their first values, one by one.
@@ -49,7 +54,7 @@ pub fn close(
 {
     let mut first = first;
     let Some(value) = first.pop() else {
-        return Ok(Step::Ended(Ending::Ended));
+        return Ok(Step::Ended(StepEnd::Ended));
     };
     let next = shared.checked_add(1).ok_or(NoMemory)?;
     let count = machine.memory.closed(alloc, shared, value)?;
@@ -123,9 +128,9 @@ pub fn pass_on(
     machine: &mut Machine,
     alloc: Global,
     turns: u64,
-    error: RunError,
+    error: Box<RunError>,
 ) -> Result<Step, NoMemory>
-    ensures { IfOk result (λ step. Does turns (passed_on (backs_view machine.old.backs) (error_view error) (with_memory (state_view machine.old) (left (memory_view machine.old.memory)))) machine.old machine.new step) }
+    ensures { IfOk result (λ step. Does turns (passed_on (backs_view machine.old.backs) (error_view error.value) (with_memory (state_view machine.old) (left (memory_view machine.old.memory)))) machine.old machine.new step) }
 {
     machine.memory.left(alloc)?;
     match machine.backs.pop() {
@@ -134,7 +139,7 @@ pub fn pass_on(
             machine.turn(Mode::Failing(error));
             Ok(Step::On)
         }
-        Some(Back::EndOf { .. }) | None => Ok(Step::Ended(Ending::Faulted(error))),
+        Some(Back::EndOf { .. }) | None => Ok(Step::Ended(StepEnd::Faulted(error))),
     }
 }
 
@@ -144,17 +149,23 @@ pub fn decide(
     alloc: Global,
     code: &Code,
     turns: u64,
-    error: RunError,
+    error: Box<RunError>,
 ) -> Result<Step, NoMemory>
-    ensures { IfOk result (λ step. Does turns (decides (code_view code.now) (error_view error) (backs_view machine.old.backs) (state_view machine.old)) machine.old machine.new step) }
+    ensures { IfOk result (λ step. Does turns (decides (code_view code.now) (error_view error.value) (backs_view machine.old.backs) (state_view machine.old)) machine.old machine.new step) }
 {
     let here = machine.memory.error_here(0);
     let procedure = here.procedure;
     let next = code.next_statement(procedure, here.statement.map_or(0, u64::from));
     match machine.memory.taken_by(next) {
         Taken::PassOn => machine.let_all(alloc, After::Pass(error))?,
-        Taken::Next(to) => take_up(machine, alloc, code, error, Taken::Next(to), to),
-        Taken::Handler(to) => take_up(machine, alloc, code, error, Taken::Handler(to), to),
+        Taken::Next(to) => {
+            let error = Box::into_inner(error);
+            take_up(machine, alloc, code, error, Taken::Next(to), to);
+        }
+        Taken::Handler(to) => {
+            let error = Box::into_inner(error);
+            take_up(machine, alloc, code, error, Taken::Handler(to), to);
+        }
     }
     Ok(Step::On)
 }

@@ -14,7 +14,7 @@ ghost use Rattle.pcode_vm.specs.Does.{Does, Comes};
 use crate::frames::fault;
 use bound_project::{Class, Declarations};
 use pcode::Code;
-use pcode_vm::{After, Back, Ending, Event, Machine, Mode, Step};
+use pcode_vm::{After, Back, Event, Machine, Mode, Step, StepEnd};
 use std::alloc::Global;
 use vba_base::NoMemory;
 use vba_values::{ObjId, ObjRef, Value};
@@ -88,7 +88,7 @@ fn terminate(
     };
     if !machine.has_room() {
         let error = machine.memory.error_here(28);
-        return fault(machine, turns, error);
+        return fault(machine, alloc, turns, error);
     }
     let back = Back::EndOf {
         object,
@@ -134,7 +134,7 @@ fn let_object(
         return Ok(Step::On);
     }
     if machine.begun >= turns {
-        return Ok(Step::Ended(Ending::Going));
+        return Ok(Step::Ended(StepEnd::Going));
     }
     machine.begun += 1;
     let told = machine.memory.is_told(object);

@@ -14,6 +14,7 @@ mod rounds;
 mod rows;
 mod runs;
 mod scalars;
+mod scans;
 mod stack;
 mod steps;
 mod texts;

@@ -1,15 +1,18 @@
 // Arguments of a call.
-ghost use Rattle.std.specs.Prelude.{◌≡◌, IfOk, map, slice_index_or};
+ghost use Rattle.std.specs.Prelude.{◌≡◌, ◌++◌, IfOk, OnOk, map, slice_index_or};
 ghost use Rattle.vba_values.specs.Val.{missing};
 ghost use Rattle.vba_meaning.specs.Memory.{value};
+ghost use Rattle.vba_meaning.specs.Memory as plain_memory;
 ghost use Rattle.vba_values.specs.View.{view};
-ghost use Rattle.vba_meaning.specs.Effects.{packed, reordered, slot_value, slot_values};
+ghost use Rattle.bound_project.specs.View.{declarations_view, parameter_view};
+ghost use Rattle.vba_meaning.specs.Effects.{packed, reordered, slot_left_out, slot_value, slot_values, startup_slots};
 ghost use Rattle.run_memory.specs.View.{slot_view};
 
+use bound_project::{Declarations, Parameter};
 use run_memory::Slot;
 use std::alloc::Global;
 use vba_base::NoMemory;
-use vba_values::{ArrayValue, Bound, VType, Value};
+use vba_values::{ArrayValue, Bound, VType, Value, copy_value};
 
 /// The array of a ParamArray ([MS-VBAL] 5.3.1.11).
 pub fn packed(alloc: Global, slots: Vec<Slot>) -> Result<Value, NoMemory>
@@ -71,5 +74,50 @@ fn argument(alloc: Global, slots: &[Slot], number: u32) -> Result<Slot, NoMemory
     match slots.get(number as usize) {
         Some(slot) => slot.copy(alloc),
         None => Ok(Slot::Value(Value::Missing)),
+    }
+}
+
+/// What the parameters of the macro that a run begins with have ([MS-VBAL] 5.3.1.11).
+pub fn startup_slots(
+    alloc: Global,
+    declared: &Declarations,
+    procedure: u32,
+) -> Result<Vec<Slot>, NoMemory>
+    ensures { IfOk result (λ slots. map slot_view slots.items ≡ startup_slots (declarations_view declared.now) procedure) }
+{
+    let mut slots = Vec::new(alloc);
+    if let Some(procedure) = declared.procedures.get(procedure as usize) {
+        add_left_out(alloc, &mut slots, procedure.parameters.as_slice())?;
+    }
+    Ok(slots)
+}
+
+fn add_left_out(
+    alloc: Global,
+    slots: &mut Vec<Slot>,
+    parameters: &[Parameter],
+) -> Result<(), NoMemory>
+    ensures { OnOk result (map slot_view slots.new.items ≡ map slot_view slots.old.items ++ map slot_left_out (map parameter_view parameters.now)) }
+{
+    match parameters {
+        [] => Ok(()),
+        [first, parameters @ ..] => {
+            let value = value_left_out(alloc, first)?;
+            slots.push(Slot::Value(value))?;
+            add_left_out(alloc, slots, parameters)
+        }
+    }
+}
+
+// What a parameter has to which nothing is given.
+fn value_left_out(alloc: Global, parameter: &Parameter) -> Result<Value, NoMemory>
+    ensures { IfOk result (λ value. plain_memory.value (view value) ≡ slot_left_out (parameter_view parameter.now)) }
+{
+    if parameter.is_param_array {
+        return packed(alloc, Vec::new(alloc));
+    }
+    match &parameter.default {
+        Some(value) => copy_value(alloc, value),
+        None => Ok(Value::Missing),
     }
 }

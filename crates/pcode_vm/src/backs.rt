@@ -12,11 +12,11 @@ use vba_values::Value;
 pub enum After {
     /// A statement begins at this address.
     GoesOn { to: usize },
-    Decide(RunError),
+    Decide(Box<RunError>),
     Return,
     /// Inside a statement, with its operands.
     BackTo { pc: usize, operands: Operands },
-    Pass(RunError),
+    Pass(Box<RunError>),
     /// Module variables from this number on take these first values, the next one last.
     Close { first: Vec<Value>, shared: u32 },
 }
@@ -25,7 +25,7 @@ pub enum After {
 #[derive(Drop)]
 pub enum Mode {
     At { pc: usize },
-    Failing(RunError),
+    Failing(Box<RunError>),
     Letting { count: usize, after: After },
 }
 

@@ -77,6 +77,7 @@ impl Machine {
         };
         let holds = attempt!(
             self,
+            alloc,
             turns,
             self.fits(alloc, operator, compare, of, test, &first, &second)
         );
@@ -111,6 +112,7 @@ impl Machine {
         };
         let holds = attempt!(
             self,
+            alloc,
             turns,
             self.fits_between(alloc, compare, of, low, high, &value, &first, &last)
         );
@@ -132,7 +134,7 @@ impl Machine {
         requires { pc + 1 < 2 ^ 64 }
         ensures { IfOk result (λ step. Acted turns (code_view code.now) (plain.Redim preserve (option_map declared_view of) bounds) pc self.old self.new step) }
     {
-        let Some(numbers) = self.operands.take(bounds)? else {
+        let Some(numbers) = self.operands.take(alloc, bounds)? else {
             return Ok(Step::Stuck);
         };
         let Some(path) = self.operands.pop_path() else {
@@ -140,6 +142,7 @@ impl Machine {
         };
         let count = attempt!(
             self,
+            alloc,
             turns,
             redimmed(
                 &mut self.memory,
@@ -171,6 +174,7 @@ impl Machine {
         };
         let count = attempt!(
             self,
+            alloc,
             turns,
             erased(&mut self.memory, alloc, &code.declared, &path)
         );

@@ -15,7 +15,7 @@ ghost use Rattle.pcode_vm.specs.Does.{Does, Acted};
 use crate::backs::Back;
 use crate::machine::Machine;
 use crate::operands::Operands;
-use crate::step::{Ending, Step};
+use crate::step::{Step, StepEnd};
 use bound_project::Declarations;
 use pcode::Code;
 use run_memory::{Memory, Slot, own_slots};
@@ -38,7 +38,7 @@ impl Machine {
         requires { pc + 1 < 2 ^ 64 }
         ensures { IfOk result (λ step. Acted turns (code_view code.now) (plain.Call procedure arguments) pc self.old self.new step) }
     {
-        let Some(taken) = self.operands.take(arguments)? else {
+        let Some(taken) = self.operands.take(alloc, arguments)? else {
             return Ok(Step::Stuck);
         };
         self.call_with(alloc, code, turns, pc + 1, procedure, taken)
@@ -57,7 +57,7 @@ impl Machine {
         ensures { IfOk result (λ step. Does turns (calls (code_view code.now) procedure empty (map slot_view arguments.items) next (operands_view self.old.operands) (backs_view self.old.backs) (state_view self.old)) self.old self.new step) }
     {
         if !self.has_room() {
-            return self.raise_number(turns, 28);
+            return self.raise_number(alloc, turns, 28);
         }
         let back = self.wait_at(alloc, next);
         let me = Value::Empty;
@@ -124,7 +124,7 @@ impl Machine {
             arguments,
         )?;
         if self.begun >= turns {
-            return Ok(Step::Ended(Ending::Going));
+            return Ok(Step::Ended(StepEnd::Going));
         }
         self.begun += 1;
         self.operands.clear();

@@ -7,7 +7,7 @@ ghost use Rattle.pcode_vm.specs.Does.{Acted};
 
 use crate::backs::After;
 use crate::machine::Machine;
-use crate::step::{Ending, Step, Why};
+use crate::step::{Step, StepEnd, Why};
 use error_frames::{At, Policy, ResumeKind};
 use pcode::Code;
 use std::alloc::Global;
@@ -28,7 +28,7 @@ impl Machine {
         ensures { IfOk result (λ step. Acted turns (code_view code.now) (plain.Begin statement) pc self.old self.new step) }
     {
         if self.begun >= turns {
-            return Ok(Step::Ended(Ending::Going));
+            return Ok(Step::Ended(StepEnd::Going));
         }
         self.begun += 1;
         self.memory.at_statement(alloc, statement);
@@ -65,7 +65,7 @@ impl Machine {
         requires { pc + 1 < 2 ^ 64 }
         ensures { IfOk result (λ step. Acted turns (code_view code.now) (plain.TakeReturn procedure) pc self.old self.new step) }
     {
-        let statement = attempt!(self, turns, self.memory.returned_sub());
+        let statement = attempt!(self, alloc, turns, self.memory.returned_sub());
         self.finish(alloc, code.entry_of(procedure, u64::from(statement)))?;
         Ok(Step::On)
     }
@@ -133,6 +133,7 @@ impl Machine {
     {
         let statement = attempt!(
             self,
+            alloc,
             turns,
             self.memory.resumed(alloc, ResumeKind::Again, 0)
         );
@@ -155,6 +156,7 @@ impl Machine {
         let next = code.next_statement(procedure, self.memory.failed_statement());
         let statement = attempt!(
             self,
+            alloc,
             turns,
             self.memory.resumed(alloc, ResumeKind::Next, next)
         );
@@ -176,7 +178,7 @@ impl Machine {
         ensures { IfOk result (λ step. Acted turns (code_view code.now) (plain.Resumes procedure to) pc self.old self.new step) }
     {
         let label = ResumeKind::Label(At(u64::from(to)));
-        let statement = attempt!(self, turns, self.memory.resumed(alloc, label, 0));
+        let statement = attempt!(self, alloc, turns, self.memory.resumed(alloc, label, 0));
         self.finish(alloc, code.entry_of(procedure, statement))?;
         Ok(Step::On)
     }
@@ -214,7 +216,7 @@ impl Machine {
         let Some(value) = self.operands.pop_value() else {
             return Ok(Step::Stuck);
         };
-        let holds = attempt!(self, turns, self.condition(alloc, sense, &value));
+        let holds = attempt!(self, alloc, turns, self.condition(alloc, sense, &value));
         if holds {
             self.finish(alloc, to as usize)?;
             return Ok(Step::On);

@@ -4,7 +4,7 @@ ghost use Rattle.pcode.specs.View.{code_view, instr_view, tables_of};
 ghost use Rattle.pcode_vm.specs.Does.{Acted};
 
 use crate::machine::Machine;
-use crate::step::{Ending, Step};
+use crate::step::{Step, StepEnd};
 use pcode::{Code, Instr};
 use std::alloc::Global;
 use vba_base::NoMemory;
@@ -99,6 +99,8 @@ impl Machine {
             Instr::StoreMember { name, arguments } => self.store_member(
                 alloc, code, turns, pc, name, arguments,
             ),
+            Instr::StoreItem { numbers } => self.store_item(alloc, code, turns, pc, numbers),
+            Instr::SetMember => self.set_member(alloc, code, turns, pc),
             Instr::ShowText => self.show_text(alloc, code, turns, pc),
             Instr::Show { ends, items } => self.show(alloc, code, turns, pc, ends, items),
             Instr::Throw { arguments } => self.throw(alloc, code, turns, pc, arguments),
@@ -157,7 +159,7 @@ impl Machine {
             Instr::Branch { sense, to, other } => self.branch(
                 alloc, code, turns, pc, sense, to, other,
             ),
-            Instr::Halt => Ok(Step::Ended(Ending::Ended)),
+            Instr::Halt => Ok(Step::Ended(StepEnd::Ended)),
             Instr::StopHere => self.stop_here(alloc, code, turns, pc),
             Instr::Leave => self.leave(alloc, code, turns, pc),
         }

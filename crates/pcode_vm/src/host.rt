@@ -4,10 +4,11 @@ ghost use Rattle.vba_values.specs.View.{view};
 ghost use Rattle.bound_project.specs.Pieces.{name_in};
 ghost use Rattle.vba_meaning.specs.Memory.{value as value_slot};
 ghost use Rattle.vba_meaning.specs.Effects.{slot_values};
-ghost use Rattle.vba_meaning.specs.Host.{member_assigned, member_called, member_there, written_default};
+ghost use Rattle.vba_meaning.specs.Host.{error_given, item_assigned, member_assigned, member_called, member_not_set, member_there, written_default};
+ghost use Rattle.run_memory.specs.Acts.{Acts};
 ghost use Rattle.run_memory.specs.View.{memory_view, slot_view};
 ghost use Rattle.pcode.specs.Instructions as plain;
-ghost use Rattle.pcode.specs.Machine.{done_then, then_at, then_push};
+ghost use Rattle.pcode.specs.Machine.{done_then, raised, then_at, then_push, uses_member};
 ghost use Rattle.pcode.specs.View.{code_view, tables_of};
 ghost use Rattle.pcode_vm.specs.Does.{Acted, Does};
 ghost use Rattle.pcode_vm.specs.View.{backs_view, operands_view, state_view};
@@ -15,11 +16,21 @@ ghost use Rattle.pcode_vm.specs.View.{backs_view, operands_view, state_view};
 use crate::machine::Machine;
 use crate::step::{Step, Why};
 use pcode::Code;
-use run_host::{first_sheet, member_assigned, member_called, member_there, written_default};
-use run_memory::Slot;
+use run_host::{
+    error_given, first_sheet, is_raise, item_assigned, member_assigned, member_called,
+    member_not_set, member_there, written_default,
+};
+use run_memory::{Memory, Slot};
 use std::alloc::Global;
 use vba_base::{NoMemory, OrMemory};
 use vba_values::{Bad, Value};
+
+// Set of a member, with the memory that stays as it is.
+fn refuses_set(memory: &Memory, base: &Value) -> Result<(), OrMemory<Bad>>
+    ensures { Acts (λ done. done) result (memory_view memory.now) (member_not_set (view base.now) (memory_view memory.now)) }
+{
+    member_not_set(base)
+}
 
 impl Machine {
     // The first sheet.
@@ -33,7 +44,7 @@ impl Machine {
         requires { pc + 1 < 2 ^ 64 }
         ensures { IfOk result (λ step. Acted turns (code_view code.now) (plain.FirstSheet) pc self.old self.new step) }
     {
-        let value = attempt!(self, turns, first_sheet(&self.memory));
+        let value = attempt!(self, alloc, turns, first_sheet(&self.memory));
         self.operands.push_value(value)?;
         self.go_on(pc + 1);
         Ok(Step::On)
@@ -79,6 +90,7 @@ impl Machine {
         let told = &mut self.told;
         let begun = attempt!(
             self,
+            alloc,
             turns,
             member_there(&mut self.memory, alloc, declared, name, given, &base, told)
         );
@@ -101,7 +113,7 @@ impl Machine {
         requires { pc + 1 < 2 ^ 64 }
         ensures { IfOk result (λ step. Acted turns (code_view code.now) (plain.MemberOf (name_in (tables_of code.now) name) arguments) pc self.old self.new step) }
     {
-        let Some(slots) = self.operands.take(arguments)? else {
+        let Some(slots) = self.operands.take(alloc, arguments)? else {
             return Ok(Step::Stuck);
         };
         let Some(begun) = self.operands.pop_value() else {
@@ -111,7 +123,7 @@ impl Machine {
             return Ok(Step::Stuck);
         };
         let name = code.name(name);
-        self.call_member(
+        self.use_member(
             alloc,
             code,
             turns,
@@ -123,7 +135,38 @@ impl Machine {
         )
     }
 
-    // The same, with all of them off the operands.
+    // The same, with all of them off the operands: Err.Raise raises an error.
+    fn use_member(
+        &mut self,
+        alloc: Global,
+        code: &Code,
+        turns: u64,
+        pc: usize,
+        name: &[u16],
+        slots: &[Slot],
+        base: &Value,
+        begun: &Value,
+    ) -> Result<Step, NoMemory>
+        requires { pc + 1 < 2 ^ 64 }
+        ensures { IfOk result (λ step. Does turns (uses_member (code_view code.now) name.now (view base.now) (view begun.now) (slot_values (map slot_view slots.now)) (pc + 1)
+            (operands_view self.old.operands) (backs_view self.old.backs) (state_view self.old)) self.old self.new step) }
+    {
+        if is_raise(name, base) {
+            return self.raise_given(alloc, turns, slots);
+        }
+        self.call_member(alloc, code, turns, pc, name, slots, base, begun)
+    }
+
+    // The error that the arguments of Err.Raise give is raised.
+    fn raise_given(&mut self, alloc: Global, turns: u64, slots: &[Slot]) -> Result<Step, NoMemory>
+        ensures { IfOk result (λ step. Does turns (done_then (error_given (slot_values (map slot_view slots.now)) (memory_view self.old.memory)) (backs_view self.old.backs) (state_view self.old)
+            (λ error state. raised error (backs_view self.old.backs) state)) self.old self.new step) }
+    {
+        let error = attempt!(self, alloc, turns, error_given(&self.memory, alloc, slots));
+        self.raise(alloc, turns, error)
+    }
+
+    // A member that is called.
     fn call_member(
         &mut self,
         alloc: Global,
@@ -144,6 +187,7 @@ impl Machine {
         let told = &mut self.told;
         let value = attempt!(
             self,
+            alloc,
             turns,
             member_called(
                 &mut self.memory,
@@ -174,7 +218,7 @@ impl Machine {
         requires { pc + 1 < 2 ^ 64 }
         ensures { IfOk result (λ step. Acted turns (code_view code.now) (plain.StoreMember (name_in (tables_of code.now) name) arguments) pc self.old self.new step) }
     {
-        let Some(slots) = self.operands.take(arguments)? else {
+        let Some(slots) = self.operands.take(alloc, arguments)? else {
             return Ok(Step::Stuck);
         };
         let Some(begun) = self.operands.pop_value() else {
@@ -222,6 +266,7 @@ impl Machine {
         let told = &mut self.told;
         attempt!(
             self,
+            alloc,
             turns,
             member_assigned(
                 &mut self.memory,
@@ -235,6 +280,78 @@ impl Machine {
                 told
             )
         );
+        self.go_on(pc + 1);
+        Ok(Step::On)
+    }
+
+    // The item of the value below so many numbers is assigned the value below it.
+    pub fn store_item(
+        &mut self,
+        alloc: Global,
+        code: &Code,
+        turns: u64,
+        pc: usize,
+        numbers: u32,
+    ) -> Result<Step, NoMemory>
+        requires { pc + 1 < 2 ^ 64 }
+        ensures { IfOk result (λ step. Acted turns (code_view code.now) (plain.StoreItem numbers) pc self.old self.new step) }
+    {
+        let Some(slots) = self.operands.take(alloc, numbers)? else {
+            return Ok(Step::Stuck);
+        };
+        let Some(base) = self.operands.pop_value() else {
+            return Ok(Step::Stuck);
+        };
+        let Some(value) = self.operands.pop_value() else {
+            return Ok(Step::Stuck);
+        };
+        self.assign_item(alloc, turns, pc, slots.as_slice(), &base, value)
+    }
+
+    // The same, with all of them off the operands.
+    fn assign_item(
+        &mut self,
+        alloc: Global,
+        turns: u64,
+        pc: usize,
+        slots: &[Slot],
+        base: &Value,
+        value: Value,
+    ) -> Result<Step, NoMemory>
+        requires { pc + 1 < 2 ^ 64 }
+        ensures { IfOk result (λ step. Does turns (done_then (item_assigned (view base.now) (slot_values (map slot_view slots.now)) (view value) (memory_view self.old.memory))
+            (backs_view self.old.backs) (state_view self.old)
+            (then_at (pc + 1) (operands_view self.old.operands) (backs_view self.old.backs))) self.old self.new step) }
+    {
+        let told = &mut self.told;
+        attempt!(
+            self,
+            alloc,
+            turns,
+            item_assigned(&mut self.memory, alloc, base, slots, value, told)
+        );
+        self.go_on(pc + 1);
+        Ok(Step::On)
+    }
+
+    // Set of a member, which no object has.
+    pub fn set_member(
+        &mut self,
+        alloc: Global,
+        code: &Code,
+        turns: u64,
+        pc: usize,
+    ) -> Result<Step, NoMemory>
+        requires { pc + 1 < 2 ^ 64 }
+        ensures { IfOk result (λ step. Acted turns (code_view code.now) (plain.SetMember) pc self.old self.new step) }
+    {
+        let Some(base) = self.operands.pop_value() else {
+            return Ok(Step::Stuck);
+        };
+        let Some(_value) = self.operands.pop_value() else {
+            return Ok(Step::Stuck);
+        };
+        attempt!(self, alloc, turns, refuses_set(&self.memory, &base));
         self.go_on(pc + 1);
         Ok(Step::On)
     }
@@ -276,6 +393,7 @@ impl Machine {
         let told = &mut self.told;
         attempt!(
             self,
+            alloc,
             turns,
             written_default(&mut self.memory, alloc, target, value, told)
         );

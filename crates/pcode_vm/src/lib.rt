@@ -3,11 +3,11 @@
 
 /// The value of an effect. Where there is none an error is raised or the run stops, or memory ran out.
 macro_rules! attempt {
-    ($machine:expr, $turns:expr, $effect:expr) => {
+    ($machine:expr, $alloc:expr, $turns:expr, $effect:expr) => {
         match $effect {
             Ok(value) => value,
             Err(OrMemory::Fault(Bad::Raise(number))) => {
-                return $machine.raise_number($turns, number);
+                return $machine.raise_number($alloc, $turns, number);
             }
             Err(OrMemory::Fault(Bad::Outside(kind))) => {
                 return Ok(Step::Ended($machine.stopped(Why::Outside(kind))));
@@ -35,8 +35,9 @@ mod step;
 mod telling;
 mod values;
 
+pub use arguments::startup_slots;
 pub use backs::{After, Back, Backs, Mode};
 pub use machine::Machine;
 pub use operands::Operands;
 pub use run_host::{Event, Told};
-pub use step::{Ending, Step, Why};
+pub use step::{Ending, Step, StepEnd, Why};

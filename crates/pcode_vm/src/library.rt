@@ -31,12 +31,13 @@ impl Machine {
         requires { pc + 1 < 2 ^ 64 }
         ensures { IfOk result (λ step. Acted turns (code_view code.now) (plain.Library function is_text_form compare (base_view is_base_one) arguments) pc self.old self.new step) }
     {
-        let Some(slots) = self.operands.take(arguments)? else {
+        let Some(slots) = self.operands.take(alloc, arguments)? else {
             return Ok(Step::Stuck);
         };
         let values = values_of(alloc, slots)?;
         let value = attempt!(
             self,
+            alloc,
             turns,
             self.memory.library_called(
                 alloc,
@@ -71,6 +72,7 @@ impl Machine {
         };
         let value = attempt!(
             self,
+            alloc,
             turns,
             self.memory.bound_at(alloc, is_upper, dimension, &path)
         );

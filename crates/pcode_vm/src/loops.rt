@@ -71,6 +71,7 @@ impl Machine {
         };
         let holds = attempt!(
             self,
+            alloc,
             turns,
             self.memory.loop_on(alloc, counter, block, standing, start)
         );
@@ -92,7 +93,12 @@ impl Machine {
         requires { pc + 1 < 2 ^ 64 }
         ensures { IfOk result (λ step. Acted turns (code_view code.now) (plain.NextRound (variable_view counter) block) pc self.old self.new step) }
     {
-        let holds = attempt!(self, turns, self.memory.next_round(alloc, counter, block));
+        let holds = attempt!(
+            self,
+            alloc,
+            turns,
+            self.memory.next_round(alloc, counter, block)
+        );
         self.operands.push_value(Value::Boolean(holds))?;
         self.go_on(pc + 1);
         Ok(Step::On)
@@ -132,6 +138,7 @@ impl Machine {
         };
         let count = attempt!(
             self,
+            alloc,
             turns,
             each_begun(&mut self.memory, alloc, block, value)
         );
@@ -154,6 +161,7 @@ impl Machine {
     {
         let holds = attempt!(
             self,
+            alloc,
             turns,
             each_next(&mut self.memory, alloc, control, block)
         );

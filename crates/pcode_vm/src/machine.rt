@@ -2,12 +2,12 @@ ghost use Rattle.std.specs.Prelude.{◌≡◌, [], ℕ, OnOk, IfOk, ◌+◌, ◌
 ghost use Rattle.vba_meaning.specs.Memory.{error_here};
 ghost use Rattle.run_memory.specs.View.{error_view, memory_view};
 ghost use Rattle.pcode.specs.Machine.{Fin, tells, raised, lets, lets_all, finishes, then_jump, letting, Goes, Back-to};
-ghost use Rattle.pcode_vm.specs.View.{operands_view, backs_view, state_view, after_view, ending_view, why_view};
+ghost use Rattle.pcode_vm.specs.View.{operands_view, backs_view, state_view, after_view, end_view, why_view};
 ghost use Rattle.pcode_vm.specs.Does.{Does, Comes, stopped_at};
 
 use crate::backs::{After, Back, Backs, Mode};
 use crate::operands::Operands;
-use crate::step::{Ending, Step, Why};
+use crate::step::{Step, StepEnd, Why};
 use run_host::{Event, Told};
 use run_memory::{Memory, RunError};
 use std::alloc::Global;
@@ -39,17 +39,19 @@ impl Drop for Machine {
 
 impl Machine {
     // An error is raised.
-    pub fn raise(&mut self, turns: u64, error: RunError) -> Result<Step, NoMemory>
+    #[cold]
+    pub fn raise(&mut self, alloc: Global, turns: u64, error: RunError) -> Result<Step, NoMemory>
         ensures { IfOk result (λ step. Does turns (raised (error_view error) (backs_view self.old.backs) (state_view self.old)) self.old self.new step) }
     {
         if self.begun >= turns {
-            return Ok(Step::Ended(Ending::Going));
+            return Ok(Step::Ended(StepEnd::Going));
         }
         self.begun += 1;
         self.told.push(Event::Raised {
             number: error.number,
         })?;
         self.operands.clear();
+        let error = Box::new(alloc, error)?;
         self.turn(Mode::Failing(error));
         Ok(Step::On)
     }
@@ -67,25 +69,29 @@ impl Machine {
     pub fn go_on(&mut self, pc: usize)
         ensures { self.new ≡ record self.old { mode = Mode.At pc } }
     {
-        self.turn(Mode::At { pc });
+        if let Mode::At { pc: here } = &mut self.mode {
+            *here = pc;
+        } else {
+            self.turn(Mode::At { pc });
+        }
     }
 
     // An error with a number is raised at the statement that runs.
     #[cold]
-    pub fn raise_number(&mut self, turns: u64, number: u16) -> Result<Step, NoMemory>
+    pub fn raise_number(&mut self, alloc: Global, turns: u64, number: u16) -> Result<Step, NoMemory>
         ensures { IfOk result (λ step. Does turns (raised (error_here number (memory_view self.old.memory)) (backs_view self.old.backs) (state_view self.old)) self.old self.new step) }
     {
         let error = self.memory.error_here(number);
-        self.raise(turns, error)
+        self.raise(alloc, turns, error)
     }
 
     // The run stops at the statement that runs.
     #[cold]
-    pub fn stopped(&self, why: Why) -> Ending
-        ensures { ending_view result ≡ stopped_at (why_view why) (memory_view self.now.memory) }
+    pub fn stopped(&self, why: Why) -> StepEnd
+        ensures { end_view result ≡ stopped_at (why_view why) (memory_view self.now.memory) }
     {
         let here = self.memory.error_here(0);
-        Ending::Stopped {
+        StepEnd::Stopped {
             why,
             procedure: here.procedure,
             statement: here.statement,

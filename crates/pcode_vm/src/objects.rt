@@ -46,7 +46,7 @@ impl Machine {
         let Some(value) = self.operands.pop_value() else {
             return Ok(Step::Stuck);
         };
-        let value = attempt!(self, turns, self.memory.plain_if_any(alloc, value));
+        let value = attempt!(self, alloc, turns, self.memory.plain_if_any(alloc, value));
         self.operands.push_value(value)?;
         self.go_on(pc + 1);
         Ok(Step::On)
@@ -69,7 +69,7 @@ impl Machine {
         let Some(left) = self.operands.pop_value() else {
             return Ok(Step::Stuck);
         };
-        let value = attempt!(self, turns, self.memory.compared(&left, &right));
+        let value = attempt!(self, alloc, turns, self.memory.compared(&left, &right));
         self.operands.push_value(value)?;
         self.go_on(pc + 1);
         Ok(Step::On)
@@ -91,7 +91,7 @@ impl Machine {
             return Ok(Step::Stuck);
         };
         let of = of.value_type(alloc)?;
-        let value = attempt!(self, turns, self.memory.typed_as(&of, &value));
+        let value = attempt!(self, alloc, turns, self.memory.typed_as(&of, &value));
         self.operands.push_value(value)?;
         self.go_on(pc + 1);
         Ok(Step::On)
@@ -113,7 +113,7 @@ impl Machine {
             return Ok(Step::Stuck);
         };
         let of = of.value_type(alloc)?;
-        let value = attempt!(self, turns, self.memory.set_object(&of, &value));
+        let value = attempt!(self, alloc, turns, self.memory.set_object(&of, &value));
         self.operands.push_value(value)?;
         self.go_on(pc + 1);
         Ok(Step::On)
@@ -136,7 +136,7 @@ impl Machine {
         let Some(value) = self.operands.pop_value() else {
             return Ok(Step::Stuck);
         };
-        attempt!(self, turns, self.memory.set_at(alloc, &path, value));
+        attempt!(self, alloc, turns, self.memory.set_at(alloc, &path, value));
         self.go_on(pc + 1);
         Ok(Step::On)
     }

@@ -67,9 +67,12 @@ impl Operands {
     }
 
     /// The last operands, so many, or none where there are too few.
-    pub fn take(&mut self, count: u32) -> Result<Option<Vec<Slot>>, NoMemory>
+    pub fn take(&mut self, alloc: Global, count: u32) -> Result<Option<Vec<Slot>>, NoMemory>
         ensures { IfOk result (λ taken. Takes count (operands_view self.old) taken (operands_view self.new)) }
     {
+        if count == 0 {
+            return Ok(Some(Vec::new(alloc)));
+        }
         let count = count as usize;
         if self.slots.len() < count {
             return Ok(None);

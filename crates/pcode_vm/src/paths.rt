@@ -53,7 +53,7 @@ impl Machine {
         let Some(path) = self.operands.pop_path() else {
             return Ok(Step::Stuck);
         };
-        let value = attempt!(self, turns, self.memory.read_path(alloc, &path));
+        let value = attempt!(self, alloc, turns, self.memory.read_path(alloc, &path));
         self.operands.push_value(value)?;
         self.go_on(pc + 1);
         Ok(Step::On)
@@ -74,11 +74,12 @@ impl Machine {
         let Some(path) = self.operands.pop_path() else {
             return Ok(Step::Stuck);
         };
-        let Some(places) = self.operands.take(numbers)? else {
+        let Some(places) = self.operands.take(alloc, numbers)? else {
             return Ok(Step::Stuck);
         };
         let path = attempt!(
             self,
+            alloc,
             turns,
             place_at(&mut self.memory, alloc, &path, places.as_slice())
         );
@@ -99,7 +100,7 @@ impl Machine {
         requires { pc + 1 < 2 ^ 64 }
         ensures { IfOk result (λ step. Acted turns (code_view code.now) (plain.ElementIn numbers) pc self.old self.new step) }
     {
-        let Some(places) = self.operands.take(numbers)? else {
+        let Some(places) = self.operands.take(alloc, numbers)? else {
             return Ok(Step::Stuck);
         };
         let Some(path) = self.operands.pop_path() else {
@@ -107,6 +108,7 @@ impl Machine {
         };
         let path = attempt!(
             self,
+            alloc,
             turns,
             place_at(&mut self.memory, alloc, &path, places.as_slice())
         );
@@ -150,7 +152,7 @@ impl Machine {
         requires { pc + 1 < 2 ^ 64 }
         ensures { IfOk result (λ step. Acted turns (code_view code.now) (plain.Dot block) pc self.old self.new step) }
     {
-        let path = attempt!(self, turns, self.memory.dot_at(alloc, block));
+        let path = attempt!(self, alloc, turns, self.memory.dot_at(alloc, block));
         self.operands.push_path(path)?;
         self.go_on(pc + 1);
         Ok(Step::On)
@@ -193,6 +195,7 @@ impl Machine {
         let told = &mut self.told;
         attempt!(
             self,
+            alloc,
             turns,
             assigned_at(&mut self.memory, alloc, path, value, told)
         );

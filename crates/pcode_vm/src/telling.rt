@@ -26,7 +26,7 @@ impl Machine {
         requires { pc + 1 < 2 ^ 64 }
         ensures { IfOk result (λ step. Acted turns (code_view code.now) (plain.Pack arguments) pc self.old self.new step) }
     {
-        let Some(taken) = self.operands.take(arguments)? else {
+        let Some(taken) = self.operands.take(alloc, arguments)? else {
             return Ok(Step::Stuck);
         };
         let value = packed(alloc, taken)?;
@@ -48,7 +48,7 @@ impl Machine {
         requires { pc + 1 < 2 ^ 64 }
         ensures { IfOk result (λ step. Acted turns (code_view code.now) (plain.Reorder (order_in (tables_of code.now) order) arguments) pc self.old self.new step) }
     {
-        let Some(taken) = self.operands.take(arguments)? else {
+        let Some(taken) = self.operands.take(alloc, arguments)? else {
             return Ok(Step::Stuck);
         };
         let slots = reordered(alloc, code.order(order), taken.as_slice())?;
@@ -69,7 +69,7 @@ impl Machine {
         requires { pc + 1 < 2 ^ 64 }
         ensures { IfOk result (λ step. Acted turns (code_view code.now) (plain.Lift arguments) pc self.old self.new step) }
     {
-        let Some(taken) = self.operands.take(arguments)? else {
+        let Some(taken) = self.operands.take(alloc, arguments)? else {
             return Ok(Step::Stuck);
         };
         let Some(value) = self.operands.pop_value() else {
@@ -94,7 +94,7 @@ impl Machine {
         requires { pc + 1 < 2 ^ 64 }
         ensures { IfOk result (λ step. Acted turns (code_view code.now) (plain.Show ends items) pc self.old self.new step) }
     {
-        let Some(taken) = self.operands.take(items)? else {
+        let Some(taken) = self.operands.take(alloc, items)? else {
             return Ok(Step::Stuck);
         };
         let text = self.memory.printed(alloc, ends, taken.as_slice())?;
@@ -115,10 +115,10 @@ impl Machine {
         requires { pc + 1 < 2 ^ 64 }
         ensures { IfOk result (λ step. Acted turns (code_view code.now) (plain.Throw arguments) pc self.old self.new step) }
     {
-        let Some(taken) = self.operands.take(arguments)? else {
+        let Some(taken) = self.operands.take(alloc, arguments)? else {
             return Ok(Step::Stuck);
         };
         let error = self.memory.raised_by(alloc, taken.as_slice())?;
-        self.raise(turns, error)
+        self.raise(alloc, turns, error)
     }
 }

@@ -64,7 +64,7 @@ impl Machine {
         requires { pc + 1 < 2 ^ 64 }
         ensures { IfOk result (λ step. Acted turns (code_view code.now) (plain.Index numbers) pc self.old self.new step) }
     {
-        let Some(places) = self.operands.take(numbers)? else {
+        let Some(places) = self.operands.take(alloc, numbers)? else {
             return Ok(Step::Stuck);
         };
         let Some(base) = self.operands.pop_value() else {
@@ -72,6 +72,7 @@ impl Machine {
         };
         let value = attempt!(
             self,
+            alloc,
             turns,
             item_by(&mut self.memory, alloc, &base, places.as_slice())
         );
@@ -95,7 +96,12 @@ impl Machine {
         let Some(whole) = self.operands.pop_value() else {
             return Ok(Step::Stuck);
         };
-        let value = attempt!(self, turns, self.memory.part_of(alloc, field, &whole));
+        let value = attempt!(
+            self,
+            alloc,
+            turns,
+            self.memory.part_of(alloc, field, &whole)
+        );
         self.operands.push_value(value)?;
         self.go_on(pc + 1);
         Ok(Step::On)
@@ -124,6 +130,7 @@ impl Machine {
         };
         let value = attempt!(
             self,
+            alloc,
             turns,
             self.operated(alloc, operator, compare, left, right, &first, &second)
         );
@@ -150,6 +157,7 @@ impl Machine {
         };
         let value = attempt!(
             self,
+            alloc,
             turns,
             self.operated_alone(alloc, operator, of, &operand)
         );
@@ -172,7 +180,7 @@ impl Machine {
         let Some(value) = self.operands.pop_value() else {
             return Ok(Step::Stuck);
         };
-        let value = attempt!(self, turns, self.memory.plain(alloc, value));
+        let value = attempt!(self, alloc, turns, self.memory.plain(alloc, value));
         self.operands.push_value(value)?;
         self.go_on(pc + 1);
         Ok(Step::On)
@@ -194,7 +202,7 @@ impl Machine {
             return Ok(Step::Stuck);
         };
         let of = of.value_type(alloc)?;
-        let value = attempt!(self, turns, self.memory.fitted(alloc, &of, value));
+        let value = attempt!(self, alloc, turns, self.memory.fitted(alloc, &of, value));
         self.operands.push_value(value)?;
         self.go_on(pc + 1);
         Ok(Step::On)
@@ -232,7 +240,7 @@ impl Machine {
         let Some(value) = self.operands.pop_value() else {
             return Ok(Step::Stuck);
         };
-        let value = attempt!(self, turns, self.show_value(alloc, &value));
+        let value = attempt!(self, alloc, turns, self.show_value(alloc, &value));
         self.operands.push_value(value)?;
         self.go_on(pc + 1);
         Ok(Step::On)

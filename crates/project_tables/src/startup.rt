@@ -1,16 +1,19 @@
 //! The macro to begin with.
 
-ghost use Rattle.std.specs.Prelude.{◌≡◌, IfOk, bytes_eq, map};
+ghost use Rattle.std.specs.Prelude.{◌≡◌, IfOk, bytes_eq, map, option_map};
+ghost use Rattle.std.specs.List.{list_any};
 ghost use Rattle.binder.specs.Bind as bind;
 ghost use Rattle.binder.specs.Names.{scope_of};
 ghost use Rattle.declared_names.specs.Outside.{the_outside};
 ghost use Rattle.declared_names.specs.View.{scope_view, space_view, written_view};
 ghost use Rattle.project_tables.specs.Startups.{startup_view};
+ghost use Rattle.vba_module.specs.Headers as headers;
+ghost use Rattle.vba_tree.specs.View.{listed_view, parameter_view, parameters_view};
 
 use bound_declarations::procedure_number;
 use declared_names::{Scope, Space, What, Written};
 use vba_base::{Name, NoMemory};
-use vba_tree::ProcedureWords;
+use vba_tree::{Listed, Parameter, Parameters, ProcedureWords};
 
 /// The macro to begin with, by the folds of its module's name and its own.
 #[derive(Clone, Copy)]
@@ -26,12 +29,54 @@ fn has_fold(name: &Name, fold: &[u16]) -> bool
     name.units() == fold
 }
 
-/// Is a procedure the macro to begin with?
+/// Must a call give a parameter: is it neither Optional nor a ParamArray?
+fn is_required(parameter: &Parameter) -> bool
+    ensures { result ≡ headers.is_required (parameter_view parameter.now) }
+{
+    parameter.optional_word.is_none() && parameter.param_array_word.is_none()
+}
+
+/// Must a call give one of these parameters?
+fn requires_one(parameters: &Listed<Parameter>) -> bool
+    ensures { result ≡ list_any headers.is_required (headers.all_of (listed_view parameter_view parameters.now)) }
+{
+    if is_required(&parameters.first) {
+        return true;
+    }
+    let mut left = parameters.others.as_slice();
+    'parameters: while let [next, behind @ ..] = left {
+        if is_required(&next.item) {
+            return true;
+        }
+        left = behind;
+    }
+    false
+}
+
+/// Must a call give one of the parameters of a header?
+fn requires_any(parameters: &Option<Parameters>) -> bool
+    ensures { result ≡ list_any headers.is_required (headers.parameters_of (option_map parameters_view parameters.now)) }
+{
+    match parameters {
+        Some(
+            Parameters {
+                parameters: Some(list),
+                ..
+            },
+        ) => requires_one(list),
+        _ => false,
+    }
+}
+
+/// Is a procedure the macro to begin with? It is a Sub of that name that can be called without an argument.
 fn is_startup(startup: Startup, written: Written) -> bool
     ensures { result ≡ bind.is_startup (startup_view startup.entry) (written_view written.entry) }
 {
     match written.header.words {
-        ProcedureWords::Sub(_) => has_fold(&written.header.name.name, startup.sub_fold),
+        ProcedureWords::Sub(_) => {
+            has_fold(&written.header.name.name, startup.sub_fold)
+                && !requires_any(&written.header.parameters)
+        }
         _ => false,
     }
 }
@@ -52,7 +97,7 @@ fn startup_in(scope: Scope, startup: Startup) -> Result<Option<u32>, NoMemory>
     Ok(None)
 }
 
-/// The number of the macro to begin with, where it is there.
+/// The number of the macro to begin with, where it is there, in a standard module.
 ///
 /// It fails only where numbers of procedures outgrow their type.
 #[tactic(auto, using(std::proofs::lemmas::List::drop_more))]
@@ -64,7 +109,7 @@ pub fn startup_number<'a>(
         ≡ bind.startup_number (scope_of the_outside (map space_view spaces.now) bind.no_space) (startup_view startup.entry) (map space_view spaces.now)) }
 {
     for space in spaces {
-        if has_fold(&space.name.fold, startup.module_fold) {
+        if has_fold(&space.name.fold, startup.module_fold) && !space.source.is_class {
             let scope = Scope {
                 spaces,
                 here: space,

@@ -5,3 +5,4 @@ pub mod Written
 pub mod Cells
 pub mod Clears
 pub mod Placed
+pub mod Raised

@@ -2,9 +2,12 @@
 use Rattle.std.proofs.Common.{◌≡◌, ℕ, ◌≤◌, ◌<◌, ◌-◌, zero, suc, List, [], ◌∷◌, ◌++◌, length, true, false, refl, sym, ap, ◌∙◌, eq-eqb, arith}
 use Rattle.std.specs.Prelude.{ℤ, ◌==◌, Some, None, Result, map, slice_index_or, take}
 use Rattle.vba_values.specs.declared.fault.Bad.{Bad}
+use Rattle.vba_values.specs.declared.types.WholeKind.{WholeKind}
+use Rattle.vba_values.specs.declared.types.WholeKind.TheVariants as kind
 use Rattle.vba_values.specs.declared.object.HostRef.{HostRef}
 use Rattle.vba_values.specs.declared.object.ObjRef.{ObjRef}
 use Rattle.vba_values.specs.Val.{Val, empty, null, missing, boolean, whole, currency, text, object, array, udt}
+use Rattle.vba_values.specs.Whole.{fits}
 use Rattle.sheet_host.specs.declared.area.Area.{Area}
 use Rattle.sheet_host.specs.AreaCells.{area_around}
 use Rattle.sheet_host.specs.Members.{number_of}
@@ -156,6 +159,10 @@ plain_other (currency n) m is = refl
 plain_other (text t) m is = refl
 plain_other (array b e i) m is = refl
 plain_other (udt n f) m is = refl
+
+-- a whole number that a Long can be is that one
+pub whole_itself : (k : WholeKind) (z : ℤ) (m : Memory) → fits kind.Long z ≡ true → long_of (whole k z) m ≡ Fine z m
+whole_itself k z m is = rw is refl
 
 pub spanned_joined : (s : ℕ) (a b : Area) (m : Memory) → a.sheet.0 ≡ s → b.sheet.0 ≡ s → around s a b m ≡ area_found (area_around a b) m
 spanned_joined s a b m first last =

@@ -3,6 +3,7 @@ use Rattle.std.specs.Prelude.{ℕ, zero, ◌==◌, ◌&&◌, ℤ, List, [], ◌�
 use Rattle.vba_values.specs.declared.object.HostRef.{HostRef}
 use Rattle.vba_values.specs.declared.object.HostRef.TheVariants as host
 use Rattle.vba_values.specs.declared.object.ObjRef.{ObjRef}
+use Rattle.vba_values.specs.Types.{Declared}
 use Rattle.vba_values.specs.Types as type
 use Rattle.vba_values.specs.Val.{Val, array, missing, object}
 use Rattle.vba_values.specs.Coerce.{coerce_of}
@@ -13,8 +14,8 @@ use Rattle.sheet_host.specs.AddressText.{area_of_text}
 use Rattle.sheet_host.specs.Writing.{cell_of, cells_of}
 use Rattle.bound_project.specs.Project.{Declarations}
 use Rattle.vba_meaning.specs.Memory.{Memory}
-use Rattle.vba_meaning.specs.Effects.{Effect, Fine, Bad-at, on_fine, answered, plain, range_value, area_in}
-use Rattle.vba_meaning.specs.Host.{are_places, area_found, assigned_through, cells_put, long_of, member_by, sheet_by, spanned, text_of, units_in}
+use Rattle.vba_meaning.specs.Effects.{Effect, Fine, Bad-at, on_fine, done, answered, plain, range_value, area_in}
+use Rattle.vba_meaning.specs.Host.{are_places, area_found, assigned_through, cells_put, item_by, long_of, member_by, sheet_by, spanned, text_of, units_in, written_default}
 use Rattle.run_host.specs.declared.assigning.Writes.{Writes}
 use Rattle.run_host.specs.declared.assigning.Writes.TheVariants as writes
 
@@ -81,3 +82,15 @@ one_put a w m = on_fine (answered (cell_of w) m) (λ c m1. cells_put a (c ∷ []
 abbrev pub takes_none : List ℕ → Bool
 takes_none (zero ∷ []) = true
 takes_none ns = false
+
+-- a value as one of a type: an object gives way to its default value
+abbrev pub plain_as : Declared → Val → Memory → Effect Val
+plain_as of v m = on_fine (plain v m) (λ w m1. answered (coerce_of w of) m1)
+
+-- an item of an object is assigned to
+abbrev pub object_item_assigned : Val → List Val → Val → Memory → Effect (Unit {0})
+object_item_assigned base vs v m = on_fine (item_by base vs m) (λ w m1. written_default w v m1)
+
+-- the item of a value that is no object is found, and takes the value for nothing
+abbrev pub no_item_assigned : Val → List Val → Val → Memory → Effect (Unit {0})
+no_item_assigned base vs v m = on_fine (item_by base vs m) (λ w m1. on_fine (plain v m1) (λ x m2. done m2))

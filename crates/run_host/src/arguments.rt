@@ -1,8 +1,10 @@
 // Arguments as numbers and texts: an object gives way to its default value.
-ghost use Rattle.std.specs.Prelude.{◌≡◌, map};
+ghost use Rattle.std.specs.Prelude.{◌≡◌, IfSome, map};
+ghost use Rattle.vba_values.specs.Val.{whole};
 ghost use Rattle.vba_values.specs.View.{view};
+ghost use Rattle.vba_values.specs.declared.types.WholeKind.TheVariants as kind;
 ghost use Rattle.vba_meaning.specs.Memory.{Memory as PlainMemory};
-ghost use Rattle.vba_meaning.specs.Effects.{plain, slot_value, slot_values};
+ghost use Rattle.vba_meaning.specs.Effects.{Fine, plain, slot_value, slot_values};
 ghost use Rattle.vba_meaning.specs.Host.{as_given, long_of, plains, text_of};
 ghost use Rattle.run_memory.specs.Acts.{Acts};
 ghost use Rattle.run_memory.specs.View.{memory_view, slot_view};
@@ -29,6 +31,9 @@ pub fn long_of(memory: &Memory, alloc: Global, slot: &Slot) -> Result<i32, OrMem
 pub fn long_of_value(memory: &Memory, alloc: Global, value: &Value) -> Result<i32, OrMemory<Bad>>
     ensures { Acts (λ number. number) result (memory_view memory.now) (long_of (view value.now) (memory_view memory.now)) }
 {
+    if let Some(number) = number_at_once(value) {
+        return Ok(number);
+    }
     match object_in(value) {
         Some(reference) => {
             let value = memory.plain_reference(alloc, reference)?;
@@ -36,6 +41,29 @@ pub fn long_of_value(memory: &Memory, alloc: Global, value: &Value) -> Result<i3
         }
         None => number_of(alloc, value),
     }
+}
+
+/// The number of a Long or an Integer, which wants no coercion.
+fn number_at_once(value: &Value) -> Option<i32>
+    ensures { (m : PlainMemory) → IfSome result (λ number. long_of (view value.now) m ≡ Fine number m) }
+{
+    match value {
+        Value::Long(number) => Some(of_long(*number)),
+        Value::Integer(number) => Some(of_integer(*number)),
+        _ => None,
+    }
+}
+
+fn of_long(number: i32) -> i32
+    ensures { (m : PlainMemory) → long_of (whole kind.Long number) m ≡ Fine result m }
+{
+    number
+}
+
+fn of_integer(number: i16) -> i32
+    ensures { (m : PlainMemory) → long_of (whole kind.Integer number) m ≡ Fine result m }
+{
+    i32::from(number)
 }
 
 /// An argument as a text.

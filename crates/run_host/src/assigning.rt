@@ -3,16 +3,18 @@ ghost use Rattle.std.specs.Prelude.{◌≡◌, map};
 ghost use Rattle.vba_values.specs.View.{view};
 ghost use Rattle.bound_project.specs.View.{declarations_view};
 ghost use Rattle.vba_meaning.specs.Effects.{slot_values};
-ghost use Rattle.vba_meaning.specs.Host.{assigned_through, mark_set, member_assigned, member_set, with_mark, written_default};
+ghost use Rattle.vba_meaning.specs.Memory.{Memory as PlainMemory};
+ghost use Rattle.vba_meaning.specs.Host.{assigned_through, item_assigned, mark_set, member_assigned, member_not_set, member_set, with_mark, written_default};
 ghost use Rattle.run_memory.specs.Acts.{Acts};
 ghost use Rattle.run_memory.specs.View.{memory_view, slot_view};
-ghost use Rattle.run_host.specs.Members.{set_through, way_of, written_at_once};
+ghost use Rattle.run_host.specs.Members.{no_item_assigned, object_item_assigned, set_through, way_of, written_at_once};
 ghost use Rattle.run_host.specs.Tells.{Tells};
 ghost use Rattle.run_host.specs.View.{told_view};
 
 use crate::arguments::as_given;
 use crate::counts::are_places;
 use crate::events::Told;
+use crate::indexing::item_by;
 use crate::members::member_by;
 use crate::writing::area_written;
 use bound_project::Declarations;
@@ -60,6 +62,67 @@ pub fn written_default(
             area_written(memory, alloc, area, value, told)
         }
         Value::Object(ObjRef::Host(HostRef::Sheets)) => Err(OrMemory::Fault(Bad::Raise(449))),
+        Value::Object(_) => Err(OrMemory::Fault(Bad::Raise(438))),
+        _ => Err(OrMemory::Fault(Bad::Raise(424))),
+    }
+}
+
+/// An item of a value that no variable has is assigned to: of an object that an index gives the default member is
+/// written, an element of an array takes the value for nothing.
+#[tactic(auto, using(crate::proofs::Telling::acts_tell))]
+pub fn item_assigned(
+    memory: &mut Memory,
+    alloc: Global,
+    base: &Value,
+    slots: &[Slot],
+    value: Value,
+    told: &mut Told,
+) -> Result<(), OrMemory<Bad>>
+    ensures { Tells (λ done. done) result (told_view told.old) (told_view told.new) (memory_view memory.new) (item_assigned (view base.now) (slot_values (map slot_view slots.now)) (view value) (memory_view memory.old)) }
+{
+    match base {
+        Value::Object(_) => object_item_assigned(memory, alloc, base, slots, value, told),
+        _ => no_item_assigned(memory, alloc, base, slots, value),
+    }
+}
+
+/// What an index gives of an object is assigned to.
+fn object_item_assigned(
+    memory: &mut Memory,
+    alloc: Global,
+    base: &Value,
+    slots: &[Slot],
+    value: Value,
+    told: &mut Told,
+) -> Result<(), OrMemory<Bad>>
+    ensures { Tells (λ done. done) result (told_view told.old) (told_view told.new) (memory_view memory.new) (object_item_assigned (view base.now) (slot_values (map slot_view slots.now)) (view value) (memory_view memory.old)) }
+{
+    let target = item_by(memory, alloc, base, slots)?;
+    written_default(memory, alloc, &target, value, told)
+}
+
+/// An element of an array that nothing keeps is found, and the value gives way to its default value, for nothing.
+#[tactic(auto, using(run_memory::proofs::Refused::refused_then))]
+fn no_item_assigned(
+    memory: &mut Memory,
+    alloc: Global,
+    base: &Value,
+    slots: &[Slot],
+    value: Value,
+) -> Result<(), OrMemory<Bad>>
+    ensures { Acts (λ done. done) result (memory_view memory.new) (no_item_assigned (view base.now) (slot_values (map slot_view slots.now)) (view value) (memory_view memory.old)) }
+{
+    item_by(memory, alloc, base, slots)?;
+    memory.plain(alloc, value)?;
+    Ok(())
+}
+
+/// Set of a member: 91 of Nothing, 438 of any other object, since none has one that takes it, and 424 of what is no object.
+pub fn member_not_set(base: &Value) -> Result<(), OrMemory<Bad>>
+    ensures { (m : PlainMemory) → Acts (λ done. done) result m (member_not_set (view base.now) m) }
+{
+    match base {
+        Value::Object(ObjRef::Nothing) => Err(OrMemory::Fault(Bad::Raise(91))),
         Value::Object(_) => Err(OrMemory::Fault(Bad::Raise(438))),
         _ => Err(OrMemory::Fault(Bad::Raise(424))),
     }

@@ -21,11 +21,14 @@ const NONE_OR_TWO: &[u32] = &[0, 2];
 
 const ONE_OR_TWO: &[u32] = &[1, 2];
 
+const ONE_TO_THREE: &[u32] = &[1, 2, 3];
+
 /// How many arguments a member may have, by its number.
 pub fn takes(of: &HostRef, number: u16) -> &'static [u32]
     ensures { result.now ≡ takes of.now number }
 {
     match of {
+        HostRef::ErrObject => err_takes(number),
         HostRef::Sheets => sheets_take(number),
         HostRef::Sheet { sheet: _ } => sheet_takes(number),
         HostRef::Area {
@@ -37,9 +40,17 @@ pub fn takes(of: &HostRef, number: u16) -> &'static [u32]
         } => area_takes(number),
         HostRef::Application
         | HostRef::Workbook
-        | HostRef::ErrObject
         | HostRef::RowsOf { count: _ }
         | HostRef::ColumnsOf { count: _ } => NONE,
+    }
+}
+
+fn err_takes(number: u16) -> &'static [u32]
+    ensures { result.now ≡ takes host.ErrObject number }
+{
+    match number {
+        4 => ONE_TO_THREE,
+        _ => NONE,
     }
 }
 

@@ -12,14 +12,16 @@ mod events;
 mod indexing;
 mod members;
 mod places;
+mod raising;
 mod ranges;
 mod reading;
 mod sheets;
 mod writing;
 
-pub use assigning::{member_assigned, written_default};
+pub use assigning::{item_assigned, member_assigned, member_not_set, written_default};
 pub use events::{Event, Told};
 pub use indexing::item_by;
 pub use members::{member_called, member_there};
 pub use places::{assigned_at, place_at};
+pub use raising::{error_given, is_raise};
 pub use sheets::first_sheet;

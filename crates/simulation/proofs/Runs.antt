@@ -10,20 +10,20 @@ use Rattle.error_frames.specs.declared.frame.ResumeKind.TheVariants as kind
 use Rattle.error_frames.specs.declared.frame.Taken.{Taken}
 use Rattle.error_frames.specs.declared.frame.Taken.TheVariants as taken
 use Rattle.bound_project.specs.Expressions.{Expr, expr, Node, not_given, constant, load, element_value, field_value, unary, binary, call, err_value, default_of, default_if_any, same, is_type, library, bound_of, host_object, active_sheet, host_member, Lvalue, variable, item, element, field, kept_place, Args, no_args, by_place, by_copy, by_default, by_list, in_order, Exprs, no_exprs, also, given_count, Prints, no_prints, shown, zone, operand_type}
-use Rattle.bound_project.specs.Statements.{Resizes, no_resizes, resize, Arrays, no_arrays, an_array, Tests, no_tests, test_is, test_range, Action, assign, assign_none, set, assign_default, assign_member, evaluate, let_property, set_property, print, raise, test, go_to, for_to, next, for_each, next_each, exit_each, select, case_of, redim, erase, with_place, with_value, end_with, go_sub, return_sub, exit_to, on_error, end_handler, clear_err, resume_again, resume_next, resume_at, stop, end_run, Statement}
+use Rattle.bound_project.specs.Statements.{Resizes, no_resizes, resize, Arrays, no_arrays, an_array, Tests, no_tests, test_is, test_range, Action, assign, assign_item, set, assign_default, assign_member, set_member, evaluate, let_property, set_property, print, raise, test, go_to, for_to, next, for_each, next_each, exit_each, select, case_of, redim, erase, with_place, with_value, end_with, go_sub, return_sub, exit_to, on_error, end_handler, clear_err, resume_again, resume_next, resume_at, stop, end_run, Statement}
 use Rattle.sheet_host.specs.Books.{Sheets}
 use Rattle.bound_project.specs.Project.{Project, class_at, statement_at, next_of, first_values}
 use Rattle.vba_meaning.specs.Paths.{Path, field_path}
 use Rattle.vba_meaning.specs.Memory.{Error, Ended, Faulted, Going, opening, Slot, value, path, Memory, Object, top, at_statement, frame_left, path_of, result, entered, error_here, number_or}
 use Rattle.vba_meaning.specs.References.{objects_in, objects_in_values, is_last, hold, next_waiting, taken_off, let_held, held_by, let_frame, object_at, as_told, gone, closed}
-use Rattle.vba_meaning.specs.Effects.{Raised, Term, Effect, operated, operated_alone, fitted, plain, condition, read_path, lent, unlent, slot_values, packed, reordered, show_value, printed, loop_off, loop_on, next_round, keep, selected, fits, fits_between, gone_sub, returned_sub, policy_of, err_off, policy_on, handler_off, failed_statement, resumed, taken_by, with_taken, raised_by, err_of, set_object, stop_here}
+use Rattle.vba_meaning.specs.Effects.{Raised, Term, Effect, operated, operated_alone, fitted, plain, condition, read_path, lent, unlent, slot_values, packed, reordered, startup_slots, show_value, printed, loop_off, loop_on, next_round, keep, selected, fits, fits_between, gone_sub, returned_sub, policy_of, err_off, policy_on, handler_off, failed_statement, resumed, taken_by, with_taken, raised_by, err_of, set_object, stop_here}
 use Rattle.vba_meaning.specs.Arrays.{part_of, redimmed, erased, keep_path, block_over, dot_at, each_off, each_begun, each_next}
 use Rattle.vba_meaning.specs.Objects.{compared, typed_as, set_at}
-use Rattle.vba_meaning.specs.Host.{first_sheet, item_by, place_at, assigned_at, member_there, member_called, written_default, member_assigned}
+use Rattle.vba_meaning.specs.Host.{first_sheet, item_by, place_at, assigned_at, member_there, member_called, is_raise, error_given, item_assigned, member_not_set, written_default, member_assigned}
 use Rattle.vba_meaning.specs.Library.{library_called, bound_at, plain_if_any}
-use Rattle.vba_meaning.specs.Meaning.{State, Res, Got, Failed, Over, Told, Turn, ◌>>=◌, turn, turned, with_memory, raise_error, perform, Callee, eval, eval_node, eval_place, evals, eval_list, eval_prints, tested, cases, resizes, erases, exec, Doing, nowhere, enter, called_by, callees, terminate_by, tell, finish, end_of, one, let_go, lets_held, lets_frame, leave, left, pass_on, next_here, decide_by, decide, settle, at_statement_or, level, doing, close, Run, run_of, first_state, meaning}
-use Rattle.pcode.specs.Instructions.{Instr, Begin, Push, LoadErr, PathOf, ReadThrough, ElementOf, ElementIn, FieldOf, Dot, Index, PartOf, Operate, OperateAlone, Plain, PlainIfAny, PushHost, FirstSheet, MemberThere, MemberOf, Same, IsType, Library, BoundAt, Fit, FitObject, Drop, Lend, Pack, Reorder, Lift, Call, Store, SetAt, StoreDefault, StoreMember, ShowText, Show, Throw, LoopOff, LoopOn, NextRound, EachOff, EachOn, NextItem, Keep, Selected, IfFits, IfBetween, Redim, EraseAt, KeepPath, DropKept, PutReturn, TakeReturn, SetPolicy, HandlerOff, ErrOff, Again, Behind, Resumes, Finish, Branch, Halt, StopHere, Leave, Code}
-use Rattle.pcode.specs.Machine.{After, Goes-on, Decide, Return, Back-to, Pass, Close, Back, Caller, EndOf, Move, Goes, Ends, Turns, at, failing, letting, lets_all, finishes, raises_then, raised, done_then, then_at, then_let_go, then_test, then_jump, then_branch, take_args, pushed, enters, enter_by, calls, then_statement, looking, act, finished_by, terminates_by, ends_by, lets_one_by, closing, returned_by, passed_on, takes, decides, comes_by, Fin, Done, tells, follow, machine, first_move, run_code}
+use Rattle.vba_meaning.specs.Meaning.{State, Res, Got, Failed, Over, Told, Turn, ◌>>=◌, turn, turned, with_memory, raise_error, perform, Callee, eval, eval_node, eval_place, evals, eval_list, eval_prints, tested, cases, resizes, erases, exec, Doing, nowhere, enter, called_by, callees, terminate_by, tell, finish, end_of, one, let_go, lets_held, lets_frame, leave, left, pass_on, next_here, decide_by, decide, settle, at_statement_or, level, doing, close, Run, run_of, first_state, meaning, member_used}
+use Rattle.pcode.specs.Instructions.{Instr, Begin, Push, LoadErr, PathOf, ReadThrough, ElementOf, ElementIn, FieldOf, Dot, Index, PartOf, Operate, OperateAlone, Plain, PlainIfAny, PushHost, FirstSheet, MemberThere, MemberOf, Same, IsType, Library, BoundAt, Fit, FitObject, Drop, Lend, Pack, Reorder, Lift, Call, Store, SetAt, StoreDefault, StoreMember, StoreItem, SetMember, ShowText, Show, Throw, LoopOff, LoopOn, NextRound, EachOff, EachOn, NextItem, Keep, Selected, IfFits, IfBetween, Redim, EraseAt, KeepPath, DropKept, PutReturn, TakeReturn, SetPolicy, HandlerOff, ErrOff, Again, Behind, Resumes, Finish, Branch, Halt, StopHere, Leave, Code}
+use Rattle.pcode.specs.Machine.{After, Goes-on, Decide, Return, Back-to, Pass, Close, Back, Caller, EndOf, Move, Goes, Ends, Turns, at, failing, letting, lets_all, finishes, raises_then, raised, done_then, then_at, then_let_go, then_test, then_jump, then_branch, take_args, pushed, enters, enter_by, calls, then_statement, looking, act, finished_by, terminates_by, ends_by, lets_one_by, closing, returned_by, passed_on, takes, decides, comes_by, Fin, Done, tells, follow, machine, first_move, run_code, uses_member}
 use Rattle.pcode.specs.Code.{count, list_count, prints_count, expr_code, node_code, place_code, args_code, list_code, prints_code, resizes_code, erases_code, Entry, tests_code, action_code}
 use Rattle.pcode.specs.Layout.{HasStatement, Laid}
 use Rattle.pcode.proofs.Stands.{UpTo, up_split, up_to}
@@ -170,6 +170,15 @@ module _ (pr : Project) (code : Code) (bound n : ℕ) (callee : Callee) (known :
   ends_at : {A : Type 0} {m : Move} {bad : Error → State → Move} {r : Res A} (on : ℕ → A → State → Move) {pc to : ℕ} → pc ≡ to → Runs code bound n m (on pc) bad r → Runs code bound n m (on to) bad r
   ends_at {m = m} {bad = bad} {r = r} on h a = subst (λ i. Runs code bound n m (on i) bad r) h a
 
+  -- a member is used, or Err raises an error
+  member_runs : (name : List ℕ) (v w : Val) (vs : List Val) (pc : ℕ) (st : List Slot) (bs : List Back) (s : State) → Enough bound n s
+      → Runs code bound n (uses_member code name v w vs pc st bs s) (on_value st bs pc) (failed bs) (member_used pr name v w vs s)
+  member_runs name v w vs pc st bs s good =
+      either (is_raise name v)
+      (bind (perform (error_given vs) s) (performs {got = λ e s1. raised e bs s1} (error_given vs) bs s good) (λ e s1 g1. raises e bs s1 g1))
+      (subst (λ d. Runs code bound n (done_then (member_called d name vs v w s.memory) bs s (on_value st bs pc)) (on_value st bs pc) (failed bs) (perform (member_called pr.declared name vs v w) s)) (sym tables)
+      (performs (member_called pr.declared name vs v w) bs s good))
+
   mutual
     pub expr_runs : (e : Expr) (pc to : ℕ) (st : List Slot) (bs : List Back) (s : State) → UpTo code.instrs pc (expr_code e) to → Enough bound n s
         → Runs code bound n (Goes (at pc st bs s)) (on_value st bs to) (failed bs) (eval e callee pr s)
@@ -231,14 +240,13 @@ module _ (pr : Project) (code : Code) (bound n : ℕ) (callee : Callee) (known :
         first (on_value st bs) (eval e callee pr s) (expr_code e) _ pc to _ has (λ mid h. expr_runs e pc mid st bs s h good) (λ v s1 g1 i h1.
         instr (MemberThere name (given_count es)) i (value v ∷ st) bs s1 h1.0
         (subst (λ d. Runs code bound n (done_then (member_there d name (given_count es) v s1.memory) bs s1 (on_value (value v ∷ st) bs (i + 1))) (on_value st bs to) (failed bs)
-        (perform (member_there pr.declared name (given_count es) v) s1 >>= λ w s2. eval_list es callee pr s2 >>= λ xs s3. perform (member_called pr.declared name (slot_values xs) v w) s3)) (sym tables)
+        (perform (member_there pr.declared name (given_count es) v) s1 >>= λ w s2. eval_list es callee pr s2 >>= λ xs s3. member_used pr name v w (slot_values xs) s3)) (sym tables)
         (bind (perform (member_there pr.declared name (given_count es) v) s1) (performs {got = on_value (value v ∷ st) bs (i + 1)} (member_there pr.declared name (given_count es) v) bs s1 g1) (λ w s2 g2.
         first_each (on_args (value w ∷ value v ∷ st) bs) (eval_list es callee pr s2) (list_code es) _ (i + 1) to _ h1.1 (list_counts es callee pr s2)
         (λ mid h. list_runs es (i + 1) mid (value w ∷ value v ∷ st) bs s2 h g2) (λ xs s3 len g3 j h2.
         instr (MemberOf name (length xs)) j (pushed xs (value w ∷ value v ∷ st)) bs s3 (h2.0 ∙ ap (λ m. Some (MemberOf name m)) (sym len))
-        (subst (λ m. Runs code bound n m (on_value st bs to) (failed bs) (perform (member_called pr.declared name (slot_values xs) v w) s3)) (sym (all_taken xs (value w ∷ value v ∷ st) _))
-        (subst (λ d. Runs code bound n (done_then (member_called d name (slot_values xs) v w s3.memory) bs s3 (on_value st bs (j + 1))) (on_value st bs to) (failed bs) (perform (member_called pr.declared name (slot_values xs) v w) s3)) (sym tables)
-        (ends_at (on_value st bs) h2.1 (performs (member_called pr.declared name (slot_values xs) v w) bs s3 g3)))))))))
+        (subst (λ m. Runs code bound n m (on_value st bs to) (failed bs) (member_used pr name v w (slot_values xs) s3)) (sym (all_taken xs (value w ∷ value v ∷ st) _))
+        (ends_at (on_value st bs) h2.1 (member_runs name v w (slot_values xs) (j + 1) st bs s3 g3))))))))
     node_runs (same a b) pc to st bs s has good =
         first (on_value st bs) (eval a callee pr s) (expr_code a) _ pc to _ has (λ mid h. expr_runs a pc mid st bs s h good) (λ v s1 g1 i h1.
         first (on_value (value v ∷ st) bs) (eval b callee pr s1) (expr_code b) _ i to _ h1 (λ mid h. expr_runs b i mid (value v ∷ st) bs s1 h g1) (λ w s2 g2 j h2.
@@ -459,10 +467,14 @@ module _ (pr : Project) (code : Code) (entry : ℕ → Entry) (laid : Laid pr en
       then_value pr code bound n callee known laid.declared e _ pc to [] bs s has good (λ v s1 g1 mid h.
       then_place pr code bound n callee known laid.declared x _ mid to (value v ∷ []) bs s1 h g1 (λ q s2 g2 j h2.
       instr Store j (path q ∷ value v ∷ []) bs s2 h2.0 (used (assigned_at q v) k (j + 1) bs s2 h2.1.0 g2)))
-  action_runs (assign_none x e) i k pc to bs s has good =
+  action_runs (assign_item base es e) i k pc to bs s has good =
       then_value pr code bound n callee known laid.declared e _ pc to [] bs s has good (λ v s1 g1 i1 h1.
-      then_value pr code bound n callee known laid.declared x _ i1 to (value v ∷ []) bs s1 h1 g1 (λ w s2 g2 j h.
-      instr Drop j (value w ∷ value v ∷ []) bs s2 h.0 (instr Drop (j + 1) (value v ∷ []) bs s2 h.1.0 (ends_here k (j + 1 + 1) bs s2 h.1.1.0 g2))))
+      then_value pr code bound n callee known laid.declared base _ i1 to (value v ∷ []) bs s1 h1 g1 (λ w s2 g2 i2 h2.
+      first_each pr code bound n callee known laid.declared (on_args (value w ∷ value v ∷ []) bs) (eval_list es callee pr s2) (list_code es) _ i2 to _ h2 (list_counts es callee pr s2)
+      (λ mid h. list_runs pr code bound n callee known laid.declared es i2 mid (value w ∷ value v ∷ []) bs s2 h g2) (λ xs s3 len g3 j h.
+      instr (StoreItem (length xs)) j (pushed xs (value w ∷ value v ∷ [])) bs s3 (h.0 ∙ ap (λ m. Some (StoreItem m)) (sym len))
+      (subst (λ m. Runs code bound n m (with_end (entry p) bs) (failed bs) (perform (item_assigned w (slot_values xs) v) s3 >>= λ u s4. Got k s4)) (sym (all_taken xs (value w ∷ value v ∷ []) _))
+      (used (item_assigned w (slot_values xs) v) k (j + 1) bs s3 h.1.0 g3)))))
   action_runs (set x e) i k pc to bs s has good =
       then_value pr code bound n callee known laid.declared e _ pc to [] bs s has good (λ v s1 g1 mid h.
       then_place pr code bound n callee known laid.declared x _ mid to (value v ∷ []) bs s1 h g1 (λ q s2 g2 j h2.
@@ -485,6 +497,10 @@ module _ (pr : Project) (code : Code) (entry : ℕ → Entry) (laid : Laid pr en
       (subst (λ d. Runs code bound n (done_then (member_assigned d name (slot_values xs) w x v s4.memory) bs s4 (then_at (j + 1) [] bs)) (with_end (entry p) bs) (failed bs)
       (perform (member_assigned pr.declared name (slot_values xs) w x v) s4 >>= λ u s5. Got k s5)) (sym laid.declared)
       (used (member_assigned pr.declared name (slot_values xs) w x v) k (j + 1) bs s4 h.1.0 g4)))))))))
+  action_runs (set_member base e) i k pc to bs s has good =
+      then_value pr code bound n callee known laid.declared e _ pc to [] bs s has good (λ v s1 g1 i1 h1.
+      then_value pr code bound n callee known laid.declared base _ i1 to (value v ∷ []) bs s1 h1 g1 (λ w s2 g2 j h.
+      instr SetMember j (value w ∷ value v ∷ []) bs s2 h.0 (used (member_not_set w) k (j + 1) bs s2 h.1.0 g2)))
   action_runs (evaluate e) i k pc to bs s has good =
       then_value pr code bound n callee known laid.declared e _ pc to [] bs s has good (λ v s1 g1 mid h.
       instr Drop mid (value v ∷ []) bs s1 h.0 (ends_here k (mid + 1) bs s1 h.1.0 g1))
@@ -747,15 +763,16 @@ module _ (pr : Project) (code : Code) (entry : ℕ → Entry) (laid : Laid pr en
   pub simulates : (book : Sheets) → (j : ℕ) × (run_code code book bound j ≡ fin_of (meaning pr book bound))
   simulates book =
       let s : State = first_state pr book in
-      let m : Move = enters code false pr.startup empty [] [] s in
-      let r : Res (Unit {0}) = enter pr (doing pr bound) false pr.startup empty [] s >>= λ v s1. close (doing pr bound) (first_values pr.declared pr.declared.shared) 0 s1 in
+      let xs : List Slot = startup_slots pr.declared pr.startup in
+      let m : Move = enters code false pr.startup empty xs [] s in
+      let r : Res (Unit {0}) = enter pr (doing pr bound) false pr.startup empty xs s >>= λ v s1. close (doing pr bound) (first_values pr.declared pr.declared.shared) 0 s1 in
       let runs : Runs code bound bound m (λ u s1. Ends Ended s1) (λ e s1. Ends (Faulted e) s1) r =
-      bind {mid = returned_by looking code []} (enter pr (doing pr bound) false pr.startup empty [] s)
-      (stands_runs pr code entry laid bound bound (doing pr bound) (works bound) false pr.startup empty [] [] s (omega arith))
+      bind {mid = returned_by looking code []} (enter pr (doing pr bound) false pr.startup empty xs s)
+      (stands_runs pr code entry laid bound bound (doing pr bound) (works bound) false pr.startup empty xs [] s (omega arith))
       (λ v s1 g1. subst (λ t. Runs code bound bound (closing (first_values t t.shared) 0 s1) (λ u s2. Ends Ended s2) (λ e s2. Ends (Faulted e) s2) (close (doing pr bound) (first_values pr.declared pr.declared.shared) 0 s1)) (sym laid.declared)
       (close_runs bound (first_values pr.declared pr.declared.shared) 0 s1 (λ e s2. Ends (Faulted e) s2) g1)) in
       let first : first_move code book ≡ m = first_is in
       let p = last bound m r runs in
       (p.0, ap (λ x. follow bound x (machine code bound p.0)) first ∙ p.1) where
-        first_is : first_move code book ≡ enters code false pr.startup empty [] [] (first_state pr book)
-        first_is = ap (λ i. enters code false i empty [] [] (record { memory = opening code.declared book; begun = 0 })) laid.startup ∙ ap (λ d. enters code false pr.startup empty [] [] (record { memory = opening d book; begun = 0 })) laid.declared
+        first_is : first_move code book ≡ enters code false pr.startup empty (startup_slots pr.declared pr.startup) [] (first_state pr book)
+        first_is = ap (λ i. enters code false i empty (startup_slots code.declared i) [] (record { memory = opening code.declared book; begun = 0 })) laid.startup ∙ ap (λ d. enters code false pr.startup empty (startup_slots d pr.startup) [] (record { memory = opening d book; begun = 0 })) laid.declared

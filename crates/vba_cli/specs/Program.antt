@@ -1,5 +1,5 @@
 -- What source files are: a project that runs, or why they are none. The rules come in phases: those of tokens and
--- directives for all modules, then those of lines and modules for all, then those of names.
+-- directives for all modules, then those of lines and modules for all, then those of names and of the startup.
 use Rattle.std.specs.Prelude.{ℕ, suc, List, [], ◌∷◌, codes, false, Option, Some, None, Result, Ok, Err}
 use Rattle.vba_base.specs.Decode.{decoded}
 use Rattle.vba_base.specs.declared.place.Refusal.{Refusal}

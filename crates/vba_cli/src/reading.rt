@@ -1,6 +1,7 @@
 //! The project that the files of standard modules are.
 
 ghost use Rattle.std.specs.Prelude.{◌≡◌, ◌≤◌, [], ◌∷◌, ◌++◌, length, map, option_map, IfOk, List, OnOk, Option};
+ghost use Rattle.binder.specs.Bind.{startup_fault as plain_fault};
 ghost use Rattle.binder.specs.Sources.{Source as PlainSource};
 ghost use Rattle.binder.specs.Scopes.{spaces_from};
 ghost use Rattle.constant_values.specs.Rounds.{AreNumbered};
@@ -15,7 +16,7 @@ ghost use Rattle.vba_cli.specs.Programs.{IsProgram, first_fold, module_view};
 
 use crate::modules::ReadModule;
 use crate::phases::{keep_all, read_all};
-use bind_project::{Bound, Startup as BoundStartup, bind};
+use bind_project::{Bound, Startup as BoundStartup, bind, startup_fault};
 use declared_names::{Source, Space, spaces_of};
 use list_file::{FileBytes, Startup};
 use name_rules::verdict;
@@ -25,7 +26,7 @@ use vba_base::{NoMemory, OrMemory, Refusal};
 /// The project that the files of standard modules are, or the place of a part that isn't built yet. The run begins at
 /// the startup of their list, or else at Main of the first module. The fault is the first rule that is broken: the
 /// first of the rules of tokens and directives, in the order of the modules, else the first of those of lines and
-/// modules, else the first of those of names. No file has more than 67108864 bytes.
+/// modules, else the first of those of names, else that the startup isn't there. No file has more than 67108864 bytes.
 #[tactic(auto, unfolding(crate::specs::Program::program_of))]
 pub fn program(
     alloc: Global,
@@ -117,8 +118,9 @@ fn judge(
     judged(alloc, Modules { spaces, start })
 }
 
-// The modules of a project: refused by the first rule of names that they break, or else bound.
-#[tactic(auto, using(crate::proofs::Bound::modules_broken, crate::proofs::Bound::modules_bound))]
+// The modules of a project: refused by the first rule of names that they break, or where the macro to begin with isn't
+// there, or else bound.
+#[tactic(auto, using(crate::proofs::Bound::modules_broken, crate::proofs::Bound::modules_unstarted, crate::proofs::Bound::modules_bound))]
 fn judged<'a>(alloc: Global, modules: Modules<'a>) -> Result<Bound, OrMemory<Refusal>>
     requires { AreNumbered (map space_view modules.spaces.now) }
     ensures { (ms : List PlainSource) → map space_view modules.entry.spaces.now ≡ spaces_from 0 ms → IsProgram (bound_modules (option_map (λ s. start_view s.now) modules.entry.start) ms) result }
@@ -126,8 +128,20 @@ fn judged<'a>(alloc: Global, modules: Modules<'a>) -> Result<Bound, OrMemory<Ref
     if let Some(refusal) = verdict(alloc, modules.spaces)? {
         return Err(OrMemory::Fault(refusal));
     }
-    let bound = bind_at(alloc, modules.spaces, modules.start)?;
-    Ok(bound)
+    match fault_at(modules.spaces, modules.start)? {
+        Some(refusal) => Err(OrMemory::Fault(refusal)),
+        None => Ok(bind_at(alloc, modules.spaces, modules.start)?),
+    }
+}
+
+// S33: the macro to begin with isn't there.
+fn fault_at<'a>(
+    spaces: &'a [Space<'a>],
+    start: Option<&'a Startup>,
+) -> Result<Option<Refusal>, NoMemory>
+    ensures { (ms : List PlainSource) → map space_view spaces.now ≡ spaces_from 0 ms → IfOk result (λ fault. fault ≡ plain_fault the_outside (map space_view spaces.now) (begins_at (option_map (λ s. start_view s.now) start.entry) ms)) }
+{
+    startup_fault(spaces, startup_of(spaces, start))
 }
 
 // The modules of a project, bound with the macro to begin with.

@@ -5,7 +5,7 @@ use Rattle.vba_values.specs.declared.fault.OutKind.TheVariants.{Elements}
 use Rattle.vba_values.specs.Types as type
 use Rattle.vba_values.specs.Val.{boolean}
 use Rattle.bound_project.specs.Expressions.{shared, Variable, constant, element_value, field_value, call, Lvalue, variable, item, element, field, kept_place, no_args, by_place, by_copy, by_list, no_exprs, also, no_prints, shown}
-use Rattle.bound_project.specs.Statements.{skipped, assign, assign_none, print, for_each, next_each, exit_each, redim, no_resizes, resize, erase, no_arrays, an_array, with_place, with_value, end_with, go_to, on_error}
+use Rattle.bound_project.specs.Statements.{skipped, assign, assign_item, print, for_each, next_each, exit_each, redim, no_resizes, resize, erase, no_arrays, an_array, with_place, with_value, end_with, go_to, on_error}
 use Rattle.bound_project.specs.Project.{Project, Declaration}
 use Rattle.vba_meaning.specs.Memory.{Ended, Stopped, outside}
 use Rattle.vba_meaning.specs.Effects.{Raised}
@@ -221,8 +221,8 @@ results = with_types ((declare type.long ∷ []) ∷ []) (program [] ((
       on_error skipped ∷ with_value (e (type.udt 0) (call 1 no_args)) ∷ assign (x_of (kept_place 1)) (plus (at_place type.long (x_of (kept_place 1))) (n 1)) ∷
       show (at_place type.long (x_of (kept_place 1))) ∷ end_with 1 ∷ show (e type.long (field_value (e (type.udt 0) (call 1 no_args)) 0)) ∷
       show (e type.long (element_value (e long_array (call 2 no_args)) (one 1))) ∷
-      assign_none (e type.long (element_value (e long_array (call 2 no_args)) (one 1))) (n 3) ∷
-      assign_none (e type.long (element_value (e long_array (call 2 no_args)) (one 7))) (n 3) ∷ []),
+      assign_item (e long_array (call 2 no_args)) (one 1) (n 3) ∷
+      assign_item (e long_array (call 2 no_args)) (one 7) (n 3) ∷ []),
 ) ∷
     (record (sub []) { result = declare (type.udt 0) }, flat 0 (assign (x_of (variable (of_type 0 (type.udt 0)))) (n 4) ∷ [])) ∷
     (record (sub []) { result = declare long_array }, flat 0 (redim_to (longs 0) 1 ∷ el_becomes (longs 0) 1 (n 8) ∷ [])) ∷ []))

@@ -24,7 +24,7 @@ use Rattle.sheet_host.specs.Sheets.{Cells, position_cmp, nth_cell, unwritten}
 use Rattle.sheet_host.proofs.Positions.{position_total}
 use Rattle.sheet_host.proofs.Puts.{stored_count}
 use Rattle.bound_project.specs.Expressions.{Variable, Expr, constant, default_of, bound_of, host_object, variable, item, no_exprs, also, no_prints, shown}
-use Rattle.bound_project.specs.Statements.{skipped, assign_default, assign_member, set, print, on_error}
+use Rattle.bound_project.specs.Statements.{skipped, assign_item, assign_default, assign_member, set, print, on_error}
 use Rattle.bound_project.specs.Project.{Project}
 use Rattle.vba_meaning.specs.Memory.{Memory, Ended, Stopped, outside}
 use Rattle.vba_meaning.specs.Effects.{Cell, Raised, Tell, done, area_in}
@@ -89,19 +89,19 @@ arrayed_is : told (meaning arrayed unwritten_book 50) ≡ (Ended, line (codes " 
 unfolding digits read read_digits nearest folded caseless
 arrayed_is = rw (unwritten_at 1 1, unwritten_at 2 1)
 
--- an array is written to D4:C3 by rows, and is too small for C3:E3
+-- an array is written to H4:G3 by rows, and is too small for G3:I3
 abbrev from_one : ℕ → Bound
 from_one k = record { low = pos 1; high = pos k }
 
 abbrev four : Expr
 four = e type.variant (constant (array (from_one 2 ∷ from_one 2 ∷ []) type.variant (val (whole kind.Integer (pos 1)) (val (whole kind.Integer (pos 2)) (val (whole kind.Integer (pos 3)) (val null no_vals))))))
 
-filled_is : told (meaning (main [] (flat 0 (becomes_value (range_at (codes "D4:C3")) four ∷ []))) unwritten_book 50) ≡
-    (Ended, Cell 1 3 3 (cell.Long (pos 1)) ∷ Cell 1 3 4 (cell.Long (pos 3)) ∷ Cell 1 4 3 (cell.Long (pos 2)) ∷ Cell 1 4 4 cell.Empty ∷ [])
+filled_is : told (meaning (main [] (flat 0 (becomes_value (range_at (codes "H4:G3")) four ∷ []))) unwritten_book 50) ≡
+    (Ended, Cell 1 3 7 (cell.Long (pos 1)) ∷ Cell 1 3 8 (cell.Long (pos 3)) ∷ Cell 1 4 7 (cell.Long (pos 2)) ∷ Cell 1 4 8 cell.Empty ∷ [])
 unfolding digits folded caseless
-filled_is = rw (begun 3 3 2 2 (cell.Long (pos 1) ∷ cell.Long (pos 3) ∷ cell.Long (pos 2) ∷ cell.Empty ∷ []) (omega arith))
+filled_is = rw (begun 3 7 2 2 (cell.Long (pos 1) ∷ cell.Long (pos 3) ∷ cell.Long (pos 2) ∷ cell.Empty ∷ []) (omega arith))
 
-too_small_is : told (meaning (main [] (flat 0 (on_error skipped ∷ becomes_value (range_at (codes "C3:E3")) four ∷ []))) unwritten_book 50) ≡ (Ended, Raised (pos 1004) ∷ [])
+too_small_is : told (meaning (main [] (flat 0 (on_error skipped ∷ becomes_value (range_at (codes "G3:I3")) four ∷ []))) unwritten_book 50) ≡ (Ended, Raised (pos 1004) ∷ [])
 unfolding digits folded caseless
 too_small_is = refl
 
@@ -162,3 +162,8 @@ used_is : (written : Cells) → cells.entries written ≡ ((3, 2), cell.Long (po
     (Ended, line (codes "$A$3:$B$5") ∷ [])
 unfolding digits folded caseless
 used_is written e = rw e
+
+-- an item of a range that a value has is written: F()(2, 1) = 5 where F gives H4:G3
+item_is : told (meaning (main [] (flat 0 (assign_item (range_at (codes "H4:G3")) (pair (n 2) (n 1)) (n 5) ∷ []))) unwritten_book 50) ≡ (Ended, Cell 1 4 7 (cell.Long (pos 5)) ∷ [])
+unfolding digits folded caseless
+item_is = rw (begun 4 7 1 1 (cell.Long (pos 5) ∷ []) (omega arith))

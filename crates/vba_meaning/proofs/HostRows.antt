@@ -12,10 +12,10 @@ use Rattle.vba_values.specs.declared.object.HostRef.TheVariants as host
 use Rattle.vba_values.specs.declared.object.ObjRef.TheVariants.{Nothing}
 use Rattle.vba_values.specs.declared.types.OpKind.TheVariants as op
 use Rattle.vba_values.specs.Types as type
-use Rattle.vba_values.specs.Val.{object}
+use Rattle.vba_values.specs.Val.{null, object}
 use Rattle.sheet_host.specs.Books.{Sheets}
-use Rattle.bound_project.specs.Expressions.{Variable, Expr, constant, host_object, active_sheet, host_member, Exprs, no_exprs, also, no_prints, shown}
-use Rattle.bound_project.specs.Statements.{Action, skipped, assign_default, assign_member, print, for_each, next_each, on_error}
+use Rattle.bound_project.specs.Expressions.{Variable, Expr, constant, err_source, err_description, err_value, host_object, active_sheet, host_member, variable, Exprs, no_exprs, also, no_prints, shown}
+use Rattle.bound_project.specs.Statements.{Action, skipped, set, set_member, assign_default, assign_member, evaluate, print, for_each, next_each, on_error}
 use Rattle.bound_project.specs.Project.{Project}
 use Rattle.vba_meaning.specs.Memory.{Ended, Stopped, outside}
 use Rattle.vba_meaning.specs.Effects.{Raised}
@@ -175,3 +175,24 @@ marked_is : told (meaning marked book 50) ≡
     (Ended, line (codes "FalseTrue") ∷ Raised (pos 438) ∷ Raised (pos 438) ∷ Raised (pos 449) ∷ Raised (pos 13) ∷ [])
 unfolding digits read read_digits folded caseless
 marked_is = refl
+
+-- On Error Resume Next ¶ Set o = Err ¶ o.Raise 7, "A", "B" ¶ Debug.Print Err.Source; Err.Description ¶ o.Raise 1 \ 0
+-- ¶ o.Raise ¶ o.Raise 1, 2, 3, 4 ¶ o.Raise Null ¶ Set o.Source = o ¶ the same of Nothing and of a number
+abbrev late : Project
+late = main (type.object ∷ []) (flat 0 (
+    on_error skipped ∷ set (variable held) (e type.object (host_object host.ErrObject)) ∷ raises (also (n 7) (pair (words (codes "A")) (words (codes "B")))) ∷
+    print (shown (e type.text (err_value err_source)) (shown (e type.text (err_value err_description)) no_prints)) true ∷
+    raises (also half no_exprs) ∷ raises no_exprs ∷ raises (also (n 1) (also (n 2) (pair (n 3) (n 4)))) ∷ raises (also (e type.variant (constant null)) no_exprs) ∷
+    set_member (v held) (v held) ∷ set_member nothing (v held) ∷ set_member (n 1) (v held) ∷ [])) where
+      held : Variable
+      held = of_type 1 type.object
+
+      raises : Exprs → Action
+      raises es = evaluate (member type.variant (v held) (codes "raise") es)
+
+late_is : told (meaning late book 50) ≡ (
+  Ended,
+  Raised (pos 7) ∷ line (codes "AB") ∷ Raised (pos 11) ∷ Raised (pos 449) ∷ Raised (pos 450) ∷ Raised (pos 94) ∷ Raised (pos 438) ∷ Raised (pos 91) ∷ Raised (pos 424) ∷ [],
+)
+unfolding division digits folded caseless
+late_is = refl

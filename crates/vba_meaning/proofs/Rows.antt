@@ -1,5 +1,5 @@
 -- Worked rows: what small programs tell.
-use Rattle.std.specs.Prelude.{◌≡◌, pos, [], ◌∷◌, codes, true, refl, Some}
+use Rattle.std.specs.Prelude.{◌≡◌, pos, [], ◌∷◌, codes, true, false, refl, Some}
 use Rattle.std.specs.Fmt.{digits}
 use Rattle.vba_values.specs.Arithmetic.{division}
 use Rattle.vba_values.specs.declared.types.OpKind.TheVariants as op
@@ -11,7 +11,7 @@ use Rattle.vba_values.specs.Types as type
 use Rattle.vba_values.specs.Val.{null, whole, missing}
 use Rattle.bound_project.specs.Expressions.{constant, call, err_value, err_source, err_description, variable, no_args, by_place, by_copy, by_default, no_prints, shown, zone}
 use Rattle.bound_project.specs.Statements.{no_tests, test_is, test_range, skipped, handled_at, evaluate, print, raise, test, go_to, for_to, next, select, case_of, go_sub, return_sub, exit_to, on_error, resume_again, stop, end_run}
-use Rattle.bound_project.specs.Project.{Project}
+use Rattle.bound_project.specs.Project.{Project, no_name}
 use Rattle.vba_meaning.specs.Memory.{Ended, Stopped, Going, stop_said, outside}
 use Rattle.vba_meaning.specs.Effects.{Raised}
 use Rattle.vba_meaning.proofs.Programs.{meaning, e, n, words, two, plus, half, long, byte, any, global, v, err, show, becomes, declare, sub, flat, jumping, program, main, told, line, fault}
@@ -26,6 +26,14 @@ sum_is = refl
 
 pub sum_is_going : told (meaning sum 1) ≡ (Going, [])
 sum_is_going = refl
+
+-- Sub Main(Optional x As Long = 4) ¶ Debug.Print x
+abbrev left_out : Project
+left_out = program [] ((record (sub []) { parameters = record { name = no_name; of = type.long; by_reference = true; default = Some (whole kind.Long (pos 4)); many = false } ∷ [] }, flat 0 (show (v (long 1)) ∷ [])) ∷ [])
+
+pub left_out_is : told (meaning left_out 2) ≡ (Ended, line (codes " 4 ") ∷ [])
+unfolding digits
+left_out_is = refl
 
 -- Debug.Print 200 * 200
 pub overflow_is : told (meaning (main [] (flat 0 (show (two op.Mul type.integer (n 200) (n 200)) ∷ []))) 50) ≡ (fault 6 0 0, Raised (pos 6) ∷ [])

@@ -1,6 +1,6 @@
 -- What a statement does in one go: each effect changes the memory and gives a value, raises an error, or stops the
 -- run. The tables of values, operators, arrays and error frames say what is computed.
-use Rattle.std.specs.Prelude.{ℕ, zero, ◌+◌, ◌-◌, ◌%◌, ◌==◌, ℤ, pos, ◌-ℤ◌, List, [], ◌∷◌, ◌++◌, length, replicate, codes, Bool, true, false, not, ◌&&◌, if◌then◌else◌, Option, Some, None, Result, Ok, Err, slice_index_or}
+use Rattle.std.specs.Prelude.{ℕ, zero, ◌+◌, ◌-◌, ◌%◌, ◌==◌, ℤ, pos, ◌-ℤ◌, List, [], ◌∷◌, ◌++◌, length, replicate, codes, map, Bool, true, false, not, ◌&&◌, if◌then◌else◌, Option, Some, None, Result, Ok, Err, slice_index_or, unwrap_or}
 use Rattle.std.specs.Fmt.{signed_decimal}
 use Rattle.vba_values.specs.declared.fault.Bad.{Bad}
 use Rattle.vba_values.specs.declared.fault.Bad.TheVariants.{Raise, Outside}
@@ -29,7 +29,7 @@ use Rattle.error_frames.specs.Decision.{decision, after_take}
 use Rattle.error_frames.specs.Resume as resumption
 use Rattle.bound_project.specs.Expressions.{Variable, ErrMember, err_number, err_source, err_description}
 use Rattle.bound_project.specs.Statements.{Handling, passed_on, skipped, handled_at}
-use Rattle.bound_project.specs.Project.{Declarations, Module, no_name, procedure_at}
+use Rattle.bound_project.specs.Project.{Declarations, Module, Parameter, no_name, procedure_at}
 use Rattle.vba_meaning.specs.Paths.{Root, in_object, Path}
 use Rattle.vba_meaning.specs.Memory.{Error, Why, stop_said, outside, Slot, value, path, Loop, Kept, only, Memory, top, with_top, found, without, put, value_at, path_of, is_locked, no_error, number_or}
 use Rattle.vba_meaning.specs.References.{hold, displaced, replaced, kept_value, object_at}
@@ -214,6 +214,14 @@ packed xs = array (record { low = pos 0; high = pos (length xs) -ℤ pos 1 } ∷
 abbrev pub reordered : List ℕ → List Slot → List Slot
 reordered [] xs = []
 reordered (i ∷ is) xs = slice_index_or xs i (value missing) ∷ reordered is xs
+
+-- what a parameter has to which nothing is given: a ParamArray an array without elements, another its default
+abbrev pub slot_left_out : Parameter → Slot
+slot_left_out q = value (if q.many then packed [] else unwrap_or q.default missing)
+
+-- what the parameters of the macro that the run begins with have
+abbrev pub startup_slots : Declarations → ℕ → List Slot
+startup_slots d p = map slot_left_out (procedure_at d p).parameters
 
 -- ---- Debug.Print ([MS-VBAL] 5.4.5.8.1)
 

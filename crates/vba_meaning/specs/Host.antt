@@ -1,5 +1,5 @@
 -- Host objects: their members, and what writes cells, by the host's tables.
-use Rattle.std.specs.Prelude.{ℕ, zero, suc, ◌+◌, ◌*◌, ◌-◌, min, max, nat_lt, ◌==◌, ◌&&◌, ℤ, pos, ◌-ℤ◌, List, [], ◌∷◌, length, Bool, true, false, if◌then◌else◌, Option, Some, Result, slice_index_or}
+use Rattle.std.specs.Prelude.{ℕ, zero, suc, ◌+◌, ◌*◌, ◌-◌, min, max, nat_lt, ◌==◌, ◌&&◌, ℤ, pos, ◌-ℤ◌, List, [], ◌∷◌, length, codes, Bool, true, false, if◌then◌else◌, bytes_eq, Option, Some, Result, slice_index_or}
 use Rattle.vba_base.specs.Fold.{folded}
 use Rattle.vba_values.specs.declared.fault.Bad.{Bad}
 use Rattle.vba_values.specs.declared.fault.OutKind.TheVariants as limit
@@ -29,8 +29,8 @@ use Rattle.sheet_host.specs.Writing.{cells_of}
 use Rattle.bound_project.specs.Expressions.{err_number, err_source, err_description}
 use Rattle.bound_project.specs.Project.{Declarations}
 use Rattle.vba_meaning.specs.Paths.{Root, in_object, Path, object_path}
-use Rattle.vba_meaning.specs.Memory.{Memory, outside, value_at as value_at_path}
-use Rattle.vba_meaning.specs.Effects.{Event, Effect, Fine, Bad-at, Out, Tell, Cell, on_fine, done, answered, plain, err_of, err_off, is_true, range_value, area_in, assigned}
+use Rattle.vba_meaning.specs.Memory.{Error, value, Memory, outside, value_at as value_at_path}
+use Rattle.vba_meaning.specs.Effects.{Event, Effect, Fine, Bad-at, Out, Tell, Cell, on_fine, done, answered, plain, err_of, err_off, is_true, range_value, area_in, raised_by, assigned}
 use Rattle.vba_meaning.specs.Arrays.{number_in, indexed, element_at}
 
 -- ---- what is where
@@ -197,6 +197,7 @@ abbrev pub two : List ℕ
 two = 2 ∷ []
 
 abbrev pub takes : HostRef → (number : ℕ) → List ℕ
+takes host.ErrObject n = slice_index_or (none ∷ none ∷ none ∷ none ∷ (1 ∷ 2 ∷ 3 ∷ []) ∷ []) n none
 takes host.Sheets n = slice_index_or (none ∷ (1 ∷ []) ∷ []) n none
 takes (host.Sheet s) n = slice_index_or (none ∷ none ∷ (0 ∷ two) ∷ (1 ∷ two) ∷ []) n none
 takes (host.Area s t l r c) n = slice_index_or (none ∷ none ∷ none ∷ none ∷ none ∷ none ∷ none ∷ (0 ∷ two) ∷ two ∷ two ∷ two ∷ []) n none
@@ -262,6 +263,26 @@ abbrev pub member_called : Declarations → (name : List ℕ) → List Val → (
 member_called d name vs (object (Host r)) begun m = on_fine (answered (member_of r name) m) (λ how m1. member_by d r how (as_given vs) begun m1)
 member_called d name vs v begun m = Bad-at 424 m
 
+-- the arguments of Err.Raise, where Err was found in the run: a number, a source and a description
+abbrev pub is_raise : (name : List ℕ) → (base : Val) → Bool
+is_raise name (object (Host host.ErrObject)) = bytes_eq name (codes "raise")
+is_raise name v = false
+
+abbrev pub number_given : Val → Memory → Effect Val
+number_given missing m = Bad-at 449 m
+number_given v m = on_fine (plain v m) (λ w m1. answered (coerce_of w type.long) m1)
+
+abbrev pub text_given : Val → Memory → Effect Val
+text_given missing m = Fine missing m
+text_given v m = on_fine (plain v m) (λ w m1. answered (coerce_of w type.text) m1)
+
+abbrev pub error_given : List Val → Memory → Effect Error
+error_given vs m =
+    on_fine (number_given (slice_index_or vs 0 missing) m) (λ number m1.
+    on_fine (text_given (slice_index_or vs 1 missing) m1) (λ source m2.
+    on_fine (text_given (slice_index_or vs 2 missing) m2) (λ description m3.
+    Fine (raised_by (value number ∷ value source ∷ value description ∷ []) m3) m3)))
+
 -- the default member of an object is written: Value of a range, and no other
 abbrev pub written_default : (target : Val) → Val → Memory → Effect (Unit {0})
 written_default (object Nothing) v m = Bad-at 91 m
@@ -272,11 +293,12 @@ written_default w v m = Bad-at 424 m
 
 -- ---- places that numbers lead to
 
--- an array's element, or the item of an object, which is no variable ([MS-VBAL] 5.6.13)
+-- where what an index gave lies: it is no variable's
 abbrev pub path_to : Val → Path
 path_to (object o) = object_path o
 path_to v = object_path Nothing
 
+-- an array's element, or the item of an object, which is no variable ([MS-VBAL] 5.6.13)
 abbrev pub place_at : Path → List Val → Memory → Effect Path
 place_at p vs m = at (value_at_path m p)
   where
@@ -292,6 +314,12 @@ assigned_at p v m = at p.root
     at : Root → Effect (Unit {0})
     at (in_object o) = written_default (object o) v m
     at root = on_fine (plain v m) (λ w m1. assigned p w m1)
+
+-- the same of an item of a value that no variable has: an element of an array that nothing keeps takes the value for
+-- nothing
+abbrev pub item_assigned : (base : Val) → List Val → Val → Memory → Effect (Unit {0})
+item_assigned (object o) vs v m = on_fine (item_by (object o) vs m) (λ w m1. written_default w v m1)
+item_assigned base vs v m = on_fine (item_by base vs m) (λ w m1. on_fine (plain v m1) (λ x m2. done m2))
 
 -- one of the three marks of Application
 abbrev pub with_mark : (number : ℕ) → Bool → Memory → Memory
@@ -318,3 +346,9 @@ member_set d r how vs begun v m = on_fine (member_by d r how vs begun m) (λ w m
 abbrev pub member_assigned : Declarations → (name : List ℕ) → List Val → (base begun : Val) → Val → Memory → Effect (Unit {0})
 member_assigned d name vs (object (Host r)) begun v m = on_fine (answered (member_of r name) m) (λ how m1. member_set d r how (as_given vs) begun v m1)
 member_assigned d name vs base begun v m = Bad-at 424 m
+
+-- Set of a member: no object of the host has one that takes it
+abbrev pub member_not_set : (base : Val) → Memory → Effect (Unit {0})
+member_not_set (object Nothing) m = Bad-at 91 m
+member_not_set (object o) m = Bad-at 438 m
+member_not_set base m = Bad-at 424 m

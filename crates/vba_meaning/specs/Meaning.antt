@@ -9,16 +9,16 @@ use Rattle.error_frames.specs.declared.frame.ResumeKind.TheVariants as kind
 use Rattle.error_frames.specs.declared.frame.Taken.{Taken}
 use Rattle.error_frames.specs.declared.frame.Taken.TheVariants as taken
 use Rattle.bound_project.specs.Expressions.{Expr, expr, Node, not_given, constant, load, element_value, field_value, unary, binary, call, err_value, default_of, default_if_any, same, is_type, library, bound_of, host_object, active_sheet, host_member, Lvalue, variable, item, element, field, kept_place, Args, no_args, by_place, by_copy, by_default, by_list, in_order, Exprs, no_exprs, also, given_count, Prints, no_prints, shown, zone, operand_type}
-use Rattle.bound_project.specs.Statements.{Resizes, no_resizes, resize, Arrays, no_arrays, an_array, Tests, no_tests, test_is, test_range, Action, assign, assign_none, set, assign_default, assign_member, evaluate, let_property, set_property, print, raise, test, go_to, for_to, next, for_each, next_each, exit_each, select, case_of, redim, erase, with_place, with_value, end_with, go_sub, return_sub, exit_to, on_error, end_handler, clear_err, resume_again, resume_next, resume_at, stop, end_run, Statement}
+use Rattle.bound_project.specs.Statements.{Resizes, no_resizes, resize, Arrays, no_arrays, an_array, Tests, no_tests, test_is, test_range, Action, assign, assign_item, set, assign_default, assign_member, set_member, evaluate, let_property, set_property, print, raise, test, go_to, for_to, next, for_each, next_each, exit_each, select, case_of, redim, erase, with_place, with_value, end_with, go_sub, return_sub, exit_to, on_error, end_handler, clear_err, resume_again, resume_next, resume_at, stop, end_run, Statement}
 use Rattle.sheet_host.specs.Books.{Sheets}
 use Rattle.bound_project.specs.Project.{Project, class_at, statement_at, next_of, first_values}
 use Rattle.vba_meaning.specs.Paths.{Path, field_path}
 use Rattle.vba_meaning.specs.Memory.{Error, Ending, Ended, Faulted, Stopped, Going, Slot, value, path, Memory, Object, top, at_statement, frame_left, path_of, result, entered, error_here, number_or, opening}
 use Rattle.vba_meaning.specs.References.{objects_in, objects_in_values, is_last, hold, next_waiting, taken_off, let_held, held_by, let_frame, object_at, as_told, gone, closed}
-use Rattle.vba_meaning.specs.Effects.{Event, Raised, Term, Effect, Fine, Bad-at, Out, Tell, operated, operated_alone, fitted, plain, condition, read_path, lent, unlent, slot_values, packed, reordered, show_value, printed, loop_off, loop_on, next_round, keep, selected, fits, fits_between, gone_sub, returned_sub, policy_of, err_off, policy_on, handler_off, failed_statement, resumed, taken_by, with_taken, raised_by, err_of, set_object, stop_here}
+use Rattle.vba_meaning.specs.Effects.{Event, Raised, Term, Effect, Fine, Bad-at, Out, Tell, operated, operated_alone, fitted, plain, condition, read_path, lent, unlent, slot_values, packed, reordered, startup_slots, show_value, printed, loop_off, loop_on, next_round, keep, selected, fits, fits_between, gone_sub, returned_sub, policy_of, err_off, policy_on, handler_off, failed_statement, resumed, taken_by, with_taken, raised_by, err_of, set_object, stop_here}
 use Rattle.vba_meaning.specs.Arrays.{part_of, redimmed, erased, keep_path, block_over, dot_at, each_off, each_begun, each_next}
 use Rattle.vba_meaning.specs.Objects.{compared, typed_as, set_at}
-use Rattle.vba_meaning.specs.Host.{first_sheet, item_by, member_there, member_called, written_default, place_at, assigned_at, member_assigned}
+use Rattle.vba_meaning.specs.Host.{first_sheet, item_by, member_there, member_called, is_raise, error_given, written_default, place_at, assigned_at, item_assigned, member_assigned, member_not_set}
 use Rattle.vba_meaning.specs.Library.{library_called, bound_at, plain_if_any}
 
 -- the memory, and how many turns were begun
@@ -82,6 +82,11 @@ pub record Callee : Type 0 where
 abbrev pub given : Val → State → Res Val
 given v s = Got v (with_memory s (hold v s.memory))
 
+-- what a member gives, with what was read when its use began; Err.Raise gives nothing but raises an error
+abbrev pub member_used : Project → (name : List ℕ) → (base begun : Val) → List Val → State → Res Val
+member_used pr name base begun vs s =
+    if is_raise name base then (perform (error_given vs) s >>= λ e s1. raise_error e s1) else perform (member_called pr.declared name vs base begun) s
+
 abbrev mutual
   -- operands from left to right, and always both
   pub eval : Expr → Callee → Project → State → Res Val
@@ -105,7 +110,7 @@ abbrev mutual
   -- whether there is such a member is asked before its arguments are evaluated, and what they index is read
   eval_node (host_member e name es) callee pr s =
       eval e callee pr s >>= λ v s1. perform (member_there pr.declared name (given_count es) v) s1 >>= λ w s2. eval_list es callee pr s2 >>= λ xs s3.
-      perform (member_called pr.declared name (slot_values xs) v w) s3
+      member_used pr name v w (slot_values xs) s3
   eval_node (same a b) callee pr s = eval a callee pr s >>= λ v s1. eval b callee pr s1 >>= λ w s2. perform (compared v w) s2
   eval_node (is_type e of) callee pr s = eval e callee pr s >>= λ v s1. perform (typed_as of v) s1
   eval_node (library f text_form es compare base) callee pr s = eval_list es callee pr s >>= λ xs s1. perform (library_called pr.declared f text_form compare base (slot_values xs)) s1
@@ -171,12 +176,14 @@ erases (an_array x xs) callee pr s =
 -- a statement's effect and the number of the statement to go on at, for the statement of this number in this procedure
 abbrev pub exec : Action → Callee → Project → (procedure statement following : ℕ) → State → Res ℕ
 exec (assign x e) callee pr p i k s = eval e callee pr s >>= λ v s1. eval_place x callee pr s1 >>= λ q s2. perform (assigned_at q v) s2 >>= λ u s3. Got k s3
-exec (assign_none x e) callee pr p i k s = eval e callee pr s >>= λ v s1. eval x callee pr s1 >>= λ w s2. Got k s2
+exec (assign_item base es e) callee pr p i k s =
+    eval e callee pr s >>= λ v s1. eval base callee pr s1 >>= λ w s2. eval_list es callee pr s2 >>= λ xs s3. perform (item_assigned w (slot_values xs) v) s3 >>= λ u s4. Got k s4
 exec (set x e) callee pr p i k s = eval e callee pr s >>= λ v s1. eval_place x callee pr s1 >>= λ q s2. perform (set_at q v) s2 >>= λ u s3. Got k s3
 exec (assign_default x e) callee pr p i k s = eval e callee pr s >>= λ v s1. eval x callee pr s1 >>= λ w s2. perform (written_default w v) s2 >>= λ u s3. Got k s3
 exec (assign_member base name es e) callee pr p i k s =
     eval e callee pr s >>= λ v s1. eval base callee pr s1 >>= λ w s2. perform (member_there pr.declared name (given_count es) w) s2 >>= λ x s3. eval_list es callee pr s3 >>= λ xs s4.
     perform (member_assigned pr.declared name (slot_values xs) w x v) s4 >>= λ u s5. Got k s5
+exec (set_member base e) callee pr p i k s = eval e callee pr s >>= λ v s1. eval base callee pr s1 >>= λ w s2. perform (member_not_set w) s2 >>= λ u s3. Got k s3
 exec (evaluate e) callee pr p i k s = eval e callee pr s >>= λ v s1. Got k s1
 exec (let_property q args e of) callee pr p i k s =
     eval e callee pr s >>= λ v s1. evals args callee pr s1 >>= λ xs s2. perform (plain v) s2 >>= λ w s3. perform (fitted of w) s3 >>= λ x s4. callee.call q empty (xs ++ value x ∷ []) s4 >>= λ r s5. Got k s5
@@ -355,4 +362,4 @@ first_state pr book = record { memory = opening pr.declared book; begun = 0 }
 -- the run of a project over a book with a bound on its turns
 abbrev pub meaning : Project → Sheets → ℕ → Run
 meaning pr book n =
-    run_of n (enter pr (doing pr n) false pr.startup empty [] (first_state pr book) >>= λ v s. close (doing pr n) (first_values pr.declared pr.declared.shared) 0 s)
+    run_of n (enter pr (doing pr n) false pr.startup empty (startup_slots pr.declared pr.startup) (first_state pr book) >>= λ v s. close (doing pr n) (first_values pr.declared pr.declared.shared) 0 s)

@@ -1,9 +1,10 @@
-use Rattle.std.proofs.Common.{sym, subst}
+use Rattle.std.proofs.lemmas.Result.{IfOk-weaker}
+use Rattle.std.specs.Prelude.{map}
 use Rattle.bound_project.specs.DraftView.{draft_view}
-use Rattle.bound_project.specs.declared.statement.ActionKind.{ActionKind}
+use Rattle.bound_project.specs.View.{parameter_view}
 use Rattle.declared_names.specs.View.{written_view}
 use Rattle.bound_terms.specs.View.{env_view}
-use Rattle.bound_actions.specs.Called.{LetsOn}
+use Rattle.bound_actions.specs.Called.{LetsOn, LetsWith}
 use Rattle.bound_actions.proofs.Assigned.{lets_given}
 use Rattle.bound_actions.proofs.assigning.let_given.Goals as goal
 
@@ -13,10 +14,11 @@ returns c =
     let w = c.args.writer in
     let i = c.requires.writer.entry in
     let ns = c.args.nodes.now in
+    let number = c.in_ok-procedure.procedure in
+    let front = c.in-Some.front.now in
+    let last = c.in-Some.last.now in
     let d = draft_view c.args.draft.now in
-    let e = draft_view c.push_arguments.new.draft in
-    let P : ActionKind → Type 0 = λ (k : ActionKind). LetsOn env w.routine ns d e k in
-    subst P (sym c.property_kind.ensures)
-    (lets_given env w c.in_ok-procedure.procedure c.in_ok-parameters.parameters.now c.in-Some.front.now c.in-Some.last.now ns c.in_ok-_written._written c.in_ok-_written.arguments
-    d e c.requires.writer c.in_ok-procedure.ensures (λ placed. c.in_ok-parameters.ensures i.entry (written_view w.written) placed i.at i.what) c.in-Some.ensures.cases.0
-    c.in_ok-_written.ensures)
+    let e = draft_view c.let_passed.new.draft in
+    IfOk-weaker c.let_passed.result (λ k. LetsWith env (map parameter_view front) number last.of ns d e k) (λ k. LetsOn env w.routine ns d e k)
+    (λ k h. lets_given env w number c.in_ok-parameters.parameters.now front last ns d e k c.requires.writer c.in_ok-procedure.ensures
+    (λ placed. c.in_ok-parameters.ensures i.entry (written_view w.written) placed i.at i.what) c.in-Some.ensures.cases.0 h) c.let_passed.ensures

@@ -3,7 +3,22 @@ use Rattle.bound_project.specs.DraftView.{draft_view}
 use Rattle.bound_actions.specs.Called.{ActsOn, CallsTreeOn}
 use Rattle.bound_terms.specs.View.{env_view}
 use Rattle.bound_actions.proofs.Called.{calls_tree}
+use Rattle.bound_actions.proofs.IndexedCalls.{calls_later}
+use Rattle.bound_actions.proofs.NodeTrees.{still_named}
 use Rattle.bound_actions.proofs.statement_calls.call_tree.Goals as goal
+
+pub call_indexed-requires-clause-named : goal.call_indexed-requires-clause-named
+call_indexed-requires-clause-named c = still_named c.args.tree (draft_view c.args.draft.now) (draft_view c.callee_term.new.draft) c.in_ok-term.ensures.grown c.requires.named
+
+pub returns-then-not-are_none : goal.returns-then-not-are_none
+returns-then-not-are_none c =
+    let env = env_view c.args.env in
+    let x = c.args.tree in
+    let d = draft_view c.args.draft.now in
+    let f = draft_view c.callee_term.new.draft in
+    let e = draft_view c.call_indexed.new.draft in
+    let ns = c.args.nodes.now in
+    IfOk-weaker c.call_indexed.result (λ k. CallsTreeOn env x ns f e k) (λ k. CallsTreeOn env x ns d e k) (λ k h. calls_later env x ns k d f e c.in_ok-term.ensures.grown c.in_ok-term.ensures.pieces c.requires.named h) c.call_indexed.ensures
 
 pub returns : goal.returns
 returns c =

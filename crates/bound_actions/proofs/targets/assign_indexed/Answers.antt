@@ -17,19 +17,10 @@ returns-in-Place c =
     (λ k h. let A : Term → Type 0 = λ t. AssignsIndexed place t d e k in
     subst A (sym i.is) (term_indexed place (term.Place i.kind i.of i.is_bounded i.lends) d e k (h i.is_bounded i.lends None))) c.assign_place.ensures
 
-pub returns-then-is_element : goal.returns-then-is_element
-returns-then-is_element c =
+pub returns-in-Value : goal.returns-in-Value
+returns-in-Value c =
     let place = c.args.place in
     let d = draft_view c.args.draft.now in
-    let e = draft_view c.assign_element.new.draft in
-    IfOk-weaker c.assign_element.result (λ k. AssignsIndexed place (term.Value c.in-Value.ending) d e k) (λ k. AssignsIndexed place c.args.term d e k)
-    (λ k h. let A : Term → Type 0 = λ t. AssignsIndexed place t d e k in subst A (sym c.in-Value.is) h) c.assign_element.ensures
-
-pub returns-else-is_element : goal.returns-else-is_element
-returns-else-is_element c =
-    let place = c.args.place in
-    let x = term.Value c.in-Value.ending in
-    let d = draft_view c.args.draft.now in
-    let e = draft_view c.assign_value.new.draft in
-    IfOk-weaker c.assign_value.result _ (λ k. AssignsIndexed place c.args.term d e k)
-    (λ k h. let A : Term → Type 0 = λ t. AssignsIndexed place t d e k in subst A (sym c.in-Value.is) (term_indexed place x d e k (h None))) c.assign_value.ensures
+    let e = draft_view c.assign_indexed_value.new.draft in
+    IfOk-weaker c.assign_indexed_value.result (λ k. AssignsIndexed place (term.Value c.in-Value.ending) d e k) (λ k. AssignsIndexed place c.args.term d e k)
+    (λ k h. let A : Term → Type 0 = λ t. AssignsIndexed place t d e k in subst A (sym c.in-Value.is) h) c.assign_indexed_value.ensures

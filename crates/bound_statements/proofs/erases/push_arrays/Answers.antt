@@ -8,9 +8,9 @@ use Rattle.vba_tree.specs.View.{listed_view}
 use Rattle.bound_statements.proofs.Arrays.{arrays_begin}
 use Rattle.bound_statements.proofs.erases.push_arrays.Goals as goal
 
-pub returns : goal.returns
-returns c =
+pub others-init : goal.others-init
+others-init c =
     let all = erased_arrays (env_view c.args.env) (all_of (listed_view expression_view c.args.list.now)) in
     let rest = items_of (map (λ next. (next.mark, expression_view next.item)) c.args.list.now.others.items) in
     let before = draft_view c.args.draft.now in
-    c.in_ok-count.ensures all before (rw (c.as_slice.ensures.value) (c.in_ok-pushed.ensures all rest before (arrays_begin all before)))
+    rw (c.as_slice-left.ensures.value) (c.in_ok-count.ensures all rest before (arrays_begin all before))

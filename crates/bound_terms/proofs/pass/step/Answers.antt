@@ -103,3 +103,11 @@ returns-in-Index c =
     let xs = reverse c.args.stack.now.items in
     let A : ExpressionNode → Type 0 = λ k. Goes env d xs (draft_view c.step_index.new.draft) (reverse c.step_index.new.stack.items) (behind_node k) in
     on_ok_weaker c.step_index.result (λ g. subst A (sym c.in-Index.is) (g env c.in-Index.left c.in-Index.right)) c.step_index.ensures
+
+pub returns-in-TypeOf : goal.returns-in-TypeOf
+returns-in-TypeOf c =
+    let env = env_view c.args.env in
+    let d = draft_view c.args.draft.now in
+    let xs = reverse c.args.stack.now.items in
+    let A : ExpressionNode → Type 0 = λ k. Goes env d xs (draft_view c.step_type_of.new.draft) (reverse c.step_type_of.new.stack.items) (behind_node k) in
+    on_ok_weaker c.step_type_of.result (λ g. subst A (sym c.in-TypeOf.is) (g c.in-TypeOf.is_word)) c.step_type_of.ensures

@@ -1,0 +1,209 @@
+-- What is given a reference to an object.
+use Rattle.std.proofs.Common.{◌≡◌, Bool, true, false, List, [], ◌∷◌, Option, Some, None, is_some, if◌then◌else◌, refl, sym, ap, subst, ◌∙◌}
+use Rattle.std.specs.Prelude.{◌||◌, not, codes, option_and_then}
+use Rattle.vba_base.specs.declared.place.Place.{Place}
+use Rattle.vba_lexer.specs.declared.token.Token.{Token}
+use Rattle.vba_values.specs.Types.{Declared}
+use Rattle.vba_expression.specs.Tree.{Expr, Args, index}
+use Rattle.vba_expression.specs.Nodes.{tree_in}
+use Rattle.vba_expression.specs.declared.node.ExpressionNode.{ExpressionNode}
+use Rattle.bound_project.specs.declared.declared_type.DeclaredType.{DeclaredType}
+use Rattle.bound_project.specs.declared.node.NodeKind.{NodeKind}
+use Rattle.bound_project.specs.declared.statement.ActionKind.{ActionKind}
+use Rattle.bound_project.specs.declared.statement.ActionKind.TheVariants as action
+use Rattle.bound_project.specs.Bodies.{action_of}
+use Rattle.bound_project.specs.Drafts.{Drafted}
+use Rattle.bound_project.specs.Expressions.{Lvalue}
+use Rattle.bound_project.specs.Expressions as bound
+use Rattle.bound_project.specs.Pieces.{Piece, Tables, an_expr, put}
+use Rattle.bound_project.specs.Statements.{Action, set, set_member}
+use Rattle.bound_project.specs.View.{declared_view}
+use Rattle.binder.specs.Types.{is_object}
+use Rattle.binder.specs.Constants.{is_variant, place_of_expression}
+use Rattle.binder.specs.Terms.{Env, Given, a_host_member, a_place, a_routine, a_value}
+use Rattle.binder.specs.Terms as plain
+use Rattle.binder.specs.ExpressionsBound.{bound_reference, callee, givens, indexed, item_of, object_member, term_of}
+use Rattle.binder.specs.StatementsBound.{set_target, set_to, target_before}
+use Rattle.bound_calls.specs.declared.term.HostMember.{HostMember}
+use Rattle.bound_calls.specs.declared.term.Term.{Term}
+use Rattle.bound_calls.specs.declared.term.Term.TheVariants as term
+use Rattle.bound_calls.specs.declared.term.Tree.{Tree}
+use Rattle.bound_calls.specs.Standing.{TermStands, member_is}
+use Rattle.bound_calls.specs.Steps.{Binds, Leaves}
+use Rattle.bound_calls.proofs.Growing.{grown_pieces, grown_same, grown_twice}
+use Rattle.bound_calls.proofs.Taking.{node_of}
+use Rattle.bound_terms.specs.Callee.{CalleeIs}
+use Rattle.bound_terms.specs.Items.{MakesItem, takes_item}
+use Rattle.bound_actions.specs.declared.trees.Split.{Split}
+use Rattle.bound_actions.specs.Actions.{ActionStands, may_be_object}
+use Rattle.bound_actions.specs.Called.{Continues, IsBare, LeavesAlone, SplitAt}
+use Rattle.bound_actions.specs.Heights.{AddsOne}
+use Rattle.bound_actions.specs.Setting.{SetsTerm, SetsTo}
+use Rattle.bound_actions.proofs.Assigned.{index_at}
+use Rattle.bound_actions.proofs.NodeTrees.{continued}
+
+-- ---- terms
+
+place_set : (y : plain.Term) (value : bound.Expr) (x : Lvalue) (of : Declared) (bounded lends : Bool) → y ≡ a_place x of bounded lends → (is_object of || is_variant of) ≡ true → set_to y value ≡ Some (set x value)
+place_set y value x of bounded lends e h = ap (λ (z : plain.Term). set_to z value) e ∙ ap (λ (b : Bool). if b then Some (set x value) else None) h
+
+pub sets_place : (kind : NodeKind) (of : DeclaredType) (place : Place) (d e : Drafted) → may_be_object of ≡ true → e ≡ record d { pieces = put d.tables (node_of kind place of) d.pieces }
+    → (bounded lends : Bool) → SetsTerm (term.Place kind of bounded lends) d e action.Set
+sets_place kind of place d e h eq bounded lends =
+    let P : Drafted → Type 0 = λ (z : Drafted). SetsTerm (term.Place kind of bounded lends) d z action.Set in
+    let n = node_of kind place of in
+    subst P (sym eq) (record {
+      grown = grown_pieces d (put d.tables n d.pieces);
+      named = tt;
+      stands = λ env y value k.
+          record { made = set k.at value; is = place_set y value k.at (declared_view of) bounded lends k.is h; fits = ap (λ (ps : List Piece). action_of d.tables action.Set ps) (k.ends n) };
+    })
+
+sets_member : (m : HostMember) (d : Drafted) → is_some m.greatest ≡ false → SetsTerm (term.HostMember m) d d action.SetMember
+sets_member m d late = record {
+  grown = grown_same d;
+  named = tt;
+  stands = λ env y value k.
+      let done : Option Action = Some (set_member k.object value) in
+      record {
+        made = set_member k.object value;
+        is = ap (λ (z : plain.Term). set_to z value) k.is ∙ ap (λ (b : Bool). if b then None else done) late;
+        fits = ap (λ (ps : List Piece). action_of d.tables action.SetMember ps) k.on_top;
+      };
+}
+
+pub sets_late : (m : HostMember) (d : Drafted) → not (is_some m.greatest) ≡ true → SetsTerm (term.HostMember m) d d action.SetMember
+sets_late m d late = sets_member m d (none_there (is_some m.greatest) late)
+  where
+    none_there : (b : Bool) → not b ≡ true → b ≡ false
+    none_there true h = let e : false ≡ true = h in absurd cc
+    none_there false h = refl
+
+-- ---- expressions
+
+-- what stands before arguments, which are looked at where it is no member that is found in the run
+abbrev set_with : Env → Place → List Given → plain.Term → plain.Term
+set_with env place gs (a_host_member e m) = if is_some m.greatest then indexed env place (a_host_member e m) gs else a_host_member e m
+set_with env place gs t = indexed env place t gs
+
+target_parts : (env : Env) (base : Expr) (left right : Token) (args : Args) → set_target env (index base left args right) ≡ set_with env (place_of_expression base) (givens env args) (target_before env base)
+target_parts env base left right args = refl
+
+abbrev is_member : plain.Term → Bool
+is_member (a_host_member e m) = true
+is_member t = false
+
+other_set : (env : Env) (place : Place) (gs : List Given) (t : plain.Term) → is_member t ≡ false → set_with env place gs t ≡ indexed env place t gs
+other_set env place gs (a_host_member e m) h = let k : true ≡ false = h in absurd cc
+other_set env place gs t h = refl
+
+-- a member is set only where it is found in the run
+late_alone : (b : Bool) (x y : plain.Term) (v made : Action) → (if b then None else Some v) ≡ Some made → (if b then x else y) ≡ y
+late_alone true x y v made h = let k : None ≡ Some made = h in absurd cc
+late_alone false x y v made h = refl
+
+member_set : (env : Env) (place : Place) (gs : List Given) (e : bound.Expr) (m : plain.HostMember) (value : bound.Expr) (made : Action) → set_to (a_host_member e m) value ≡ Some made → set_with env place gs (a_host_member e m) ≡ a_host_member e m
+member_set env place gs e m value made h = late_alone (is_some m.greatest) (indexed env place (a_host_member e m) gs) (a_host_member e m) (set_member e value) made h
+
+bare_target : (env : Env) (place : Expr) → IsBare place → set_target env place ≡ term_of env place
+bare_target env (index base left args right) h = absurd h
+bare_target env e h = refl
+
+pub sets_bare : (env : Env) (place : Expr) (x : Tree) (d f e : Drafted) (kind : ActionKind) → IsBare place → Leaves env place d f x → SetsTerm x.term f e kind → SetsTo env place d e kind
+sets_bare env place x d f e kind bare l s = record {
+  grown = grown_twice d f e l.grown s.grown;
+  named = s.named;
+  stands = λ value alone.
+      let T : List Piece → Type 0 = λ (ps : List Piece). TermStands env f.tables x.term (term_of env place) f.pieces ps in
+      let m = s.stands env (term_of env place) value (subst T alone l.stands.term_is) in
+      record { made = m.made; is = ap (λ (t : plain.Term). set_to t value) (bare_target env place bare) ∙ m.is; fits = m.fits };
+}
+
+-- a member with arguments
+pub sets_split_member : (env : Env) (split : Split) (all : List ExpressionNode) (x : Tree) (y : Term) (m : HostMember) (d f g h : Drafted) (kind : ActionKind) → SplitAt split all → AddsOne split.arguments.now → LeavesAlone env split.target.now d f x
+    → CalleeIs env x f g y → MakesItem x.place y g h (term.HostMember m) → SetsTerm (term.HostMember m) h h kind → SetsTo env (tree_in all) d h kind
+sets_split_member env split all x y m d f g h kind at one l c made s =
+    let base = tree_in split.target.now in
+    let z = callee env base (term_of env base) in
+    let at_index = index_at split all at l.alone one in
+    let args = at_index.0 in
+    let p = place_of_expression base in
+    let P : Expr → Type 0 = λ (t : Expr). SetsTo env t d h kind in
+    subst P (sym at_index.1) (record {
+      grown = grown_twice d f h l.leaves.grown (grown_twice f g h c.grown made.grown);
+      named = s.named;
+      stands = λ value alone.
+          let A : Place → Type 0 = λ (q : Place). TermStands env h.tables (term.HostMember m) (item_of q z) h.pieces (an_expr value ∷ []) in
+          let B : List Piece → Type 0 = λ (ps : List Piece). TermStands env g.tables y z ps d.pieces in
+          let C : List Piece → Type 0 = λ (ps : List Piece). TermStands env g.tables y z g.pieces ps in
+          let there = subst A l.leaves.stands.place_is (made.stands env z (an_expr value ∷ []) (subst C alone (subst B (sym c.pieces) (c.stands base f.pieces d.pieces l.leaves.stands)))) in
+          let done = s.stands env (target_before env base) value there in
+          let M = a_host_member there.object (member_is h.tables m) in
+          let set_there : set_to M value ≡ Some done.made = sym (ap (λ (t : plain.Term). set_to t value) there.is) ∙ done.is in
+          let same : set_with env p (givens env args) (target_before env base) ≡ M =
+          ap (λ (t : plain.Term). set_with env p (givens env args) t) there.is ∙ member_set env p (givens env args) there.object (member_is h.tables m) value done.made set_there in
+          record { made = done.made; is = ap (λ (t : plain.Term). set_to t value) (target_parts env base at.left at.right args ∙ same) ∙ set_there; fits = done.fits };
+    })
+
+-- other arguments
+other_kept : (place : Place) (z y : plain.Term) → z ≡ y → item_of place y ≡ y → is_member y ≡ false → is_member (item_of place z) ≡ false
+other_kept place z y is a b = ap (λ (t : plain.Term). is_member (item_of place t)) is ∙ ap is_member a ∙ b
+
+no_member : (env : Env) (t : Tables) (place : Place) (x : Term) (z : plain.Term) (ps below : List Piece) → takes_item x ≡ false → TermStands env t x z ps below → is_member (item_of place z) ≡ false
+no_member env t place (term.Place kind of bounded lends) z ps below i h =
+    let y = a_place h.at (declared_view of) bounded lends in
+    other_kept place z y h.is (ap (λ (b : Bool). if b then object_member place (bound.load h.at) (declared_view of) (codes "item") else y) i) refl
+no_member env t place (term.Value e) z ps below i h =
+    let y = a_value h.made (declared_view e.of) in
+    other_kept place z y h.is (ap (λ (b : Bool). if b then object_member place h.made (declared_view e.of) (codes "item") else y) i) refl
+no_member env t place (term.Routine r) z ps below i h = other_kept place z (a_routine h.space h.number h.written) h.is refl refl
+no_member env t place (term.Function f) z ps below i h = other_kept place z _ h.0.is refl refl
+no_member env t place (term.HostMember m) z ps below i h = let e : true ≡ false = i in absurd cc
+no_member env t place (term.SheetMember m) z ps below i h = let e : true ≡ false = i in absurd cc
+no_member env t place term.Err z ps below i h = other_kept place z plain.err_object h.0 refl refl
+no_member env t place term.ErrRaise z ps below i h = other_kept place z plain.err_raise h.0 refl refl
+no_member env t place term.ErrClear z ps below i h = other_kept place z plain.err_clear h.0 refl refl
+no_member env t place term.ErrorWord z ps below i h = other_kept place z plain.error_word h.0 refl refl
+no_member env t place term.Nothing z ps below i h = other_kept place z plain.no_term h refl refl
+
+pub sets_split : (env : Env) (split : Split) (all : List ExpressionNode) (x more : Tree) (y : Term) (d f g h e : Drafted) (kind : ActionKind) → SplitAt split all → AddsOne split.arguments.now → LeavesAlone env split.target.now d f x
+    → CalleeIs env x f g y → takes_item y ≡ false → Continues env x split.closed.now g h more → SetsTerm more.term h e kind → SetsTo env (tree_in all) d e kind
+sets_split env split all x more y d f g h e kind at one l c item r s =
+    let base = tree_in split.target.now in
+    let z = callee env base (term_of env base) in
+    let whole = continued env split.target.now split.closed.now all x more d f g h at.is l c.grown c.pieces r in
+    let at_index = index_at split all at l.alone one in
+    let args = at_index.0 in
+    let tree = index base at.left args at.right in
+    let p = place_of_expression base in
+    let P : Expr → Type 0 = λ (t : Expr). SetsTo env t d e kind in
+    let L : Expr → Type 0 = λ (t : Expr). Leaves env t d h more in
+    let leaves : Leaves env tree d h more = subst L at_index.1 whole in
+    let none : is_member (target_before env base) ≡ false = no_member env g.tables p y z f.pieces d.pieces item (c.stands base f.pieces d.pieces l.leaves.stands) in
+    let same : set_target env tree ≡ term_of env tree = target_parts env base at.left at.right args ∙ other_set env p (givens env args) (target_before env base) none in
+    subst P (sym at_index.1) (record {
+      grown = grown_twice d h e leaves.grown s.grown;
+      named = s.named;
+      stands = λ value alone.
+          let T : List Piece → Type 0 = λ (ps : List Piece). TermStands env h.tables more.term (term_of env tree) h.pieces ps in
+          let m = s.stands env (term_of env tree) value (subst T alone leaves.stands.term_is) in
+          record { made = m.made; is = ap (λ (t : plain.Term). set_to t value) same ∙ m.is; fits = m.fits };
+    })
+
+-- ---- the statement
+
+pub set_bound : (env : Env) (place value : Expr) (of : DeclaredType) (d e g : Drafted) (kind : ActionKind) → d.pieces ≡ [] → Binds (bound_reference env value) d e (Some of) → SetsTo env place e g kind
+    → ActionStands (Some kind) (option_and_then (set_to (set_target env place)) (bound_reference env value)) d g
+set_bound env place value of d e g kind none b a =
+    let made = b.pushed.made in
+    let alone : e.pieces ≡ an_expr made ∷ [] = b.pushed.on_top ∙ ap (λ (ps : List Piece). an_expr made ∷ ps) none in
+    let s = a.stands made alone in
+    let all = grown_twice d e g b.grown a.grown in
+    record {
+      statements = all.statements;
+      bodies = all.bodies;
+      named = a.named;
+      made = s.made;
+      is = ap (λ (o : Option bound.Expr). option_and_then (set_to (set_target env place)) o) b.pushed.is ∙ s.is;
+      fits = s.fits;
+    }

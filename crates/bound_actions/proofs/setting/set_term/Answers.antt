@@ -1,0 +1,23 @@
+use Rattle.std.proofs.Common.{sym, subst}
+use Rattle.std.proofs.lemmas.Result.{IfOk-weaker}
+use Rattle.bound_project.specs.DraftView.{draft_view}
+use Rattle.bound_project.specs.Drafts.{Drafted}
+use Rattle.bound_calls.specs.declared.term.Term.{Term}
+use Rattle.bound_calls.specs.declared.term.Term.TheVariants as term
+use Rattle.bound_actions.specs.Setting.{SetsTerm}
+use Rattle.bound_actions.proofs.setting.set_term.Goals as goal
+
+pub returns-in-Place : goal.returns-in-Place
+returns-in-Place c =
+    let i = c.in-Place in
+    let d = draft_view c.args.draft.now in
+    let e = draft_view c.set_place.new.draft in
+    IfOk-weaker c.set_place.result _ (λ k. SetsTerm c.args.term d e k)
+    (λ k h. let A : Term → Type 0 = λ t. SetsTerm t d e k in subst A (sym i.is) (h i.is_bounded i.lends)) c.set_place.ensures
+
+pub returns-in-HostMember : goal.returns-in-HostMember
+returns-in-HostMember c =
+    let i = c.in-HostMember in
+    let d = draft_view c.args.draft.now in
+    IfOk-weaker c.set_member.result (λ k. (d : Drafted) → SetsTerm (term.HostMember i.member) d d k) (λ k. SetsTerm c.args.term d d k)
+    (λ k h. let A : Term → Type 0 = λ t. SetsTerm t d d k in subst A (sym i.is) (h d)) c.set_member.ensures
