@@ -1,7 +1,7 @@
 -- Statements without their places, to compare them.
 use Rattle.std.specs.Prelude.{List, [], ◌∷◌}
-use Rattle.bound_project.specs.Expressions.{Expr, expr, Node, not_given, constant, load, element_value, field_value, unary, binary, call, err_value, default_of, default_if_any, host_object, active_sheet, host_member, same, is_type, library, bound_of, Lvalue, variable, item, element, field, kept_place, Args, no_args, by_place, by_copy, by_default, by_list, in_order, Exprs, no_exprs, also, Prints, no_prints, shown, zone}
-use Rattle.bound_project.specs.Statements.{Tests, no_tests, test_is, test_range, Action, assign, assign_item, set, assign_default, assign_member, set_member, evaluate, let_property, print, raise, test, for_to, for_each, select, case_of, with_place, with_value, Statement}
+use Rattle.bound_project.specs.Expressions.{Expr, expr, Node, not_given, constant, load, load_made, element_value, field_value, unary, binary, call, err_value, default_of, default_if_any, host_object, active_sheet, host_member, named_member, this, new_object, method, same, is_type, library, bound_of, Lvalue, variable, item, element, field, kept_place, object_field, as_new, Args, no_args, by_place, by_copy, by_default, by_list, in_order, Exprs, no_exprs, also, Prints, no_prints, shown, zone}
+use Rattle.bound_project.specs.Statements.{Tests, no_tests, test_is, test_range, Action, assign, assign_item, set, assign_default, assign_member, set_member, evaluate, let_property, let_method, set_method, print, raise, test, for_to, for_each, select, case_of, with_place, with_value, Statement}
 use Rattle.bound_project.specs.Project.{nowhere}
 
 abbrev mutual
@@ -12,6 +12,7 @@ abbrev mutual
   bare_node not_given = not_given
   bare_node (constant v) = constant v
   bare_node (load x) = load (bare_place x)
+  bare_node (load_made x) = load_made (bare_place x)
   bare_node (element_value e es) = element_value (bare e) (bare_exprs es)
   bare_node (field_value e i) = field_value (bare e) i
   bare_node (unary o a) = unary o (bare a)
@@ -23,6 +24,10 @@ abbrev mutual
   bare_node (host_object o) = host_object o
   bare_node active_sheet = active_sheet
   bare_node (host_member e name es) = host_member (bare e) name (bare_exprs es)
+  bare_node (named_member e name by es) = named_member (bare e) name by (bare_exprs es)
+  bare_node this = this
+  bare_node (new_object c) = new_object c
+  bare_node (method e p args) = method (bare e) p (bare_args args)
   bare_node (same a b) = same (bare a) (bare b)
   bare_node (is_type e of) = is_type (bare e) of
   bare_node (library f text_form es compare base) = library f text_form (bare_exprs es) compare base
@@ -34,6 +39,8 @@ abbrev mutual
   bare_place (element x es) = element (bare_place x) (bare_exprs es)
   bare_place (field x i of bounded) = field (bare_place x) i of bounded
   bare_place (kept_place i) = kept_place i
+  bare_place (object_field e i of bounded) = object_field (bare e) i of bounded
+  bare_place (as_new c x) = as_new c (bare_place x)
 
   pub bare_args : Args → Args
   bare_args no_args = no_args
@@ -66,6 +73,8 @@ bare_action (assign_default x e) = assign_default (bare x) (bare e)
 bare_action (assign_member base name es e) = assign_member (bare base) name (bare_exprs es) (bare e)
 bare_action (evaluate e) = evaluate (bare e)
 bare_action (let_property p args e of) = let_property p (bare_args args) (bare e) of
+bare_action (let_method base p args e of) = let_method (bare base) p (bare_args args) (bare e) of
+bare_action (set_method base p args e of) = set_method (bare base) p (bare_args args) (bare e) of
 bare_action (print ps ends) = print (bare_prints ps) ends
 bare_action (raise args) = raise (bare_args args)
 bare_action (test sense e to other) = test sense (bare e) to other

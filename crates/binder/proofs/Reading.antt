@@ -20,7 +20,7 @@ use Rattle.vba_meaning.specs.Meaning.{meaning}
 
 -- a few names of the library and the host
 abbrev pub some_outside : Outside
-some_outside = record { constant = constant_named; is_library = λ fold dollar. list_any (bytes_eq fold) (words dollar); is_host = λ fold. list_any (bytes_eq fold) hosts } where
+some_outside = record { constant = constant_named; is_library = λ fold dollar. list_any (bytes_eq fold) (words dollar); is_left_out = λ fold. bytes_eq fold (codes "rnd"); is_host = λ fold. list_any (bytes_eq fold) hosts } where
   constant_named : List ℕ → Option Val
   constant_named fold =
       if bytes_eq fold (codes "vblong") then Some (whole kind.Long (pos 3))

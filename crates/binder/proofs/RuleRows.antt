@@ -1,4 +1,4 @@
--- Worked rows: the verdicts of S15 to S22, each with its place.
+-- Worked rows: the verdicts of S15 to S23 and S33, each with its place.
 use Rattle.std.specs.Prelude.{◌≡◌, true, false, [], ◌∷◌, refl, codes}
 use Rattle.std.specs.Fmt.{digits}
 use Rattle.caseless.proofs.Computing.{caseless}
@@ -147,3 +147,29 @@ names_first = refl
 optional_startup : ran (codes "Private Sub Main(Optional x, ParamArray y())\nEnd Sub") ≡ ends []
 unfolding ran folded caseless digits division
 optional_startup = refl
+
+-- S23: a type, a suffix, a name of VBA that the library leaves out, also behind VBA and in an argument
+type_left_out : ran (codes "Sub Main()\nDim a As Long, d As Double\nEnd Sub") ≡ broken_rule ((23, 1, 2, 21) ∷ [])
+unfolding ran folded caseless digits division
+type_left_out = refl
+
+suffix_left_out : ran (codes "Sub Main(Optional x#)\nEnd Sub") ≡ broken_rule ((23, 1, 1, 19) ∷ [])
+unfolding ran folded caseless digits division
+suffix_left_out = refl
+
+name_left_out : ran (codes "Sub Main()\nx = Left(Rnd, 1)\nEnd Sub") ≡ broken_rule ((23, 1, 2, 10) ∷ [])
+unfolding ran folded caseless digits division
+name_left_out = refl
+
+qualified_left_out : ran (codes "Sub Main()\nx = VBA.Rnd(1)\nEnd Sub") ≡ broken_rule ((23, 1, 2, 9) ∷ [])
+unfolding ran folded caseless digits division
+qualified_left_out = refl
+
+-- a name of the project's own is none; a rule of names is told before
+own_name : ran (codes "Function Rnd()\nEnd Function\nSub Main()\nx = Rnd\nEnd Sub") ≡ ends []
+unfolding ran folded caseless digits division
+own_name = refl
+
+names_before : ran (codes "Sub Main()\nDim d As Double\nGoTo a\nEnd Sub") ≡ broken_rule ((18, 1, 3, 6) ∷ [])
+unfolding ran folded caseless digits division
+names_before = refl

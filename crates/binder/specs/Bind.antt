@@ -4,6 +4,7 @@ use Rattle.std.specs.Prelude.{ℕ, suc, Bool, true, false, ◌&&◌, ◌||◌, n
 use Rattle.std.specs.List.{list_all, list_any}
 use Rattle.vba_base.specs.declared.place.Place.{Place}
 use Rattle.vba_base.specs.declared.place.Refusal.{Refusal}
+use Rattle.refusal_order.specs.Least.{fault_list, least_of}
 use Rattle.vba_lexer.specs.declared.number.TypeSuffix.{TypeSuffix}
 use Rattle.vba_lexer.specs.declared.number.TypeSuffix.TheVariants as suffix
 use Rattle.vba_values.specs.Types.{Declared}
@@ -29,6 +30,7 @@ use Rattle.binder.specs.Storage.{kind_of, declared_result, declarations_if, is_f
 use Rattle.binder.specs.Storage as storage
 use Rattle.binder.specs.StatementsBound.{Around, part_statements, all_statements, blocks_in}
 use Rattle.binder.specs.Violations.{verdict}
+use Rattle.binder.specs.LeftOut.{left_out_violations}
 
 -- ---- procedures
 
@@ -150,7 +152,7 @@ abbrev pub bound_module : Space → Module
 bound_module space = record { name = space.name; compare = compare_of space.source; base = base_of space.source }
 
 abbrev pub class_of : Scope → List Class
-class_of s = if s.here.source.is_class then record { name = s.here.name; fields = module_declarations s s.here.entries; terminate = None } ∷ [] else []
+class_of s = if s.here.source.is_class then record { name = s.here.name; fields = module_declarations s s.here.entries; initialize = None; terminate = None } ∷ [] else []
 
 abbrev pub procedures_of : Scope → List Procedure
 procedures_of s = map (bound_procedure s) (numbered 0 s.here.entries)
@@ -230,9 +232,13 @@ startup_fault o spaces st = at (startup_number (scope_of o spaces no_space) st s
     at None = Some (record { rule = 33; place = record { «module» = 1; line = 1; column = 1 } })
     at (Some number) = None
 
--- the first rule that is broken: of names in their modules, and then of the macro to begin with
+-- what is asked where names and types are found: what the language leaves out, and the macro to begin with
+abbrev pub static_violations : Outside → List Space → Startup → List Refusal
+static_violations o spaces st = fault_list (startup_fault o spaces st) ++ left_out_violations o spaces
+
+-- the first rule that is broken: of names and types in their modules, and then the least of the others
 abbrev pub broken_rule : Outside → List Source → Startup → Option Refusal
-broken_rule o sources st = or_else (verdict o sources) (startup_fault o (spaces_from 0 sources) st)
+broken_rule o sources st = or_else (verdict o sources) (least_of None (static_violations o (spaces_from 0 sources) st))
 
 -- modules in the order of the project, bound
 abbrev pub bind_of : Outside → List Source → Startup → Answer

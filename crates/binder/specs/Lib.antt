@@ -8,6 +8,7 @@ pub mod Types
 pub mod Constants
 pub mod Numbering
 pub mod Violations
+pub mod LeftOut
 pub mod Storage
 pub mod Terms
 pub mod ExpressionsBound

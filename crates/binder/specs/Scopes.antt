@@ -11,10 +11,11 @@ use Rattle.binder.specs.Options.{or_else}
 use Rattle.binder.specs.Declarations.{What, an_enum, a_member, a_type, an_event, Entry, entries_in, in_module, Own, the_result, Local}
 
 -- what stands outside of a project, by the folds of names: a constant of the library; whether a name is the library's,
--- written with `$` or without; whether it is the host's
+-- written with `$` or without; whether that is one which VBA has and this library leaves out; whether it is the host's
 pub record Outside : Type 0 where
   pub constant : List ℕ → Option Val
   pub is_library : List ℕ → Bool → Bool
+  pub is_left_out : List ℕ → Bool
   pub is_host : List ℕ → Bool
 
 -- a module by its number, from 0, and what it declares

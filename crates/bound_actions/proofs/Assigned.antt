@@ -1,5 +1,5 @@
 -- What the value of an assignment goes to.
-use Rattle.std.proofs.Common.{◌≡◌, ℕ, Bool, true, false, List, [], ◌∷◌, ◌++◌, map, length, Option, Some, is_some, if◌then◌else◌, refl, sym, ap, subst, ◌∙◌}
+use Rattle.std.proofs.Common.{◌≡◌, ℕ, Bool, true, false, List, [], ◌∷◌, ◌++◌, map, length, Option, Some, None, is_some, if◌then◌else◌, refl, sym, ap, subst, ◌∙◌}
 use Rattle.std.specs.Prelude.{◌||◌, codes, option_and_then, slice_get}
 use Rattle.std.proofs.lemmas.List.{map-append}
 use Rattle.vba_base.specs.declared.place.Place.{Place}
@@ -38,11 +38,12 @@ use Rattle.binder.specs.StatementsBound.{assigned, assigned_to, is_given_with, i
 use Rattle.declared_names.specs.View.{space_view, written_view}
 use Rattle.bound_actions.specs.declared.trees.Split.{Split}
 use Rattle.bound_terms.specs.declared.properties.Writer.{Writer}
+use Rattle.bound_calls.specs.declared.term.Property.{Property}
 use Rattle.bound_calls.specs.declared.term.Routine.{Routine}
 use Rattle.bound_calls.specs.declared.term.Term.{Term}
 use Rattle.bound_calls.specs.declared.term.Term.TheVariants as term
 use Rattle.bound_calls.specs.declared.term.Tree.{Tree}
-use Rattle.bound_calls.specs.Standing.{RoutineStands, TermStands, TreeStands}
+use Rattle.bound_calls.specs.Standing.{PropertyStands, RoutineStands, TermStands, TreeStands}
 use Rattle.bound_calls.specs.Steps.{Leaves}
 use Rattle.bound_actions.specs.Actions.{ActionStands}
 use Rattle.bound_actions.specs.Assigning.{ValueFor}
@@ -51,7 +52,7 @@ use Rattle.bound_calls.specs.Calls.{PassesRest}
 use Rattle.bound_actions.specs.Called.{ActionIs, AllPassed, AssignsTo, Continues, IsBare, LeavesAlone, LetMade, Lets, LetsOn, LetsWith, SplitAt, args_on, property_kind}
 use Rattle.bound_actions.specs.Heights.{AddsOne}
 use Rattle.bound_actions.specs.Targets.{AssignsIndexed, is_variant_term}
-use Rattle.bound_terms.specs.Callee.{CalleeIs, IsWriter, NoWriter, WriterOf}
+use Rattle.bound_terms.specs.Callee.{CalleeIs, IsWriter, NoWriter, WriterOf, property_in}
 use Rattle.bound_terms.specs.Items.{takes_item}
 use Rattle.module_parts.proofs.Firsts.{expression_front}
 use Rattle.bound_calls.proofs.Growing.{grown_twice}
@@ -89,22 +90,20 @@ let_fits env parameters gs written all procedure of t ps below value alone h =
     by_type false = ap (λ o. behind_value o (λ args e. to.let_property procedure args e (declared_view of))) (args_are h.made (an_expr value ∷ []))
 
 let_stands : (env : Env) (w : Writer) (procedure : ℕ) (parameters front : List Parameter) (last : Parameter) (gs : List Given) (kind : ActionKind) (t : Tables) (qs : List Piece) → IsWriter env.scope w
-    → procedure ≡ procedure_number env.scope (space_view w.routine.space.now) w.number
-    → (slice_get env.scope.spaces (space_view w.routine.space.now).number ≡ Some (space_view w.routine.space.now) → map parameter_view parameters ≡ parameters_in env.scope (space_view w.routine.space.now) (written_view w.written))
-    → parameters ≡ front ++ last ∷ [] → (y : plain.Term) (place : Place) (value : bound.Expr) (ps below : List Piece) → LetMade env (map parameter_view front) procedure last.of gs value kind t qs → RoutineStands env w.routine y ps below
+    → procedure ≡ procedure_number env.scope (space_view w.property.space.now) w.number
+    → (slice_get env.scope.spaces (space_view w.property.space.now).number ≡ Some (space_view w.property.space.now) → map parameter_view parameters ≡ parameters_in env.scope (space_view w.property.space.now) (written_view w.written))
+    → parameters ≡ front ++ last ∷ [] → (y : plain.Term) (place : Place) (value : bound.Expr) (ps below : List Piece) → LetMade env (map parameter_view front) procedure last.of gs value kind t qs → PropertyStands env w.property y ps below
     → ActionIs kind (assigned env place value gs y) t qs
 let_stands env w procedure parameters front last gs kind t qs is number_is found split y place value ps below m s =
-    let space = space_view w.routine.space.now in
-    let name = written_view w.routine.written in
+    let space = space_view w.property.space.now in
+    let name = written_view w.property.written in
     let f : ℕ × Written = (w.number, written_view w.written) in
-    let P : Space → Type 0 = λ q. slice_get env.scope.spaces q.number ≡ Some q in
     let all_are : parameters_in env.scope space f.1 ≡ map parameter_view front ++ parameter_view last ∷ [] =
-    sym (found (subst P s.space_is s.placed)) ∙ ap (λ l. map parameter_view l) split ∙ map-append parameter_view front (last ∷ []) in
+    sym (found s.placed) ∙ ap (λ l. map parameter_view l) split ∙ map-append parameter_view front (last ∷ []) in
     let done = let_is env place value gs space s.number name f (map parameter_view front) (parameter_view last) m.args is.found all_are m.bound_is in
-    let term_is : y ≡ a_routine space s.number name = s.is ∙ ap (λ q. a_routine q s.number s.written) s.space_is ∙ ap (λ q. a_routine space s.number q) s.written_is in
     record {
       made = written_by procedure m.args value (declared_view last.of);
-      is = ap (λ z. assigned env place value gs z) term_is ∙ done ∙ ap (λ n. Some (written_by n m.args value (declared_view last.of))) (sym number_is);
+      is = ap (λ z. assigned env place value gs z) s.is ∙ done ∙ ap (λ n. Some (written_by n m.args value (declared_view last.of))) (sym number_is);
       fits = m.fits;
     }
 
@@ -120,9 +119,9 @@ property_named t procedure all of = by_type (is_object (declared_view of))
     by_type false = tt
 
 pub lets_bare : (env : Env) (w : Writer) (procedure : ℕ) (parameters front : List Parameter) (last : Parameter) (all : ℕ) (d e : Drafted) → IsWriter env.scope w
-    → procedure ≡ procedure_number env.scope (space_view w.routine.space.now) w.number
-    → (slice_get env.scope.spaces (space_view w.routine.space.now).number ≡ Some (space_view w.routine.space.now) → map parameter_view parameters ≡ parameters_in env.scope (space_view w.routine.space.now) (written_view w.written))
-    → parameters ≡ front ++ last ∷ [] → all ≡ length front → PassesRest front d e → Lets env w.routine [] d e (property_kind procedure all last.of)
+    → procedure ≡ procedure_number env.scope (space_view w.property.space.now) w.number
+    → (slice_get env.scope.spaces (space_view w.property.space.now).number ≡ Some (space_view w.property.space.now) → map parameter_view parameters ≡ parameters_in env.scope (space_view w.property.space.now) (written_view w.written))
+    → parameters ≡ front ++ last ∷ [] → all ≡ length front → PassesRest front d e → Lets env w.property [] d e (property_kind procedure all last.of)
 lets_bare env w procedure parameters front last all d e is number_is found split a h = record {
   grown = h.grown;
   named = property_named e.tables procedure all last.of;
@@ -132,9 +131,9 @@ lets_bare env w procedure parameters front last all d e is number_is found split
 }
 
 pub lets_given : (env : Env) (w : Writer) (procedure : ℕ) (parameters front : List Parameter) (last : Parameter) (ns : List ExpressionNode) (d e : Drafted) (kind : ActionKind) → IsWriter env.scope w
-    → procedure ≡ procedure_number env.scope (space_view w.routine.space.now) w.number
-    → (slice_get env.scope.spaces (space_view w.routine.space.now).number ≡ Some (space_view w.routine.space.now) → map parameter_view parameters ≡ parameters_in env.scope (space_view w.routine.space.now) (written_view w.written))
-    → parameters ≡ front ++ last ∷ [] → LetsWith env (map parameter_view front) procedure last.of ns d e kind → LetsOn env w.routine ns d e kind
+    → procedure ≡ procedure_number env.scope (space_view w.property.space.now) w.number
+    → (slice_get env.scope.spaces (space_view w.property.space.now).number ≡ Some (space_view w.property.space.now) → map parameter_view parameters ≡ parameters_in env.scope (space_view w.property.space.now) (written_view w.written))
+    → parameters ≡ front ++ last ∷ [] → LetsWith env (map parameter_view front) procedure last.of ns d e kind → LetsOn env w.property ns d e kind
 lets_given env w procedure parameters front last ns d e kind is number_is found split h = record {
   framed = h.framed;
   lets = λ items. record {
@@ -156,16 +155,34 @@ bare_given env (index base left args right) h = absurd h
 bare_given env e h = refl
 
 -- to a property without arguments
-routine_is : (env : Env) (r : Routine) (y : plain.Term) (ps below : List Piece) → (s : RoutineStands env r y ps below) → y ≡ a_routine (space_view r.space.now) s.number (written_view r.written)
-routine_is env r y ps below s = s.is ∙ ap (λ q. a_routine q s.number s.written) s.space_is ∙ ap (λ q. a_routine (space_view r.space.now) s.number q) s.written_is
+property_of : (env : Env) (r : Routine) (y : plain.Term) (ps below : List Piece) → RoutineStands env r y ps below → PropertyStands env (record { space = r.space; written = r.written }) y ps below
+property_of env r y ps below s =
+    let P : Space → Type 0 = λ q. slice_get env.scope.spaces q.number ≡ Some q in
+    record {
+      number = s.number;
+      is = s.is ∙ ap (λ q. a_routine q s.number s.written) s.space_is ∙ ap (λ q. a_routine (space_view r.space.now) s.number q) s.written_is;
+      placed = subst P s.space_is s.placed;
+      none_pushed = s.none_pushed;
+    }
 
-has_writer : (env : Env) (w : Writer) (y : plain.Term) (ps below : List Piece) → IsWriter env.scope w → RoutineStands env w.routine y ps below → takes_value env y ≡ true
-has_writer env w y ps below is s = ap (λ z. takes_value env z) (routine_is env w.routine y ps below s) ∙ ap (λ o. is_some o) is.found
+property_stands : (env : Env) (t : Tables) (x : Term) (p : Property) (y : plain.Term) (ps below : List Piece) → property_in x ≡ Some p → TermStands env t x y ps below → PropertyStands env p y ps below
+property_stands env t (term.Routine r) p y ps below e s =
+    let q : Property = record { space = r.space; written = r.written } in
+    let k : Some q ≡ Some p = e in
+    let same : q ≡ p = cc in
+    let P : Property → Type 0 = λ z. PropertyStands env z y ps below in subst P same (property_of env r y ps below s)
+property_stands env t (term.Property q) p y ps below e s =
+    let k : Some q ≡ Some p = e in
+    let same : q ≡ p = cc in
+    let P : Property → Type 0 = λ z. PropertyStands env z y ps below in subst P same s.property
+property_stands env t x p y ps below e s = let k : None ≡ Some p = e in absurd cc
 
-pub assigns_bare : (env : Env) (place : Expr) (x : Tree) (w : Writer) (d f e : Drafted) (kind : ActionKind) → IsBare place → Leaves env place d f x → WriterOf env.scope x.term w → Lets env w.routine [] f e kind → AssignsTo env place d e kind true
+has_writer : (env : Env) (w : Writer) (y : plain.Term) (ps below : List Piece) → IsWriter env.scope w → PropertyStands env w.property y ps below → takes_value env y ≡ true
+has_writer env w y ps below is s = ap (λ z. takes_value env z) s.is ∙ ap (λ o. is_some o) is.found
+
+pub assigns_bare : (env : Env) (place : Expr) (x : Tree) (w : Writer) (d f e : Drafted) (kind : ActionKind) → IsBare place → Leaves env place d f x → WriterOf env.scope x.term w → Lets env w.property [] f e kind → AssignsTo env place d e kind true
 assigns_bare env place x w d f e kind bare l is h =
-    let T : Term → Type 0 = λ t. TermStands env f.tables t (term_of env place) f.pieces d.pieces in
-    let s = subst T is.is l.stands.term_is in
+    let s = property_stands env f.tables x.term w.property (term_of env place) f.pieces d.pieces is.is l.stands.term_is in
     record {
       grown = grown_twice d f e l.grown h.grown;
       named = h.named;
@@ -201,7 +218,7 @@ split_assigned env base left right args value h =
     ap (λ (b : Bool). if b then assigned env (place_of_expression base) value (givens env args) t else assigned env (place_of_expression base) value [] (indexed env (place_of_expression base) t (givens env args))) h
 
 pub assigns_split : (env : Env) (split : Split) (all : List ExpressionNode) (x : Tree) (y : Term) (w : Writer) (d f g e : Drafted) (kind : ActionKind) → SplitAt split all → LeavesAlone env split.target.now d f x → CalleeIs env x f g y
-    → WriterOf env.scope y w → LetsOn env w.routine split.arguments.now g e kind → AssignsTo env (tree_in all) d e kind true
+    → WriterOf env.scope y w → LetsOn env w.property split.arguments.now g e kind → AssignsTo env (tree_in all) d e kind true
 assigns_split env split all x y w d f g e kind at l c is h =
     let base = tree_in split.target.now in
     let items = nodes.tree base ∷ [] in
@@ -209,9 +226,8 @@ assigns_split env split all x y w d f g e kind at l c is h =
     let m = h.lets items in
     let P : Expr → Type 0 = λ t. AssignsTo env t d e kind true in
     let z = callee env base (term_of env base) in
-    let T : Term → Type 0 = λ t. TermStands env g.tables t z f.pieces d.pieces in
-    let s : RoutineStands env w.routine z f.pieces d.pieces = subst T is.is (c.stands base f.pieces d.pieces l.leaves.stands) in
-    let same : target_before env base ≡ z = item_itself (place_of_expression base) z (space_view w.routine.space.now) s.number (written_view w.routine.written) (routine_is env w.routine z f.pieces d.pieces s) in
+    let s = property_stands env g.tables y w.property z f.pieces d.pieces is.is (c.stands base f.pieces d.pieces l.leaves.stands) in
+    let same : target_before env base ≡ z = item_itself (place_of_expression base) z (space_view w.property.space.now) s.number (written_view w.property.written) s.is in
     let taken : takes_value env (target_before env base) ≡ true = ap (λ q. takes_value env q) same ∙ has_writer env w z f.pieces d.pieces is.writer s in
     subst P (sym (index_is split all at l.alone h.framed)) (record {
       grown = grown_twice d f e l.leaves.grown (grown_twice f g e c.grown m.grown);
@@ -270,9 +286,9 @@ untaken env t place (term.Value e) z ps below i n h =
     let y = plain.a_value h.made (declared_view e.of) in
     other_untaken env place (term.Value e) z y h.is (ap (λ (b : Bool). if b then object_member place h.made (declared_view e.of) (codes "item") else y) i) refl refl
 untaken env t place (term.Routine r) z ps below i n h =
-    let space = space_view r.space.now in
-    let w = written_view r.written in
-    other_untaken env place (term.Routine r) z (a_routine space h.number w) (routine_is env r z ps below h) refl (ap (λ o. is_some o) n) refl
+    let s = property_of env r z ps below h in other_untaken env place (term.Routine r) z (a_routine (space_view r.space.now) s.number (written_view r.written)) s.is refl (ap (λ o. is_some o) n) refl
+untaken env t place (term.Property p) z ps below i n h =
+    other_untaken env place (term.Property p) z (a_routine (space_view p.space.now) h.property.number (written_view p.written)) h.property.is refl (ap (λ o. is_some o) n) refl
 untaken env t place (term.Function f) z ps below i n h = other_untaken env place (term.Function f) z _ h.0.is refl refl refl
 untaken env t place (term.HostMember m) z ps below i n h = let e : true ≡ false = i in absurd cc
 untaken env t place (term.SheetMember m) z ps below i n h = let e : true ≡ false = i in absurd cc

@@ -16,6 +16,7 @@ use Rattle.bound_project.specs.Statements.{evaluate}
 use Rattle.bound_project.specs.Statements as to
 use Rattle.bound_project.specs.Bodies.{action_of, whole}
 use Rattle.bound_project.specs.View.{declared_view, parameter_view}
+use Rattle.declared_names.specs.View.{space_view, written_view}
 use Rattle.bound_project.specs.Lists.{above, args_of}
 use Rattle.bound_project.proofs.Lists.{args_are}
 use Rattle.bound_project.specs.Pieces.{Argument, Piece, Tables, an_argument, put}
@@ -93,8 +94,12 @@ raise_fits env parameters gs written all t ps below none h =
     ap (λ st. action_of t (action.Raise all) st) top ∙ ap (λ n. action_of t (action.Raise n) (above (map an_argument h.made) [])) h.all_is
     ∙ ap (λ o. whole o (λ args. to.raise args)) (args_are h.made [])
 
-pub acts_raise : (env : Env) (place : Place) (ns : List ExpressionNode) (d e : Drafted) (written all : ℕ) → PassesAll env raise_parameters ns d e written all → ActsOn env term.ErrRaise place ns d e (action.Raise all)
-acts_raise env place ns d e written all p = record {
+-- what raises an error with these arguments
+raises : (env : Env) (x : Term) (z : plain.Term) (place : Place) (ns : List ExpressionNode) (d e : Drafted) (written all : ℕ) → PassesAll env raise_parameters ns d e written all
+    → ((y : plain.Term) → TermStands env d.tables x y d.pieces [] → (y ≡ z) × (d.pieces ≡ []))
+    → ((items : List nodes.Item) → called_term env place z (givens env (args_on items ns)) ≡ option_map to.raise (bound_arguments (argument_of env) raise_parameters (givens env (args_on items ns))))
+    → ActsOn env x place ns d e (action.Raise all)
+raises env x z place ns d e written all p there called = record {
   framed = p.framed;
   acts = λ items.
       let gs = givens env (args_on items ns) in
@@ -103,33 +108,27 @@ acts_raise env place ns d e written all p = record {
         grown = p.grown;
         named = tt;
         stands = λ y h.
-            let A : plain.Term → Type 0 = λ z. called_term env place z gs ≡ Some (to.raise (args_of s.made)) in
-            record { made = to.raise (args_of s.made); is = subst A (sym h.0) (ap (λ o. option_map to.raise o) s.bound); fits = raise_fits env raise_parameters gs written all e.tables e.pieces d.pieces h.1 s };
+            let k = there y h in
+            record {
+              made = to.raise (args_of s.made);
+              is = ap (λ t. called_term env place t gs) k.0 ∙ called items ∙ ap (λ o. option_map to.raise o) s.bound;
+              fits = raise_fits env raise_parameters gs written all e.tables e.pieces d.pieces k.1 s;
+            };
       };
 }
+
+pub acts_raise : (env : Env) (place : Place) (ns : List ExpressionNode) (d e : Drafted) (written all : ℕ) → PassesAll env raise_parameters ns d e written all → ActsOn env term.ErrRaise place ns d e (action.Raise all)
+acts_raise env place ns d e written all p = raises env term.ErrRaise err_raise place ns d e written all p (λ y h. h) (λ items. refl)
 
 one_given : (gs : List Given) → 1 ≡ length gs → has_names gs ≡ false → is_one gs ≡ true
 one_given gs a b = ap (λ (n : ℕ). n == 1 && not (has_names gs)) (sym a) ∙ ap (λ c. not c) b
 
 pub acts_number : (env : Env) (place : Place) (ns : List ExpressionNode) (d e : Drafted) (written all : ℕ) → written ≡ 1 → PassesAll env raise_parameters ns d e written all → ActsOn env term.ErrorWord place ns d e (action.Raise all)
-acts_number env place ns d e written all one p = record {
-  framed = p.framed;
-  acts = λ items.
-      let gs = givens env (args_on items ns) in
-      let s = p.stands items in
-      record {
-        grown = p.grown;
-        named = tt;
-        stands = λ y h.
-            let A : plain.Term → Type 0 = λ z. called_term env place z gs ≡ Some (to.raise (args_of s.made)) in
-            let B : Bool → Type 0 = λ b. (if b then option_map to.raise (bound_arguments (argument_of env) raise_parameters gs) else None) ≡ Some (to.raise (args_of s.made)) in
-            record {
-              made = to.raise (args_of s.made);
-              is = subst A (sym h.0) (subst B (sym (one_given gs (sym one ∙ s.written_is) s.no_names)) (ap (λ o. option_map to.raise o) s.bound));
-              fits = raise_fits env raise_parameters gs written all e.tables e.pieces d.pieces h.1 s;
-            };
-      };
-}
+acts_number env place ns d e written all one p =
+    raises env term.ErrorWord error_word place ns d e written all p (λ y h. h) (λ items.
+    let gs = givens env (args_on items ns) in
+    let s = p.stands items in
+    ap (λ (b : Bool). if b then option_map to.raise (bound_arguments (argument_of env) raise_parameters gs) else None) (one_given gs (sym one ∙ s.written_is) s.no_names))
 
 pub acts_clear : (env : Env) (x : Term) (place : Place) (d : Drafted) → x ≡ term.ErrClear → Acts env x place [] d d action.ClearErr
 acts_clear env x place d is =
@@ -179,6 +178,11 @@ called_given env t (term.Routine r) z ps below place made h k =
     let A : plain.Term → Type 0 = λ y. given_as env y place ≡ Some made in
     let B : plain.Term → Type 0 = λ y. called_term env place y [] ≡ Some (evaluate made) in
     subst B (sym h.is) (routine_evaluated env place h.space h.number h.written made (subst A h.is k))
+called_given env t (term.Property p) z ps below place made h k =
+    let A : plain.Term → Type 0 = λ y. given_as env y place ≡ Some made in
+    let B : plain.Term → Type 0 = λ y. called_term env place y [] ≡ Some (evaluate made) in
+    let s = h.property in
+    subst B (sym s.is) (routine_evaluated env place (space_view p.space.now) s.number (written_view p.written) made (subst A s.is k))
 called_given env t (term.Function f) z ps below place made h k =
     let A : plain.Term → Type 0 = λ y. called_term env place y [] ≡ option_map evaluate (given_as env y place) in subst A (sym h.0.is) refl ∙ ap (λ o. option_map evaluate o) k
 called_given env t (term.HostMember m) z ps below place made h k =

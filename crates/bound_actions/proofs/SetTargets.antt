@@ -157,6 +157,7 @@ no_member env t place (term.Value e) z ps below i h =
     let y = a_value h.made (declared_view e.of) in
     other_kept place z y h.is (ap (λ (b : Bool). if b then object_member place h.made (declared_view e.of) (codes "item") else y) i) refl
 no_member env t place (term.Routine r) z ps below i h = other_kept place z (a_routine h.space h.number h.written) h.is refl refl
+no_member env t place (term.Property p) z ps below i h = other_kept place z _ h.property.is refl refl
 no_member env t place (term.Function f) z ps below i h = other_kept place z _ h.0.is refl refl
 no_member env t place (term.HostMember m) z ps below i h = let e : true ≡ false = i in absurd cc
 no_member env t place (term.SheetMember m) z ps below i h = let e : true ≡ false = i in absurd cc

@@ -29,10 +29,10 @@ use Rattle.bound_actions.specs.declared.trees.Split.{Split}
 use Rattle.bound_calls.specs.declared.term.Item.TheVariants as item
 use Rattle.bound_calls.specs.declared.term.Ordered.{Ordered}
 use Rattle.bound_calls.specs.declared.term.Passed.{Passed}
-use Rattle.bound_calls.specs.declared.term.Routine.{Routine}
+use Rattle.bound_calls.specs.declared.term.Property.{Property}
 use Rattle.bound_calls.specs.declared.term.Term.{Term}
 use Rattle.bound_calls.specs.declared.term.Tree.{Tree}
-use Rattle.bound_calls.specs.Standing.{RoutineStands, PassedStands, TermStands, TreeStands, Grown}
+use Rattle.bound_calls.specs.Standing.{PropertyStands, PassedStands, TermStands, TreeStands, Grown}
 use Rattle.bound_calls.specs.Steps.{Goes, Leaves}
 use Rattle.bound_calls.specs.Calls.{PassesRest}
 
@@ -150,14 +150,14 @@ pub record LetsWith (env : Env) (parameters : List project.Parameter) (procedure
   pub stands : (items : List nodes.Item) (value : bound.Expr) → d.pieces ≡ an_expr value ∷ [] → LetMade env parameters procedure of (givens env (args_on items ns)) value kind e.tables e.pieces
 
 -- its arguments were pushed behind the value that it is given
-pub record Lets (env : Env) (r : Routine) (gs : List Given) (d e : Drafted) (kind : ActionKind) : Type 0 where
+pub record Lets (env : Env) (p : Property) (gs : List Given) (d e : Drafted) (kind : ActionKind) : Type 0 where
   pub grown : Grown d e
   pub named : ActionNamed e.tables kind
-  pub stands : (y : plain.Term) (place : Place) (value : bound.Expr) (ps below : List Piece) → RoutineStands env r y ps below → d.pieces ≡ an_expr value ∷ [] → ActionIs kind (assigned env place value gs y) e.tables e.pieces
+  pub stands : (y : plain.Term) (place : Place) (value : bound.Expr) (ps below : List Piece) → PropertyStands env p y ps below → d.pieces ≡ an_expr value ∷ [] → ActionIs kind (assigned env place value gs y) e.tables e.pieces
 
-pub record LetsOn (env : Env) (r : Routine) (ns : List ExpressionNode) (d e : Drafted) (kind : ActionKind) : Type 0 where
+pub record LetsOn (env : Env) (p : Property) (ns : List ExpressionNode) (d e : Drafted) (kind : ActionKind) : Type 0 where
   pub framed : Framed ns
-  pub lets : (items : List nodes.Item) → Lets env r (givens env (args_on items ns)) d e kind
+  pub lets : (items : List nodes.Item) → Lets env p (givens env (args_on items ns)) d e kind
 
 -- an expression is assigned the value that was pushed, and whether that comes as it is
 pub record AssignsTo (env : Env) (place : Expr) (d e : Drafted) (kind : ActionKind) (given : Bool) : Type 0 where

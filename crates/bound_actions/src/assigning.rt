@@ -79,13 +79,13 @@ fn property_kind(procedure: u32, arguments: u32, of: DeclaredType) -> ActionKind
 
 /// A procedure that writes a property, and the type of its last parameter.
 #[derive(Clone, Copy)]
-struct Property {
+struct PropertyLet {
     procedure: u32,
     of: DeclaredType,
 }
 
 /// The same of arguments of which the last ones have names.
-fn ordered_kind(property: Property, ordered: Ordered) -> ActionKind
+fn ordered_kind(property: PropertyLet, ordered: Ordered) -> ActionKind
     ensures { result ≡ ordered_kind property.procedure ordered property.of }
 {
     if is_object(property.of) {
@@ -110,7 +110,7 @@ fn let_passed<'a>(
     alloc: Global,
     draft: &mut Draft,
     env: Env<'a>,
-    property: Property,
+    property: PropertyLet,
     front: &'a [Parameter],
     nodes: &'a [ExpressionNode],
 ) -> Result<ActionKind, OrMemory<NotYet>>
@@ -135,13 +135,13 @@ fn let_bare<'a>(
 ) -> Result<ActionKind, OrMemory<NotYet>>
     requires env { EnvStands env }
     requires writer { IsWriter (scope_view env.constants.scope) writer }
-    ensures { IfOk result (λ kind. Lets (env_view env.entry) writer.entry.routine [] (draft_view draft.old) (draft_view draft.new) kind) }
+    ensures { IfOk result (λ kind. Lets (env_view env.entry) writer.entry.property [] (draft_view draft.old) (draft_view draft.new) kind) }
 {
     let scope = env.constants.scope;
-    let procedure = procedure_number(scope, writer.routine.space, writer.number)?;
+    let procedure = procedure_number(scope, writer.property.space, writer.number)?;
     let parameters = env
         .signatures
-        .parameters(scope, writer.routine.space, writer.number)?;
+        .parameters(scope, writer.property.space, writer.number)?;
     let Some((last, front)) = parameters.split_last() else {
         return Err(OrMemory::Fault(NotYet));
     };
@@ -160,17 +160,17 @@ fn let_given<'a>(
 ) -> Result<ActionKind, OrMemory<NotYet>>
     requires env { EnvStands env }
     requires writer { IsWriter (scope_view env.constants.scope) writer }
-    ensures { IfOk result (λ kind. LetsOn (env_view env.entry) writer.entry.routine nodes.now (draft_view draft.old) (draft_view draft.new) kind) }
+    ensures { IfOk result (λ kind. LetsOn (env_view env.entry) writer.entry.property nodes.now (draft_view draft.old) (draft_view draft.new) kind) }
 {
     let scope = env.constants.scope;
-    let procedure = procedure_number(scope, writer.routine.space, writer.number)?;
+    let procedure = procedure_number(scope, writer.property.space, writer.number)?;
     let parameters = env
         .signatures
-        .parameters(scope, writer.routine.space, writer.number)?;
+        .parameters(scope, writer.property.space, writer.number)?;
     let Some((last, front)) = parameters.split_last() else {
         return Err(OrMemory::Fault(NotYet));
     };
-    let property = Property {
+    let property = PropertyLet {
         procedure,
         of: last.of,
     };

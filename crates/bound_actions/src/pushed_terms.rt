@@ -22,7 +22,7 @@ pub fn push_term<'a>(
     let tree = Tree {
         place,
         name: None,
-        is_qualifier: false,
+        dotted: None,
         term,
     };
     let ending = given_ending(alloc, draft, tree)?;

@@ -20,7 +20,7 @@ use bound_calls::{
 };
 use bound_declarations::NotYet;
 use bound_project::{ActionKind, Draft, Parameter};
-use bound_terms::{Env, callee_term, gathered_ending, run, take_gathered};
+use bound_terms::{Env, callee_term, gathered_ending, indexes_value, run, take_gathered};
 use std::alloc::Global;
 use vba_base::{OrMemory, Place};
 use vba_expression::ExpressionNode;
@@ -299,6 +299,7 @@ fn call_term<'a>(
 /// Do brackets index a term, or take a member of an object there?
 fn is_indexed<'a>(term: Term<'a>) -> bool {
     match term {
+        Term::Routine(routine) => indexes_value(routine),
         Term::Place { .. } => true,
         Term::Value(_) => true,
         Term::Function(_) => true,

@@ -131,6 +131,7 @@ copied_anyway env x d y below n h p place rest = at x.term n h
     at (term.Place kind of bounded false) n h = let A : plain.Term → Type 0 = λ z. by_reference (argument_of env) p z place rest ≡ by_copy (argument_of env) p z place rest in subst A (sym h.is) refl
     at (term.Value e) n h = let A : plain.Term → Type 0 = λ z. by_reference (argument_of env) p z place rest ≡ by_copy (argument_of env) p z place rest in subst A (sym h.is) refl
     at (term.Routine r) n h = let A : plain.Term → Type 0 = λ z. by_reference (argument_of env) p z place rest ≡ by_copy (argument_of env) p z place rest in subst A (sym h.is) refl
+    at (term.Property written) n h = let A : plain.Term → Type 0 = λ z. by_reference (argument_of env) p z place rest ≡ by_copy (argument_of env) p z place rest in subst A (sym h.property.is) refl
     at (term.Function f) n h = let A : plain.Term → Type 0 = λ z. by_reference (argument_of env) p z place rest ≡ by_copy (argument_of env) p z place rest in subst A (sym h.0.is) refl
     at (term.HostMember m) n h = let A : plain.Term → Type 0 = λ z. by_reference (argument_of env) p z place rest ≡ by_copy (argument_of env) p z place rest in subst A (sym h.is) refl
     at (term.SheetMember m) n h = let A : plain.Term → Type 0 = λ z. by_reference (argument_of env) p z place rest ≡ by_copy (argument_of env) p z place rest in subst A (sym h.0) refl
@@ -234,6 +235,7 @@ nothing_lent (term.Place kind of bounded true) h = none_of (record { kind = kind
 nothing_lent (term.Place kind of bounded false) h = tt
 nothing_lent (term.Value e) h = tt
 nothing_lent (term.Routine r) h = tt
+nothing_lent (term.Property p) h = tt
 nothing_lent (term.Function f) h = tt
 nothing_lent (term.HostMember m) h = tt
 nothing_lent (term.SheetMember m) h = tt

@@ -265,7 +265,7 @@ routine_item place z space number w h = ap (λ y. item_of place y) h ∙ sym h
 -- what brackets make of an expression
 pub tree_ended : (env : Env) (t : Tables) (y : Term) (place : Place) (b : Expr) (args : Args) (left right : Token) (ps below : List Piece) → place ≡ place_of_expression b
     → TermStands env t y (indexed env (place_of_expression b) (item_of (place_of_expression b) (callee env b (term_of env b))) (givens env args)) ps below
-    → TreeStands env t (record { place = place; name = None; is_qualifier = false; term = y }) (index b left args right) ps below
+    → TreeStands env t (record { place = place; name = None; dotted = None; term = y }) (index b left args right) ps below
 tree_ended env t y place b args left right ps below at h = record {
   term_is = h;
   place_is = at ∙ sym (expression_front b (marked left mark.LeftParenthesis ∷ (spell_args args ++ marked right mark.RightParenthesis ∷ [])));
@@ -277,7 +277,7 @@ tree_ended env t y place b args left right ps below at h = record {
 -- arguments end
 index_stands : (env : Env) (x : Call) (ending : Ending) (left right : Token) (xs : List Item) (d e : Drafted) → AllNamed d.tables xs → EndsCall x.routine x.passed d e ending → (is : List nodes.Item) (base : Base)
     → Stands env d.tables (item.Call x ∷ xs) is d.pieces base
-    → Stands env e.tables (item.Tree (record { place = x.place; name = None; is_qualifier = false; term = term.Value ending }) ∷ xs) (behind_node (node.Index left right) is) e.pieces base
+    → Stands env e.tables (item.Tree (record { place = x.place; name = None; dotted = None; term = term.Value ending }) ∷ xs) (behind_node (node.Index left right) is) e.pieces base
 index_stands env x ending left right xs d e k c [] base h = absurd h
 index_stands env x ending left right xs d e k c (nodes.tree y ∷ is) base h = absurd h
 index_stands env x ending left right xs d e k c (nodes.arguments args ∷ []) base h = absurd h
@@ -294,7 +294,7 @@ index_stands env x ending left right xs d e k c (nodes.arguments args ∷ nodes.
       ),
     )
 
-pub closes_call : (x : Call) (ending : Ending) (d e : Drafted) → EndsCall x.routine x.passed d e ending → Closes (item.Call x) d e (record { place = x.place; name = None; is_qualifier = false; term = term.Value ending })
+pub closes_call : (x : Call) (ending : Ending) (d e : Drafted) → EndsCall x.routine x.passed d e ending → Closes (item.Call x) d e (record { place = x.place; name = None; dotted = None; term = term.Value ending })
 closes_call x ending d e c = record {
   grown = c.grown;
   named = ending_call x.routine x.passed d e ending c;

@@ -109,6 +109,7 @@ pub term_grows : (env : Env) (t u : Tables) → Extends t u → (x : Term) → T
 term_grows env t u e (term.Place kind of bounded lends) k y ps below h = record { at = h.at; is = h.is; ends = λ n. put_same t u e n kind k ps ∙ h.ends n }
 term_grows env t u e (term.Value ending) k y ps below h = record { made = h.made; is = h.is; ends = λ n. put_same t u e n ending.kind k ps ∙ h.ends n }
 term_grows env t u e (term.Routine r) k y ps below h = h
+term_grows env t u e (term.Property p) k y ps below h = h
 term_grows env t u e (term.Function f) k y ps below h = h
 term_grows env t u e (term.HostMember m) k y ps below h =
     record { object = h.object; is = h.is ∙ ap (λ z. a_host_member h.object z) (member_same t u e m k); on_top = h.on_top }

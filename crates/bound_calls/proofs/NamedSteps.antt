@@ -516,7 +516,7 @@ called_stands env x d e named ending y before (g ∷ ns) made gs between below s
 
 index_stands : (env : Env) (x : Call) (k : ℕ) (ks : List ℕ) (ending : Ending) (left right : Token) (xs : List Item) (d e : Drafted) → AllNamed d.tables xs → EndsNamed x.routine x.passed (reverse (k ∷ ks)) d e ending → (is : List nodes.Item)
     (base : Base) → Stands env d.tables (with_named (k ∷ ks) (item.Call x ∷ xs)) is d.pieces base
-    → Stands env e.tables (item.Tree (record { place = x.place; name = None; is_qualifier = false; term = term.Value ending }) ∷ xs) (behind_node (node.Index left right) is) e.pieces base
+    → Stands env e.tables (item.Tree (record { place = x.place; name = None; dotted = None; term = term.Value ending }) ∷ xs) (behind_node (node.Index left right) is) e.pieces base
 index_stands env x k ks ending left right xs d e n c [] base h = absurd h
 index_stands env x k ks ending left right xs d e n c (nodes.tree y ∷ is) base h = absurd h
 index_stands env x k ks ending left right xs d e n c (nodes.arguments args ∷ []) base h =
@@ -545,16 +545,16 @@ index_stands env x k ks ending left right xs d e n c (nodes.arguments args ∷ n
 
 index_some : (env : Env) (x : Call) (ks : List ℕ) (ending : Ending) (left right : Token) (xs : List Item) (d e : Drafted) → (ks ≡ [] → ⊥) → AllNamed d.tables xs → EndsNamed x.routine x.passed (reverse ks) d e ending → (is : List nodes.Item)
     (base : Base) → Stands env d.tables (with_named ks (item.Call x ∷ xs)) is d.pieces base
-    → Stands env e.tables (item.Tree (record { place = x.place; name = None; is_qualifier = false; term = term.Value ending }) ∷ xs) (behind_node (node.Index left right) is) e.pieces base
+    → Stands env e.tables (item.Tree (record { place = x.place; name = None; dotted = None; term = term.Value ending }) ∷ xs) (behind_node (node.Index left right) is) e.pieces base
 index_some env x [] ending left right xs d e some n c is base h = absurd (some refl)
 index_some env x (k ∷ ks) ending left right xs d e some n c is base h = index_stands env x k ks ending left right xs d e n c is base h
 
 pub goes_index : (env : Env) (x : Call) (ks : List ℕ) (ending : Ending) (left right : Token) (xs old new : List Item) (d e : Drafted) → (ks ≡ [] → ⊥) → old ≡ item.Call x ∷ xs
-    → new ≡ item.Tree (record { place = x.place; name = None; is_qualifier = false; term = term.Value ending }) ∷ xs → AllNamed d.tables old → EndsNamed x.routine x.passed (reverse ks) d e ending
+    → new ≡ item.Tree (record { place = x.place; name = None; dotted = None; term = term.Value ending }) ∷ xs → AllNamed d.tables old → EndsNamed x.routine x.passed (reverse ks) d e ending
     → Goes env d (with_named ks old) e new (behind_node (node.Index left right))
 goes_index env x ks ending left right xs old new d e some o n k c =
     let g = behind_node (node.Index left right) in
-    let y = item.Tree (record { place = x.place; name = None; is_qualifier = false; term = term.Value ending }) in
+    let y = item.Tree (record { place = x.place; name = None; dotted = None; term = term.Value ending }) in
     let N : List Item → Type 0 = λ l. AllNamed d.tables l in
     let A : List Item → Type 0 = λ l. Goes env d (with_named ks l) e new g in
     let B : List Item → Type 0 = λ l. Goes env d (with_named ks (item.Call x ∷ xs)) e l g in

@@ -90,6 +90,7 @@ no_value_there env t (term.HostMember m) y ps below r h place =
 no_value_there env t (term.SheetMember m) y ps below r h place =
     ap (λ z. value_of env z place) h.0 ∙ no_member_value (m.least == 0) (host_member sheet_expression (name_in t m.name) no_exprs) place (declared_view m.of) r
 no_value_there env t (term.Routine s) y ps below r h place = ap (λ z. value_of env z place) h.is ∙ no_routine_value env s h r place
+no_value_there env t (term.Property p) y ps below r h place = let e : false ≡ true = r in absurd cc
 no_value_there env t (term.Function f) y ps below r h place = let e : false ≡ true = r in absurd cc
 no_value_there env t term.Err y ps below r h place = ap (λ z. value_of env z place) h.0
 no_value_there env t term.ErrRaise y ps below r h place = let e : false ≡ true = r in absurd cc
@@ -240,6 +241,7 @@ refers_may (term.Value e) h = first_holds (is_host_type (declared_view e.of)) (i
 refers_may (term.HostMember m) h = first_holds (is_host_type (declared_view m.of)) (is_variant (declared_view m.of)) h
 refers_may (term.SheetMember m) h = first_holds (is_host_type (declared_view m.of)) (is_variant (declared_view m.of)) h
 refers_may (term.Routine r) h = first_holds (is_host_type (declared_view r.of)) (is_variant (declared_view r.of)) h
+refers_may (term.Property p) h = h
 refers_may (term.Function f) h = h
 refers_may term.Err h = refl
 refers_may term.ErrRaise h = h
@@ -253,6 +255,7 @@ gives_refers (term.Value e) h = h
 gives_refers (term.HostMember m) h = h
 gives_refers (term.SheetMember m) h = h
 gives_refers (term.Routine s) h = h
+gives_refers (term.Property p) h = h
 gives_refers (term.Function f) h = h
 gives_refers term.Err h = refl
 gives_refers term.ErrRaise h = h
@@ -267,6 +270,7 @@ gives_no_err (term.Value e) h = tt
 gives_no_err (term.HostMember m) h = tt
 gives_no_err (term.SheetMember m) h = tt
 gives_no_err (term.Routine s) h = tt
+gives_no_err (term.Property p) h = tt
 gives_no_err (term.Function f) h = tt
 gives_no_err term.Err h = let e : false ≡ true = h in absurd cc
 gives_no_err term.ErrRaise h = tt

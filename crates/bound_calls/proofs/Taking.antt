@@ -1,5 +1,5 @@
 -- How terms are taken.
-use Rattle.std.proofs.Common.{◌≡◌, ◌<◌, length, Bool, true, false, List, [], ◌∷◌, Option, Some, None, refl, sym, ap, subst, ◌∙◌}
+use Rattle.std.proofs.Common.{◌≡◌, ℕ, ◌<◌, length, Bool, true, false, List, [], ◌∷◌, Option, Some, None, refl, sym, ap, subst, ◌∙◌}
 use Rattle.std.specs.Prelude.{◌==◌, if◌then◌else◌, option_map, option_and_then}
 use Rattle.vba_base.specs.declared.place.Place.{Place}
 use Rattle.vba_values.specs.Types as type
@@ -18,9 +18,12 @@ use Rattle.bound_project.proofs.Lists.{member_put}
 use Rattle.bound_project.specs.Drafts.{Drafted, NodeNamed}
 use Rattle.binder.specs.Options.{or_else}
 use Rattle.binder.specs.Types.{is_object}
-use Rattle.binder.specs.Terms.{Env, a_host_member, expression_of, typed_value}
+use Rattle.binder.specs.Declarations.{Written}
+use Rattle.binder.specs.Scopes.{Space}
+use Rattle.binder.specs.Terms.{Env, a_host_member, a_routine, bound_arguments, expression_of, no_term, typed_value, value_with}
 use Rattle.binder.specs.Terms as plain
-use Rattle.binder.specs.ExpressionsBound.{plain_operand, value_of, reference_of, default_value, operand_of}
+use Rattle.binder.specs.ExpressionsBound.{bare_call, call_value, if_there, parameters_in, plain_operand, reader, value_of, reference_of, default_value, operand_of}
+use Rattle.declared_names.specs.View.{space_view, written_view}
 use Rattle.bound_calls.specs.declared.term.Ending.{Ending}
 use Rattle.bound_calls.specs.declared.term.HostMember.{HostMember}
 use Rattle.bound_calls.specs.declared.term.Routine.{Routine}
@@ -149,6 +152,12 @@ takes_sheet m d s e v p h = record {
 pub takes_routine : (r : Routine) (d e : Drafted) (ending : Option Ending) → CallsBare r d e ending → TakesValue (term.Routine r) d e ending
 takes_routine r d e ending h = record { grown = h.grown; named = h.named; stands = h.stands }
 
+-- a property without a Get gives no value
+no_unread : (env : Env) (space : Space) (number : ℕ) (written : Written) → reader env.scope space number written ≡ None → (place : Place) → value_of env (a_routine space number written) place ≡ None
+no_unread env space number written unread place =
+    let found : Option (ℕ × Written) → plain.Term = λ o. if_there (option_map (λ f. call_value env space f.0 f.1 (bound_arguments (λ of t place. None) (parameters_in env.scope space f.1) [])) o) in
+    let bare : bare_call env space number written ≡ no_term = ap found unread in ap (λ z. value_with (λ a b c. z) (a_routine space number written) place) bare
+
 -- what is no value
 pub none_of : (x : Term) → Type 0
 none_of (term.Place kind of bounded lends) = ⊥
@@ -165,6 +174,7 @@ no_value t (term.Value e) n env y ps below h place = absurd n
 no_value t (term.Routine r) n env y ps below h place = absurd n
 no_value t (term.HostMember m) n env y ps below h place = absurd n
 no_value t (term.SheetMember m) n env y ps below h place = absurd n
+no_value t (term.Property p) n env y ps below h place = ap (λ z. value_of env z place) h.property.is ∙ no_unread env (space_view p.space.now) h.property.number (written_view p.written) h.unread place
 no_value t (term.Function f) n env y ps below h place = ap (λ z. value_of env z place) h.0.is
 no_value t term.Err n env y ps below h place = ap (λ z. value_of env z place) h.0
 no_value t term.ErrRaise n env y ps below h place = ap (λ z. value_of env z place) h.0
@@ -191,6 +201,7 @@ unfolding not_err Splits
 operand_split env t (term.Place kind of bounded lends) n y ps below h place = subst (Splits env place) (sym h.is) refl
 operand_split env t (term.Value e) n y ps below h place = subst (Splits env place) (sym h.is) refl
 operand_split env t (term.Routine r) n y ps below h place = subst (Splits env place) (sym h.is) refl
+operand_split env t (term.Property p) n y ps below h place = subst (Splits env place) (sym h.property.is) refl
 operand_split env t (term.Function f) n y ps below h place = subst (Splits env place) (sym h.0.is) refl
 operand_split env t (term.HostMember m) n y ps below h place = subst (Splits env place) (sym h.is) refl
 operand_split env t (term.SheetMember m) n y ps below h place = subst (Splits env place) (sym h.0) refl
@@ -211,6 +222,7 @@ unfolding not_err
 no_err (term.Place kind of bounded lends) n = tt
 no_err (term.Value v) n = tt
 no_err (term.Routine r) n = tt
+no_err (term.Property p) n = tt
 no_err (term.Function f) n = tt
 no_err (term.HostMember m) n = tt
 no_err (term.SheetMember m) n = tt

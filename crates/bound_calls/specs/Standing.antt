@@ -1,10 +1,11 @@
 -- Serves the code: what stands on the stack of a pass over the nodes of an expression, beside the pieces of the draft.
-use Rattle.std.specs.Prelude.{◌≡◌, ℕ, suc, ◌+◌, ◌<◌, length, Bool, true, false, List, [], ◌∷◌, ◌++◌, map, Option, Some, None, is_some, option_map, slice_get}
+use Rattle.std.specs.Prelude.{◌≡◌, ℕ, suc, ◌+◌, ◌<◌, length, Bool, true, false, List, [], ◌∷◌, ◌++◌, map, Option, Some, None, option_map, slice_get}
 use Rattle.vba_base.specs.declared.place.Place.{Place}
 use Rattle.vba_values.specs.Types.{Declared}
 use Rattle.vba_values.specs.Types as type
 use Rattle.vba_words.specs.declared.identifier.Identifier.{Identifier}
 use Rattle.vba_lib.specs.declared.function.LibraryFunction.{LibraryFunction}
+use Rattle.vba_lexer.specs.declared.token.Token.{Token}
 use Rattle.vba_expression.specs.Tree.{Expr, Args, missing, named}
 use Rattle.vba_expression.specs.Tree as tree
 use Rattle.vba_expression.specs.Reader.{name_in}
@@ -14,7 +15,7 @@ use Rattle.bound_project.specs.declared.node.NodeKind.{NodeKind}
 use Rattle.bound_project.specs.declared.node.Node.{Node}
 use Rattle.bound_project.specs.declared.variable.Variable.{Variable}
 use Rattle.bound_project.specs.View.{declared_view, parameter_view, variable_view}
-use Rattle.bound_project.specs.Expressions.{expr, not_given, active_sheet, Exprs, also, given_count, Lvalue, operand_type}
+use Rattle.bound_project.specs.Expressions.{expr, element_value, not_given, active_sheet, Exprs, also, given_count, Lvalue, operand_type}
 use Rattle.bound_project.specs.Expressions as bound
 use Rattle.bound_project.specs.Lists.{above, exprs_of}
 use Rattle.bound_project.specs.Pieces.{Argument, Piece, Tables, a_member, an_argument, an_expr, expr_of, put_kind, with_argument}
@@ -30,8 +31,10 @@ use Rattle.binder.specs.Constants.{compare_in, place_of_expression}
 use Rattle.binder.specs.Storage.{procedure_number}
 use Rattle.binder.specs.Terms.{Env, Given, a_place, a_value, a_routine, a_function, a_host_member, err_object, err_raise, err_clear, error_word, no_term, expression_of, listed_values, parameter_named, taken_by}
 use Rattle.binder.specs.Terms as plain
-use Rattle.binder.specs.ExpressionsBound.{reader, parameters_in, call_type, callee, item_of, element_place, element_type, argument_of, function_values, givens, given_as, term_of, operand_of, reference_of}
+use Rattle.binder.specs.ExpressionsBound.{reader, parameters_in, call_type, callee, item_of, element_place, element_type, argument_of, function_values, givens, given_as, indexed, numbers_of, term_of, operand_of, reference_of}
+use Rattle.bound_calls.specs.declared.term.Dotted.{Dotted}
 use Rattle.bound_calls.specs.declared.term.Ending.{Ending}
+use Rattle.bound_calls.specs.declared.term.Property.{Property}
 use Rattle.bound_calls.specs.declared.term.Routine.{Routine}
 use Rattle.bound_calls.specs.declared.term.Function.{Function}
 use Rattle.bound_calls.specs.declared.term.FunctionCall.{FunctionCall}
@@ -86,6 +89,18 @@ pub record RoutineStands (env : Env) (r : Routine) (x : plain.Term) (ps below : 
   pub placed : slice_get env.scope.spaces space.number ≡ Some space
   pub none_pushed : ps ≡ below
 
+-- a property, by one of its procedures; nothing is pushed for it
+pub record PropertyStands (env : Env) (p : Property) (x : plain.Term) (ps below : List Piece) : Type 0 where
+  pub number : ℕ
+  pub is : x ≡ a_routine (space_view p.space.now) number (written_view p.written)
+  pub placed : slice_get env.scope.spaces (space_view p.space.now).number ≡ Some (space_view p.space.now)
+  pub none_pushed : ps ≡ below
+
+-- the same of one without a Get
+pub record UnreadStands (env : Env) (p : Property) (x : plain.Term) (ps below : List Piece) : Type 0 where
+  pub property : PropertyStands env p x ps below
+  pub unread : reader env.scope (space_view p.space.now) property.number (written_view p.written) ≡ None
+
 -- a function of the library, for which nothing is pushed
 abbrev pub base_number : (is_one : Bool) → ℕ
 base_number true = 1
@@ -109,6 +124,7 @@ abbrev pub TermStands : Env → Tables → Term → plain.Term → (ps below : L
 TermStands env t (term.Place kind of bounded lends) x ps below = PlaceStands t kind of bounded lends x ps below
 TermStands env t (term.Value e) x ps below = ValueStands t e x ps below
 TermStands env t (term.Routine r) x ps below = RoutineStands env r x ps below
+TermStands env t (term.Property p) x ps below = UnreadStands env p x ps below
 TermStands env t (term.Function f) x ps below = FunctionIs env f x × (ps ≡ below)
 TermStands env t (term.HostMember m) x ps below = HostMemberStands t m x ps below
 TermStands env t (term.SheetMember m) x ps below = (x ≡ a_host_member (expression_of active_sheet nowhere type.worksheet) (member_is t m)) × (ps ≡ below)
@@ -141,10 +157,17 @@ PushedStands (Some of) found ps below = PushedIs of found ps below
 
 -- ---- the stack, the last item first
 
--- whether a name behind a dot is looked up in an expression that is no name; of a name that is looked up there
-abbrev pub QualifierStands : Env → (name : Option Identifier) → Bool → Expr → Type 0
-QualifierStands env (Some name) q e = Unit {0}
-QualifierStands env None q e = q ≡ is_some (qualifier_of env.scope e)
+-- two names with a dot between them, for which nothing is pushed
+pub record DottedStands (x : Dotted) (e : Expr) (ps below : List Piece) : Type 0 where
+  pub dot : Token
+  pub is : e ≡ tree.member (tree.name x.before.now) dot x.name.now
+  pub none_pushed : ps ≡ below
+
+-- in an expression that is no name, and no two names, no name behind a dot is looked up; of a name that is looked up there
+abbrev pub QualifierStands : Env → (name : Option Identifier) → Option Dotted → Expr → (ps below : List Piece) → Type 0
+QualifierStands env (Some name) x e ps below = Unit {0}
+QualifierStands env None (Some x) e ps below = DottedStands x e ps below
+QualifierStands env None None e ps below = qualifier_of env.scope e ≡ None
 
 -- for a name nothing is pushed
 abbrev pub LeafStands : (name : Option Identifier) → (ps below : List Piece) → Type 0
@@ -155,7 +178,7 @@ pub record TreeStands (env : Env) (t : Tables) (x : Tree) (e : Expr) (ps below :
   pub term_is : TermStands env t x.term (term_of env e) ps below
   pub place_is : x.place ≡ place_of_expression e
   pub name_is : option_map (λ name. name.now) x.name ≡ name_in e
-  pub qualifier_is : QualifierStands env (option_map (λ name. name.now) x.name) x.is_qualifier e
+  pub qualifier_is : QualifierStands env (option_map (λ name. name.now) x.name) x.dotted e ps below
   pub leaf : LeafStands (option_map (λ name. name.now) x.name) ps below
 
 -- a left operand: that of Is is a reference
@@ -221,23 +244,21 @@ pub record PlaceIndexed (of : DeclaredType) (lends : Bool) (x : plain.Term) (ps 
   pub no_variable : (es : Exprs) → element_place at es ≡ bound.element at es
   pub on_top : ps ≡ piece.a_place at ∷ below
 
--- a value that is indexed, which was pushed
-pub record ValueIndexed (of : DeclaredType) (place : Place) (x : plain.Term) (ps below : List Piece) : Type 0 where
-  pub made : bound.Node
-  pub whole : Declared
-  pub is : x ≡ a_value made whole
-  pub element_is : element_type whole ≡ Some (declared_view of)
-  pub on_top : ps ≡ an_expr (expression_of made place whole) ∷ below
+-- a value that is indexed, which was pushed: what a term is, or what a property without parameters gives
+pub record ValueIndexed (env : Env) (of : DeclaredType) (place : Place) (x : plain.Term) (ps below : List Piece) : Type 0 where
+  pub whole : bound.Expr
+  pub is : (gs : List Given) (es : Exprs) → numbers_of (operand_of env) gs ≡ Some es → indexed env place (item_of place x) gs ≡ a_value (element_value whole es) (declared_view of)
+  pub on_top : ps ≡ an_expr whole ∷ below
 
-abbrev pub TargetStands : Target → DeclaredType → Bool → Place → plain.Term → (ps below : List Piece) → Type 0
-TargetStands (target.Variable v) of lends place x ps below = VariableIndexed v of lends x ps below
-TargetStands target.Place of lends place x ps below = PlaceIndexed of lends x ps below
-TargetStands target.Value of lends place x ps below = ValueIndexed of place x ps below
+abbrev pub TargetStands : Env → Target → DeclaredType → Bool → Place → plain.Term → (ps below : List Piece) → Type 0
+TargetStands env (target.Variable v) of lends place x ps below = VariableIndexed v of lends x ps below
+TargetStands env target.Place of lends place x ps below = PlaceIndexed of lends x ps below
+TargetStands env target.Value of lends place x ps below = ValueIndexed env of place x ps below
 
 -- what is indexed, and the numbers that were pushed
 pub record IndexedStands (env : Env) (x : Indexed) (e : Expr) (args : Args) (ps below : List Piece) : Type 0 where
   pub between : List Piece
-  pub target_is : TargetStands x.target x.of x.lends (place_of_expression e) (callee env e (term_of env e)) between below
+  pub target_is : TargetStands env x.target x.of x.lends (place_of_expression e) (callee env e (term_of env e)) between below
   pub place_is : x.place ≡ place_of_expression e
   pub made : List bound.Expr
   pub numbers : AllNumbers (operand_of env) (givens env args) made

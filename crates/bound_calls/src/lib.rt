@@ -22,6 +22,6 @@ pub use references::{
 pub use stack::{put_item, settle, take_item};
 pub use take::{member_ending, no_object, push_ending, push_node, push_sheet, value_ending};
 pub use term::{
-    Call, Ending, Function, FunctionCall, HostMember, Indexed, Item, MemberCall, Named, Operand,
-    Ordered, Passed, Routine, Target, Term, Tree,
+    Call, Dotted, Ending, Function, FunctionCall, HostMember, Indexed, Item, MemberCall, Named,
+    Operand, Ordered, Passed, Property, Routine, Target, Term, Tree,
 };

@@ -23,6 +23,13 @@ pub struct Routine<'a> {
     pub of: DeclaredType,
 }
 
+/// A property by one of its procedures: its module, and how that writes the procedure.
+#[derive(Clone, Copy)]
+pub struct Property<'a> {
+    pub space: &'a Space<'a>,
+    pub written: Written<'a>,
+}
+
 /// A function of the library: whether `$` stands behind its name, whether the array that Array makes counts from 1, and
 /// how texts compare where it is called.
 #[derive(Clone, Copy)]
@@ -56,6 +63,8 @@ pub enum Term<'a> {
     },
     Value(Ending),
     Routine(Routine<'a>),
+    /// A property without a Get, which can be assigned to alone.
+    Property(Property<'a>),
     Function(Function),
     /// A member of an object that was pushed, and one of the active sheet, for which nothing was pushed.
     HostMember(HostMember),
@@ -69,13 +78,20 @@ pub enum Term<'a> {
     Nothing,
 }
 
-/// An expression: the place of its first token, the name that it is, whether a name behind a dot is looked up in it
-/// where it is no name itself, and what it is.
+/// A name behind a dot, and the name before that.
+#[derive(Clone, Copy)]
+pub struct Dotted<'a> {
+    pub before: &'a Identifier,
+    pub name: &'a Identifier,
+}
+
+/// An expression: the place of its first token, the name that it is, or else the two names that it is, where the first
+/// one says where the second one is looked up, and what it is.
 #[derive(Clone, Copy)]
 pub struct Tree<'a> {
     pub place: Place,
     pub name: Option<&'a Identifier>,
-    pub is_qualifier: bool,
+    pub dotted: Option<Dotted<'a>>,
     pub term: Term<'a>,
 }
 

@@ -6,7 +6,7 @@ use Rattle.vba_values.specs.Types.{Declared}
 use Rattle.bound_project.specs.declared.node.Node.{Node}
 use Rattle.bound_project.specs.declared.node.NodeKind.{NodeKind}
 use Rattle.bound_project.specs.declared.node.NodeKind.TheVariants as node
-use Rattle.bound_project.specs.Expressions.{expr, not_given, constant, load, element_value, field_value, unary, binary, call, err_value, default_of, default_if_any, same, is_type, library, bound_of, host_object, active_sheet, host_member, no_args, in_order, Exprs, no_exprs, also, given_count}
+use Rattle.bound_project.specs.Expressions.{expr, not_given, constant, load, load_made, element_value, field_value, unary, binary, call, err_value, default_of, default_if_any, same, is_type, library, bound_of, host_object, active_sheet, host_member, named_member, this, new_object, method, no_args, in_order, Exprs, no_exprs, also, given_count}
 use Rattle.bound_project.specs.Expressions as bound
 use Rattle.bound_project.specs.Pieces.{Piece, an_expr, Tables, arguments_off, as_operand, expr_of, exprs_off, name_in, order_in, put_kind}
 use Rattle.bound_project.specs.View.{base_view, declared_view}
@@ -35,6 +35,7 @@ kind_given t n (node.ErrValue _) st h = refl
 kind_given t n (node.Library f text_form count compare one) st h =
     found_passes given_on_top refl (λ es. expr_of n (library f text_form es compare (base_view one))) (λ es rest. refl) (exprs_off count st no_exprs)
 kind_given t n node.Same st h = both_pass given_on_top refl (λ a b. expr_of n (same a b)) (λ a b rest. refl) st
+kind_given t n (node.IsType of) st h = value_passes given_on_top refl (λ e. expr_of n (is_type e (declared_view of))) (λ e rest. refl) st
 kind_given t n (node.HostObject reference) st h = refl
 kind_given t n node.ActiveSheet st h = refl
 kind_given t n (node.HostMember i count) st h =
@@ -48,7 +49,6 @@ kind_given t n (node.KeptPlace header) st h = let e : false ≡ true = h in absu
 kind_given t n (node.BoundOf upper z) st h = let e : false ≡ true = h in absurd cc
 kind_given t n node.DefaultOf st h = let e : false ≡ true = h in absurd cc
 kind_given t n node.DefaultIfAny st h = let e : false ≡ true = h in absurd cc
-kind_given t n (node.IsType of) st h = let e : false ≡ true = h in absurd cc
 kind_given t n (node.MemberThere i given) st h = let e : false ≡ true = h in absurd cc
 kind_given t n node.ByPlace st h = let e : false ≡ true = h in absurd cc
 kind_given t n (node.ByCopy of) st h = let e : false ≡ true = h in absurd cc
@@ -67,7 +67,11 @@ unfolding given_on_top
 count_more not_given place of operand st h rest = let e : false ≡ true = h in absurd cc
 count_more (constant a) place of operand st h rest = refl
 count_more (load a) place of operand st h rest = refl
+count_more (load_made a) place of operand st h rest = refl
 count_more (element_value a b) place of operand st h rest = refl
+count_more this place of operand st h rest = refl
+count_more (new_object a) place of operand st h rest = refl
+count_more (method a b c) place of operand st h rest = refl
 count_more (field_value a b) place of operand st h rest = refl
 count_more (unary a b) place of operand st h rest = refl
 count_more (binary a b c d) place of operand st h rest = refl
@@ -81,6 +85,7 @@ count_more (library a b c d e) place of operand st h rest = refl
 count_more (bound_of a b c) place of operand st h rest = refl
 count_more (host_object a) place of operand st h rest = refl
 count_more (host_member a b c) place of operand st h rest = refl
+count_more (named_member a b c d) place of operand st h rest = refl
 count_more active_sheet place of operand st h rest = refl
 
 -- what a value's last node makes counts as given
@@ -99,7 +104,11 @@ unfolding no_host_on_top
 typed_kind (host_object reference) place of operand st h u = let e : false ≡ true = h in absurd cc
 typed_kind (constant a) place of operand st h u = refl
 typed_kind (load a) place of operand st h u = refl
+typed_kind (load_made a) place of operand st h u = refl
 typed_kind (element_value a b) place of operand st h u = refl
+typed_kind this place of operand st h u = refl
+typed_kind (new_object a) place of operand st h u = refl
+typed_kind (method a b c) place of operand st h u = refl
 typed_kind (field_value a b) place of operand st h u = refl
 typed_kind (unary a b) place of operand st h u = refl
 typed_kind (binary a b c d) place of operand st h u = refl
@@ -112,6 +121,7 @@ typed_kind (is_type a b) place of operand st h u = refl
 typed_kind (library a b c d e) place of operand st h u = refl
 typed_kind (bound_of a b c) place of operand st h u = refl
 typed_kind (host_member a b c) place of operand st h u = refl
+typed_kind (named_member a b c d) place of operand st h u = refl
 typed_kind active_sheet place of operand st h u = refl
 typed_kind not_given place of operand st h u = refl
 
@@ -132,6 +142,7 @@ kind_typed t n (node.ErrValue _) st h = refl
 kind_typed t n (node.Library f text_form count compare one) st h =
     found_passes no_host_on_top refl (λ es. expr_of n (library f text_form es compare (base_view one))) (λ es rest. refl) (exprs_off count st no_exprs)
 kind_typed t n node.Same st h = both_pass no_host_on_top refl (λ a b. expr_of n (same a b)) (λ a b rest. refl) st
+kind_typed t n (node.IsType of) st h = value_passes no_host_on_top refl (λ e. expr_of n (is_type e (declared_view of))) (λ e rest. refl) st
 kind_typed t n node.ActiveSheet st h = refl
 kind_typed t n (node.HostMember i count) st h =
     member_found_passes no_host_on_top refl (name_in t i) (λ e es. expr_of n (host_member e (name_in t i) es)) (λ e es rest. refl) (exprs_off count st no_exprs)
@@ -145,7 +156,6 @@ kind_typed t n (node.KeptPlace header) st h = let e : false ≡ true = h in absu
 kind_typed t n (node.BoundOf upper z) st h = let e : false ≡ true = h in absurd cc
 kind_typed t n node.DefaultOf st h = let e : false ≡ true = h in absurd cc
 kind_typed t n node.DefaultIfAny st h = let e : false ≡ true = h in absurd cc
-kind_typed t n (node.IsType of) st h = let e : false ≡ true = h in absurd cc
 kind_typed t n (node.MemberThere i given) st h = let e : false ≡ true = h in absurd cc
 kind_typed t n node.ByPlace st h = let e : false ≡ true = h in absurd cc
 kind_typed t n (node.ByCopy of) st h = let e : false ≡ true = h in absurd cc

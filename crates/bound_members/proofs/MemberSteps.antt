@@ -185,7 +185,7 @@ ends_member x g takes = record {
 }
 
 ended_stands : (env : Env) (x : MemberCall) (y : Term) (left right : Token) (xs : List Item) (d : Drafted) → EndsMember x y → (is : List nodes.Item) (base : Base) → Stands env d.tables (item.Member x ∷ xs) is d.pieces base
-    → Stands env d.tables (item.Tree (record { place = x.place; name = None; is_qualifier = false; term = y }) ∷ xs) (behind_node (node.Index left right) is) d.pieces base
+    → Stands env d.tables (item.Tree (record { place = x.place; name = None; dotted = None; term = y }) ∷ xs) (behind_node (node.Index left right) is) d.pieces base
 ended_stands env x y left right xs d m [] base h = absurd h
 ended_stands env x y left right xs d m (nodes.tree v ∷ is) base h = absurd h
 ended_stands env x y left right xs d m (nodes.arguments args ∷ []) base h = absurd h
@@ -195,5 +195,5 @@ ended_stands env x y left right xs d m (nodes.arguments args ∷ nodes.tree b �
   (tree_ended env d.tables y x.place b args left right d.pieces h.0 h.1.0.place_is (m.stands env d.tables b args d.pieces h.0 h.1.0), h.1.1),
 )
 
-pub closes_member : (x : MemberCall) (y : Term) (d : Drafted) → x.member.name < length d.tables.constants → EndsMember x y → Closes (item.Member x) d d (record { place = x.place; name = None; is_qualifier = false; term = y })
+pub closes_member : (x : MemberCall) (y : Term) (d : Drafted) → x.member.name < length d.tables.constants → EndsMember x y → Closes (item.Member x) d d (record { place = x.place; name = None; dotted = None; term = y })
 closes_member x y d named m = record { grown = grown_same d; named = m.named d.tables named; stands = λ env left right xs is base k h. ended_stands env x y left right xs d m is base h }

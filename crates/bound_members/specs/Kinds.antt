@@ -37,6 +37,7 @@ is_typed_kind (node.CallInOrder p count order) = true
 is_typed_kind (node.ErrValue _) = true
 is_typed_kind (node.Library f text_form count compare one) = true
 is_typed_kind node.Same = true
+is_typed_kind (node.IsType of) = true
 is_typed_kind node.ActiveSheet = true
 is_typed_kind (node.HostMember i count) = true
 is_typed_kind k = false

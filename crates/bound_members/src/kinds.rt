@@ -60,6 +60,7 @@ pub fn is_typed_kind(kind: NodeKind) -> bool
         NodeKind::ErrValue(_) => true,
         NodeKind::Library { .. } => true,
         NodeKind::Same => true,
+        NodeKind::IsType(_) => true,
         NodeKind::ActiveSheet => true,
         NodeKind::HostMember { .. } => true,
         _ => false,

@@ -9,12 +9,13 @@ use Rattle.vba_values.specs.Types.{Declared}
 use Rattle.vba_values.specs.Val.{Val}
 use Rattle.vba_lib.specs.declared.function.LibraryFunction.{LibraryFunction}
 
--- where a variable is kept: in its procedure's frame (the result first, then its own variables, then its parameters),
--- or among the module variables and statics of the project, which stand in one list, module by module, each module's
--- statics behind its variables
+-- where a variable is kept: in its procedure's frame (the result first, then its own variables, then its parameters);
+-- among the module variables and statics of the project, which stand in one list, module by module, each module's
+-- statics behind its variables; or in the object whose procedure runs
 pub data Storage : Type 0 where
   local : ℕ → Storage
   shared : ℕ → Storage
+  own : ℕ → Storage
 
 -- a variable, its declared type, and whether it is an array that is declared with bounds
 pub record Variable : Type 0 where
@@ -28,6 +29,11 @@ pub data ErrMember : Type 0 where
   err_source : ErrMember
   err_description : ErrMember
 
+-- how arguments are given: so many by their places, and those behind them by their folded names
+pub record ByName : Type 0 where
+  pub before : ℕ
+  pub names : List (List ℕ)
+
 mutual
   -- an expression: what it is, the place of its first token, its declared type, and the one that it has as an
   -- operand, once an object has given way to the value of its default member
@@ -40,6 +46,8 @@ mutual
     constant : Val → Node
     -- the value at a place
     load : Lvalue → Node
+    -- the same where the place may be that of a variable declared As New, which gets a new object when it is read
+    load_made : Lvalue → Node
     -- an element and a field of a value that no variable has
     element_value : Expr → Exprs → Node
     field_value : Expr → (field : ℕ) → Node
@@ -58,6 +66,13 @@ mutual
     active_sheet : Node
     -- a member of an object of the host, by its folded name, and its arguments
     host_member : Expr → (name : List ℕ) → Exprs → Node
+    -- the same with arguments of which the last ones are named
+    named_member : Expr → (name : List ℕ) → ByName → Exprs → Node
+    -- the object whose procedure runs, and a new object of a class, by its number
+    this : Node
+    new_object : (class : ℕ) → Node
+    -- a procedure or a Property Get of a class, called of an object
+    method : Expr → (procedure : ℕ) → Args → Node
     -- Is: whether both are the same object
     same : (left right : Expr) → Node
     -- TypeOf e Is type
@@ -78,6 +93,10 @@ mutual
     field : Lvalue → (field : ℕ) → Declared → (bounded : Bool) → Lvalue
     -- what stands before a dot that begins a place: the place or value of the With block with this number
     kept_place : (header : ℕ) → Lvalue
+    -- a public variable of an object, its declared type, and whether it is an array that is declared with bounds
+    object_field : Expr → (field : ℕ) → Declared → (bounded : Bool) → Lvalue
+    -- a place that is declared As New, with the class of its objects
+    as_new : (class : ℕ) → Lvalue → Lvalue
 
   -- arguments, each by the way in which its parameter takes it
   pub data Args : Type 0 where

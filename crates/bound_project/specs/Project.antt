@@ -58,10 +58,11 @@ pub record UserType : Type 0 where
   pub name : Spelled
   pub fields : List Declaration
 
--- a class module: its variables, and its Class_Terminate where that is written
+-- a class module: its variables, and its Class_Initialize and Class_Terminate where they are written
 pub record Class : Type 0 where
   pub name : Spelled
   pub fields : List Declaration
+  pub initialize : Option ℕ
   pub terminate : Option ℕ
 
 -- all that a project declares. Classes count from 1, all else from 0
@@ -100,7 +101,7 @@ abbrev pub procedure_at : Declarations → ℕ → Procedure
 procedure_at d p = slice_index_or d.procedures p no_procedure
 
 abbrev pub no_class : Class
-no_class = record { name = no_name; fields = []; terminate = None }
+no_class = record { name = no_name; fields = []; initialize = None; terminate = None }
 
 -- a class by its number; the number 0 is that of Collection, which ends without a word
 abbrev pub class_at : Declarations → ℕ → Class

@@ -55,6 +55,9 @@ pub data Action : Type 0 where
   -- the same where the property is given the object itself: a Property Set, or a Property Let whose value parameter has
   -- an object type
   set_property : (procedure : ℕ) → Args → Expr → Declared → Action
+  -- the same of an object: the property of its class
+  let_method : (base : Expr) → (procedure : ℕ) → Args → Expr → Declared → Action
+  set_method : (base : Expr) → (procedure : ℕ) → Args → Expr → Declared → Action
   -- Debug.Print, and whether the line is finished
   print : Prints → (ends : Bool) → Action
   -- Err.Raise and Error: a number, a source and a description

@@ -5,8 +5,8 @@ use Rattle.vba_values.specs.declared.object.ObjRef.TheVariants.{Nothing}
 use Rattle.vba_values.specs.Types.{Declared}
 use Rattle.vba_values.specs.Types as type
 use Rattle.vba_values.specs.Val.{Val, empty, null, missing, boolean, whole, currency, text, object}
-use Rattle.bound_project.specs.Expressions.{Storage, local, shared, Variable, Expr, expr, Node, not_given, constant, load, element_value, field_value, unary, binary, call, err_value, default_of, default_if_any, same, is_type, library, bound_of, host_object, active_sheet, host_member, Lvalue, variable, item, element, field, kept_place, Args, no_args, by_place, by_copy, by_default, by_list, in_order, Exprs, no_exprs, also, Prints, no_prints, shown, zone}
-use Rattle.bound_project.specs.Statements.{Handling, passed_on, skipped, handled_at, Resizes, no_resizes, resize, Arrays, no_arrays, an_array, Tests, no_tests, test_is, test_range, Action, assign, assign_item, set, assign_default, assign_member, set_member, evaluate, let_property, set_property, print, raise, test, go_to, for_to, next, for_each, next_each, exit_each, select, case_of, redim, erase, with_place, with_value, end_with, go_sub, return_sub, exit_to, on_error, end_handler, clear_err, resume_again, resume_next, resume_at, stop, end_run, Statement}
+use Rattle.bound_project.specs.Expressions.{Storage, local, shared, own, Variable, Expr, expr, Node, not_given, constant, load, load_made, element_value, field_value, unary, binary, call, err_value, default_of, default_if_any, same, is_type, library, bound_of, host_object, active_sheet, host_member, named_member, this, new_object, method, Lvalue, variable, item, element, field, kept_place, object_field, as_new, Args, no_args, by_place, by_copy, by_default, by_list, in_order, Exprs, no_exprs, also, Prints, no_prints, shown, zone}
+use Rattle.bound_project.specs.Statements.{Handling, passed_on, skipped, handled_at, Resizes, no_resizes, resize, Arrays, no_arrays, an_array, Tests, no_tests, test_is, test_range, Action, assign, assign_item, set, assign_default, assign_member, set_member, evaluate, let_property, set_property, let_method, set_method, print, raise, test, go_to, for_to, next, for_each, next_each, exit_each, select, case_of, redim, erase, with_place, with_value, end_with, go_sub, return_sub, exit_to, on_error, end_handler, clear_err, resume_again, resume_next, resume_at, stop, end_run, Statement}
 use Rattle.bound_project.specs.Project.{Class, Declarations, Body, Project, procedure_at, statements_at}
 
 -- each item of a list is so
@@ -44,6 +44,7 @@ variable_count d p = suc (length (procedure_at d p).locals + length (procedure_a
 abbrev pub HasStorage : Declarations → (procedure : ℕ) → Storage → Type 0
 HasStorage d p (local i) = i < variable_count d p
 HasStorage d p (shared i) = i < length d.shared
+HasStorage d p (own i) = Unit {0}
 
 abbrev pub HasVariable : Declarations → (procedure : ℕ) → Variable → Type 0
 HasVariable d p x = HasStorage d p x.storage × HasType d x.of
@@ -78,6 +79,7 @@ abbrev mutual
   WholeNode pr p not_given = Unit {0}
   WholeNode pr p (constant v) = IsConstant v
   WholeNode pr p (load x) = WholePlace pr p x
+  WholeNode pr p (load_made x) = WholePlace pr p x
   WholeNode pr p (element_value e es) = WholeExpr pr p e × WholeExprs pr p es
   WholeNode pr p (field_value e i) = WholeExpr pr p e
   WholeNode pr p (unary o a) = WholeExpr pr p a
@@ -93,6 +95,10 @@ abbrev mutual
   WholeNode pr p (host_object reference) = Unit {0}
   WholeNode pr p active_sheet = Unit {0}
   WholeNode pr p (host_member e name es) = WholeExpr pr p e × WholeExprs pr p es
+  WholeNode pr p (named_member e name by es) = WholeExpr pr p e × WholeExprs pr p es
+  WholeNode pr p this = Unit {0}
+  WholeNode pr p (new_object class) = Unit {0}
+  WholeNode pr p (method e q args) = WholeExpr pr p e × (WholeArgs pr p args × HasProcedure pr.declared q (argument_count args))
 
   pub WholePlace : Project → (procedure : ℕ) → Lvalue → Type 0
   WholePlace pr p (variable x) = HasVariable pr.declared p x
@@ -100,6 +106,8 @@ abbrev mutual
   WholePlace pr p (element x es) = WholePlace pr p x × WholeExprs pr p es
   WholePlace pr p (field x i of bounded) = WholePlace pr p x × HasType pr.declared of
   WholePlace pr p (kept_place header) = HasStatement pr p header
+  WholePlace pr p (object_field e i of bounded) = WholeExpr pr p e × HasType pr.declared of
+  WholePlace pr p (as_new c x) = WholePlace pr p x
 
   pub WholeArgs : Project → (procedure : ℕ) → Args → Type 0
   WholeArgs pr p no_args = Unit {0}
@@ -148,6 +156,10 @@ WholeAction pr p (set_member base e) = WholeExpr pr p e × WholeExpr pr p base
 WholeAction pr p (evaluate e) = WholeExpr pr p e
 WholeAction pr p (let_property q args e of) = WholeExpr pr p e × (WholeArgs pr p args × (HasType pr.declared of × HasProcedure pr.declared q (suc (argument_count args))))
 WholeAction pr p (set_property q args e of) = WholeExpr pr p e × (WholeArgs pr p args × (HasType pr.declared of × HasProcedure pr.declared q (suc (argument_count args))))
+WholeAction pr p (let_method base q args e of) =
+    WholeExpr pr p e × (WholeExpr pr p base × (WholeArgs pr p args × (HasType pr.declared of × HasProcedure pr.declared q (suc (argument_count args)))))
+WholeAction pr p (set_method base q args e of) =
+    WholeExpr pr p e × (WholeExpr pr p base × (WholeArgs pr p args × (HasType pr.declared of × HasProcedure pr.declared q (suc (argument_count args)))))
 WholeAction pr p (print ps ends) = WholePrints pr p ps
 WholeAction pr p (raise args) = WholeArgs pr p args
 WholeAction pr p (test sense e to other) = WholeExpr pr p e × (HasTarget pr p to × HasTarget pr p other)
@@ -187,7 +199,7 @@ WholeBodies pr p [] = Unit {0}
 WholeBodies pr p (b ∷ bs) = All (WholeStatement pr p) b.statements × WholeBodies pr (suc p) bs
 
 abbrev pub WholeClass : Declarations → Class → Type 0
-WholeClass d c = IfThere (λ p. p < length d.procedures) c.terminate
+WholeClass d c = IfThere (λ p. p < length d.procedures) c.initialize × IfThere (λ p. p < length d.procedures) c.terminate
 
 -- a project is whole: a body for each procedure, numbers that name what is there, and a procedure to begin with
 pub record IsWhole (pr : Project) : Type 0 where

@@ -40,10 +40,11 @@ use Rattle.bound_calls.specs.declared.term.Item.{Item}
 use Rattle.bound_calls.specs.declared.term.Item.TheVariants as items
 use Rattle.bound_calls.specs.declared.term.Passed.{Passed}
 use Rattle.bound_calls.specs.Calls.{PassesMissing, node_of, passed_in, with_passed}
-use Rattle.bound_calls.specs.Standing.{AllNumbers, ItemNamed, PlaceStands, ValueStands, RoutineStands, TargetStands, TermStands, Stands, AllNamed, Base}
+use Rattle.bound_calls.specs.Standing.{AllNumbers, Grown, ItemNamed, PlaceStands, RoutineStands, TargetStands, TermStands, Stands, AllNamed, Base}
 use Rattle.bound_calls.specs.Steps.{Goes, PushesOperand}
 use Rattle.bound_members.specs.MemberCalls.{OpensMember}
 use Rattle.bound_terms.specs.Callee.{CalleeIs}
+use Rattle.bound_terms.specs.Indexing.{PushesWhole}
 use Rattle.bound_terms.specs.Items.{MakesItem}
 use Rattle.bound_calls.specs.Indexing.{TargetAt, PushesTarget, Opens, OpensTerm, AddsArgument, AddsMissing, Closes, EndsIndexed, is_part}
 use Rattle.bound_members.proofs.Listing.{all_listed, no_names, numbers_more, taken_off}
@@ -116,15 +117,53 @@ pushes_variable k v of place d is =
           let other : d.pieces ≡ below = cc in (one, other);
     })
 
+-- what numbers index is no object
+no_object : (of u : Declared) → element_type of ≡ Some u → is_host_type of ≡ false
+no_object (type.array_of of) u h = refl
+no_object type.variant u h = refl
+no_object type.boolean u h = refl
+no_object type.byte u h = refl
+no_object type.integer u h = refl
+no_object type.long u h = refl
+no_object type.long_long u h = refl
+no_object type.currency u h = refl
+no_object type.text u h = refl
+no_object (type.fixed_text n) u h = refl
+no_object (type.class n) u h = refl
+no_object type.collection u h = refl
+no_object (type.udt n) u h = refl
+no_object type.object u h = let e : None ≡ Some u = h in absurd cc
+no_object type.worksheet u h = let e : None ≡ Some u = h in absurd cc
+no_object type.range u h = let e : None ≡ Some u = h in absurd cc
+
+same_place : (place : Place) (at : Lvalue) (whole u : Declared) (bounded lends : Bool) → element_type whole ≡ Some u → item_of place (terms.a_place at whole bounded lends) ≡ terms.a_place at whole bounded lends
+same_place place at whole u bounded lends h =
+    ap (λ (b : Bool). if b then object_member place (load at) whole (codes "item") else terms.a_place at whole bounded lends) (no_object whole u h)
+
+same_value : (place : Place) (made : bound.Node) (whole u : Declared) → element_type whole ≡ Some u → item_of place (a_value made whole) ≡ a_value made whole
+same_value place made whole u h = ap (λ (b : Bool). if b then object_member place made whole (codes "item") else a_value made whole) (no_object whole u h)
+
+place_indexed : (env : Env) (place : Place) (at : Lvalue) (whole : Declared) (bounded lends : Bool) (gs : List Given) (of : Declared) (es : Exprs) → element_type whole ≡ Some of → numbers_of (operand_of env) gs ≡ Some es
+    → indexed env place (terms.a_place at whole bounded lends) gs ≡ terms.a_place (element_place at es) of false lends
+place_indexed env place at whole bounded lends gs of es h k =
+    let T : Declared → Exprs → terms.Term = λ (u : Declared) (xs : Exprs). terms.a_place (element_place at xs) u false lends in
+    ap (λ (o : Option Declared). with_type o (numbers_of (operand_of env) gs) T) h ∙ ap (λ (o : Option Exprs). with_type (Some of) o T) k
+
+value_indexed : (env : Env) (place : Place) (made : bound.Node) (whole : Declared) (gs : List Given) (of : Declared) (es : Exprs) → element_type whole ≡ Some of → numbers_of (operand_of env) gs ≡ Some es
+    → indexed env place (a_value made whole) gs ≡ a_value (element_value (expression_of made place whole) es) of
+value_indexed env place made whole gs of es h k =
+    let T : Declared → Exprs → terms.Term = λ (u : Declared) (xs : Exprs). a_value (element_value (expression_of made place whole) xs) u in
+    ap (λ (o : Option Declared). with_type o (numbers_of (operand_of env) gs) T) h ∙ ap (λ (o : Option Exprs). with_type (Some of) o T) k
+
 -- ---- arguments begin
 
-target_stands : (x : Target) (of whole : DeclaredType) (bounded lends : Bool) (place : Place) (z : terms.Term) (at : Lvalue) (ps below : List Piece) → Some (declared_view of) ≡ element_type (declared_view whole)
-    → z ≡ terms.a_place at (declared_view whole) bounded lends → TargetAt x at ps below → TargetStands x of lends place z ps below
-target_stands (target.Variable v) of whole bounded lends place z at ps below e is q =
+target_stands : (env : Env) (x : Target) (of whole : DeclaredType) (bounded lends : Bool) (place : Place) (z : terms.Term) (at : Lvalue) (ps below : List Piece) → Some (declared_view of) ≡ element_type (declared_view whole)
+    → z ≡ terms.a_place at (declared_view whole) bounded lends → TargetAt x at ps below → TargetStands env x of lends place z ps below
+target_stands env (target.Variable v) of whole bounded lends place z at ps below e is q =
     record { whole = declared_view whole; bounded = bounded; is = is ∙ ap (λ (y : Lvalue). terms.a_place y (declared_view whole) bounded lends) q.0; element_is = sym e; none_pushed = q.1 }
-target_stands target.Place of whole bounded lends place z at ps below e is q =
+target_stands env target.Place of whole bounded lends place z at ps below e is q =
     record { at = at; whole = declared_view whole; bounded = bounded; is = is; element_is = sym e; no_variable = q.0; on_top = q.1 }
-target_stands target.Value of whole bounded lends place z at ps below e is q = absurd q
+target_stands env target.Value of whole bounded lends place z at ps below e is q = absurd q
 
 abbrev pub begun : Tree → Target → DeclaredType → Bool → Indexed
 begun x t of lends = record { place = x.place; target = t; of = of; lends = lends; count = 0 }
@@ -139,7 +178,7 @@ opens_place env x k of element_of bounded lends d e t is p = record {
     (
       record {
         between = e.pieces;
-        target_is = target_stands t element_of of bounded lends (place_of_expression tree) (callee env tree (term_of env tree)) h.at e.pieces below is h.is (p.stands h.at below h.ends);
+        target_is = target_stands env t element_of of bounded lends (place_of_expression tree) (callee env tree (term_of env tree)) h.at e.pieces below is h.is (p.stands h.at below h.ends);
         place_is = at;
         made = [];
         numbers = tt;
@@ -151,34 +190,34 @@ opens_place env x k of element_of bounded lends d e t is p = record {
   );
 }
 
-pub opens_value : (env : Env) (x : Tree) (ending : Ending) (element_of : DeclaredType) (d e : Drafted) → Some (declared_view element_of) ≡ element_type (declared_view ending.of)
-    → e ≡ record d { pieces = put d.tables (node_of ending.kind x.place ending.of) d.pieces } → OpensTerm env x (term.Value ending) d e (items.Indexed (begun x target.Value element_of false))
-opens_value env x ending element_of d e is eq =
-    let P : Drafted → Type 0 = λ (z : Drafted). OpensTerm env x (term.Value ending) d z (items.Indexed (begun x target.Value element_of false)) in
-    subst P (sym eq) (record {
-      grown = grown_pieces d (put d.tables (node_of ending.kind x.place ending.of) d.pieces);
+pub pushes_whole : (ending : Ending) (element_of : DeclaredType) (place : Place) (d e : Drafted) → Some (declared_view element_of) ≡ element_type (declared_view ending.of)
+    → e ≡ record d { pieces = put d.tables (node_of ending.kind place ending.of) d.pieces } → PushesWhole ending place d e (record { place = place; target = target.Value; of = element_of; lends = false; count = 0 })
+pushes_whole ending element_of place d e is eq =
+    let P : Drafted → Type 0 = λ (z : Drafted). PushesWhole ending place d z (record { place = place; target = target.Value; of = element_of; lends = false; count = 0 }) in
+    subst P (sym eq) (record { grown = grown_pieces d (put d.tables (node_of ending.kind place ending.of) d.pieces); is = refl; element_is = sym is; stands = λ made below ends. ends (node_of ending.kind place ending.of) })
+
+-- a value was pushed that numbers index, of what a term is
+pub opens_whole : (env : Env) (x : Tree) (y : Term) (i : Indexed) (d e : Drafted) → Grown d e → i ≡ begun x target.Value i.of false
+    → ((tree : Expr) (below : List Piece) → x.place ≡ place_of_expression tree → TermStands env d.tables y (callee env tree (term_of env tree)) d.pieces below
+    → TargetStands env target.Value i.of false (place_of_expression tree) (callee env tree (term_of env tree)) e.pieces below) → OpensTerm env x y d e (items.Indexed i)
+opens_whole env x y i d e grown is make =
+    let P : Indexed → Type 0 = λ (z : Indexed). OpensTerm env x y d e (items.Indexed z) in
+    subst P (sym is) (record {
+      grown = grown;
       named = tt;
-      stands = λ tree others is' below base at h s. (
-        below,
-        (
-          record {
-            between = put d.tables (node_of ending.kind x.place ending.of) d.pieces;
-            target_is = record {
-              made = h.made;
-              whole = declared_view ending.of;
-              is = h.is;
-              element_is = sym is;
-              on_top = h.ends (node_of ending.kind x.place ending.of) ∙ ap (λ (place : Place). an_expr (expression_of h.made place (declared_view ending.of)) ∷ below) at;
-            };
-            place_is = at;
-            made = [];
-            numbers = tt;
-            count_is = refl;
-            on_top = refl;
-          },
-          s,
-        ),
-      );
+      stands = λ tree others is' below base at h s. (below, (record { between = e.pieces; target_is = make tree below at h; place_is = at; made = []; numbers = tt; count_is = refl; on_top = refl }, s));
+    })
+
+pub opens_value : (env : Env) (x : Tree) (ending : Ending) (d e : Drafted) (i : Indexed) → PushesWhole ending x.place d e i → OpensTerm env x (term.Value ending) d e (items.Indexed i)
+opens_value env x ending d e i p =
+    opens_whole env x (term.Value ending) i d e p.grown p.is (λ tree below at h.
+    let place = place_of_expression tree in
+    let z = callee env tree (term_of env tree) in
+    record {
+      whole = expression_of h.made place (declared_view ending.of);
+      is = λ gs es numbers. ap (λ (y : terms.Term). indexed env place (item_of place y) gs) h.is ∙ ap (λ (y : terms.Term). indexed env place y gs) (same_value place h.made (declared_view ending.of) (declared_view i.of) p.element_is)
+          ∙ value_indexed env place h.made (declared_view ending.of) gs (declared_view i.of) es p.element_is numbers;
+      on_top = p.stands h.made below h.ends ∙ ap (λ (q : Place). an_expr (expression_of h.made q (declared_view ending.of)) ∷ below) at;
     })
 
 pub opens_call : (env : Env) (x : Tree) (r : Routine) (d : Drafted) → OpensTerm env x (term.Routine r) d d (items.Call (record { place = x.place; routine = r; passed = record { left = r.parameters; count = 0 } }))
@@ -283,44 +322,6 @@ goes_argument env x i j xs old between new comma d e o b n k m =
 
 -- ---- elements
 
--- what numbers index is no object
-no_object : (of u : Declared) → element_type of ≡ Some u → is_host_type of ≡ false
-no_object (type.array_of of) u h = refl
-no_object type.variant u h = refl
-no_object type.boolean u h = refl
-no_object type.byte u h = refl
-no_object type.integer u h = refl
-no_object type.long u h = refl
-no_object type.long_long u h = refl
-no_object type.currency u h = refl
-no_object type.text u h = refl
-no_object (type.fixed_text n) u h = refl
-no_object (type.class n) u h = refl
-no_object type.collection u h = refl
-no_object (type.udt n) u h = refl
-no_object type.object u h = let e : None ≡ Some u = h in absurd cc
-no_object type.worksheet u h = let e : None ≡ Some u = h in absurd cc
-no_object type.range u h = let e : None ≡ Some u = h in absurd cc
-
-same_place : (place : Place) (at : Lvalue) (whole u : Declared) (bounded lends : Bool) → element_type whole ≡ Some u → item_of place (terms.a_place at whole bounded lends) ≡ terms.a_place at whole bounded lends
-same_place place at whole u bounded lends h =
-    ap (λ (b : Bool). if b then object_member place (load at) whole (codes "item") else terms.a_place at whole bounded lends) (no_object whole u h)
-
-same_value : (place : Place) (made : bound.Node) (whole u : Declared) → element_type whole ≡ Some u → item_of place (a_value made whole) ≡ a_value made whole
-same_value place made whole u h = ap (λ (b : Bool). if b then object_member place made whole (codes "item") else a_value made whole) (no_object whole u h)
-
-place_indexed : (env : Env) (place : Place) (at : Lvalue) (whole : Declared) (bounded lends : Bool) (gs : List Given) (of : Declared) (es : Exprs) → element_type whole ≡ Some of → numbers_of (operand_of env) gs ≡ Some es
-    → indexed env place (terms.a_place at whole bounded lends) gs ≡ terms.a_place (element_place at es) of false lends
-place_indexed env place at whole bounded lends gs of es h k =
-    let T : Declared → Exprs → terms.Term = λ (u : Declared) (xs : Exprs). terms.a_place (element_place at xs) u false lends in
-    ap (λ (o : Option Declared). with_type o (numbers_of (operand_of env) gs) T) h ∙ ap (λ (o : Option Exprs). with_type (Some of) o T) k
-
-value_indexed : (env : Env) (place : Place) (made : bound.Node) (whole : Declared) (gs : List Given) (of : Declared) (es : Exprs) → element_type whole ≡ Some of → numbers_of (operand_of env) gs ≡ Some es
-    → indexed env place (a_value made whole) gs ≡ a_value (element_value (expression_of made place whole) es) of
-value_indexed env place made whole gs of es h k =
-    let T : Declared → Exprs → terms.Term = λ (u : Declared) (xs : Exprs). a_value (element_value (expression_of made place whole) xs) u in
-    ap (λ (o : Option Declared). with_type o (numbers_of (operand_of env) gs) T) h ∙ ap (λ (o : Option Exprs). with_type (Some of) o T) k
-
 there_are : (x : Indexed) (made : List bound.Expr) → 0 < x.count → x.count ≡ length made → 0 < length made
 there_are x made lt c = omega (arith, lt, c)
 
@@ -330,7 +331,7 @@ ends_variable x v is lt = record {
   stands = λ env t e args ps below s.
       let gs = givens env args in
       let place = place_of_expression e in
-      let T : Target → Type 0 = λ (z : Target). TargetStands z x.of x.lends place (callee env e (term_of env e)) s.between below in
+      let T : Target → Type 0 = λ (z : Target). TargetStands env z x.of x.lends place (callee env e (term_of env e)) s.between below in
       let q = subst T is s.target_is in
       let es = exprs_of s.made in
       let numbers = numbers_are (operand_of env) gs s.made s.numbers (there_are x s.made lt s.count_is) in
@@ -349,7 +350,7 @@ ends_place x is lt = record {
   stands = λ env t e args ps below s.
       let gs = givens env args in
       let place = place_of_expression e in
-      let T : Target → Type 0 = λ (z : Target). TargetStands z x.of x.lends place (callee env e (term_of env e)) s.between below in
+      let T : Target → Type 0 = λ (z : Target). TargetStands env z x.of x.lends place (callee env e (term_of env e)) s.between below in
       let q = subst T is s.target_is in
       let es = exprs_of s.made in
       let numbers = numbers_are (operand_of env) gs s.made s.numbers (there_are x s.made lt s.count_is) in
@@ -369,24 +370,22 @@ ends_value x is lt = record {
   stands = λ env t e args ps below s.
       let gs = givens env args in
       let place = place_of_expression e in
-      let T : Target → Type 0 = λ (z : Target). TargetStands z x.of x.lends place (callee env e (term_of env e)) s.between below in
+      let T : Target → Type 0 = λ (z : Target). TargetStands env z x.of x.lends place (callee env e (term_of env e)) s.between below in
       let q = subst T is s.target_is in
       let es = exprs_of s.made in
-      let numbers = numbers_are (operand_of env) gs s.made s.numbers (there_are x s.made lt s.count_is) in
-      let A : terms.Term → Type 0 = λ (z : terms.Term). ValueStands t (record { kind = kinds.ElementValue x.count; of = x.of }) (indexed env place (item_of place z) gs) ps below in
-      subst A (sym q.is) (record {
-        made = element_value (expression_of q.made place q.whole) es;
-        is = ap (λ (z : terms.Term). indexed env place z gs) (same_value place q.made q.whole (declared_view x.of) q.element_is) ∙ value_indexed env place q.made q.whole gs (declared_view x.of) es q.element_is numbers;
+      record {
+        made = element_value q.whole es;
+        is = q.is gs es (numbers_are (operand_of env) gs s.made s.numbers (there_are x s.made lt s.count_is));
         ends = λ n.
             ap (λ (o : Option (Exprs × List Piece)). of_value_found (λ (y : bound.Expr) (xs : Exprs). expr_of n (element_value y xs)) o) (taken_off x.count s.made ps s.between s.count_is s.on_top)
             ∙ ap (λ (st : List Piece). of_value (λ (y : bound.Expr). expr_of n (element_value y es)) st) q.on_top;
-      });
+      };
 }
 
 -- ---- arguments end
 
 abbrev pub ended : Indexed → Term → Tree
-ended x y = record { place = x.place; name = None; is_qualifier = false; term = y }
+ended x y = record { place = x.place; name = None; dotted = None; term = y }
 
 ended_stands : (env : Env) (x : Indexed) (y : Term) (left right : Token) (xs : List Item) (d : Drafted) → EndsIndexed x y → (is : List nodes.Item) (base : Base) → Stands env d.tables (items.Indexed x ∷ xs) is d.pieces base
     → Stands env d.tables (items.Tree (ended x y) ∷ xs) (behind_node (node.Index left right) is) d.pieces base

@@ -56,7 +56,7 @@ use Rattle.bound_calls.specs.Steps.{Goes, MakesLeaf}
 use Rattle.bound_calls.specs.Taking.{CallsRoutine, PushesSheet, ReadsMember}
 use Rattle.bound_calls.proofs.Growing.{grown_same, grown_twice, grown_pieces, all_named, stands_grows}
 use Rattle.bound_calls.proofs.Taking.{sheet_stands}
-use Rattle.bound_terms.proofs.Dotted.{made_tree, member_place, no_qualifier}
+use Rattle.bound_terms.proofs.Dotted.{looked, made_tree, member_place}
 
 -- ---- the fields of user types
 
@@ -175,7 +175,7 @@ keeps_object env header of lends f place d e m is none h =
     }
 
 abbrev with_tree : Token → Term → Tree
-with_tree dot t = record { place = dot.place; name = None; is_qualifier = false; term = t }
+with_tree dot t = record { place = dot.place; name = None; dotted = None; term = t }
 
 kept_stands : (env : Env) (xs ys : List Item) (d e g : Drafted) (t : Term) (dot : Token) (f : Identifier) → Goes env d xs e ys (λ is. is) → KeepsField env dot.place f e g t → (is : List nodes.Item) (base : Base) → Stands env d.tables xs is d.pieces base
     → Stands env g.tables (items.Tree (with_tree dot t) ∷ ys) (nodes.tree (with_member dot f) ∷ is) g.pieces base
@@ -370,23 +370,22 @@ dotted_base env (type_of word operand is_word of) dot f h =
 dotted_base env (unary o token operand) dot f h = refl
 dotted_base env (binary l o token r) dot f h = refl
 
-tree_stands : (env : Env) (x : Tree) (f : Identifier) (d e : Drafted) (y : Term) → MakesBehind env x.place x.term f d e y → x.is_qualifier ≡ false → IsQualifier env.scope (option_map (λ z. z.now) x.name) None
-    → (base : Expr) (dot : Token) (below : List Piece) → TreeStands env d.tables x base d.pieces below → TreeStands env e.tables (made_tree x false y) (behind_dot base dot f) e.pieces below
-tree_stands env x f d e y m false_is k base dot below h =
-    let none : qualifier_of env.scope base ≡ None = no_qualifier env x base false_is (option_map (λ z. z.now) x.name) h.name_is h.qualifier_is k in
+tree_stands : (env : Env) (x : Tree) (f : Identifier) (d e : Drafted) (y : Term) → MakesBehind env x.place x.term f d e y → IsQualifier env.scope x None
+    → (base : Expr) (dot : Token) (below : List Piece) → TreeStands env d.tables x base d.pieces below → TreeStands env e.tables (made_tree x None y) (behind_dot base dot f) e.pieces below
+tree_stands env x f d e y m k base dot below h =
+    let none : qualifier_of env.scope base ≡ None = looked env d.tables x base d.pieces below h ∙ sym k in
     let member_is : term_of env (member base dot f) ≡ member_of env (place_of_expression base) (term_of env base) f =
     ap (λ (o : Option Qualifier). behind_term env o f (member_of env (place_of_expression base) (term_of env base) f)) none in
     let P : Place → Type 0 = λ (place : Place). TermStands env e.tables y (member_of env place (term_of env base) f) e.pieces below in
     let Q : terms.Term → Type 0 = λ (z : terms.Term). TermStands env e.tables y z e.pieces below in
-    let A : Expr → Type 0 = λ (z : Expr). TreeStands env e.tables (made_tree x false y) z e.pieces below in
+    let A : Expr → Type 0 = λ (z : Expr). TreeStands env e.tables (made_tree x None y) z e.pieces below in
     subst A (sym (dotted_base env base dot f (m.there (term_of env base) below h.term_is))) (record {
       term_is = subst Q (sym member_is) (subst P h.place_is (m.stands (term_of env base) below h.term_is));
       place_is = h.place_is ∙ sym (member_place base dot f);
       name_is = refl;
-      qualifier_is = sym (ap (λ (o : Option Qualifier). is_some (enum_behind env.scope o f)) none);
+      qualifier_is = ap (λ (o : Option Qualifier). enum_behind env.scope o f) none;
       leaf = tt;
     })
 
-pub makes_member : (env : Env) (x : Tree) (f : Identifier) (d e : Drafted) (y : Term) → MakesBehind env x.place x.term f d e y → x.is_qualifier ≡ false → IsQualifier env.scope (option_map (λ z. z.now) x.name) None
-    → MakesMember env x f d e (made_tree x false y)
-makes_member env x f d e y m false_is k = record { grown = m.grown; named = m.named; stands = tree_stands env x f d e y m false_is k }
+pub makes_member : (env : Env) (x : Tree) (f : Identifier) (d e : Drafted) (y : Term) → MakesBehind env x.place x.term f d e y → IsQualifier env.scope x None → MakesMember env x f d e (made_tree x None y)
+makes_member env x f d e y m k = record { grown = m.grown; named = m.named; stands = tree_stands env x f d e y m k }

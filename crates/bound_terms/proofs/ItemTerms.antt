@@ -128,6 +128,7 @@ unfolding Same
 same_item env t place (term.Place kind of bounded lends) z ps below h k = subst (Same place) (sym k.is) (no_place place k.at (declared_view of) bounded lends h)
 same_item env t place (term.Value v) z ps below h k = subst (Same place) (sym k.is) (no_value place k.made (declared_view v.of) h)
 same_item env t place (term.Routine r) z ps below h k = subst (Same place) (sym k.is) refl
+same_item env t place (term.Property p) z ps below h k = subst (Same place) (sym k.property.is) refl
 same_item env t place (term.Function f) z ps below h k = subst (Same place) (sym k.0.is) refl
 same_item env t place (term.HostMember m) z ps below h k = let e : true ≡ false = h in absurd cc
 same_item env t place (term.SheetMember m) z ps below h k = let e : true ≡ false = h in absurd cc

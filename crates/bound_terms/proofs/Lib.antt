@@ -2,6 +2,7 @@ pub mod Lookups
 pub mod NamedTerms
 pub mod Dotted
 pub mod Elements
+pub mod IndexedProperties
 pub mod Library
 pub mod ItemTerms
 pub mod HostNames

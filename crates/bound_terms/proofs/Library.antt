@@ -78,6 +78,7 @@ zero_same : (env : Env) (t : Tables) (x : Term) → ((f : Function) → (x ≡ t
 zero_same env t (term.Place kind of bounded lends) n y ps below h = let P : terms.Term → Type 0 = λ (z : terms.Term). from_zero z ≡ z in subst P (sym h.is) refl
 zero_same env t (term.Value e) n y ps below h = let P : terms.Term → Type 0 = λ (z : terms.Term). from_zero z ≡ z in subst P (sym h.is) refl
 zero_same env t (term.Routine r) n y ps below h = let P : terms.Term → Type 0 = λ (z : terms.Term). from_zero z ≡ z in subst P (sym h.is) refl
+zero_same env t (term.Property p) n y ps below h = let P : terms.Term → Type 0 = λ (z : terms.Term). from_zero z ≡ z in subst P (sym h.property.is) refl
 zero_same env t (term.Function f) n y ps below h = absurd (n f refl)
 zero_same env t (term.HostMember m) n y ps below h = let P : terms.Term → Type 0 = λ (z : terms.Term). from_zero z ≡ z in subst P (sym h.is) refl
 zero_same env t (term.SheetMember m) n y ps below h = let P : terms.Term → Type 0 = λ (z : terms.Term). from_zero z ≡ z in subst P (sym h.0) refl
@@ -266,7 +267,7 @@ ends_function x of takes typed = record {
 -- ---- arguments end
 
 abbrev pub ended_function : FunctionCall → Term → Tree
-ended_function x y = record { place = x.place; name = None; is_qualifier = false; term = y }
+ended_function x y = record { place = x.place; name = None; dotted = None; term = y }
 
 ended_stands : (env : Env) (x : FunctionCall) (y : Term) (left right : Token) (xs : List Item) (d : Drafted) → EndsFunction x y → (is : List nodes.Item) (base : Base) → Stands env d.tables (items.Function x ∷ xs) is d.pieces base
     → Stands env d.tables (items.Tree (ended_function x y) ∷ xs) (behind_node (node.Index left right) is) d.pieces base

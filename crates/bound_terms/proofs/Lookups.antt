@@ -39,7 +39,7 @@ first_each F G h1 h2 h3 h4 h5 h6 h7 n es = first_same F G (λ e. at e.name e.is_
     at x b (an_event ps) = h6 x b ps
     at x b (a_procedure p) = h7 x b p
 
-get_same : (w : ProcedureWords) → is_wanted true w ≡ is_get w
+pub get_same : (w : ProcedureWords) → is_wanted true w ≡ is_get w
 get_same (words.Sub token) = refl
 get_same (words.Function token) = refl
 get_same (words.PropertyGet a b) = refl
@@ -53,7 +53,7 @@ let_same (words.PropertyGet a b) = refl
 let_same (words.PropertyLet a b) = refl
 let_same (words.PropertySet a b) = refl
 
-abbrev with_entry : Option (ℕ × Entry) → Option (ℕ × Written)
+abbrev pub with_entry : Option (ℕ × Entry) → Option (ℕ × Written)
 with_entry o = option_and_then (λ f. option_map (λ p. (f.0, p)) (procedure_of f.1.what)) o
 
 -- as the binder writes it

@@ -408,7 +408,7 @@ ending_gathered r x values d e ending h = let P : Ending → Type 0 = λ z. Node
 -- arguments end
 index_stands : (env : Env) (x : Call) (n : ℕ) (ending : Ending) (left right : Token) (xs : List Item) (d e : Drafted) → AllNamed d.tables xs → EndsGathered x.routine x.passed (suc n) d e ending → (is : List nodes.Item) (base : Base)
     → Stands env d.tables (with_gathered (suc n) (item.Call x ∷ xs)) is d.pieces base
-    → Stands env e.tables (item.Tree (record { place = x.place; name = None; is_qualifier = false; term = term.Value ending }) ∷ xs) (behind_node (node.Index left right) is) e.pieces base
+    → Stands env e.tables (item.Tree (record { place = x.place; name = None; dotted = None; term = term.Value ending }) ∷ xs) (behind_node (node.Index left right) is) e.pieces base
 index_stands env x n ending left right xs d e k c [] base h = absurd h
 index_stands env x n ending left right xs d e k c (nodes.tree y ∷ is) base h = absurd h
 index_stands env x n ending left right xs d e k c (nodes.arguments args ∷ []) base h =
@@ -435,16 +435,16 @@ index_stands env x n ending left right xs d e k c (nodes.arguments args ∷ node
 
 index_some : (env : Env) (x : Call) (n : ℕ) (ending : Ending) (left right : Token) (xs : List Item) (d e : Drafted) → (n ≡ 0 → ⊥) → AllNamed d.tables xs → EndsGathered x.routine x.passed n d e ending → (is : List nodes.Item) (base : Base)
     → Stands env d.tables (with_gathered n (item.Call x ∷ xs)) is d.pieces base
-    → Stands env e.tables (item.Tree (record { place = x.place; name = None; is_qualifier = false; term = term.Value ending }) ∷ xs) (behind_node (node.Index left right) is) e.pieces base
+    → Stands env e.tables (item.Tree (record { place = x.place; name = None; dotted = None; term = term.Value ending }) ∷ xs) (behind_node (node.Index left right) is) e.pieces base
 index_some env x zero ending left right xs d e some k c is base h = absurd (some refl)
 index_some env x (suc n) ending left right xs d e some k c is base h = index_stands env x n ending left right xs d e k c is base h
 
 pub goes_index : (env : Env) (x : Call) (n : ℕ) (ending : Ending) (left right : Token) (xs old new : List Item) (d e : Drafted) → (n ≡ 0 → ⊥) → old ≡ item.Call x ∷ xs
-    → new ≡ item.Tree (record { place = x.place; name = None; is_qualifier = false; term = term.Value ending }) ∷ xs → AllNamed d.tables old → EndsGathered x.routine x.passed n d e ending
+    → new ≡ item.Tree (record { place = x.place; name = None; dotted = None; term = term.Value ending }) ∷ xs → AllNamed d.tables old → EndsGathered x.routine x.passed n d e ending
     → Goes env d (with_gathered n old) e new (behind_node (node.Index left right))
 goes_index env x n ending left right xs old new d e some o w k c =
     let g = behind_node (node.Index left right) in
-    let y = item.Tree (record { place = x.place; name = None; is_qualifier = false; term = term.Value ending }) in
+    let y = item.Tree (record { place = x.place; name = None; dotted = None; term = term.Value ending }) in
     let N : List Item → Type 0 = λ l. AllNamed d.tables l in
     let A : List Item → Type 0 = λ l. Goes env d (with_gathered n l) e new g in
     let B : List Item → Type 0 = λ l. Goes env d (with_gathered n (item.Call x ∷ xs)) e l g in

@@ -1,12 +1,21 @@
 -- Procedures that are read.
-use Rattle.std.proofs.Common.{◌≡◌, ℕ, Bool, true, false, Some, if◌then◌else◌, refl, ap, ◌∙◌}
+use Rattle.std.proofs.Common.{◌≡◌, ℕ, Bool, true, false, Option, Some, None, if◌then◌else◌, refl, sym, ap, ◌∙◌}
+use Rattle.std.specs.Prelude.{slice_get}
+use Rattle.bound_project.specs.Drafts.{Drafted}
 use Rattle.binder.specs.Declarations.{Written}
 use Rattle.binder.specs.Scopes.{Space}
 use Rattle.binder.specs.Terms.{Env, a_routine}
 use Rattle.binder.specs.ExpressionsBound.{reader, is_property, procedure_with, is_get}
+use Rattle.declared_names.specs.View.{space_view, written_view}
+use Rattle.bound_calls.specs.declared.term.Property.{Property}
 use Rattle.bound_calls.specs.declared.term.Routine.{Routine}
+use Rattle.bound_calls.specs.declared.term.Term.TheVariants as term
+use Rattle.bound_calls.specs.Steps.{MakesLeaf}
+use Rattle.bound_calls.proofs.Growing.{grown_same}
 use Rattle.bound_terms.specs.Owned.{IsRoutine}
-use Rattle.bound_terms.specs.Callee.{Reading, ReadingProperty}
+use Rattle.bound_terms.specs.Callee.{IsProperty, Reading}
+use Rattle.bound_terms.specs.Properties.{property_with}
+use Rattle.bound_terms.proofs.NamedTerms.{routine_leaf}
 
 pub routine_reads : (env : Env) (space : Space) (number : ℕ) (written : Written) (read : ℕ × Written) (r : Routine) → reader env.scope space number written ≡ Some read → Reading env space written read r
     → IsRoutine env r (a_routine space number written)
@@ -26,10 +35,30 @@ routine_reads env space number written read r reads h ps = record {
   none_pushed = refl;
 }
 
-pub plain_reads : (env : Env) (space : Space) (number : ℕ) (written : Written) (r : Routine) → is_property written.kind ≡ false → Reading env space written (number, written) r → IsRoutine env r (a_routine space number written)
-plain_reads env space number written r h k =
-    routine_reads env space number written (number, written) r (ap (λ (b : Bool). if b then procedure_with env.scope is_get space written.name else Some (number, written)) h) k
+-- a procedure that is no property
+pub plain_procedure : (env : Env) (space : Space) (number : ℕ) (written : Written) (r : Routine) (d : Drafted) → is_property written.kind ≡ false → Reading env space written (number, written) r
+    → MakesLeaf env d d (term.Routine r) (a_routine space number written)
+plain_procedure env space number written r d h k =
+    routine_leaf env d r (a_routine space number written)
+    (routine_reads env space number written (number, written) r (ap (λ (b : Bool). if b then procedure_with env.scope is_get space written.name else Some (number, written)) h) k)
 
-pub property_reads : (env : Env) (space : Space) (number : ℕ) (written : Written) (r : Routine) → is_property written.kind ≡ true → ReadingProperty env space written r → IsRoutine env r (a_routine space number written)
-property_reads env space number written r h k =
-    routine_reads env space number written k.read r (ap (λ (b : Bool). if b then procedure_with env.scope is_get space written.name else Some (number, written)) h ∙ k.found) k.reading
+-- a property that has a Get, and one that has none
+read_property : (env : Env) (space : Space) (number : ℕ) (written : Written) (found : Option (ℕ × Written)) → is_property written.kind ≡ true → found ≡ property_with true env.scope space written.name
+    → reader env.scope space number written ≡ found
+read_property env space number written found h is = ap (λ (b : Bool). if b then procedure_with env.scope is_get space written.name else Some (number, written)) h ∙ sym is
+
+pub property_read : (env : Env) (space : Space) (written : Written) (read : ℕ × Written) (r : Routine) → Some read ≡ property_with true env.scope space written.name → Reading env space written read r → IsProperty env space written (term.Routine r)
+property_read env space written read r found k h number d =
+    routine_leaf env d r (a_routine space number written) (routine_reads env space number written read r (read_property env space number written (Some read) h found) k)
+
+pub property_unread : (env : Env) (p : Property) → None ≡ property_with true env.scope (space_view p.space.now) (written_view p.written).name → slice_get env.scope.spaces (space_view p.space.now).number ≡ Some (space_view p.space.now)
+    → IsProperty env (space_view p.space.now) (written_view p.written) (term.Property p)
+property_unread env p found placed h number d = record {
+  grown = grown_same d;
+  pieces = refl;
+  named = tt;
+  stands = λ ps. record {
+    property = record { number = number; is = refl; placed = placed; none_pushed = refl };
+    unread = read_property env (space_view p.space.now) number (written_view p.written) None h found;
+  };
+}

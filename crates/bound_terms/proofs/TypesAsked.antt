@@ -43,10 +43,10 @@ typed t found of v u ps below meant h = record {
 }
 
 pub goes_type_of : (env : Env) (x : Tree) (word is_word : Token) (class : Identifier) (of v : DeclaredType) (xs old new : List Item) (d e : Drafted) → old ≡ item.Tree x ∷ xs
-    → new ≡ item.Tree (record { place = word.place; name = None; is_qualifier = false; term = asked of }) ∷ xs → AllNamed d.tables old → declared_view of ≡ meant_type (plain_type env.scope class) → PushesGiven x d e v
+    → new ≡ item.Tree (record { place = word.place; name = None; dotted = None; term = asked of }) ∷ xs → AllNamed d.tables old → declared_view of ≡ meant_type (plain_type env.scope class) → PushesGiven x d e v
     → Goes env d old e new (behind_node (node.TypeOf word is_word class))
 goes_type_of env x word is_word class of v xs old new d e o n k meant p =
-    goes_made env x (record { place = word.place; name = None; is_qualifier = false; term = asked of }) xs old new d e (λ tree. type_of word tree is_word (short_type class)) o n p.grown k tt
+    goes_made env x (record { place = word.place; name = None; dotted = None; term = asked of }) xs old new d e (λ tree. type_of word tree is_word (short_type class)) o n p.grown k tt
     (λ tree below h. record {
       term_is = typed e.tables (given_as env (term_of env tree) (place_of_expression tree)) of v (meant_type (plain_type env.scope class)) e.pieces below meant (p.stands env tree below h);
       place_is = refl;

@@ -1,21 +1,23 @@
 -- Serves the code: what is called.
-use Rattle.std.specs.Prelude.{◌≡◌, ℕ, true, false, List, map, Some, None, slice_get}
+use Rattle.std.specs.Prelude.{◌≡◌, ℕ, true, false, List, map, Option, Some, None, slice_get}
 use Rattle.vba_expression.specs.Tree.{Expr}
 use Rattle.bound_project.specs.Drafts.{Drafted}
 use Rattle.bound_project.specs.Pieces.{Piece}
 use Rattle.bound_project.specs.View.{declared_view, parameter_view}
-use Rattle.binder.specs.Terms.{Env}
-use Rattle.binder.specs.ExpressionsBound.{call_type, callee, parameters_in, term_of}
+use Rattle.binder.specs.Terms.{Env, a_routine}
+use Rattle.binder.specs.ExpressionsBound.{call_type, callee, is_property, parameters_in, term_of}
 use Rattle.binder.specs.Declarations.{Written}
 use Rattle.binder.specs.Storage.{procedure_number}
 use Rattle.binder.specs.Scopes.{Scope, Space}
 use Rattle.declared_names.specs.View.{space_view, written_view}
 use Rattle.bound_terms.specs.declared.properties.Writer.{Writer}
+use Rattle.bound_calls.specs.declared.term.Property.{Property}
 use Rattle.bound_calls.specs.declared.term.Routine.{Routine}
 use Rattle.bound_calls.specs.declared.term.Term.{Term}
 use Rattle.bound_calls.specs.declared.term.Term.TheVariants as term
 use Rattle.bound_calls.specs.declared.term.Tree.{Tree}
 use Rattle.bound_calls.specs.Standing.{TermNamed, TermStands, TreeStands, Grown}
+use Rattle.bound_calls.specs.Steps.{MakesLeaf}
 use Rattle.bound_terms.specs.Properties.{property_with, IsEntry}
 
 -- what an expression is as it is called; nothing is pushed for that
@@ -36,23 +38,30 @@ pub record Reading (env : Env) (space : Space) (written : Written) (read : ℕ �
   pub written_is : written ≡ written_view r.written
   pub placed : slice_get env.scope.spaces space.number ≡ Some space
 
--- the same of the Get of a property
-pub record ReadingProperty (env : Env) (space : Space) (written : Written) (r : Routine) : Type 0 where
-  pub read : ℕ × Written
-  pub found : property_with true env.scope space written.name ≡ Some read
-  pub reading : Reading env space written read r
+-- a term is the property that has this procedure, whatever the number of that is
+abbrev pub IsProperty : Env → Space → Written → Term → Type 0
+IsProperty env space written x = is_property written.kind ≡ true → (number : ℕ) (d : Drafted) → MakesLeaf env d d x (a_routine space number written)
 
 -- the Let of a property
 pub record IsWriter (s : Scope) (x : Writer) : Type 0 where
-  pub found : property_with false s (space_view x.routine.space.now) (written_view x.routine.written).name ≡ Some (x.number, written_view x.written)
-  pub entry : IsEntry (space_view x.routine.space.now) x.number (written_view x.written)
+  pub found : property_with false s (space_view x.property.space.now) (written_view x.property.written).name ≡ Some (x.number, written_view x.written)
+  pub entry : IsEntry (space_view x.property.space.now) x.number (written_view x.written)
+
+-- the property that a term is
+abbrev pub property_in : Term → Option Property
+property_in (term.Routine r) = Some (record { space = r.space; written = r.written })
+property_in (term.Property p) = Some p
+property_in x = None
 
 -- a term is a property that has a Let
 pub record WriterOf (s : Scope) (x : Term) (w : Writer) : Type 0 where
-  pub is : x ≡ term.Routine w.routine
+  pub is : property_in x ≡ Some w.property
   pub writer : IsWriter s w
 
 -- a term is no property that has a Let
+abbrev pub Unwritten : Scope → Option Property → Type 0
+Unwritten s None = Unit {0}
+Unwritten s (Some p) = property_with false s (space_view p.space.now) (written_view p.written).name ≡ None
+
 abbrev pub NoWriter : Scope → Term → Type 0
-NoWriter s (term.Routine r) = property_with false s (space_view r.space.now) (written_view r.written).name ≡ None
-NoWriter s x = Unit {0}
+NoWriter s x = Unwritten s (property_in x)

@@ -7,3 +7,4 @@ pub mod Callee
 pub mod Functions
 pub mod Items
 pub mod Gathering
+pub mod Indexing

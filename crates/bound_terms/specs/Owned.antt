@@ -1,12 +1,12 @@
 -- Serves the code: what names of procedures and modules are.
-use Rattle.std.specs.Prelude.{◌≡◌, ℕ, Bool, true, ◌||◌, List, codes, bytes_eq, Option, Some, None, if◌then◌else◌, slice_get}
+use Rattle.std.specs.Prelude.{◌≡◌, ℕ, Bool, true, ◌||◌, List, codes, bytes_eq, Option, Some, None, option_map, if◌then◌else◌, slice_get}
 use Rattle.vba_values.specs.Types.{Declared}
 use Rattle.vba_words.specs.declared.identifier.Identifier.{Identifier}
 use Rattle.vba_lexer.specs.declared.token.Token.{Token}
 use Rattle.vba_expression.specs.Tree.{Expr}
 use Rattle.vba_expression.specs.Reader.{behind_dot}
 use Rattle.binder.specs.Declarations.{Local}
-use Rattle.binder.specs.Scopes.{Scope, Qualifier, before_dot, declares, as_qualifier}
+use Rattle.binder.specs.Scopes.{Scope, Qualifier, before_dot, declares, as_qualifier, enum_behind}
 use Rattle.binder.specs.Storage.{own_storage}
 use Rattle.binder.specs.Terms.{Env}
 use Rattle.binder.specs.Terms as plain
@@ -22,6 +22,7 @@ use Rattle.vba_values.specs.declared.object.HostRef.TheVariants as host
 use Rattle.bound_project.specs.declared.declared_type.DeclaredType.TheVariants.{Plain}
 use Rattle.bound_project.specs.declared.declared_type.ElementType.TheVariants as element
 use Rattle.bound_project.specs.declared.node.NodeKind.TheVariants as kinds
+use Rattle.bound_calls.specs.declared.term.Dotted.{Dotted}
 use Rattle.bound_calls.specs.declared.term.Routine.{Routine}
 use Rattle.bound_calls.specs.declared.term.Term.{Term}
 use Rattle.bound_calls.specs.declared.term.Term.TheVariants as term
@@ -63,10 +64,17 @@ pub record IsSheets (f : Identifier) (x : Term) : Type 0 where
 abbrev pub IsRoutine : Env → Routine → plain.Term → Type 0
 IsRoutine env r x = (ps : List Piece) → RoutineStands env r x ps ps
 
--- what a name before a dot says of where the name behind that is looked up
-abbrev pub IsQualifier : Scope → Option Identifier → Option Qualifier → Type 0
-IsQualifier s None q = q ≡ None
-IsQualifier s (Some x) q = q ≡ as_qualifier (declares before_dot s x)
+-- where a name behind a dot is looked up: behind a name, or behind two names with a dot between them
+abbrev pub dotted_view : Dotted → Identifier × Identifier
+dotted_view x = (x.before.now, x.name.now)
+
+abbrev pub looked_up : Scope → (name : Option Identifier) → (dotted : Option (Identifier × Identifier)) → Option Qualifier
+looked_up s (Some x) y = as_qualifier (declares before_dot s x)
+looked_up s None (Some y) = enum_behind s (as_qualifier (declares before_dot s y.0)) y.1
+looked_up s None None = None
+
+abbrev pub IsQualifier : Scope → Tree → Option Qualifier → Type 0
+IsQualifier s x q = q ≡ looked_up s (option_map (λ name. name.now) x.name) (option_map dotted_view x.dotted)
 
 -- a dot and a name behind an expression make another one
 pub record MakesMember (env : Env) (x : Tree) (f : Identifier) (d e : Drafted) (y : Tree) : Type 0 where

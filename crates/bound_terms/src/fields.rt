@@ -201,7 +201,7 @@ pub fn step_with_member<'a>(
         Item::Tree(Tree {
             place: dot.place,
             name: None,
-            is_qualifier: false,
+            dotted: None,
             term,
         }),
     )?;

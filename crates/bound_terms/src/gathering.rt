@@ -163,7 +163,7 @@ pub fn index_gathered<'a>(
         Item::Tree(Tree {
             place: call.place,
             name: None,
-            is_qualifier: false,
+            dotted: None,
             term: Term::Value(ending),
         }),
     )?;

@@ -1,6 +1,6 @@
 //! What stands before brackets, and what the numbers in them make of it: elements of places and of values.
 
-ghost use Rattle.std.specs.Prelude.{◌≡◌, ◌<◌, Bool, IfOk, option_map};
+ghost use Rattle.std.specs.Prelude.{◌≡◌, ◌<◌, Bool, IfOk, MatchBool, option_map};
 ghost use Rattle.bound_project.specs.DraftView.{draft_view};
 ghost use Rattle.bound_project.specs.Drafts.{Drafted, NodeNamed};
 ghost use Rattle.bound_project.specs.View.{declared_view};
@@ -8,6 +8,7 @@ ghost use Rattle.binder.specs.ExpressionsBound.{element_type};
 ghost use Rattle.binder.specs.Terms as plain;
 ghost use Rattle.bound_calls.specs.Indexing.{AddsArgument, AddsMissing, Closes, EndsIndexed, Opens, OpensTerm, PushesTarget, is_part};
 ghost use Rattle.bound_calls.specs.Standing.{ItemNamed, TermNamed};
+ghost use Rattle.bound_terms.specs.Indexing.{IndexesValue, PushesWhole};
 ghost use Rattle.bound_terms.specs.View.{EnvStands, env_view};
 
 use crate::call_steps::{passed_in, with_passed};
@@ -17,9 +18,9 @@ use crate::functions::{add_missing_value, add_value, close_function, open_functi
 use crate::items::{item_member, takes_item};
 use bound_calls::{
     Call, Ending, Indexed, Item, Passed, Routine, Target, Term, Tree, call_ending, pass_missing,
-    pass_plain, push_node, push_operand, sum,
+    pass_plain, push_node, push_operand, routine_ending, sum,
 };
-use bound_declarations::NotYet;
+use bound_declarations::{NotYet, is_property};
 use bound_members::{add_given, add_missing, close_member, open_member};
 use bound_project::{DeclaredType, Draft, ElementType, NodeKind};
 use std::alloc::Global;
@@ -108,6 +109,24 @@ fn open_place<'a>(
     })
 }
 
+/// Pushes a value that begins at a place, whose numbers in brackets are read from now on.
+fn push_whole(draft: &mut Draft, ending: Ending, place: Place) -> Result<Indexed, OrMemory<NotYet>>
+    requires { NodeNamed (draft_view draft.old).tables ending.kind }
+    ensures { IfOk result (λ indexed. PushesWhole ending place (draft_view draft.old) (draft_view draft.new) indexed) }
+{
+    let Some(element) = element_type(ending.of) else {
+        return Err(OrMemory::Fault(NotYet));
+    };
+    push_node(draft, ending.kind, ending.of, place)?;
+    Ok(Indexed {
+        place,
+        target: Target::Value,
+        of: element,
+        lends: false,
+        count: 0,
+    })
+}
+
 /// A value whose numbers in brackets are read from now on.
 fn open_value<'a>(
     draft: &mut Draft,
@@ -117,17 +136,31 @@ fn open_value<'a>(
     requires { NodeNamed (draft_view draft.old).tables ending.kind }
     ensures { IfOk result (λ indexed. (env : plain.Env) → OpensTerm env tree.entry (Term.Value ending) (draft_view draft.old) (draft_view draft.new) (Item.Indexed indexed)) }
 {
-    let Some(element) = element_type(ending.of) else {
-        return Err(OrMemory::Fault(NotYet));
-    };
-    push_node(draft, ending.kind, ending.of, tree.place)?;
-    Ok(Indexed {
-        place: tree.place,
-        target: Target::Value,
-        of: element,
-        lends: false,
-        count: 0,
-    })
+    push_whole(draft, ending, tree.place)
+}
+
+/// Do brackets behind a procedure index its value? It is a property then, whose Get has no parameters.
+pub fn indexes_value<'a>(routine: Routine<'a>) -> bool
+    ensures { MatchBool result (IndexesValue routine.entry) (Unit {0}) }
+{
+    match routine.parameters {
+        [] => is_property(routine.written.header.words),
+        _ => false,
+    }
+}
+
+/// A property that is called without arguments, and whose value's numbers in brackets are read from now on.
+fn open_property<'a>(
+    alloc: Global,
+    draft: &mut Draft,
+    tree: Tree<'a>,
+    routine: Routine<'a>,
+) -> Result<Indexed, OrMemory<NotYet>>
+    requires { IndexesValue routine }
+    ensures { IfOk result (λ indexed. (env : plain.Env) → OpensTerm env tree.entry (Term.Routine routine.entry) (draft_view draft.old) (draft_view draft.new) (Item.Indexed indexed)) }
+{
+    let ending = routine_ending(alloc, draft, routine)?;
+    push_whole(draft, ending, tree.place)
 }
 
 /// A call whose arguments are read from now on.
@@ -144,11 +177,30 @@ fn open_call<'a>(tree: Tree<'a>, routine: Routine<'a>) -> Call<'a>
     }
 }
 
-/// What a term is whose arguments are read from now on.
+/// A procedure whose arguments are read from now on, or a property whose value so many numbers index.
+fn open_routine<'a>(
+    alloc: Global,
+    draft: &mut Draft,
+    tree: Tree<'a>,
+    routine: Routine<'a>,
+    given: u32,
+) -> Result<Item<'a>, OrMemory<NotYet>>
+    ensures { IfOk result (λ item. (env : plain.Env) → OpensTerm env tree.entry (Term.Routine routine.entry) (draft_view draft.old) (draft_view draft.new) item) }
+{
+    if given != 0 && indexes_value(routine) {
+        let indexed = open_property(alloc, draft, tree, routine)?;
+        return Ok(Item::Indexed(indexed));
+    }
+    Ok(Item::Call(open_call(tree, routine)))
+}
+
+/// What a term is whose arguments, so many, are read from now on.
 fn open_term<'a>(
+    alloc: Global,
     draft: &mut Draft,
     tree: Tree<'a>,
     term: Term<'a>,
+    given: u32,
 ) -> Result<Item<'a>, OrMemory<NotYet>>
     requires { TermNamed (draft_view draft.old).tables term }
     ensures { IfOk result (λ item. (env : plain.Env) → OpensTerm env tree.entry term.entry (draft_view draft.old) (draft_view draft.new) item) }
@@ -167,13 +219,13 @@ fn open_term<'a>(
             let indexed = open_value(draft, tree, ending)?;
             Ok(Item::Indexed(indexed))
         }
-        Term::Routine(routine) => Ok(Item::Call(open_call(tree, routine))),
+        Term::Routine(routine) => open_routine(alloc, draft, tree, routine, given),
         Term::Function(function) => Ok(Item::Function(open_function(tree, function))),
         _ => Err(OrMemory::Fault(NotYet)),
     }
 }
 
-/// What an expression is whose arguments are read from now on; for a member of an object so many are to come.
+/// What an expression is whose arguments are read from now on: so many are to come that are written.
 pub fn begin_arguments<'a>(
     alloc: Global,
     draft: &mut Draft,
@@ -191,7 +243,7 @@ pub fn begin_arguments<'a>(
         let call = open_member(draft, tree.place, member, given)?;
         return Ok(Item::Member(call));
     }
-    open_term(draft, tree, term)
+    open_term(alloc, draft, tree, term, given)
 }
 
 /// One more number: the expression on top.
@@ -343,7 +395,7 @@ fn close_call<'a>(
     Ok(Tree {
         place: call.place,
         name: None,
-        is_qualifier: false,
+        dotted: None,
         term: Term::Value(ending),
     })
 }
@@ -363,7 +415,7 @@ pub fn end_arguments<'a>(
             Ok(Tree {
                 place: call.place,
                 name: None,
-                is_qualifier: false,
+                dotted: None,
                 term,
             })
         }
@@ -373,7 +425,7 @@ pub fn end_arguments<'a>(
             Ok(Tree {
                 place: indexed.place,
                 name: None,
-                is_qualifier: false,
+                dotted: None,
                 term,
             })
         }
@@ -382,7 +434,7 @@ pub fn end_arguments<'a>(
             Ok(Tree {
                 place: call.place,
                 name: None,
-                is_qualifier: false,
+                dotted: None,
                 term,
             })
         }

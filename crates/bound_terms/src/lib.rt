@@ -23,6 +23,7 @@ mod types;
 pub use callee::callee_term;
 pub use env::{Env, Within};
 pub use gathering::{gathered_ending, take_gathered};
+pub use indexing::indexes_value;
 pub use items::{item_member, item_term, takes_item};
 pub use names::{meant_term, meant_variable};
 pub use pass::{

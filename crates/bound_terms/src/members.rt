@@ -1,4 +1,4 @@
-ghost use Rattle.std.specs.Prelude.{◌≡◌, ◌<◌, length, Bool, false, OnOk, IfOk, None, Some, is_some, option_map, reverse};
+ghost use Rattle.std.specs.Prelude.{◌≡◌, ◌<◌, length, Bool, OnOk, IfOk, None, Some, option_map, reverse};
 ghost use Rattle.vba_expression.specs.declared.node.ExpressionNode.TheVariants as node;
 ghost use Rattle.vba_expression.specs.Nodes.{behind_node};
 ghost use Rattle.vba_lexer.specs.declared.token.Token.{Token};
@@ -7,10 +7,11 @@ ghost use Rattle.bound_project.specs.Drafts.{Drafted, NodeNamed};
 ghost use Rattle.bound_project.specs.Expressions.{err_value};
 ghost use Rattle.bound_project.specs.View.{element_view, member_view};
 ghost use Rattle.binder.specs.ExpressionsBound as bound;
+ghost use Rattle.binder.specs.Scopes as scopes;
 ghost use Rattle.binder.specs.Terms as plain;
 ghost use Rattle.constant_values.specs.Rounds.{IsPlace};
 ghost use Rattle.declared_names.specs.View.{qualifier_view, scope_view};
-ghost use Rattle.bound_terms.specs.Owned.{IsQualifier, MakesMember};
+ghost use Rattle.bound_terms.specs.Owned.{IsQualifier, MakesMember, dotted_view, looked_up};
 ghost use Rattle.bound_terms.specs.Fields.{MakesBehind, user_type_in};
 ghost use Rattle.bound_terms.specs.Owned.{IsSheets};
 ghost use Rattle.bound_calls.specs.Standing.{AllNamed, TermNamed};
@@ -23,8 +24,8 @@ use crate::functions::from_zero;
 use crate::items::{behind_object_place, behind_object_value};
 use crate::names::{folded, is_either, meant_term, sheets_value};
 use bound_calls::{
-    Ending, HostMember, Item, Routine, Term, Tree, member_ending, push_node, push_sheet, put_item,
-    routine_ending, take_item,
+    Dotted, Ending, HostMember, Item, Routine, Term, Tree, member_ending, push_node, push_sheet,
+    put_item, routine_ending, take_item,
 };
 use bound_declarations::NotYet;
 use bound_members::is_word;
@@ -66,32 +67,47 @@ fn err_member<'a>(name: &Identifier) -> Term<'a>
 }
 
 /// What a name before a dot says of where the name behind that is looked up.
-fn qualifier_of<'a>(env: Env<'a>, name: Option<&'a Identifier>) -> Option<Qualifier<'a>>
+fn name_qualifier<'a>(env: Env<'a>, name: &'a Identifier) -> Option<Qualifier<'a>>
     requires { EnvStands env }
-    ensures { IsPlace (scope_view env.entry.constants.scope) (option_map qualifier_view result)
-        × IsQualifier (scope_view env.entry.constants.scope) (option_map (λ x. x.now) name.entry) (option_map qualifier_view result) }
+    ensures place { IsPlace (scope_view env.entry.constants.scope) (option_map qualifier_view result) }
+    ensures is { option_map qualifier_view result ≡ scopes.as_qualifier (scopes.declares scopes.before_dot (scope_view env.entry.constants.scope) name.now) }
 {
-    match name {
-        Some(name) => as_qualifier(declares(Use::BeforeDot, env.constants.scope, name)),
+    as_qualifier(declares(Use::BeforeDot, env.constants.scope, name))
+}
+
+/// The same of two names with a dot between them.
+fn dotted_qualifier<'a>(env: Env<'a>, dotted: Dotted<'a>) -> Option<Qualifier<'a>>
+    requires { EnvStands env }
+    ensures place { IsPlace (scope_view env.entry.constants.scope) (option_map qualifier_view result) }
+    ensures is { option_map qualifier_view result ≡ looked_up (scope_view env.entry.constants.scope) None (Some (dotted_view dotted.entry)) }
+{
+    let first = name_qualifier(env, dotted.before);
+    enum_behind(env.constants.scope, first, dotted.name)
+}
+
+/// The same of an expression; none where it is neither.
+fn qualifier_of<'a>(env: Env<'a>, tree: Tree<'a>) -> Option<Qualifier<'a>>
+    requires { EnvStands env }
+    ensures place { IsPlace (scope_view env.entry.constants.scope) (option_map qualifier_view result) }
+    ensures is { IsQualifier (scope_view env.entry.constants.scope) tree.entry (option_map qualifier_view result) }
+{
+    if let Some(name) = tree.name {
+        return name_qualifier(env, name);
+    }
+    match tree.dotted {
+        Some(dotted) => dotted_qualifier(env, dotted),
         None => None,
     }
 }
 
-/// Is something looked up there?
-fn is_there<'a>(found: Option<Qualifier<'a>>) -> bool
-    ensures { result ≡ is_some (option_map qualifier_view found.entry) }
+/// A name behind a dot, behind another name where there is one.
+fn dotted<'a>(before: Option<&'a Identifier>, name: &'a Identifier) -> Option<Dotted<'a>>
+    ensures { option_map dotted_view result ≡ option_map (λ (x : Identifier). (x, name.now)) (option_map (λ x. x.now) before.entry) }
 {
-    match found {
-        Some(_) => true,
-        None => false,
+    match before {
+        Some(before) => Some(Dotted { before, name }),
+        None => None,
     }
-}
-
-/// Is an expression that is no name one that a name behind a dot is looked up in?
-fn has_qualifier<'a>(tree: Tree<'a>) -> bool
-    ensures { result ≡ tree.entry.is_qualifier }
-{
-    tree.is_qualifier
 }
 
 /// A name behind a module, an Enum or VBA.
@@ -101,22 +117,21 @@ fn behind_qualifier<'a>(
     env: Env<'a>,
     tree: Tree<'a>,
     qualifier: Qualifier<'a>,
-    member: &Identifier,
+    member: &'a Identifier,
 ) -> Result<Tree<'a>, OrMemory<NotYet>>
     requires env { EnvStands env }
     requires there { IsPlace (scope_view env.constants.scope) (Some (qualifier_view qualifier)) }
-    ensures { IfOk result (λ made. IsQualifier (scope_view env.entry.constants.scope) (option_map (λ x. x.now) tree.entry.name) (Some (qualifier_view qualifier.entry))
+    ensures { IfOk result (λ made. IsQualifier (scope_view env.entry.constants.scope) tree.entry (Some (qualifier_view qualifier.entry))
         → MakesMember (env_view env.entry) tree.entry member.now (draft_view draft.old) (draft_view draft.new) made) }
 {
     let scope = env.constants.scope;
     let meant = behind(Use::Plainly, scope, qualifier, member);
     let found = meant_term(alloc, draft, env, member, meant)?;
     let term = from_zero(found);
-    let is_qualifier = is_there(enum_behind(scope, Some(qualifier), member));
     Ok(Tree {
         place: tree.place,
         name: None,
-        is_qualifier,
+        dotted: dotted(tree.name, member),
         term,
     })
 }
@@ -292,14 +307,14 @@ fn behind_tree<'a>(
 ) -> Result<Tree<'a>, OrMemory<NotYet>>
     requires env { EnvStands env }
     requires named { TermNamed (draft_view draft.old).tables tree.term }
-    ensures { IfOk result (λ made. tree.entry.is_qualifier ≡ false → IsQualifier (scope_view env.entry.constants.scope) (option_map (λ x. x.now) tree.entry.name) None
+    ensures { IfOk result (λ made. IsQualifier (scope_view env.entry.constants.scope) tree.entry None
         → MakesMember (env_view env.entry) tree.entry member.now (draft_view draft.old) (draft_view draft.new) made) }
 {
     let term = behind_term(alloc, draft, env, tree.place, tree.term, member)?;
     Ok(Tree {
         place: tree.place,
         name: None,
-        is_qualifier: false,
+        dotted: None,
         term,
     })
 }
@@ -310,16 +325,13 @@ fn member_tree<'a>(
     draft: &mut Draft,
     env: Env<'a>,
     tree: Tree<'a>,
-    member: &Identifier,
+    member: &'a Identifier,
 ) -> Result<Tree<'a>, OrMemory<NotYet>>
     requires env { EnvStands env }
     requires named { TermNamed (draft_view draft.old).tables tree.term }
     ensures { IfOk result (λ made. MakesMember (env_view env.entry) tree.entry member.now (draft_view draft.old) (draft_view draft.new) made) }
 {
-    if has_qualifier(tree) {
-        return Err(OrMemory::Fault(NotYet));
-    }
-    match qualifier_of(env, tree.name) {
+    match qualifier_of(env, tree) {
         Some(qualifier) => behind_qualifier(alloc, draft, env, tree, qualifier, member),
         None => behind_tree(alloc, draft, env, tree, member),
     }
@@ -331,7 +343,7 @@ pub fn step_member<'a>(
     draft: &mut Draft,
     env: Env<'a>,
     stack: &mut Vec<Item<'a>>,
-    member: &Identifier,
+    member: &'a Identifier,
 ) -> Result<(), OrMemory<NotYet>>
     requires env { EnvStands env }
     requires named { AllNamed (draft_view draft.old).tables (reverse stack.old.items) }

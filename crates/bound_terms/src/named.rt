@@ -110,7 +110,7 @@ fn index_named<'a>(
         Item::Tree(Tree {
             place: call.place,
             name: None,
-            is_qualifier: false,
+            dotted: None,
             term: Term::Value(ending),
         }),
     )?;

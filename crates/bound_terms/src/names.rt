@@ -27,7 +27,7 @@ ghost use Rattle.bound_terms.specs.View.{EnvStands, env_view};
 
 use crate::env::Env;
 use crate::functions::function_term;
-use crate::routines::routine_of;
+use crate::routines::procedure_term;
 use bound_calls::{Ending, Term, value_term};
 use bound_declarations::{
     NotYet, arrayed, is_bounded, own_storage, parameter_type, result_type, variable_type,
@@ -392,10 +392,7 @@ fn standard_term<'a>(
     }
     match entry.what {
         What::Variable(variable) => module_variable(env, space, number, entry, variable),
-        What::Procedure(written) => {
-            let routine = routine_of(env, space, number, entry, written)?;
-            Ok(Term::Routine(routine))
-        }
+        What::Procedure(written) => procedure_term(env, space, number, entry, written),
         _ => Err(OrMemory::Fault(NotYet)),
     }
 }

@@ -5,11 +5,11 @@ ghost use Rattle.binder.specs.ExpressionsBound.{procedure_of};
 ghost use Rattle.binder.specs.Scopes as scopes;
 ghost use Rattle.declared_names.specs.Lookup.{found_view};
 ghost use Rattle.declared_names.specs.View.{entry_view, scope_view, space_view, what_view, written_view};
-ghost use Rattle.bound_terms.specs.Callee.{NoWriter, WriterOf};
+ghost use Rattle.bound_terms.specs.Callee.{NoWriter, WriterOf, property_in};
 ghost use Rattle.bound_terms.specs.Properties.{IsEntry, first_wanted, is_wanted, property_with, wants};
 ghost use Rattle.bound_terms.specs.PropertyView.{row_view};
 
-use bound_calls::{Routine, Term};
+use bound_calls::{Property, Term};
 use declared_names::{Entry, Scope, Space, What, Written, is_same_space, is_seen};
 use vba_tree::ProcedureWords;
 use vba_words::Identifier;
@@ -85,28 +85,42 @@ pub fn property_with<'a>(
 /// A property that is assigned to, and its Let: the number of its entry, and how it is written.
 #[derive(Clone, Copy)]
 pub struct Writer<'a> {
-    pub routine: Routine<'a>,
+    pub property: Property<'a>,
     pub number: usize,
     pub written: Written<'a>,
+}
+
+/// The property that a term is.
+fn property_in<'a>(term: Term<'a>) -> Option<Property<'a>>
+    ensures { result ≡ property_in term.entry }
+{
+    match term {
+        Term::Routine(routine) => Some(Property {
+            space: routine.space,
+            written: routine.written,
+        }),
+        Term::Property(property) => Some(property),
+        _ => None,
+    }
 }
 
 /// The Let of a property.
 pub fn writer_of<'a>(scope: Scope<'a>, term: Term<'a>) -> Option<Writer<'a>>
     ensures { MatchOption result (NoWriter (scope_view scope.entry) term.entry) (λ writer. WriterOf (scope_view scope.entry) term.entry writer) }
 {
-    let Term::Routine(routine) = term else {
+    let Some(property) = property_in(term) else {
         return None;
     };
     let Some((number, written)) = property_with(
         false,
         scope,
-        routine.space,
-        &routine.written.header.name,
+        property.space,
+        &property.written.header.name,
     ) else {
         return None;
     };
     Some(Writer {
-        routine,
+        property,
         number,
         written,
     })

@@ -1,4 +1,5 @@
 ghost use Rattle.std.specs.Prelude.{◌≡◌, IfOk, Some, slice_get};
+ghost use Rattle.bound_project.specs.Drafts.{Drafted};
 ghost use Rattle.bound_project.specs.View.{declared_view};
 ghost use Rattle.binder.specs.Constants as constants;
 ghost use Rattle.binder.specs.Declarations.{a_procedure};
@@ -7,14 +8,14 @@ ghost use Rattle.binder.specs.Scopes.{of_module};
 ghost use Rattle.binder.specs.Terms.{a_routine};
 ghost use Rattle.constant_values.specs.Rounds.{IsThere};
 ghost use Rattle.declared_names.specs.View.{entry_view, scope_view, space_view, what_view, written_view};
-ghost use Rattle.bound_terms.specs.Owned.{IsRoutine};
-ghost use Rattle.bound_terms.specs.Callee.{Reading, ReadingProperty};
+ghost use Rattle.bound_calls.specs.Steps.{MakesLeaf};
+ghost use Rattle.bound_terms.specs.Callee.{IsProperty, Reading};
 ghost use Rattle.bound_terms.specs.Properties.{IsEntry};
 ghost use Rattle.bound_terms.specs.View.{EnvStands, env_view};
 
 use crate::env::Env;
 use crate::properties::property_with;
-use bound_calls::Routine;
+use bound_calls::{Property, Routine, Term};
 use bound_declarations::{NotYet, gives_value, is_property, procedure_number, result_type};
 use bound_project::{DeclaredType, ElementType};
 use declared_names::{Entry, Scope, Space, Written};
@@ -72,39 +73,42 @@ fn routine_at<'a>(
     })
 }
 
-/// What a call of a property needs: its Get.
-fn property_routine<'a>(
+/// A property: its Get, or what can be assigned to alone.
+fn property_term<'a>(
     env: Env<'a>,
     space: &'a Space<'a>,
     written: Written<'a>,
-) -> Result<Routine<'a>, OrMemory<NotYet>>
+) -> Result<Term<'a>, OrMemory<NotYet>>
     requires env { EnvStands env }
     requires placed { slice_get (scope_view env.constants.scope).spaces (space_view space.now).number ≡ Some (space_view space.now) }
-    ensures { IfOk result (λ routine. ReadingProperty (env_view env.entry) (space_view space.now) (written_view written.entry) routine) }
+    ensures { IfOk result (λ term. IsProperty (env_view env.entry) (space_view space.now) (written_view written.entry) term) }
 {
     let name = &written.header.name;
-    let Some((number, read)) = property_with(true, env.constants.scope, space, name) else {
-        return Err(OrMemory::Fault(NotYet));
-    };
-    routine_at(env, space, number, read, written)
+    match property_with(true, env.constants.scope, space, name) {
+        Some((number, read)) => {
+            let routine = routine_at(env, space, number, read, written)?;
+            Ok(Term::Routine(routine))
+        }
+        None => Ok(Term::Property(Property { space, written })),
+    }
 }
 
-/// What a call of a procedure needs, by its entry in a module of the project; a property without a Get isn't bound yet.
-pub fn routine_of<'a>(
+/// A procedure or a property, by its entry in a module of the project.
+pub fn procedure_term<'a>(
     env: Env<'a>,
     space: &'a Space<'a>,
     number: usize,
     entry: Entry<'a>,
     written: Written<'a>,
-) -> Result<Routine<'a>, OrMemory<NotYet>>
+) -> Result<Term<'a>, OrMemory<NotYet>>
     requires env { EnvStands env }
     requires there { IsThere (scope_view env.constants.scope) (Some (of_module (space_view space.now) number (entry_view entry))) }
     requires what { what_view entry.what ≡ a_procedure (written_view written) }
-    ensures { IfOk result (λ routine. IsRoutine (env_view env.entry) routine (a_routine (space_view space.now) number (written_view written.entry))) }
+    ensures { IfOk result (λ term. (d : Drafted) → MakesLeaf (env_view env.entry) d d term (a_routine (space_view space.now) number (written_view written.entry))) }
 {
     if is_property(written.header.words) {
-        property_routine(env, space, written)
-    } else {
-        routine_at(env, space, number, written, written)
+        return property_term(env, space, written);
     }
+    let routine = routine_at(env, space, number, written, written)?;
+    Ok(Term::Routine(routine))
 }

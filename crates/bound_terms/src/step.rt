@@ -1,4 +1,4 @@
-ghost use Rattle.std.specs.Prelude.{◌≡◌, OnOk, reverse};
+ghost use Rattle.std.specs.Prelude.{◌≡◌, ◌∷◌, IfSome, OnOk, reverse};
 ghost use Rattle.vba_lexer.specs.declared.token.Token.{Token};
 ghost use Rattle.vba_expression.specs.declared.node.ExpressionNode.TheVariants as node;
 ghost use Rattle.vba_expression.specs.declared.operator.BinaryOperator.TheVariants as operators;
@@ -14,8 +14,8 @@ use crate::env::Env;
 use crate::names::meant_term;
 use crate::operators::{binary_term, unary_term};
 use bound_calls::{
-    Ending, Item, Term, Tree, given_ending, push_given, push_operand, push_reference, put_item,
-    settle, take_item, value_term,
+    Ending, Item, Operand, Term, Tree, given_ending, push_given, push_operand, push_reference,
+    put_item, settle, take_item, value_term,
 };
 use bound_declarations::NotYet;
 use bound_project::{DeclaredType, Draft, ElementType, NodeKind};
@@ -48,7 +48,7 @@ pub fn step_literal<'a>(
         Item::Tree(Tree {
             place: literal.token.place,
             name: None,
-            is_qualifier: false,
+            dotted: None,
             term,
         }),
     )?;
@@ -74,7 +74,7 @@ pub fn step_parenthesised<'a>(
         Item::Tree(Tree {
             place: left.place,
             name: None,
-            is_qualifier: false,
+            dotted: None,
             term: Term::Value(ending),
         }),
     )?;
@@ -103,7 +103,7 @@ pub fn step_type_of<'a>(
         Item::Tree(Tree {
             place: type_of_word.place,
             name: None,
-            is_qualifier: false,
+            dotted: None,
             term: Term::Value(Ending {
                 kind: NodeKind::IsType(meant_type(meant)),
                 of: DeclaredType::Plain(ElementType::Boolean),
@@ -134,7 +134,7 @@ pub fn step_unary<'a>(
         Item::Tree(Tree {
             place: token.place,
             name: None,
-            is_qualifier: false,
+            dotted: None,
             term,
         }),
     )?;
@@ -151,6 +151,19 @@ fn is_same(operator: BinaryOperator) -> bool
     }
 }
 
+/// Takes a right operand, and the left one below it, which stands first in the answer.
+fn take_operands<'a>(stack: &mut Vec<Item<'a>>) -> Option<(Operand, Tree<'a>)>
+    ensures { IfSome result (λ found. reverse stack.old.items ≡ Item.Tree found.1 ∷ Item.Operand found.0 ∷ reverse stack.new.items) }
+{
+    let Some(Item::Tree(right)) = take_item(stack) else {
+        return None;
+    };
+    let Some(Item::Operand(left)) = take_item(stack) else {
+        return None;
+    };
+    Some((left, right))
+}
+
 /// The operator Is: whether two references are to the same object.
 fn step_same<'a>(
     alloc: Global,
@@ -160,10 +173,7 @@ fn step_same<'a>(
     requires { AllNamed (draft_view draft.old).tables (reverse stack.old.items) }
     ensures { OnOk result ((env : plain.Env) (token : Token) → Goes env (draft_view draft.old) (reverse stack.old.items) (draft_view draft.new) (reverse stack.new.items) (behind_node (node.Binary operators.Is token))) }
 {
-    let Some(Item::Tree(right)) = take_item(stack) else {
-        return Err(OrMemory::NoMemory);
-    };
-    let Some(Item::Operand(left)) = take_item(stack) else {
+    let Some((left, right)) = take_operands(stack) else {
         return Err(OrMemory::NoMemory);
     };
     if !left.is_reference {
@@ -178,7 +188,7 @@ fn step_same<'a>(
         Item::Tree(Tree {
             place: left.place,
             name: None,
-            is_qualifier: false,
+            dotted: None,
             term: Term::Value(Ending {
                 kind: NodeKind::Same,
                 of: DeclaredType::Plain(ElementType::Boolean),
@@ -200,10 +210,7 @@ fn step_operands<'a>(
     ensures { OnOk result ((env : plain.Env) (token : Token) → compare ≡ compare_in env.scope
         → Goes env (draft_view draft.old) (reverse stack.old.items) (draft_view draft.new) (reverse stack.new.items) (behind_node (node.Binary operator token))) }
 {
-    let Some(Item::Tree(right)) = take_item(stack) else {
-        return Err(OrMemory::NoMemory);
-    };
-    let Some(Item::Operand(left)) = take_item(stack) else {
+    let Some((left, right)) = take_operands(stack) else {
         return Err(OrMemory::NoMemory);
     };
     if left.is_reference {
@@ -219,7 +226,7 @@ fn step_operands<'a>(
         Item::Tree(Tree {
             place: left.place,
             name: None,
-            is_qualifier: false,
+            dotted: None,
             term,
         }),
     )?;
@@ -265,7 +272,7 @@ pub fn step_name<'a>(
         Item::Tree(Tree {
             place: name.token.place,
             name: Some(name),
-            is_qualifier: false,
+            dotted: None,
             term,
         }),
     )?;

@@ -84,6 +84,16 @@ listed instr.StopHere = listed_as 63 0 0
 listed instr.Leave = listed_as 64 0 0
 listed (instr.StoreItem k) = listed_as 65 k 0
 listed instr.SetMember = listed_as 66 0 0
+listed (instr.NamedThere name by given) = listed_as 67 (length name) given
+listed (instr.NamedOf name by k) = listed_as 68 (length name) k
+listed instr.PushThis = listed_as 69 0 0
+listed (instr.New class) = listed_as 70 class 0
+listed instr.ObjectThere = listed_as 71 0 0
+listed (instr.FieldIn i of bounded) = listed_as 72 i (bit_of bounded)
+listed (instr.CallOf p k) = listed_as 73 p k
+listed (instr.AsNew class) = listed_as 74 class 0
+listed instr.MakeThere = listed_as 75 0 0
+listed instr.StoreMade = listed_as 76 0 0
 
 -- two numbers in decimal, with a blank between them
 abbrev pub both : (left right : ℕ) → List ℕ

@@ -16,7 +16,7 @@ use Rattle.vba_values.specs.Types as type
 use Rattle.vba_values.specs.Val.{Val, empty, null, missing, boolean, whole, currency, text, object, array, udt}
 use Rattle.vba_lib.specs.declared.function.LibraryFunction.{LibraryFunction}
 use Rattle.vba_lib.specs.declared.function.LibraryFunction.TheVariants as function
-use Rattle.bound_project.specs.Expressions.{Storage, local, shared, ErrMember, err_number, err_source, err_description}
+use Rattle.bound_project.specs.Expressions.{Storage, local, shared, own, ErrMember, err_number, err_source, err_description}
 
 -- 1 for true
 abbrev pub bit_of : Bool → ℕ
@@ -65,14 +65,16 @@ handler_number Default = 0
 handler_number (Handler at) = at.0
 handler_number ResumeNext = 0
 
--- a variable, and where it is kept: in its procedure's frame or in the project
+-- a variable, and where it is kept: in its procedure's frame, in the project or in the object whose procedure runs
 abbrev pub variable_number : Storage → ℕ
 variable_number (local number) = number
 variable_number (shared number) = number
+variable_number (own number) = number
 
 abbrev pub storage_number : Storage → ℕ
 storage_number (local number) = 0
 storage_number (shared number) = 1
+storage_number (own number) = 2
 
 -- an object of the host, and the number that it has or counts
 abbrev pub host_number : HostRef → ℕ

@@ -26,5 +26,9 @@ is_library_name fold true = is_text_function (function_named fold) || is_outside
 is_library_name fold false =
     is_some (function_named fold) || (is_some (constant_named fold) || (is_outside fold || (is_outside_type fold || bytes_eq fold (codes "error"))))
 
+-- a function or a type of VBA that the language leaves out
+abbrev pub is_left_out_name : List ℕ → Bool
+is_left_out_name fold = is_outside fold || is_outside_type fold
+
 abbrev pub the_outside : Outside
-the_outside = record { constant = constant_named; is_library = is_library_name; is_host = is_host_name }
+the_outside = record { constant = constant_named; is_library = is_library_name; is_left_out = is_left_out_name; is_host = is_host_name }

@@ -37,7 +37,7 @@ pub use naming::spelled;
 pub use numbers::{
     Counted, class_number, count_before, count_of, entries_before, first_entries, type_number,
 };
-pub use outside::{is_constant_name, is_host_name, is_library_name};
+pub use outside::{is_constant_name, is_host_name, is_left_out_name, is_library_name};
 pub use qualifiers::{as_qualifier, behind, enum_behind};
 pub use range::PartRange;
 pub use scope::{Meant, Qualifier, Scope, TypeMeant, Use};

@@ -1,7 +1,7 @@
 // What stands outside of a project, by the case folds of names.
 ghost use Rattle.std.specs.Prelude.{◌≡◌, false, is_some};
 ghost use Rattle.vba_lib.specs.Names.{constant_named, function_named};
-ghost use Rattle.declared_names.specs.Outside.{is_host_name, is_library_name, is_text_function};
+ghost use Rattle.declared_names.specs.Outside.{is_host_name, is_left_out_name, is_library_name, is_text_function};
 
 use crate::words::{is_among, is_word};
 use vba_base::Name;
@@ -93,4 +93,11 @@ pub fn is_library_name(name: &Name, has_dollar: bool) -> bool
     } else {
         is_plain_library_name(name)
     }
+}
+
+/// Is a name that of a function or a type of VBA that the language leaves out?
+pub fn is_left_out_name(name: &Name) -> bool
+    ensures { result ≡ is_left_out_name name.now }
+{
+    is_outside_name(name) || is_outside_type(name)
 }

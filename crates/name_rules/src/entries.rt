@@ -19,7 +19,7 @@ use said_parts::{
     Said, fields_of, push_constant, push_fields, push_parameters, push_said, push_variable,
 };
 use std::alloc::Global;
-use use_rules::{note_all_names, note_all_types};
+use use_rules::{Question, note_all_names, note_all_types};
 use vba_base::{NoMemory, Refusal};
 use vba_tree::Parameters;
 
@@ -32,7 +32,11 @@ pub struct EntriesFound {
 }
 
 /// Adds what an entry says; what a procedure says stands in its own scope.
-fn push_entry<'a>(alloc: Global, said: &mut Vec<Said<'a>>, what: What<'a>) -> Result<(), NoMemory>
+pub fn push_entry<'a>(
+    alloc: Global,
+    said: &mut Vec<Said<'a>>,
+    what: What<'a>,
+) -> Result<(), NoMemory>
     ensures { OnOk result (all_said said.new.items ≡ all_said said.old.items ++ entry_said (what_view what.entry)) }
 {
     match what {
@@ -110,7 +114,8 @@ fn note_entry<'a>(
     push_entry(alloc, &mut said, entry.what)?;
     note_twice_inside(alloc, scope, entry, &mut found.twice)?;
     note_all_types(alloc, scope, said.as_slice(), &mut found.types)?;
-    note_all_names(alloc, scope, false, said.as_slice(), &mut found.names)
+    let question = Question::IsUnknown { in_with: false };
+    note_all_names(alloc, scope, question, said.as_slice(), &mut found.names)
 }
 
 /// Notes where entries of a module break the rules.

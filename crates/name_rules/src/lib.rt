@@ -1,10 +1,11 @@
-//! The rules S15 to S22: which of them a project breaks first. What statements say is asked one crate below.
+//! The rules S15 to S22: which of them a project breaks first; and S23. What statements say is asked one crate below.
 #![tactic(auto)]
 
 mod constants;
 mod entries;
 mod judging;
 mod labelled;
+mod left_out;
 mod names_of;
 mod procedures;
 mod recursive;
@@ -13,3 +14,4 @@ mod sources;
 mod twice;
 
 pub use judging::verdict;
+pub use left_out::first_left_out;

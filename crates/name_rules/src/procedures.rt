@@ -20,7 +20,7 @@ use declared_names::{Entry, Local, Scope, What, Written};
 use procedure_names::locals_of;
 use said_parts::push_header;
 use std::alloc::Global;
-use use_rules::{BodyFound, labels_of, note_all_names, note_all_types, note_body};
+use use_rules::{BodyFound, Question, labels_of, note_all_names, note_all_types, note_body};
 use vba_base::{NoMemory, Refusal};
 use vba_tree::LineLabel;
 
@@ -62,13 +62,18 @@ fn note_inside<'a>(
     let mut said = Vec::new(alloc);
     push_header(&mut said, written.header)?;
     note_all_types(alloc, scope, said.as_slice(), &mut found.types)?;
-    note_all_names(alloc, scope, false, said.as_slice(), &mut found.names)?;
+    let question = Question::IsUnknown { in_with: false };
+    note_all_names(alloc, scope, question, said.as_slice(), &mut found.names)?;
     let is_static = written.header.static_word.is_some();
     note_body(alloc, scope, is_static, labels, written.body.slice(), found)
 }
 
 /// The scope of a procedure, with its names.
-fn scope_inside<'a>(scope: Scope<'a>, written: Written<'a>, locals: &'a [Local<'a>]) -> Scope<'a>
+pub fn scope_inside<'a>(
+    scope: Scope<'a>,
+    written: Written<'a>,
+    locals: &'a [Local<'a>],
+) -> Scope<'a>
     requires { map local_view locals.now ≡ names.locals_of (scope_view scope) (written_view written) }
     ensures { scope_view result ≡ scope_in (scope_view scope.entry) (written_view written.entry) }
 {

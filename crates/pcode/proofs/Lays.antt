@@ -5,7 +5,7 @@ use Rattle.std.proofs.Math.Seq.{get_or-append_seam}
 use Rattle.std.proofs.lemmas.Option.{slice_get-get_or}
 use Rattle.vba_values.specs.declared.types.Compare.{Compare}
 use Rattle.vba_values.specs.Types.{Declared}
-use Rattle.bound_project.specs.Statements.{Tests, no_tests, test_is, test_range, Action, assign, assign_item, set, assign_default, assign_member, set_member, evaluate, let_property, set_property, print, raise, test, go_to, for_to, next, for_each, next_each, exit_each, select, case_of, redim, erase, with_place, with_value, end_with, go_sub, return_sub, exit_to, on_error, end_handler, clear_err, resume_again, resume_next, resume_at, stop, end_run, Statement}
+use Rattle.bound_project.specs.Statements.{Tests, no_tests, test_is, test_range, Action, assign, assign_item, set, assign_default, assign_member, set_member, evaluate, let_property, set_property, let_method, set_method, print, raise, test, go_to, for_to, next, for_each, next_each, exit_each, select, case_of, redim, erase, with_place, with_value, end_with, go_sub, return_sub, exit_to, on_error, end_handler, clear_err, resume_again, resume_next, resume_at, stop, end_run, Statement}
 use Rattle.bound_project.specs.Project.{Project, Body, statements_or, next_or}
 use Rattle.pcode.specs.Instructions.{Instr, Leave, list_or, number_or}
 use Rattle.pcode.specs.Code.{Entry, expr_code, place_code, args_code, list_code, prints_code, resizes_code, erases_code, tests_code, action_code, statement_code}
@@ -36,6 +36,8 @@ len_action entry p i k (set_member base e) = behind (expr_code e) _ _ (behind (e
 len_action entry p i k (evaluate e) = behind (expr_code e) _ _ refl
 len_action entry p i k (let_property q args e of) = behind (expr_code e) _ _ (behind (args_code args) _ _ refl)
 len_action entry p i k (set_property q args e of) = behind (expr_code e) _ _ (behind (args_code args) _ _ refl)
+len_action entry p i k (let_method base q args e of) = behind (expr_code e) _ _ (behind (expr_code base) _ _ (ap suc (behind (args_code args) _ _ refl)))
+len_action entry p i k (set_method base q args e of) = behind (expr_code e) _ _ (behind (expr_code base) _ _ (ap suc (behind (args_code args) _ _ refl)))
 len_action entry p i k (print ps ends) = behind (prints_code ps) _ _ refl
 len_action entry p i k (raise args) = refl
 len_action entry p i k (test sense e to other) = behind (expr_code e) _ _ refl

@@ -3,8 +3,8 @@ use Rattle.std.proofs.Common.{◌≡◌, ℕ, zero, suc, ◌+◌, ◌<◌, ◌�
 use Rattle.std.specs.Prelude.{slice_get}
 use Rattle.vba_values.specs.declared.types.Compare.{Compare}
 use Rattle.vba_values.specs.Types.{Declared}
-use Rattle.bound_project.specs.Expressions.{Expr, expr, Node, not_given, constant, load, element_value, field_value, unary, binary, call, err_value, default_of, default_if_any, same, is_type, library, bound_of, host_object, active_sheet, host_member, Lvalue, variable, item, element, field, kept_place, Args, no_args, by_place, by_copy, by_default, by_list, in_order, Exprs, no_exprs, also, Prints, no_prints, shown, zone}
-use Rattle.bound_project.specs.Statements.{Handling, passed_on, skipped, handled_at, Resizes, no_resizes, resize, Arrays, no_arrays, an_array, Tests, no_tests, test_is, test_range, Action, assign, assign_item, set, assign_default, assign_member, set_member, evaluate, let_property, set_property, print, raise, test, go_to, for_to, next, for_each, next_each, exit_each, select, case_of, redim, erase, with_place, with_value, end_with, go_sub, return_sub, exit_to, on_error, end_handler, clear_err, resume_again, resume_next, resume_at, stop, end_run, Statement}
+use Rattle.bound_project.specs.Expressions.{Expr, expr, Node, not_given, constant, load, load_made, element_value, field_value, unary, binary, call, err_value, default_of, default_if_any, same, is_type, library, bound_of, host_object, active_sheet, host_member, named_member, this, new_object, method, Lvalue, variable, item, element, field, kept_place, object_field, as_new, Args, no_args, by_place, by_copy, by_default, by_list, in_order, Exprs, no_exprs, also, Prints, no_prints, shown, zone}
+use Rattle.bound_project.specs.Statements.{Handling, passed_on, skipped, handled_at, Resizes, no_resizes, resize, Arrays, no_arrays, an_array, Tests, no_tests, test_is, test_range, Action, assign, assign_item, set, assign_default, assign_member, set_member, evaluate, let_property, set_property, let_method, set_method, print, raise, test, go_to, for_to, next, for_each, next_each, exit_each, select, case_of, redim, erase, with_place, with_value, end_with, go_sub, return_sub, exit_to, on_error, end_handler, clear_err, resume_again, resume_next, resume_at, stop, end_run, Statement}
 use Rattle.bound_project.specs.Project.{Project, Body, statement_at, statements_at, statements_or, next_or}
 use Rattle.bound_project.specs.Whole.{All, HasProcedure, HasStatement, HasTarget, argument_count, WholeExpr, WholeNode, WholePlace, WholeArgs, WholeExprs, WholePrints, WholeTests, WholeResizes, WholeArrays, WholeHandling, WholeAction, WholeStatement, WholeBodies, IsWhole}
 use Rattle.vba_meaning.specs.Effects.{policy_of}
@@ -74,6 +74,7 @@ module _ (pr : Project) (p : ℕ) where
     node_sound not_given h = (tt, tt)
     node_sound (constant v) h = (h, tt)
     node_sound (load x) h = both (place_code x) _ (place_sound x h) (tt, tt)
+    node_sound (load_made x) h = both (place_code x) _ (place_sound x h) (tt, (tt, (tt, (tt, tt))))
     node_sound (element_value e es) h = both (expr_code e) _ (expr_sound e h.0) (both (list_code es) _ (list_sound es h.1) (tt, tt))
     node_sound (field_value e i) h = both (expr_code e) _ (expr_sound e h) (tt, tt)
     node_sound (unary o a) h = both (expr_code a) _ (expr_sound a h) (tt, tt)
@@ -83,7 +84,11 @@ module _ (pr : Project) (p : ℕ) where
     node_sound (default_of e) h = both (expr_code e) _ (expr_sound e h) (tt, tt)
     node_sound (default_if_any e) h = both (expr_code e) _ (expr_sound e h) (tt, tt)
     node_sound active_sheet h = (tt, tt)
+    node_sound (named_member e name by es) h = both (expr_code e) _ (expr_sound e h.0) (tt, both (list_code es) _ (list_sound es h.1) (tt, tt))
     node_sound (host_member e name es) h = both (expr_code e) _ (expr_sound e h.0) (tt, both (list_code es) _ (list_sound es h.1) (tt, tt))
+    node_sound this h = (tt, tt)
+    node_sound (new_object c) h = (tt, (tt, tt))
+    node_sound (method e q args) h = both (expr_code e) _ (expr_sound e h.0) (tt, both (args_code args) _ (args_sound args h.1.0) (called q args h.1.1, tt))
     node_sound (same a b) h = both (expr_code a) _ (expr_sound a h.0) (both (expr_code b) _ (expr_sound b h.1) (tt, tt))
     node_sound (is_type e of) h = both (expr_code e) _ (expr_sound e h.0) (h.1, tt)
     node_sound (library f text_form es compare base) h = both (list_code es) _ (list_sound es h) (tt, tt)
@@ -96,6 +101,8 @@ module _ (pr : Project) (p : ℕ) where
     place_sound (element x es) h = both (place_code x) _ (place_sound x h.0) (both (list_code es) _ (list_sound es h.1) (tt, tt))
     place_sound (field x i of bounded) h = both (place_code x) _ (place_sound x h.0) (h.1, tt)
     place_sound (kept_place i) h = (statement_is i h, tt)
+    place_sound (object_field e i of bounded) h = both (expr_code e) _ (expr_sound e h.0) (h.1, tt)
+    place_sound (as_new c x) h = both (place_code x) _ (place_sound x h) (tt, tt)
 
     args_sound : (args : Args) → WholeArgs pr p args → Sounds (args_code args)
     args_sound no_args h = tt
@@ -150,6 +157,18 @@ module _ (pr : Project) (p : ℕ) where
       both (expr_code e) _ (expr_sound e h.0) (both (args_code args) _ (args_sound args h.1.0) (tt, (tt, (h.1.1.0, (called_with_value q args h.1.1.1, (tt, (leads k on, tt)))))))
   action_sound (set_property q args e of) i k own on h =
       both (expr_code e) _ (expr_sound e h.0) (both (args_code args) _ (args_sound args h.1.0) (tt, (h.1.1.0, (called_with_value q args h.1.1.1, (tt, (leads k on, tt))))))
+  action_sound (let_method base q args e of) i k own on h =
+      both (expr_code e) _ (expr_sound e h.0) (both (expr_code base) _ (expr_sound base h.1.0) (
+        tt,
+        both (args_code args) _ (args_sound args h.1.1.0)
+            (tt, (tt, (h.1.1.1.0, (called_with_value q args h.1.1.1.1, (tt, (leads k on, tt)))))),
+      ))
+  action_sound (set_method base q args e of) i k own on h =
+      both (expr_code e) _ (expr_sound e h.0) (both (expr_code base) _ (expr_sound base h.1.0) (
+        tt,
+        both (args_code args) _ (args_sound args h.1.1.0)
+            (tt, (h.1.1.1.0, (called_with_value q args h.1.1.1.1, (tt, (leads k on, tt))))),
+      ))
   action_sound (print ps ends) i k own on h = both (prints_code ps) _ (prints_sound ps h) (tt, (leads k on, tt))
   action_sound (raise args) i k own on h = both (args_code args) _ (args_sound args h) (tt, tt)
   action_sound (test sense e to other) i k own on h = both (expr_code e) _ (expr_sound e h.0) ((leads to h.1.0, leads other h.1.1), tt)

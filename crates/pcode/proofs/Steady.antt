@@ -13,14 +13,16 @@ use Rattle.sheet_host.specs.Books.{Sheets}
 use Rattle.bound_project.specs.Whole.{All}
 use Rattle.bound_project.specs.Project.{class_at, first_values}
 use Rattle.vba_meaning.specs.Paths.{Path, field_path}
-use Rattle.vba_meaning.specs.Memory.{Error, Ending, Ended, Faulted, Going, Slot, value, path, Object, top, path_of, error_here, frame_left, result}
-use Rattle.vba_meaning.specs.References.{objects_in, objects_in_values, hold, held_by, is_last, next_waiting, taken_off, let_frame, object_at, as_told, gone, closed}
+use Rattle.vba_meaning.specs.Memory.{Error, Ending, Ended, Faulted, Going, Slot, value, path, Object, top, path_of, error_here, frame_left, result, object_at}
+use Rattle.vba_meaning.specs.References.{objects_in, objects_in_values, hold, held_by, is_last, next_waiting, taken_off, let_frame, as_told, gone, closed}
 use Rattle.vba_meaning.specs.Effects.{Event, Effect, Fine, Bad-at, Out, Tell, lent, slot_values, packed, reordered, printed, loop_off, keep, selected, gone_sub, policy_on, handler_off, err_off, stop_here, taken_by, err_of}
 use Rattle.vba_meaning.specs.Arrays.{each_off, block_over, keep_path}
 use Rattle.vba_meaning.specs.Host.{is_raise, error_given}
+use Rattle.vba_meaning.specs.ByName.{in_parameter_order}
 use Rattle.vba_meaning.specs.Meaning.{State, with_memory, turned, left}
-use Rattle.pcode.specs.Instructions.{Instr, Begin, Push, PushHost, LoadErr, PathOf, ReadThrough, ElementOf, ElementIn, FieldOf, Dot, Index, PartOf, Operate, OperateAlone, Plain, PlainIfAny, FirstSheet, MemberThere, MemberOf, Same, IsType, Library, BoundAt, Fit, FitObject, Drop, Lend, Pack, Reorder, Lift, Call, Store, SetAt, StoreDefault, StoreMember, StoreItem, SetMember, ShowText, Show, Throw, LoopOff, LoopOn, NextRound, EachOff, EachOn, NextItem, Keep, Selected, IfFits, IfBetween, Redim, EraseAt, KeepPath, DropKept, PutReturn, TakeReturn, SetPolicy, HandlerOff, ErrOff, Again, Behind, Resumes, Finish, Branch, Halt, StopHere, Leave, Code, entry_of}
-use Rattle.pcode.specs.Machine.{After, Goes-on, Decide, Return, Back-to, Pass, Close, Back, Caller, EndOf, Config, Move, Goes, Ends, Tells, Turns, at, failing, letting, lets_all, finishes, raised, done_then, then_at, then_push, then_branch, pops, pops_path, take_args, pushed, looking, act, finished_by, terminates_by, ends_by, closing, returned_by, passed_on, next_by, takes, comes_by, step, Fin, Done, Unfinished, Stuck, tells, follow, machine, first_move, run_code}
+use Rattle.vba_meaning.specs.Objects.{made, own_object, made_for, initialize_of, stored_made, made_at}
+use Rattle.pcode.specs.Instructions.{Instr, Begin, Push, PushHost, LoadErr, PathOf, ReadThrough, ElementOf, ElementIn, FieldOf, Dot, Index, PartOf, Operate, OperateAlone, Plain, PlainIfAny, FirstSheet, MemberThere, MemberOf, NamedThere, NamedOf, PushThis, New, ObjectThere, FieldIn, AsNew, MakeThere, StoreMade, Same, IsType, Library, BoundAt, Fit, FitObject, Drop, Lend, Pack, Reorder, Lift, Call, CallOf, Store, SetAt, StoreDefault, StoreMember, StoreItem, SetMember, ShowText, Show, Throw, LoopOff, LoopOn, NextRound, EachOff, EachOn, NextItem, Keep, Selected, IfFits, IfBetween, Redim, EraseAt, KeepPath, DropKept, PutReturn, TakeReturn, SetPolicy, HandlerOff, ErrOff, Again, Behind, Resumes, Finish, Branch, Halt, StopHere, Leave, Code, entry_of}
+use Rattle.pcode.specs.Machine.{After, Goes-on, Decide, Return, Back-to, Pass, Close, Back, Caller, EndOf, Config, Move, Goes, Ends, Tells, Turns, at, failing, letting, lets_all, finishes, raised, done_then, then_at, then_push, then_branch, pops, pops_path, take_args, pushed, initializes, looking, act, finished_by, terminates_by, ends_by, closing, returned_by, passed_on, next_by, takes, comes_by, step, Fin, Done, Unfinished, Stuck, tells, follow, machine, first_move, run_code}
 use Rattle.pcode.specs.WellFormed.{Kind, a_value, a_path, Way, no_way, brings, value_off, path_off, taken_off as kinds_off, kinds_pushed, kinds_reordered, along, along_rest, along_all, Leads, Sound, SoundFrom, joined, Lands, begins, leaves, WellFormed}
 use Rattle.pcode.specs.Steady.{HasEnded, Steady}
 use Rattle.pcode.proofs.OneEnd.{Final, one_end}
@@ -313,6 +315,15 @@ module _ (code : Code) (well : WellFormed code) (bound : ℕ) where
       leads_there : (p to : ℕ) → Leads code p to → Lands code to
       leads_there p to h = subst (Lands code) (sym h.2) (well.entries p h.0)
 
+      -- a new object is made, and its Class_Initialize called
+      initial_stops : (o : Option ℕ) (v : Val) (pc : ℕ) (st : List Slot) (s : State) → before code.instrs no_way pc ≡ Some (brings (a_value ∷ a_value ∷ kinds_of st)) → Enough bound n s
+          → Stops code bound (Goes (at pc (value empty ∷ value v ∷ st) bs s)) → Stops code bound (initializes code o v pc st bs s)
+      initial_stops None v pc st s way good h = h
+      initial_stops (Some p) v pc st s way good h =
+          either (nat_lt (length s.memory.frames) 2000)
+          (by_turn code bound n later _ _ good (λ d known g. known.start (slice_index code.starts p) (Caller pc (value v ∷ st) ∷ bs) _ (start_lands p) (way, l.good) g))
+          (raises (error_here 28 s.memory) bs s l.good good)
+
       -- one instruction, with what is known of the next one
       acts : (i : Instr) (pc : ℕ) (st : List Slot) (s : State) (u : Way) → Enough bound n s → before code.instrs no_way (pc + 1) ≡ Some u
           → ((st1 : List Slot) (s1 : State) → Enough bound n s1 → Some (brings (kinds_of st1)) ≡ Some u → Stops code bound (Goes (at (pc + 1) st1 bs s1)))
@@ -335,6 +346,17 @@ module _ (code : Code) (well : WellFormed code) (bound : ℕ) where
       acts (OperateAlone o of) pc st s u good after on e q h = value_off_stops st _ _ u e (λ v st1 e1. does _ bs s _ l.good good (λ w s1 g1. on (value w ∷ st1) s1 g1 e1))
       acts Plain pc st s u good after on e q h = value_off_stops st _ _ u e (λ v st1 e1. does _ bs s _ l.good good (λ w s1 g1. on (value w ∷ st1) s1 g1 e1))
       acts PlainIfAny pc st s u good after on e q h = value_off_stops st _ _ u e (λ v st1 e1. does _ bs s _ l.good good (λ w s1 g1. on (value w ∷ st1) s1 g1 e1))
+      acts PushThis pc st s u good after on e q h = does (own_object s.memory) bs s (then_push (pc + 1) st bs) l.good good (λ v s1 g1. on (value v ∷ st) s1 g1 e)
+      acts (New c) pc st s u good after on e q h =
+          does (made code.declared c s.memory) bs s (λ v s1. initializes code (class_at code.declared c).initialize v (pc + 1) st bs s1) l.good good (λ v s1 g1. initial_stops (class_at code.declared c).initialize v (pc + 1) st s1 (after ∙ sym e) g1 (on (value empty ∷ value v ∷ st) s1 g1 e))
+      acts ObjectThere pc st s u good after on e q h = value_off_stops st _ _ u e (λ v st1 e1. does _ bs s _ l.good good (λ w s1 g1. on (value w ∷ st1) s1 g1 e1))
+      acts (FieldIn i of bounded) pc st s u good after on e q h = value_off_stops st _ _ u e (λ v st1 e1. does _ bs s _ l.good good (λ p s1 g1. on (path p ∷ st1) s1 g1 e1))
+      acts (AsNew c) pc st s u good after on e q h = path_off_stops st _ _ u e (λ q st1 e1. on (path (made_at c q) ∷ st1) s good e1)
+      acts MakeThere pc st s u good after on e q h =
+          path_off_stops st _ _ u e (λ q st1 e1. does (made_for code.declared q s.memory) bs s (λ v s1. initializes code (initialize_of code.declared q v) v (pc + 1) (path q ∷ st1) bs s1) l.good good (λ v s1 g1.
+          initial_stops (initialize_of code.declared q v) v (pc + 1) (path q ∷ st1) s1 (after ∙ sym e1) g1 (on (value empty ∷ value v ∷ path q ∷ st1) s1 g1 e1)))
+      acts StoreMade pc st s u good after on e q h =
+          value_off_stops st _ _ u e (λ v st1 e1. path_off_stops st1 _ _ u e1 (λ q st2 e2. does (stored_made q v s.memory) bs s (then_at (pc + 1) (path q ∷ st2) bs) l.good good (λ x s1 g1. on (path q ∷ st2) s1 g1 e2)))
       acts (IsType of) pc st s u good after on e q h = value_off_stops st _ _ u e (λ v st1 e1. does _ bs s _ l.good good (λ w s1 g1. on (value w ∷ st1) s1 g1 e1))
       acts (Fit of) pc st s u good after on e q h = value_off_stops st _ _ u e (λ v st1 e1. does _ bs s _ l.good good (λ w s1 g1. on (value w ∷ st1) s1 g1 e1))
       acts (FitObject of) pc st s u good after on e q h = value_off_stops st _ _ u e (λ v st1 e1. does _ bs s _ l.good good (λ w s1 g1. on (value w ∷ st1) s1 g1 e1))
@@ -350,6 +372,13 @@ module _ (code : Code) (well : WellFormed code) (bound : ℕ) where
           off_stops k st [] _ _ u e (λ xs st1 e1. value_off_stops st1 _ _ u e1 (λ w st2 e2. value_off_stops st2 _ _ u e2 (λ v st3 e3.
           either (is_raise name v)
           (does (error_given (slot_values xs) s.memory) bs s (λ error s1. raised error bs s1) l.good good (λ error s1 g1. raises error bs s1 l.good g1))
+          (does _ bs s _ l.good good (λ x s1 g1. on (value x ∷ st3) s1 g1 e3)))))
+      acts (NamedThere name by k) pc st s u good after on e q h =
+          value_off_stops st _ _ u e (λ v st1 e1. does _ bs s _ l.good good (λ w s1 g1. on (value w ∷ value v ∷ st1) s1 g1 e1))
+      acts (NamedOf name by k) pc st s u good after on e q h =
+          off_stops k st [] _ _ u e (λ xs st1 e1. value_off_stops st1 _ _ u e1 (λ w st2 e2. value_off_stops st2 _ _ u e2 (λ v st3 e3.
+          either (is_raise name v)
+          (does (error_given (in_parameter_order v name by (slot_values xs)) s.memory) bs s (λ error s1. raised error bs s1) l.good good (λ error s1 g1. raises error bs s1 l.good g1))
           (does _ bs s _ l.good good (λ x s1 g1. on (value x ∷ st3) s1 g1 e3)))))
       acts (StoreMember name k) pc st s u good after on e q h =
           off_stops k st [] _ _ u e (λ xs st1 e1.
@@ -368,6 +397,11 @@ module _ (code : Code) (well : WellFormed code) (bound : ℕ) where
           either (nat_lt (length s.memory.frames) 2000)
           (by_turn code bound n later _ _ good (λ d known g. known.start (slice_index code.starts p) (Caller (pc + 1) st1 ∷ bs) _ (start_lands p) (after ∙ sym e1, l.good) g))
           (raises (error_here 28 s.memory) bs s l.good good))
+      acts (CallOf p k) pc st s u good after on e q h =
+          off_stops k st [] _ _ u e (λ xs st1 e1. value_off_stops st1 _ _ u e1 (λ v st2 e2.
+          either (nat_lt (length s.memory.frames) 2000)
+          (by_turn code bound n later _ _ good (λ d known g. known.start (slice_index code.starts p) (Caller (pc + 1) st2 ∷ bs) _ (start_lands p) (after ∙ sym e2, l.good) g))
+          (raises (error_here 28 s.memory) bs s l.good good)))
       acts Store pc st s u good after on e q h = path_off_stops st _ _ u e (λ q st1 e1. value_off_stops st1 _ _ u e1 (λ v st2 e2. does _ bs s _ l.good good (λ x s1 g1. on st2 s1 g1 e2)))
       acts SetAt pc st s u good after on e q h = path_off_stops st _ _ u e (λ q st1 e1. value_off_stops st1 _ _ u e1 (λ v st2 e2. does _ bs s _ l.good good (λ x s1 g1. on st2 s1 g1 e2)))
       acts StoreDefault pc st s u good after on e q h =

@@ -3,13 +3,13 @@ use Rattle.std.proofs.Common.{◌≡◌, ℕ, suc, ◌+◌, Bool, List, [], ◌�
 use Rattle.std.proofs.lemmas.List.{append-nil}
 use Rattle.vba_values.specs.declared.types.Compare.{Compare}
 use Rattle.vba_values.specs.Types.{Declared}
-use Rattle.bound_project.specs.Expressions.{Expr, expr, Node, not_given, constant, load, element_value, field_value, unary, binary, call, err_value, default_of, default_if_any, same, is_type, library, bound_of, host_object, active_sheet, host_member, Lvalue, variable, item, element, field, kept_place, Args, no_args, by_place, by_copy, by_default, by_list, in_order, Exprs, no_exprs, also, Prints, no_prints, shown, zone}
-use Rattle.bound_project.specs.Statements.{Resizes, no_resizes, resize, Arrays, no_arrays, an_array, Tests, no_tests, test_is, test_range, Action, assign, assign_item, set, assign_default, assign_member, set_member, evaluate, let_property, set_property, print, raise, test, go_to, for_to, next, for_each, next_each, exit_each, select, case_of, redim, erase, with_place, with_value, end_with, go_sub, return_sub, exit_to, on_error, end_handler, clear_err, resume_again, resume_next, resume_at, stop, end_run, Statement}
+use Rattle.bound_project.specs.Expressions.{Expr, expr, Node, not_given, constant, load, load_made, element_value, field_value, unary, binary, call, err_value, default_of, default_if_any, same, is_type, library, bound_of, host_object, active_sheet, host_member, named_member, this, new_object, method, Lvalue, variable, item, element, field, kept_place, object_field, as_new, Args, no_args, by_place, by_copy, by_default, by_list, in_order, Exprs, no_exprs, also, Prints, no_prints, shown, zone}
+use Rattle.bound_project.specs.Statements.{Resizes, no_resizes, resize, Arrays, no_arrays, an_array, Tests, no_tests, test_is, test_range, Action, assign, assign_item, set, assign_default, assign_member, set_member, evaluate, let_property, set_property, let_method, set_method, print, raise, test, go_to, for_to, next, for_each, next_each, exit_each, select, case_of, redim, erase, with_place, with_value, end_with, go_sub, return_sub, exit_to, on_error, end_handler, clear_err, resume_again, resume_next, resume_at, stop, end_run, Statement}
 use Rattle.bound_project.specs.Project.{Project, Body}
-use Rattle.pcode.specs.Instructions.{Instr, Plain, Fit, FitObject, Call, Drop, Finish}
+use Rattle.pcode.specs.Instructions.{Instr, Plain, Fit, FitObject, Call, CallOf, Drop, Finish}
 use Rattle.pcode.specs.Code.{count, list_count, prints_count, expr_code, node_code, place_code, args_code, list_code, prints_code, resizes_code, erases_code, Entry, tests_code, action_code, statement_code}
 use Rattle.pcode.specs.Layout.{body_code, bodies_code, entries_of, entry_in, code_of}
-use Rattle.pcode.specs.WellFormed.{Kind, a_value, a_path, Way, no_way, brings, taken_off, brings_value, kinds_pushed, kinds_reordered, along_rest, along_all}
+use Rattle.pcode.specs.WellFormed.{Kind, a_value, a_path, Way, no_way, brings, value_off, taken_off, brings_value, kinds_pushed, kinds_reordered, along_rest, along_all}
 
 -- ---- operands that are taken off
 
@@ -96,6 +96,7 @@ mutual
   node_gives not_given ks = record { by = λ rest. refl }
   node_gives (constant v) ks = record { by = λ rest. refl }
   node_gives (load x) ks = then_gives (place_code x) _ (place_gives x ks) (record { by = λ rest. refl })
+  node_gives (load_made x) ks = then_gives (place_code x) _ (place_gives x ks) (record { by = λ rest. refl })
   node_gives (element_value e es) ks =
       then_gives (expr_code e) _ (expr_gives e ks) (then_gives (list_code es) _ (list_gives es (a_value ∷ ks)) (record { by = λ rest. counts (list_kinds es) _ _ _ rest _ (lists_count es) refl }))
   node_gives (field_value e i) ks = then_gives (expr_code e) _ (expr_gives e ks) (record { by = λ rest. refl })
@@ -106,8 +107,14 @@ mutual
   node_gives (default_of e) ks = then_gives (expr_code e) _ (expr_gives e ks) (record { by = λ rest. refl })
   node_gives (default_if_any e) ks = then_gives (expr_code e) _ (expr_gives e ks) (record { by = λ rest. refl })
   node_gives active_sheet ks = record { by = λ rest. refl }
+  node_gives (named_member e name by es) ks =
+      then_gives (expr_code e) _ (expr_gives e ks) (record { by = λ rest. (then_gives (list_code es) _ (list_gives es (a_value ∷ a_value ∷ ks)) (record { by = λ more. counts (list_kinds es) _ _ _ more _ (lists_count es) refl })).by rest })
   node_gives (host_member e name es) ks =
       then_gives (expr_code e) _ (expr_gives e ks) (record { by = λ rest. (then_gives (list_code es) _ (list_gives es (a_value ∷ a_value ∷ ks)) (record { by = λ more. counts (list_kinds es) _ _ _ more _ (lists_count es) refl })).by rest })
+  node_gives this ks = record { by = λ rest. refl }
+  node_gives (new_object c) ks = record { by = λ rest. refl }
+  node_gives (method e q args) ks =
+      then_gives (expr_code e) _ (expr_gives e ks) (record { by = λ rest. (then_gives (args_code args) _ (args_give args (a_value ∷ ks)) (record { by = λ more. counts (args_kinds args) _ _ _ more _ (args_count args) refl })).by rest })
   node_gives (same a b) ks = then_gives (expr_code a) _ (expr_gives a ks) (then_gives (expr_code b) _ (expr_gives b (a_value ∷ ks)) (record { by = λ rest. refl }))
   node_gives (is_type e of) ks = then_gives (expr_code e) _ (expr_gives e ks) (record { by = λ rest. refl })
   node_gives (library f text_form es compare base) ks = then_gives (list_code es) _ (list_gives es ks) (record { by = λ rest. counts (list_kinds es) _ _ _ rest _ (lists_count es) refl })
@@ -121,6 +128,8 @@ mutual
       then_gives (place_code x) _ (place_gives x ks) (then_gives (list_code es) _ (list_gives es (a_path ∷ ks)) (record { by = λ rest. counts (list_kinds es) _ _ _ rest _ (lists_count es) refl }))
   place_gives (field x i of bounded) ks = then_gives (place_code x) _ (place_gives x ks) (record { by = λ rest. refl })
   place_gives (kept_place i) ks = record { by = λ rest. refl }
+  place_gives (object_field e i of bounded) ks = then_gives (expr_code e) _ (expr_gives e ks) (record { by = λ rest. refl })
+  place_gives (as_new c x) ks = then_gives (place_code x) _ (place_gives x ks) (record { by = λ rest. refl })
 
   args_give : (args : Args) (ks : List Kind) → Gives (args_code args) ks (kinds_pushed (args_kinds args) ks)
   args_give no_args ks = record { by = λ rest. refl }
@@ -176,6 +185,16 @@ action_closes entry p i k (let_property q args e of) =
 action_closes entry p i k (set_property q args e of) =
     then_closes (expr_code e) _ (expr_gives e []) (then_closes (args_code args) _ (args_give args (a_value ∷ []))
     (record { by = λ rest. counts (args_kinds args) _ _ _ (FitObject of ∷ Call q (suc (count args)) ∷ Drop ∷ Finish (entry k) ∷ rest) _ (args_count args) (ap (λ o. along_rest o (along_all (Drop ∷ Finish (entry k) ∷ rest))) (one_more_off (args_kinds args) (count args) a_value [] (λ xs js. brings_value js) (args_count args))) }))
+action_closes entry p i k (let_method base q args e of) =
+    then_closes (expr_code e) _ (expr_gives e []) (then_closes (expr_code base) _ (expr_gives base (a_value ∷ [])) (record {
+      by = λ more. (then_closes (args_code args) _ (args_give args (a_value ∷ a_value ∷ []))
+          (record { by = λ rest. counts (a_value ∷ args_kinds args) _ (a_value ∷ []) _ (Plain ∷ Fit of ∷ CallOf q (suc (count args)) ∷ Drop ∷ Finish (entry k) ∷ rest) _ (ap suc (args_count args)) (ap (λ o. along_rest o (along_all (Drop ∷ Finish (entry k) ∷ rest))) (one_more_off (args_kinds args) (count args) a_value (a_value ∷ []) (λ xs js. value_off js brings_value) (args_count args))) })).by more;
+    }))
+action_closes entry p i k (set_method base q args e of) =
+    then_closes (expr_code e) _ (expr_gives e []) (then_closes (expr_code base) _ (expr_gives base (a_value ∷ [])) (record {
+      by = λ more. (then_closes (args_code args) _ (args_give args (a_value ∷ a_value ∷ []))
+          (record { by = λ rest. counts (a_value ∷ args_kinds args) _ (a_value ∷ []) _ (FitObject of ∷ CallOf q (suc (count args)) ∷ Drop ∷ Finish (entry k) ∷ rest) _ (ap suc (args_count args)) (ap (λ o. along_rest o (along_all (Drop ∷ Finish (entry k) ∷ rest))) (one_more_off (args_kinds args) (count args) a_value (a_value ∷ []) (λ xs js. value_off js brings_value) (args_count args))) })).by more;
+    }))
 action_closes entry p i k (print ps ends) = then_closes (prints_code ps) _ (prints_give ps []) (record { by = λ rest. counts (prints_kinds ps) _ _ _ (Finish (entry k) ∷ rest) _ (prints_counted ps) refl })
 action_closes entry p i k (raise args) = then_closes (args_code args) _ (args_give args []) (record { by = λ rest. counts (args_kinds args) _ _ _ rest _ (args_count args) refl })
 action_closes entry p i k (test sense e to other) = then_closes (expr_code e) _ (expr_gives e []) (record { by = λ rest. refl })

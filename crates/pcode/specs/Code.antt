@@ -3,10 +3,10 @@ use Rattle.std.specs.Prelude.{ℕ, suc, Bool, true, List, [], ◌∷◌, ◌++�
 use Rattle.vba_values.specs.declared.types.Compare.{Compare}
 use Rattle.vba_values.specs.Types.{Declared}
 use Rattle.vba_values.specs.Val.{missing, empty}
-use Rattle.bound_project.specs.Expressions.{Expr, expr, Node, not_given, constant, load, element_value, field_value, unary, binary, call, err_value, default_of, default_if_any, same, is_type, library, bound_of, host_object, active_sheet, host_member, Lvalue, variable, item, element, field, kept_place, Args, no_args, by_place, by_copy, by_default, by_list, in_order, Exprs, no_exprs, also, given_count, Prints, no_prints, shown, zone, operand_type}
-use Rattle.bound_project.specs.Statements.{Resizes, no_resizes, resize, Arrays, no_arrays, an_array, Tests, no_tests, test_is, test_range, Action, assign, assign_item, set, assign_default, assign_member, set_member, evaluate, let_property, set_property, print, raise, test, go_to, for_to, next, for_each, next_each, exit_each, select, case_of, redim, erase, with_place, with_value, end_with, go_sub, return_sub, exit_to, on_error, end_handler, clear_err, resume_again, resume_next, resume_at, stop, end_run, Statement}
+use Rattle.bound_project.specs.Expressions.{Expr, expr, Node, not_given, constant, load, load_made, element_value, field_value, unary, binary, call, err_value, default_of, default_if_any, same, is_type, library, bound_of, host_object, active_sheet, host_member, named_member, this, new_object, method, Lvalue, variable, item, element, field, kept_place, object_field, as_new, Args, no_args, by_place, by_copy, by_default, by_list, in_order, Exprs, no_exprs, also, given_count, Prints, no_prints, shown, zone, operand_type}
+use Rattle.bound_project.specs.Statements.{Resizes, no_resizes, resize, Arrays, no_arrays, an_array, Tests, no_tests, test_is, test_range, Action, assign, assign_item, set, assign_default, assign_member, set_member, evaluate, let_property, set_property, let_method, set_method, print, raise, test, go_to, for_to, next, for_each, next_each, exit_each, select, case_of, redim, erase, with_place, with_value, end_with, go_sub, return_sub, exit_to, on_error, end_handler, clear_err, resume_again, resume_next, resume_at, stop, end_run, Statement}
 use Rattle.vba_meaning.specs.Effects.{policy_of}
-use Rattle.pcode.specs.Instructions.{Instr, Begin, Push, LoadErr, PathOf, ReadThrough, ElementOf, ElementIn, FieldOf, Dot, Index, PartOf, Operate, OperateAlone, Plain, PlainIfAny, PushHost, FirstSheet, MemberThere, MemberOf, Same, IsType, Library, BoundAt, Fit, FitObject, Drop, Lend, Pack, Reorder, Lift, Call, Store, SetAt, StoreDefault, StoreMember, StoreItem, SetMember, ShowText, Show, Throw, LoopOff, LoopOn, NextRound, EachOff, EachOn, NextItem, Keep, Selected, IfFits, IfBetween, Redim, EraseAt, KeepPath, DropKept, PutReturn, TakeReturn, SetPolicy, HandlerOff, ErrOff, Again, Behind, Resumes, Finish, Branch, Halt, StopHere}
+use Rattle.pcode.specs.Instructions.{Instr, Begin, Push, LoadErr, PathOf, ReadThrough, ElementOf, ElementIn, FieldOf, Dot, Index, PartOf, Operate, OperateAlone, Plain, PlainIfAny, PushHost, FirstSheet, MemberThere, MemberOf, NamedThere, NamedOf, PushThis, New, ObjectThere, FieldIn, AsNew, MakeThere, StoreMade, Same, IsType, Library, BoundAt, Fit, FitObject, Drop, Lend, Pack, Reorder, Lift, Call, CallOf, Store, SetAt, StoreDefault, StoreMember, StoreItem, SetMember, ShowText, Show, Throw, LoopOff, LoopOn, NextRound, EachOff, EachOn, NextItem, Keep, Selected, IfFits, IfBetween, Redim, EraseAt, KeepPath, DropKept, PutReturn, TakeReturn, SetPolicy, HandlerOff, ErrOff, Again, Behind, Resumes, Finish, Branch, Halt, StopHere}
 
 -- how many slots arguments are
 abbrev pub count : Args → ℕ
@@ -34,6 +34,7 @@ abbrev mutual
   node_code not_given = Push missing ∷ []
   node_code (constant v) = Push v ∷ []
   node_code (load x) = place_code x ++ ReadThrough ∷ []
+  node_code (load_made x) = place_code x ++ MakeThere ∷ Drop ∷ StoreMade ∷ ReadThrough ∷ []
   node_code (element_value e es) = expr_code e ++ (list_code es ++ Index (list_count es) ∷ [])
   node_code (field_value e i) = expr_code e ++ PartOf i ∷ []
   node_code (unary o a) = expr_code a ++ OperateAlone o (operand_type a) ∷ []
@@ -44,7 +45,11 @@ abbrev mutual
   node_code (default_if_any e) = expr_code e ++ PlainIfAny ∷ []
   node_code (host_object reference) = PushHost reference ∷ []
   node_code active_sheet = FirstSheet ∷ []
+  node_code (named_member e name by es) = expr_code e ++ NamedThere name by (given_count es) ∷ (list_code es ++ NamedOf name by (list_count es) ∷ [])
   node_code (host_member e name es) = expr_code e ++ MemberThere name (given_count es) ∷ (list_code es ++ MemberOf name (list_count es) ∷ [])
+  node_code this = PushThis ∷ []
+  node_code (new_object c) = New c ∷ Drop ∷ []
+  node_code (method e p args) = expr_code e ++ ObjectThere ∷ (args_code args ++ CallOf p (count args) ∷ [])
   node_code (same a b) = expr_code a ++ (expr_code b ++ Same ∷ [])
   node_code (is_type e of) = expr_code e ++ IsType of ∷ []
   node_code (library f text_form es compare base) = list_code es ++ Library f text_form compare base (list_count es) ∷ []
@@ -56,6 +61,8 @@ abbrev mutual
   place_code (element x es) = place_code x ++ (list_code es ++ ElementIn (list_count es) ∷ [])
   place_code (field x i of bounded) = place_code x ++ FieldOf i of bounded ∷ []
   place_code (kept_place i) = Dot i ∷ []
+  place_code (object_field e i of bounded) = expr_code e ++ FieldIn i of bounded ∷ []
+  place_code (as_new c x) = place_code x ++ AsNew c ∷ []
 
   pub args_code : Args → List Instr
   args_code no_args = []
@@ -105,6 +112,10 @@ action_code entry p i k (set_member base e) = expr_code e ++ (expr_code base ++ 
 action_code entry p i k (evaluate e) = expr_code e ++ (Drop ∷ Finish (entry k) ∷ [])
 action_code entry p i k (let_property q args e of) = expr_code e ++ (args_code args ++ (Lift (count args) ∷ Plain ∷ Fit of ∷ Call q (suc (count args)) ∷ Drop ∷ Finish (entry k) ∷ []))
 action_code entry p i k (set_property q args e of) = expr_code e ++ (args_code args ++ (Lift (count args) ∷ FitObject of ∷ Call q (suc (count args)) ∷ Drop ∷ Finish (entry k) ∷ []))
+action_code entry p i k (let_method base q args e of) =
+    expr_code e ++ (expr_code base ++ ObjectThere ∷ (args_code args ++ (Lift (suc (count args)) ∷ Plain ∷ Fit of ∷ CallOf q (suc (count args)) ∷ Drop ∷ Finish (entry k) ∷ [])))
+action_code entry p i k (set_method base q args e of) =
+    expr_code e ++ (expr_code base ++ ObjectThere ∷ (args_code args ++ (Lift (suc (count args)) ∷ FitObject of ∷ CallOf q (suc (count args)) ∷ Drop ∷ Finish (entry k) ∷ [])))
 action_code entry p i k (print ps ends) = prints_code ps ++ (Show ends (prints_count ps) ∷ Finish (entry k) ∷ [])
 action_code entry p i k (raise args) = args_code args ++ Throw (count args) ∷ []
 action_code entry p i k (test sense e to other) = expr_code e ++ Branch sense (entry to) (entry other) ∷ []

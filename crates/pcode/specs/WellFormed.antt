@@ -4,7 +4,7 @@ use Rattle.std.specs.Prelude.{◌≡◌, ℕ, zero, suc, ◌<◌, ◌≤◌, Lis
 use Rattle.error_frames.specs.declared.frame.Policy.{Policy}
 use Rattle.error_frames.specs.declared.frame.Policy.TheVariants as policy
 use Rattle.bound_project.specs.Whole.{All, IfThere, IsConstant, HasType, HasVariable, HasProcedure, WholeClass}
-use Rattle.pcode.specs.Instructions.{Instr, Begin, Push, PushHost, LoadErr, PathOf, ReadThrough, ElementOf, ElementIn, FieldOf, Dot, Index, PartOf, Operate, OperateAlone, Plain, PlainIfAny, FirstSheet, MemberThere, MemberOf, Same, IsType, Library, BoundAt, Fit, FitObject, Drop, Lend, Pack, Reorder, Lift, Call, Store, SetAt, StoreDefault, StoreMember, StoreItem, SetMember, ShowText, Show, Throw, LoopOff, LoopOn, NextRound, EachOff, EachOn, NextItem, Keep, Selected, IfFits, IfBetween, Redim, EraseAt, KeepPath, DropKept, PutReturn, TakeReturn, SetPolicy, Again, Behind, Resumes, Finish, Branch, Halt, Leave, Code, list_or, entry_of, next_statement}
+use Rattle.pcode.specs.Instructions.{Instr, Begin, Push, PushHost, LoadErr, PathOf, ReadThrough, ElementOf, ElementIn, FieldOf, Dot, Index, PartOf, Operate, OperateAlone, Plain, PlainIfAny, FirstSheet, MemberThere, MemberOf, NamedThere, NamedOf, PushThis, New, ObjectThere, FieldIn, AsNew, MakeThere, StoreMade, Same, IsType, Library, BoundAt, Fit, FitObject, Drop, Lend, Pack, Reorder, Lift, Call, CallOf, Store, SetAt, StoreDefault, StoreMember, StoreItem, SetMember, ShowText, Show, Throw, LoopOff, LoopOn, NextRound, EachOff, EachOn, NextItem, Keep, Selected, IfFits, IfBetween, Redim, EraseAt, KeepPath, DropKept, PutReturn, TakeReturn, SetPolicy, Again, Behind, Resumes, Finish, Branch, Halt, Leave, Code, list_or, entry_of, next_statement}
 
 -- ---- operands
 
@@ -70,10 +70,19 @@ behind (OperateAlone o of) ks = value_off ks brings_value
 behind Plain ks = value_off ks brings_value
 behind PlainIfAny ks = value_off ks brings_value
 behind Same ks = value_off ks (λ js. value_off js brings_value)
+behind PushThis ks = brings_value ks
+behind (New c) ks = brings_value (a_value ∷ ks)
+behind ObjectThere ks = value_off ks brings_value
+behind (FieldIn i of bounded) ks = value_off ks brings_path
+behind (AsNew c) ks = path_off ks brings_path
+behind MakeThere ks = path_off ks (λ js. Some (brings (a_value ∷ a_value ∷ a_path ∷ js)))
+behind StoreMade ks = value_off ks (λ js. path_off js brings_path)
 behind (IsType of) ks = value_off ks brings_value
 behind FirstSheet ks = brings_value ks
 behind (MemberThere name n) ks = value_off ks (λ js. brings_value (a_value ∷ js))
 behind (MemberOf name n) ks = taken_off n ks [] (λ xs js. value_off js (λ is. value_off is brings_value))
+behind (NamedThere name by n) ks = value_off ks (λ js. brings_value (a_value ∷ js))
+behind (NamedOf name by n) ks = taken_off n ks [] (λ xs js. value_off js (λ is. value_off is brings_value))
 behind (StoreMember name n) ks = taken_off n ks [] (λ xs js. value_off js (λ is. value_off is (λ hs. value_off hs (λ gs. Some (brings gs)))))
 behind (Library f text_form compare base n) ks = taken_off n ks [] (λ xs js. brings_value js)
 behind (BoundAt upper z) ks = path_off ks brings_value
@@ -85,6 +94,7 @@ behind (Pack n) ks = taken_off n ks [] (λ xs js. brings_value js)
 behind (Reorder order n) ks = taken_off n ks [] (λ xs js. Some (brings (kinds_pushed (kinds_reordered order xs) js)))
 behind (Lift n) ks = taken_off n ks [] (λ xs js. value_off js (λ is. brings_value (kinds_pushed xs is)))
 behind (Call p n) ks = taken_off n ks [] (λ xs js. brings_value js)
+behind (CallOf p n) ks = taken_off n ks [] (λ xs js. value_off js brings_value)
 behind Store ks = path_off ks (λ js. value_off js (λ is. Some (brings is)))
 behind SetAt ks = path_off ks (λ js. value_off js (λ is. Some (brings is)))
 behind StoreDefault ks = value_off ks (λ js. value_off js (λ is. Some (brings is)))
@@ -164,6 +174,8 @@ Sound code p (Fit of) = HasType code.declared of
 Sound code p (FitObject of) = HasType code.declared of
 Sound code p (Reorder order n) = All (λ i. i < n) order
 Sound code p (Call q n) = HasProcedure code.declared q n
+Sound code p (CallOf q n) = HasProcedure code.declared q n
+Sound code p (FieldIn i of bounded) = HasType code.declared of
 Sound code p (LoopOff i) = IsStatement code p i
 Sound code p (LoopOn x i compare t u) = HasVariable code.declared p x × IsStatement code p i
 Sound code p (NextRound x i) = HasVariable code.declared p x × IsStatement code p i

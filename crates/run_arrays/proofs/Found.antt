@@ -10,7 +10,7 @@ use Rattle.vba_values.specs.View.{view, views}
 use Rattle.arrays_udt.specs.Resize.{item_at}
 use Rattle.vba_meaning.specs.Memory.{Memory}
 use Rattle.vba_meaning.specs.Effects.{Effect, Fine, Bad-at, Out, Tell, on_fine, read_value}
-use Rattle.vba_meaning.specs.Arrays.{indexed, indexed_object, numbers, offset_at}
+use Rattle.vba_meaning.specs.Arrays.{indexed, indexed_object, offset_at}
 use Rattle.run_arrays.specs.Elements.{element_read}
 
 then_then : {A B C : Type 0} (e : Effect A) (f : A → Memory → Effect B) (g : B → Memory → Effect C) → on_fine e (λ v m. on_fine (f v m) g) ≡ on_fine (on_fine e f) g
@@ -34,14 +34,14 @@ no_index (Host (ColumnsOf n)) m f = refl
 pub indexed_read : (v : Val) (vs : List Val) (m : Memory) → indexed v vs m ≡ on_fine (element_read v vs m) (λ w m1. read_value (Some w) m1)
 indexed_read (array bounds of items) vs m = then_then (offset_at bounds vs m) (λ k m1. Fine (item_at items k) m1) (λ w m1. read_value (Some w) m1)
 indexed_read (object o) vs m = no_index o m (λ w m1. read_value (Some w) m1)
-indexed_read empty vs m = then_then (numbers vs m) (λ zs m1. Bad-at 13 m1) (λ w m1. read_value (Some w) m1)
-indexed_read null vs m = then_then (numbers vs m) (λ zs m1. Bad-at 13 m1) (λ w m1. read_value (Some w) m1)
-indexed_read missing vs m = then_then (numbers vs m) (λ zs m1. Bad-at 13 m1) (λ w m1. read_value (Some w) m1)
-indexed_read (boolean b) vs m = then_then (numbers vs m) (λ zs m1. Bad-at 13 m1) (λ w m1. read_value (Some w) m1)
-indexed_read (whole n z) vs m = then_then (numbers vs m) (λ zs m1. Bad-at 13 m1) (λ w m1. read_value (Some w) m1)
-indexed_read (currency z) vs m = then_then (numbers vs m) (λ zs m1. Bad-at 13 m1) (λ w m1. read_value (Some w) m1)
-indexed_read (text t) vs m = then_then (numbers vs m) (λ zs m1. Bad-at 13 m1) (λ w m1. read_value (Some w) m1)
-indexed_read (udt n fs) vs m = then_then (numbers vs m) (λ zs m1. Bad-at 13 m1) (λ w m1. read_value (Some w) m1)
+indexed_read empty vs m = refl
+indexed_read null vs m = refl
+indexed_read missing vs m = refl
+indexed_read (boolean b) vs m = refl
+indexed_read (whole n z) vs m = refl
+indexed_read (currency z) vs m = refl
+indexed_read (text t) vs m = refl
+indexed_read (udt n fs) vs m = refl
 
 pub item_there : (xs : List Value) (n : ℕ) (d : Value) → n < length xs → item_at (views xs) n ≡ view (get_or xs n d)
 item_there [] n d h = absurd (omega arith)

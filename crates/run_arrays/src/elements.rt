@@ -17,7 +17,7 @@ use std::alloc::Global;
 use vba_base::{NoMemory, OrMemory};
 use vba_values::{ArrayValue, Bad, HostRef, ObjRef, Value, copy_value};
 
-/// An element of a value, which the running statement holds then: 13 where the value is no array.
+/// An element of a value, which the running statement holds then: 450 where the value is neither an array nor an object.
 #[tactic(auto, using(run_memory::proofs::Refused::refused_then, crate::proofs::Found::indexed_read))]
 pub fn indexed(
     memory: &mut Memory,
@@ -49,10 +49,7 @@ fn element_copied(alloc: Global, value: &Value, slots: &[Slot]) -> Result<Value,
         | Value::LongLong(_)
         | Value::Currency(_)
         | Value::Text(_)
-        | Value::Udt(_) => {
-            let _numbers = numbers(alloc, slots)?;
-            Err(OrMemory::Fault(Bad::Raise(13)))
-        }
+        | Value::Udt(_) => Err(OrMemory::Fault(Bad::Raise(450))),
     }
 }
 

@@ -1,12 +1,12 @@
 -- A value that takes the place of another one is there, and gives way to a third.
 use Rattle.std.proofs.Common.{◌≡◌, ℕ, zero, suc, List, [], ◌∷◌, length, refl, sym, ap, ◌∙◌, rules, eq-eqb}
-use Rattle.std.specs.Prelude.{Bool, true, false, Option, Some, None, slice_get, slice_set, ◌==◌, nat_lt, if◌then◌else◌}
+use Rattle.std.specs.Prelude.{Bool, true, false, Option, Some, None, slice_get, slice_index_or, slice_set, ◌==◌, nat_lt, if◌then◌else◌}
 use Rattle.vba_values.specs.Val.{Val}
 use Rattle.run_memory.specs.Exchanges.{frame_exchanged, frames_with, root_exchanged}
 use Rattle.run_memory.specs.Keeps.{frame_keeping}
 use Rattle.run_memory.proofs.Exchanged.{kept_changed, slot_changed}
-use Rattle.vba_meaning.specs.Paths.{Root, in_frame, in_project, in_block, in_object}
-use Rattle.vba_meaning.specs.Memory.{Frame, no_frame, Slot, value, Kept, only, Memory, frame_at, with_slot, with_kept, value_in, value_kept, found, put, root_value, with_root}
+use Rattle.vba_meaning.specs.Paths.{Root, in_frame, in_project, in_fields, in_block, in_object}
+use Rattle.vba_meaning.specs.Memory.{Object, object_or, with_field, Frame, no_frame, Slot, value, Kept, only, Memory, frame_at, with_slot, with_kept, value_in, value_kept, found, put, root_value, with_root}
 
 set_there : {A : Type 0} (xs : List A) (i : ℕ) (a v : A) → slice_get xs i ≡ Some v → slice_get (slice_set xs i a) i ≡ Some a
 set_there [] i a v e = absurd (search rules)
@@ -86,6 +86,34 @@ slot_there fs k x v w e =
     of_value None g n = absurd (search rules)
     of_value (Some s) g n = set_there (frame_at fs k).slots x (value w) s g
 
+-- the object with a number
+object_of : List (Option Object) → ℕ → Object
+object_of os o = object_or (slice_index_or os o None)
+
+there_in_objects : (os : List (Option Object)) (o i : ℕ) (v w : Val) → slice_get (object_of os o).fields i ≡ Some v
+    → slice_get (object_of (slice_set os o (Some (with_field (object_of os o) i w))) o).fields i ≡ Some w
+unfolding object_of
+there_in_objects [] o i v w e = absurd (search rules)
+there_in_objects (None ∷ os) zero i v w e = absurd (search rules)
+there_in_objects (Some b ∷ os) zero i v w e = set_there b.fields i w v e
+there_in_objects (b ∷ os) (suc o) i v w e = there_in_objects os o i v w e
+
+objects_twice : (os : List (Option Object)) (o i : ℕ) (v w : Val)
+    → slice_set (slice_set os o (Some (with_field (object_of os o) i v))) o (Some (with_field (object_of (slice_set os o (Some (with_field (object_of os o) i v))) o) i w))
+    ≡ slice_set os o (Some (with_field (object_of os o) i w))
+unfolding object_of
+objects_twice [] o i v w = refl
+objects_twice (b ∷ os) zero i v w = ap (λ (fs : List Val). Some (record (object_or b) { fields = fs }) ∷ os) (set_twice (object_or b).fields i v w)
+objects_twice (b ∷ os) (suc o) i v w = ap (λ (bs : List (Option Object)). b ∷ bs) (objects_twice os o i v w)
+
+there_in_fields : (m : Memory) (o i : ℕ) (v w : Val) → root_value m (in_fields o i) ≡ Some v → root_value (with_root m (in_fields o i) w) (in_fields o i) ≡ Some w
+unfolding object_of
+there_in_fields m o i v w e = there_in_objects m.objects o i v w e
+
+twice_in_fields : (m : Memory) (o i : ℕ) (v w : Val) → with_root (with_root m (in_fields o i) v) (in_fields o i) w ≡ with_root m (in_fields o i) w
+unfolding object_of
+twice_in_fields m o i v w = ap (λ (bs : List (Option Object)). record m { objects = bs }) (objects_twice m.objects o i v w)
+
 there_in_project : (m : Memory) (x : ℕ) (v w : Val) → root_value m (in_project x) ≡ Some v → root_value (with_root m (in_project x) w) (in_project x) ≡ Some w
 there_in_project m x v w e = set_there m.shared x w v e
 
@@ -100,6 +128,7 @@ there_in_block m k i v w e =
 
 root_twice : (m : Memory) (r : Root) (v w : Val) → with_root (with_root m r v) r w ≡ with_root m r w
 root_twice m (in_project x) v w = ap (λ xs. record m { shared = xs }) (set_twice m.shared x v w)
+root_twice m (in_fields o i) v w = twice_in_fields m o i v w
 root_twice m (in_frame k x) v w =
     ap (λ fs. record m { frames = fs })
     (ap (λ fs. with_slot fs k x (value w)) (sym (slot_changed x v v m.frames k))
@@ -124,6 +153,7 @@ here_again m r w x e = ap (λ o. root_exchanged (with_root m r w) r o x) e ∙ r
 pub root_again : (m : Memory) (r : Root) (v w x : Val) → root_value m r ≡ Some v
     → root_exchanged (with_root m r w) r (root_value (with_root m r w) r) x ≡ with_root m r x
 root_again m (in_project y) v w x e = here_again m (in_project y) w x (there_in_project m y v w e)
+root_again m (in_fields o i) v w x e = here_again m (in_fields o i) w x (there_in_fields m o i v w e)
 root_again m (in_frame k y) v w x e = here_again m (in_frame k y) w x (there_in_frame m k y v w e)
 root_again m (in_block k i) v w x e = here_again m (in_block k i) w x (there_in_block m k i v w e)
 root_again m (in_object o) v w x e = refl

@@ -16,4 +16,4 @@ abbrev pub element_found : Option Val → List Val → Memory → Effect (ℕ ×
 element_found None vs m = on_fine (numbers vs m) (λ zs m1. Bad-at 9 m1)
 element_found (Some (array bounds of items)) vs m = on_fine (offset_at bounds vs m) (λ k m1. Fine (k, of) m1)
 element_found (Some (object o)) vs m = indexed_object o m
-element_found (Some v) vs m = on_fine (numbers vs m) (λ zs m1. Bad-at 13 m1)
+element_found (Some v) vs m = Bad-at 450 m

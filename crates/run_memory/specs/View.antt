@@ -1,5 +1,5 @@
 -- Serves the code: the plain data that memory stands for.
-use Rattle.std.specs.Prelude.{ℕ, Bool, List, [], ◌∷◌, map, reverse, option_map, if◌then◌else◌}
+use Rattle.std.specs.Prelude.{None, ℕ, Bool, List, [], ◌∷◌, map, reverse, option_map, if◌then◌else◌}
 use Rattle.vba_values.specs.Types.{declared}
 use Rattle.vba_values.specs.View.{view}
 use Rattle.bound_project.specs.View.{declared_view}
@@ -32,7 +32,7 @@ abbrev pub step_view : Step → plain.Step
 step_view s = record { step = s.step; moves = s.moves }
 
 abbrev pub path_view : Path → plain.Path
-path_view p = record { root = root_view p.root; steps = map step_view p.steps.items; of = declared p.of; bounded = p.is_bounded }
+path_view p = record { root = root_view p.root; steps = map step_view p.steps.items; of = declared p.of; bounded = p.is_bounded; makes = None }
 
 -- ---- frames: the last item of a stack is its first
 

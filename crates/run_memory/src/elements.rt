@@ -110,10 +110,7 @@ fn element_of_value(
         | Value::LongLong(_)
         | Value::Currency(_)
         | Value::Text(_)
-        | Value::Udt(_) => {
-            let _numbers = numbers(alloc, slots)?;
-            Err(OrMemory::Fault(Bad::Raise(13)))
-        }
+        | Value::Udt(_) => Err(OrMemory::Fault(Bad::Raise(450))),
     }
 }
 
@@ -128,7 +125,7 @@ fn nowhere(alloc: Global, slots: &[Slot]) -> Result<(usize, VType), OrMemory<Bad
 
 impl Memory {
     /// The path of the element with these numbers, of the array that is now at a path: 9 where there is no such place any
-    /// more, 13 where there is no array.
+    /// more, 450 where there is neither an array nor an object.
     #[tactic(auto, using(crate::proofs::Refused::refused_then, crate::proofs::Found::element_in_found))]
     pub fn element_at(
         &self,

@@ -2,7 +2,8 @@
 ghost use Rattle.std.specs.Prelude.{◌≡◌, ◌++◌, IfOk, OnOk, Some, length, map, option_map, slice_index_or, slice_set, true};
 ghost use Rattle.vba_values.specs.View.{view};
 ghost use Rattle.vba_values.specs.Val.{empty};
-ghost use Rattle.vba_meaning.specs.References.{as_told, closed, gone, no_object, object_at, object_or, objects_in, objects_in_values};
+ghost use Rattle.vba_meaning.specs.Memory.{no_object, object_at, object_or};
+ghost use Rattle.vba_meaning.specs.References.{as_told, closed, gone, objects_in, objects_in_values};
 ghost use Rattle.run_memory.specs.View.{memory_view, object_view};
 
 use crate::leaving::add_objects_in;

@@ -9,21 +9,22 @@ use Rattle.vba_values.specs.Val.{Val, boolean, empty, missing, object}
 use Rattle.error_frames.specs.declared.frame.ResumeKind.TheVariants as kind
 use Rattle.error_frames.specs.declared.frame.Taken.{Taken}
 use Rattle.error_frames.specs.declared.frame.Taken.TheVariants as taken
-use Rattle.bound_project.specs.Expressions.{Expr, expr, Node, not_given, constant, load, element_value, field_value, unary, binary, call, err_value, default_of, default_if_any, same, is_type, library, bound_of, host_object, active_sheet, host_member, Lvalue, variable, item, element, field, kept_place, Args, no_args, by_place, by_copy, by_default, by_list, in_order, Exprs, no_exprs, also, given_count, Prints, no_prints, shown, zone, operand_type}
-use Rattle.bound_project.specs.Statements.{Resizes, no_resizes, resize, Arrays, no_arrays, an_array, Tests, no_tests, test_is, test_range, Action, assign, assign_item, set, assign_default, assign_member, set_member, evaluate, let_property, set_property, print, raise, test, go_to, for_to, next, for_each, next_each, exit_each, select, case_of, redim, erase, with_place, with_value, end_with, go_sub, return_sub, exit_to, on_error, end_handler, clear_err, resume_again, resume_next, resume_at, stop, end_run, Statement}
+use Rattle.bound_project.specs.Expressions.{Expr, expr, Node, not_given, constant, load, load_made, element_value, field_value, unary, binary, call, err_value, default_of, default_if_any, same, is_type, library, bound_of, host_object, active_sheet, host_member, named_member, this, new_object, method, Lvalue, variable, item, element, field, kept_place, object_field, as_new, Args, no_args, by_place, by_copy, by_default, by_list, in_order, Exprs, no_exprs, also, given_count, Prints, no_prints, shown, zone, operand_type}
+use Rattle.bound_project.specs.Statements.{Resizes, no_resizes, resize, Arrays, no_arrays, an_array, Tests, no_tests, test_is, test_range, Action, assign, assign_item, set, assign_default, assign_member, set_member, evaluate, let_property, set_property, let_method, set_method, print, raise, test, go_to, for_to, next, for_each, next_each, exit_each, select, case_of, redim, erase, with_place, with_value, end_with, go_sub, return_sub, exit_to, on_error, end_handler, clear_err, resume_again, resume_next, resume_at, stop, end_run, Statement}
 use Rattle.sheet_host.specs.Books.{Sheets}
 use Rattle.bound_project.specs.Project.{Project, class_at, statement_at, next_of, first_values}
 use Rattle.vba_meaning.specs.Paths.{Path, field_path}
-use Rattle.vba_meaning.specs.Memory.{Error, Ended, Faulted, Going, opening, Slot, value, path, Memory, Object, top, at_statement, frame_left, path_of, result, entered, error_here, number_or}
-use Rattle.vba_meaning.specs.References.{objects_in, objects_in_values, is_last, hold, next_waiting, taken_off, let_held, held_by, let_frame, object_at, as_told, gone, closed}
+use Rattle.vba_meaning.specs.Memory.{Error, Ended, Faulted, Going, opening, Slot, value, path, Memory, Object, top, at_statement, frame_left, path_of, result, entered, error_here, number_or, object_at}
+use Rattle.vba_meaning.specs.References.{objects_in, objects_in_values, is_last, hold, next_waiting, taken_off, let_held, held_by, let_frame, as_told, gone, closed}
 use Rattle.vba_meaning.specs.Effects.{Raised, Term, Effect, operated, operated_alone, fitted, plain, condition, read_path, lent, unlent, slot_values, packed, reordered, startup_slots, show_value, printed, loop_off, loop_on, next_round, keep, selected, fits, fits_between, gone_sub, returned_sub, policy_of, err_off, policy_on, handler_off, failed_statement, resumed, taken_by, with_taken, raised_by, err_of, set_object, stop_here}
 use Rattle.vba_meaning.specs.Arrays.{part_of, redimmed, erased, keep_path, block_over, dot_at, each_off, each_begun, each_next}
-use Rattle.vba_meaning.specs.Objects.{compared, typed_as, set_at}
+use Rattle.vba_meaning.specs.Objects.{compared, typed_as, set_at, made, own_object, object_there, field_in, made_for, initialize_of, stored_made, made_at}
 use Rattle.vba_meaning.specs.Host.{first_sheet, item_by, place_at, assigned_at, member_there, member_called, is_raise, error_given, item_assigned, member_not_set, written_default, member_assigned}
+use Rattle.vba_meaning.specs.ByName.{named_there, in_parameter_order}
 use Rattle.vba_meaning.specs.Library.{library_called, bound_at, plain_if_any}
-use Rattle.vba_meaning.specs.Meaning.{State, Res, Got, Failed, Over, Told, Turn, ◌>>=◌, turn, turned, with_memory, raise_error, perform, Callee, eval, eval_node, eval_place, evals, eval_list, eval_prints, tested, cases, resizes, erases, exec, Doing, nowhere, enter, called_by, callees, terminate_by, tell, finish, end_of, one, let_go, lets_held, lets_frame, leave, left, pass_on, next_here, decide_by, decide, settle, at_statement_or, level, doing, close, Run, run_of, first_state, meaning, member_used}
-use Rattle.pcode.specs.Instructions.{Instr, Begin, Push, LoadErr, PathOf, ReadThrough, ElementOf, ElementIn, FieldOf, Dot, Index, PartOf, Operate, OperateAlone, Plain, PlainIfAny, PushHost, FirstSheet, MemberThere, MemberOf, Same, IsType, Library, BoundAt, Fit, FitObject, Drop, Lend, Pack, Reorder, Lift, Call, Store, SetAt, StoreDefault, StoreMember, StoreItem, SetMember, ShowText, Show, Throw, LoopOff, LoopOn, NextRound, EachOff, EachOn, NextItem, Keep, Selected, IfFits, IfBetween, Redim, EraseAt, KeepPath, DropKept, PutReturn, TakeReturn, SetPolicy, HandlerOff, ErrOff, Again, Behind, Resumes, Finish, Branch, Halt, StopHere, Leave, Code}
-use Rattle.pcode.specs.Machine.{After, Goes-on, Decide, Return, Back-to, Pass, Close, Back, Caller, EndOf, Move, Goes, Ends, Turns, at, failing, letting, lets_all, finishes, raises_then, raised, done_then, then_at, then_let_go, then_test, then_jump, then_branch, take_args, pushed, enters, enter_by, calls, then_statement, looking, act, finished_by, terminates_by, ends_by, lets_one_by, closing, returned_by, passed_on, takes, decides, comes_by, Fin, Done, tells, follow, machine, first_move, run_code, uses_member}
+use Rattle.vba_meaning.specs.Meaning.{State, Res, Got, Failed, Over, Told, Turn, ◌>>=◌, turn, turned, with_memory, raise_error, perform, Callee, initialized, eval, eval_node, eval_place, evals, eval_list, eval_prints, tested, cases, resizes, erases, exec, Doing, nowhere, enter, called_by, callees, terminate_by, tell, finish, end_of, one, let_go, lets_held, lets_frame, leave, left, pass_on, next_here, decide_by, decide, settle, at_statement_or, level, doing, close, Run, run_of, first_state, meaning, member_used}
+use Rattle.pcode.specs.Instructions.{Instr, Begin, Push, LoadErr, PathOf, ReadThrough, ElementOf, ElementIn, FieldOf, Dot, Index, PartOf, Operate, OperateAlone, Plain, PlainIfAny, PushHost, FirstSheet, MemberThere, MemberOf, NamedThere, NamedOf, PushThis, New, ObjectThere, FieldIn, AsNew, MakeThere, StoreMade, Same, IsType, Library, BoundAt, Fit, FitObject, Drop, Lend, Pack, Reorder, Lift, Call, CallOf, Store, SetAt, StoreDefault, StoreMember, StoreItem, SetMember, ShowText, Show, Throw, LoopOff, LoopOn, NextRound, EachOff, EachOn, NextItem, Keep, Selected, IfFits, IfBetween, Redim, EraseAt, KeepPath, DropKept, PutReturn, TakeReturn, SetPolicy, HandlerOff, ErrOff, Again, Behind, Resumes, Finish, Branch, Halt, StopHere, Leave, Code}
+use Rattle.pcode.specs.Machine.{After, Goes-on, Decide, Return, Back-to, Pass, Close, Back, Caller, EndOf, Move, Goes, Ends, Turns, at, failing, letting, lets_all, finishes, raises_then, raised, done_then, then_at, then_let_go, then_test, then_jump, then_branch, take_args, pushed, enters, enter_by, calls, initializes, then_statement, looking, act, finished_by, terminates_by, ends_by, lets_one_by, closing, returned_by, passed_on, takes, decides, comes_by, Fin, Done, tells, follow, machine, first_move, run_code, uses_member}
 use Rattle.pcode.specs.Code.{count, list_count, prints_count, expr_code, node_code, place_code, args_code, list_code, prints_code, resizes_code, erases_code, Entry, tests_code, action_code}
 use Rattle.pcode.specs.Layout.{HasStatement, Laid}
 use Rattle.pcode.proofs.Stands.{UpTo, up_split, up_to}
@@ -179,6 +180,14 @@ module _ (pr : Project) (code : Code) (bound n : ℕ) (callee : Callee) (known :
       (subst (λ d. Runs code bound n (done_then (member_called d name vs v w s.memory) bs s (on_value st bs pc)) (on_value st bs pc) (failed bs) (perform (member_called pr.declared name vs v w) s)) (sym tables)
       (performs (member_called pr.declared name vs v w) bs s good))
 
+  -- a new object's Class_Initialize runs, and what it gives is dropped
+  initial_runs : (o : Option ℕ) (v : Val) (pc to : ℕ) (st : List Slot) (bs : List Back) (s : State) → UpTo code.instrs pc (Drop ∷ []) to → Enough bound n s
+      → Runs code bound n (initializes code o v pc st bs s) (on_value st bs to) (failed bs) (initialized callee o v s)
+  initial_runs None v pc to st bs s has good = instr Drop pc (value empty ∷ value v ∷ st) bs s has.0 (ends_at (on_value st bs) has.1 (here v s good))
+  initial_runs (Some p) v pc to st bs s has good =
+      bind (callee.call p v [] s) (known.call p v [] (value v ∷ st) pc bs s good) (λ r s1 g1.
+      instr Drop pc (value r ∷ value v ∷ st) bs s1 has.0 (ends_at (on_value st bs) has.1 (here v s1 g1)))
+
   mutual
     pub expr_runs : (e : Expr) (pc to : ℕ) (st : List Slot) (bs : List Back) (s : State) → UpTo code.instrs pc (expr_code e) to → Enough bound n s
         → Runs code bound n (Goes (at pc st bs s)) (on_value st bs to) (failed bs) (eval e callee pr s)
@@ -191,6 +200,16 @@ module _ (pr : Project) (code : Code) (bound n : ℕ) (callee : Callee) (known :
     node_runs (load x) pc to st bs s has good =
         first (on_path st bs) (eval_place x callee pr s) (place_code x) _ pc to _ has (λ mid h. place_runs x pc mid st bs s h good) (λ q s1 g1 mid h.
         instr ReadThrough mid (path q ∷ st) bs s1 h.0 (ends_at (on_value st bs) h.1 (performs (read_path q) bs s1 g1)))
+    node_runs (load_made x) pc to st bs s has good =
+        first (on_path st bs) (eval_place x callee pr s) (place_code x) _ pc to _ has (λ mid h. place_runs x pc mid st bs s h good) (λ q s1 g1 i h.
+        instr MakeThere i (path q ∷ st) bs s1 h.0
+        (subst (λ d. Runs code bound n (done_then (made_for d q s1.memory) bs s1 (λ v s2. initializes code (initialize_of d q v) v (i + 1) (path q ∷ st) bs s2)) (on_value st bs to) (failed bs)
+        (perform (made_for pr.declared q) s1 >>= λ v s2. initialized callee (initialize_of pr.declared q v) v s2 >>= λ w s3. perform (stored_made q w) s3 >>= λ u s4. perform (read_path q) s4)) (sym tables)
+        (bind (perform (made_for pr.declared q) s1) (performs {got = λ v s2. initializes code (initialize_of pr.declared q v) v (i + 1) (path q ∷ st) bs s2} (made_for pr.declared q) bs s1 g1) (λ v s2 g2.
+        bind (initialized callee (initialize_of pr.declared q v) v s2) (initial_runs (initialize_of pr.declared q v) v (i + 1) (i + 1 + 1) (path q ∷ st) bs s2 (h.1.0, refl) g2) (λ w s3 g3.
+        instr StoreMade (i + 1 + 1) (value w ∷ path q ∷ st) bs s3 h.1.1.0
+        (bind (perform (stored_made q w) s3) (performs {got = then_at (i + 1 + 1 + 1) (path q ∷ st) bs} (stored_made q w) bs s3 g3) (λ u s4 g4.
+        instr ReadThrough (i + 1 + 1 + 1) (path q ∷ st) bs s4 h.1.1.1.0 (ends_at (on_value st bs) h.1.1.1.1 (performs (read_path q) bs s4 g4)))))))))
     node_runs (element_value e es) pc to st bs s has good =
         first (on_value st bs) (eval e callee pr s) (expr_code e) _ pc to _ has (λ mid h. expr_runs e pc mid st bs s h good) (λ v s1 g1 i h1.
         first_each (on_args (value v ∷ st) bs) (eval_list es callee pr s1) (list_code es) _ i to _ h1 (list_counts es callee pr s1) (λ mid h. list_runs es i mid (value v ∷ st) bs s1 h g1) (λ xs s2 len g2 j h2.
@@ -247,6 +266,30 @@ module _ (pr : Project) (code : Code) (bound n : ℕ) (callee : Callee) (known :
         instr (MemberOf name (length xs)) j (pushed xs (value w ∷ value v ∷ st)) bs s3 (h2.0 ∙ ap (λ m. Some (MemberOf name m)) (sym len))
         (subst (λ m. Runs code bound n m (on_value st bs to) (failed bs) (member_used pr name v w (slot_values xs) s3)) (sym (all_taken xs (value w ∷ value v ∷ st) _))
         (ends_at (on_value st bs) h2.1 (member_runs name v w (slot_values xs) (j + 1) st bs s3 g3))))))))
+    node_runs (named_member e name by es) pc to st bs s has good =
+        first (on_value st bs) (eval e callee pr s) (expr_code e) _ pc to _ has (λ mid h. expr_runs e pc mid st bs s h good) (λ v s1 g1 i h1.
+        instr (NamedThere name by (given_count es)) i (value v ∷ st) bs s1 h1.0
+        (bind (perform (named_there name by (given_count es) v) s1) (performs {got = on_value (value v ∷ st) bs (i + 1)} (named_there name by (given_count es) v) bs s1 g1) (λ w s2 g2.
+        first_each (on_args (value w ∷ value v ∷ st) bs) (eval_list es callee pr s2) (list_code es) _ (i + 1) to _ h1.1 (list_counts es callee pr s2)
+        (λ mid h. list_runs es (i + 1) mid (value w ∷ value v ∷ st) bs s2 h g2) (λ xs s3 len g3 j h2.
+        instr (NamedOf name by (length xs)) j (pushed xs (value w ∷ value v ∷ st)) bs s3 (h2.0 ∙ ap (λ m. Some (NamedOf name by m)) (sym len))
+        (subst (λ m. Runs code bound n m (on_value st bs to) (failed bs) (member_used pr name v w (in_parameter_order v name by (slot_values xs)) s3)) (sym (all_taken xs (value w ∷ value v ∷ st) _))
+        (ends_at (on_value st bs) h2.1 (member_runs name v w (in_parameter_order v name by (slot_values xs)) (j + 1) st bs s3 g3)))))))
+    node_runs this pc to st bs s has good = instr PushThis pc st bs s has.0 (ends_at (on_value st bs) has.1 (performs own_object bs s good))
+    node_runs (new_object c) pc to st bs s has good =
+        instr (New c) pc st bs s has.0
+        (subst (λ d. Runs code bound n (done_then (made d c s.memory) bs s (λ v s1. initializes code (class_at d c).initialize v (pc + 1) st bs s1)) (on_value st bs to) (failed bs)
+        (perform (made pr.declared c) s >>= λ v s1. initialized callee (class_at pr.declared c).initialize v s1)) (sym tables)
+        (bind (perform (made pr.declared c) s) (performs {got = λ v s1. initializes code (class_at pr.declared c).initialize v (pc + 1) st bs s1} (made pr.declared c) bs s good) (λ v s1 g1.
+        initial_runs (class_at pr.declared c).initialize v (pc + 1) to st bs s1 has.1 g1)))
+    node_runs (method e p args) pc to st bs s has good =
+        first (on_value st bs) (eval e callee pr s) (expr_code e) _ pc to _ has (λ mid h. expr_runs e pc mid st bs s h good) (λ v s1 g1 i h1.
+        instr ObjectThere i (value v ∷ st) bs s1 h1.0
+        (bind (perform (object_there v) s1) (performs {got = on_value st bs (i + 1)} (object_there v) bs s1 g1) (λ w s2 g2.
+        first_each (on_args (value w ∷ st) bs) (evals args callee pr s2) (args_code args) _ (i + 1) to _ h1.1 (evals_count args callee pr s2) (λ mid h. args_runs args (i + 1) mid (value w ∷ st) bs s2 h g2) (λ xs s3 len g3 j h2.
+        instr (CallOf p (length xs)) j (pushed xs (value w ∷ st)) bs s3 (h2.0 ∙ ap (λ m. Some (CallOf p m)) (sym len))
+        (subst (λ m. Runs code bound n m (on_value st bs to) (failed bs) (callee.call p w xs s3)) (sym (all_taken xs (value w ∷ st) _))
+        (ends_at (on_value st bs) h2.1 (known.call p w xs st (j + 1) bs s3 g3)))))))
     node_runs (same a b) pc to st bs s has good =
         first (on_value st bs) (eval a callee pr s) (expr_code a) _ pc to _ has (λ mid h. expr_runs a pc mid st bs s h good) (λ v s1 g1 i h1.
         first (on_value (value v ∷ st) bs) (eval b callee pr s1) (expr_code b) _ i to _ h1 (λ mid h. expr_runs b i mid (value v ∷ st) bs s1 h g1) (λ w s2 g2 j h2.
@@ -274,6 +317,12 @@ module _ (pr : Project) (code : Code) (bound n : ℕ) (callee : Callee) (known :
         first (on_path st bs) (eval_place x callee pr s) (place_code x) _ pc to _ has (λ mid h. place_runs x pc mid st bs s h good) (λ q s1 g1 j h.
         instr (FieldOf i of bounded) j (path q ∷ st) bs s1 h.0 (ends_at (on_path st bs) h.1 (here (field_path q i of bounded) s1 g1)))
     place_runs (kept_place i) pc to st bs s has good = instr (Dot i) pc st bs s has.0 (ends_at (on_path st bs) has.1 (performs (dot_at i) bs s good))
+    place_runs (object_field e i of bounded) pc to st bs s has good =
+        first (on_value st bs) (eval e callee pr s) (expr_code e) _ pc to _ has (λ mid h. expr_runs e pc mid st bs s h good) (λ v s1 g1 j h.
+        instr (FieldIn i of bounded) j (value v ∷ st) bs s1 h.0 (ends_at (on_path st bs) h.1 (performs (field_in i of bounded v) bs s1 g1)))
+    place_runs (as_new c x) pc to st bs s has good =
+        first (on_path st bs) (eval_place x callee pr s) (place_code x) _ pc to _ has (λ mid h. place_runs x pc mid st bs s h good) (λ q s1 g1 j h.
+        instr (AsNew c) j (path q ∷ st) bs s1 h.0 (ends_at (on_path st bs) h.1 (here (made_at c q) s1 g1)))
 
     pub args_runs : (args : Args) (pc to : ℕ) (st : List Slot) (bs : List Back) (s : State) → UpTo code.instrs pc (args_code args) to → Enough bound n s
         → Runs code bound n (Goes (at pc st bs s)) (on_args st bs to) (failed bs) (evals args callee pr s)
@@ -526,6 +575,34 @@ module _ (pr : Project) (code : Code) (entry : ℕ → Entry) (laid : Laid pr en
       (subst (λ m. Runs code bound n m (with_end (entry p) bs) (failed bs) (callee.call q empty (xs ++ value x ∷ []) s3 >>= λ r s4. Got k s4)) (sym (one_more_taken xs [] (value x) _))
       (bind (callee.call q empty (xs ++ value x ∷ []) s3) (known.call q empty (xs ++ value x ∷ []) [] (j + 1 + 1 + 1) bs s3 g3) (λ r s4 g4.
       instr Drop (j + 1 + 1 + 1) (value r ∷ []) bs s4 h2.1.1.0 (ends_here k (j + 1 + 1 + 1 + 1) bs s4 h2.1.1.1.0 g4)))))))))
+  action_runs (let_method base q args e of) i k pc to bs s has good =
+      then_value pr code bound n callee known laid.declared e _ pc to [] bs s has good (λ v s1 g1 i1 h1.
+      then_value pr code bound n callee known laid.declared base _ i1 to (value v ∷ []) bs s1 h1 g1 (λ b s2 g2 i2 h2.
+      instr ObjectThere i2 (value b ∷ value v ∷ []) bs s2 h2.0
+      (bind (perform (object_there b) s2) (performs {got = on_value (value v ∷ []) bs (i2 + 1)} (object_there b) bs s2 g2) (λ w s3 g3.
+      then_args pr code bound n callee known laid.declared args _ (λ m. Lift (suc m)) (i2 + 1) to (value w ∷ value v ∷ []) bs s3 h2.1 g3 (λ xs s4 len g4 j h.
+      subst (λ m. Runs code bound n m (with_end (entry p) bs) (failed bs) (perform (plain v) s4 >>= λ x s5. perform (fitted of x) s5 >>= λ y s6. callee.call q w (xs ++ value y ∷ []) s6 >>= λ r s7. Got k s7)) (sym (all_taken (value w ∷ xs) (value v ∷ []) _))
+      (instr Plain (j + 1) (value v ∷ pushed xs (value w ∷ [])) bs s4 h.0
+      (bind (perform (plain v) s4) (performs {got = on_value (pushed xs (value w ∷ [])) bs (j + 1 + 1)} (plain v) bs s4 g4) (λ x s5 g5.
+      instr (Fit of) (j + 1 + 1) (value x ∷ pushed xs (value w ∷ [])) bs s5 h.1.0
+      (bind (perform (fitted of x) s5) (performs {got = on_value (pushed xs (value w ∷ [])) bs (j + 1 + 1 + 1)} (fitted of x) bs s5 g5) (λ y s6 g6.
+      instr (CallOf q (suc (length xs))) (j + 1 + 1 + 1) (value y ∷ pushed xs (value w ∷ [])) bs s6 (h.1.1.0 ∙ ap (λ m. Some (CallOf q (suc m))) (sym len))
+      (subst (λ m. Runs code bound n m (with_end (entry p) bs) (failed bs) (callee.call q w (xs ++ value y ∷ []) s6 >>= λ r s7. Got k s7)) (sym (one_more_taken xs (value w ∷ []) (value y) _))
+      (bind (callee.call q w (xs ++ value y ∷ []) s6) (known.call q w (xs ++ value y ∷ []) [] (j + 1 + 1 + 1 + 1) bs s6 g6) (λ r s7 g7.
+      instr Drop (j + 1 + 1 + 1 + 1) (value r ∷ []) bs s7 h.1.1.1.0 (ends_here k (j + 1 + 1 + 1 + 1 + 1) bs s7 h.1.1.1.1.0 g7))))))))))))))
+  action_runs (set_method base q args e of) i k pc to bs s has good =
+      then_value pr code bound n callee known laid.declared e _ pc to [] bs s has good (λ v s1 g1 i1 h1.
+      then_value pr code bound n callee known laid.declared base _ i1 to (value v ∷ []) bs s1 h1 g1 (λ b s2 g2 i2 h2.
+      instr ObjectThere i2 (value b ∷ value v ∷ []) bs s2 h2.0
+      (bind (perform (object_there b) s2) (performs {got = on_value (value v ∷ []) bs (i2 + 1)} (object_there b) bs s2 g2) (λ w s3 g3.
+      then_args pr code bound n callee known laid.declared args _ (λ m. Lift (suc m)) (i2 + 1) to (value w ∷ value v ∷ []) bs s3 h2.1 g3 (λ xs s4 len g4 j h.
+      subst (λ m. Runs code bound n m (with_end (entry p) bs) (failed bs) (perform (set_object of v) s4 >>= λ y s5. callee.call q w (xs ++ value y ∷ []) s5 >>= λ r s6. Got k s6)) (sym (all_taken (value w ∷ xs) (value v ∷ []) _))
+      (instr (FitObject of) (j + 1) (value v ∷ pushed xs (value w ∷ [])) bs s4 h.0
+      (bind (perform (set_object of v) s4) (performs {got = on_value (pushed xs (value w ∷ [])) bs (j + 1 + 1)} (set_object of v) bs s4 g4) (λ y s5 g5.
+      instr (CallOf q (suc (length xs))) (j + 1 + 1) (value y ∷ pushed xs (value w ∷ [])) bs s5 (h.1.0 ∙ ap (λ m. Some (CallOf q (suc m))) (sym len))
+      (subst (λ m. Runs code bound n m (with_end (entry p) bs) (failed bs) (callee.call q w (xs ++ value y ∷ []) s5 >>= λ r s6. Got k s6)) (sym (one_more_taken xs (value w ∷ []) (value y) _))
+      (bind (callee.call q w (xs ++ value y ∷ []) s5) (known.call q w (xs ++ value y ∷ []) [] (j + 1 + 1 + 1) bs s5 g5) (λ r s6 g6.
+      instr Drop (j + 1 + 1 + 1) (value r ∷ []) bs s6 h.1.1.0 (ends_here k (j + 1 + 1 + 1 + 1) bs s6 h.1.1.1.0 g6))))))))))))
   action_runs (print ps ends) i k pc to bs s has good =
       then_prints pr code bound n callee known laid.declared ps _ (Show ends) pc to [] bs s has good (λ xs s1 g1 mid h.
       subst (λ m. Runs code bound n m (with_end (entry p) bs) (failed bs) (perform (printed ends xs) s1 >>= λ u s2. Got k s2)) (sym (all_taken xs [] _))

@@ -1,5 +1,5 @@
 -- What arguments say, each one an expression that is evaluated.
-use Rattle.std.proofs.Common.{◌≡◌, Bool, List, [], ◌∷◌, ◌++◌, refl, ap, ◌∙◌}
+use Rattle.std.proofs.Common.{◌≡◌, List, [], ◌∷◌, ◌++◌, refl, ap, ◌∙◌}
 use Rattle.std.specs.Prelude.{flat_map}
 use Rattle.std.proofs.lemmas.List.{append-nil}
 use Rattle.std.proofs.lemmas.List.Concat.{flat_map-append}
@@ -8,8 +8,10 @@ use Rattle.vba_expression.specs.Tree.{Expr, Args, no_args, missing, plain}
 use Rattle.vba_expression.specs.Tree as expr
 use Rattle.vba_tree.specs.declared.line.LineLabel.{LineLabel}
 use Rattle.binder.specs.Said.{Said, expression, arguments_said}
-use Rattle.binder.specs.Scopes.{Scope, plainly}
-use Rattle.binder.specs.Violations.{types_said, types_in, types_in_args, names_said, names_unknown, unknown_in_args, label_said}
+use Rattle.binder.specs.Scopes.{Scope}
+use Rattle.binder.specs.Violations.{types_said, types_in, types_in_args, label_said}
+use Rattle.use_rules.specs.Asked.{asked_in_args, said_asked}
+use Rattle.use_rules.specs.declared.question.Question.{Question}
 
 -- one argument more
 one_more : (faults : Said → List Place) (before : List Said) (e : Expr) (places : List Place) → flat_map faults before ≡ places
@@ -25,12 +27,13 @@ arguments_types s (missing before comma) = arguments_types s before
 arguments_types s (plain before comma e) = one_more (types_said s) (arguments_said before) e (types_in_args s before) (arguments_types s before)
 arguments_types s (expr.named before comma x mark e) = one_more (types_said s) (arguments_said before) e (types_in_args s before) (arguments_types s before)
 
-pub arguments_names : (s : Scope) (within : Bool) (xs : Args) → flat_map (names_said s within) (arguments_said xs) ≡ unknown_in_args s within xs
-arguments_names s within no_args = refl
-arguments_names s within (missing before comma) = arguments_names s within before
-arguments_names s within (plain before comma e) = one_more (names_said s within) (arguments_said before) e (unknown_in_args s within before) (arguments_names s within before)
-arguments_names s within (expr.named before comma x mark e) =
-    one_more (names_said s within) (arguments_said before) e (unknown_in_args s within before) (arguments_names s within before)
+pub arguments_asked : (s : Scope) (question : Question) (xs : Args) → flat_map (said_asked s question) (arguments_said xs) ≡ asked_in_args s question xs
+arguments_asked s question no_args = refl
+arguments_asked s question (missing before comma) = arguments_asked s question before
+arguments_asked s question (plain before comma e) =
+    one_more (said_asked s question) (arguments_said before) e (asked_in_args s question before) (arguments_asked s question before)
+arguments_asked s question (expr.named before comma x mark e) =
+    one_more (said_asked s question) (arguments_said before) e (asked_in_args s question before) (arguments_asked s question before)
 
 pub arguments_labels : (labels : List LineLabel) (xs : Args) → flat_map (label_said labels) (arguments_said xs) ≡ []
 arguments_labels labels no_args = refl

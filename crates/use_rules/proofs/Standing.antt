@@ -89,3 +89,21 @@ more_said rule test static now next found part all index more here is before =
     ∙ ap (noted rule now) (sym (flat_map-append test first others))
     ∙ ap (λ ps. noted rule now (flat_map test (flat_map (said_in_part static) (parts_view ps)))) (sym (split all index part more here))
     ∙ before
+
+-- where a With block doesn't count
+free_of_kinds : (test : Said → List Place) (static : Bool) (kinds others : List Kind) (ps : List parts.Part)
+    → walked (λ within. test) static kinds ps ≡ walked (λ within. test) static others ps
+free_of_kinds test static kinds others [] = refl
+free_of_kinds test static kinds others (part ∷ ps) =
+    ap (λ places. flat_map test (said_in_part static part) ++ places)
+    (free_of_kinds test static (kinds_behind (role_of part) kinds) (kinds_behind (role_of part) others) ps)
+
+-- one part more, where a With block doesn't count
+pub more_plain : (rule : ℕ) (test : Said → List Place) (static : Bool) (now next found : Option Refusal) (part : Part) (all : List Part) (index : ℕ)
+    → index < length all → part ≡ get_or all index part
+    → next ≡ noted rule now (flat_map test (said_in_part static (part_view part)))
+    → noted rule now (walked (λ within. test) static [] (parts_view (drop index all))) ≡ found
+    → noted rule next (walked (λ within. test) static [] (parts_view (drop (index + 1) all))) ≡ found
+more_plain rule test static now next found part all index more here is before =
+    ap (noted rule next) (free_of_kinds test static [] (kinds_behind (role_of (part_view part)) []) (parts_view (drop (index + 1) all)))
+    ∙ more_walked rule (λ within. test) static false now next found [] (kinds_behind (role_of (part_view part)) []) part all index more here refl refl is before

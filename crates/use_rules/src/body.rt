@@ -1,6 +1,7 @@
-//! S16, S17 and S18 in the body of a procedure.
+//! S16, S17, S18 and S23 in the body of a procedure.
 
 ghost use Rattle.std.specs.Prelude.{◌≡◌, [], List, map, reverse, OnOk, flat_map};
+ghost use Rattle.binder.specs.LeftOut.{said_left_out};
 ghost use Rattle.binder.specs.Said as plain;
 ghost use Rattle.binder.specs.Violations.{label_said, names_said, types_said};
 ghost use Rattle.declared_names.specs.View.{scope_view};
@@ -13,6 +14,7 @@ ghost use Rattle.use_rules.specs.Walked.{is_within, kinds_behind, walked};
 ghost use Rattle.vba_module.specs.Blocks as blocks;
 
 use crate::labels::note_all_labels;
+use crate::question::Question;
 use crate::said_names::note_all_names;
 use crate::said_types::note_all_types;
 use declared_names::Scope;
@@ -98,7 +100,8 @@ fn note_part<'a>(
     let mut said = Vec::new(alloc);
     push_part(&mut said, part, is_static)?;
     note_all_types(alloc, scope, said.as_slice(), &mut found.types)?;
-    note_all_names(alloc, scope, in_with, said.as_slice(), &mut found.names)?;
+    let question = Question::IsUnknown { in_with };
+    note_all_names(alloc, scope, question, said.as_slice(), &mut found.names)?;
     note_all_labels(labels, said.as_slice(), &mut found.labels);
     Ok(())
 }
@@ -122,6 +125,37 @@ pub fn note_body<'a>(
         let in_with = is_in_with(opened.as_slice());
         note_part(alloc, scope, is_static, in_with, labels, part, found)?;
         go_behind(&mut opened, part)?;
+    }
+    Ok(())
+}
+
+/// Notes where a part breaks S23.
+fn note_left_out_part<'a>(
+    alloc: Global,
+    scope: Scope<'a>,
+    is_static: bool,
+    part: &'a Part,
+    least: &mut Option<Refusal>,
+) -> Result<(), NoMemory>
+    ensures { OnOk result (least.new ≡ noted 23 least.old (flat_map (said_left_out (scope_view scope.entry)) (plain.said_in_part is_static (part_view part.now)))) }
+{
+    let mut said = Vec::new(alloc);
+    push_part(&mut said, part, is_static)?;
+    note_all_names(alloc, scope, Question::IsLeftOut, said.as_slice(), least)
+}
+
+/// Notes where the parts of a procedure, Static or not, break S23.
+pub fn note_left_out_body<'a>(
+    alloc: Global,
+    scope: Scope<'a>,
+    is_static: bool,
+    parts: &'a [Part],
+    least: &mut Option<Refusal>,
+) -> Result<(), NoMemory>
+    ensures { OnOk result (least.new ≡ noted 23 least.old (walked (λ within. said_left_out (scope_view scope.entry)) is_static [] (parts_view parts.now))) }
+{
+    for part in parts {
+        note_left_out_part(alloc, scope, is_static, part, least)?;
     }
     Ok(())
 }

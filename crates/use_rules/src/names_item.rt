@@ -1,17 +1,19 @@
-//! What is kept of an item of an expression for S17.
+//! What is kept of an item of an expression, where something is asked of its names.
 
 ghost use Rattle.std.specs.Prelude.{◌≡◌, ◌∷◌, OnOk, Some, None, option_map};
-ghost use Rattle.binder.specs.Constants.{unless};
 ghost use Rattle.binder.specs.Scopes as scopes;
 ghost use Rattle.binder.specs.Violations as violations;
 ghost use Rattle.declared_names.specs.View.{local_view, meant_view, qualifier_view, scope_view, use_view};
+ghost use Rattle.use_rules.specs.Asked.{at_me, at_member, at_name, at_with_member, rule_of};
 ghost use Rattle.use_rules.specs.Found.{noted};
 ghost use Rattle.use_rules.specs.NamesFound as found;
 ghost use Rattle.use_rules.specs.Stacks.{top, below};
 ghost use Rattle.use_rules.specs.View.{names_item_view, names_stack};
 
 use crate::explicit::is_explicit;
+use crate::left_out::{note_left_out, note_suffix, note_suffix_asked};
 use crate::noting::note_place;
+use crate::question::Question;
 use declared_names::{
     Local, Meant, Own, Qualifier, Scope, Use, as_qualifier, behind, declares, enum_behind,
 };
@@ -107,52 +109,93 @@ fn is_declared(scope: Scope, how: Use, meant: Option<Meant>) -> bool
 
 /// The least refusal of a name that is used like this.
 #[tactic(auto, using(crate::proofs::Noted::unless_if))]
-pub fn name_refusal(scope: Scope, how: Use, name: &Identifier) -> Option<Refusal>
-    ensures { result ≡ noted 17 None (violations.name_fault (scope_view scope.entry) (use_view how) name.now) }
+pub fn name_refusal(
+    scope: Scope,
+    question: Question,
+    how: Use,
+    name: &Identifier,
+) -> Option<Refusal>
+    ensures { result ≡ noted (rule_of question) None (at_name (scope_view scope.entry) question (use_view how) name.now) }
 {
     let mut least = None;
-    let broken = !is_declared(scope, how, declares(how, scope, name));
-    note_place(&mut least, broken, 17, name.token.place);
+    let meant = declares(how, scope, name);
+    match question {
+        Question::IsUnknown { .. } => {
+            let broken = !is_declared(scope, how, meant);
+            note_place(&mut least, broken, 17, name.token.place);
+        }
+        Question::IsLeftOut => note_left_out(meant, name, &mut least),
+    }
     least
 }
 
 /// The least refusal of a name behind what says where it is looked for.
 fn member_refusal<'a>(
     scope: Scope<'a>,
+    question: Question,
     how: Use,
     qualifier: Qualifier<'a>,
     name: &Identifier,
 ) -> Option<Refusal>
-    ensures { result ≡ noted 17 None
-        (unless (scopes.behind (use_view how) (scope_view scope.entry) (qualifier_view qualifier.entry) name.now) (violations.place_of_name name.now)) }
+    ensures { result ≡ noted (rule_of question) None
+        (at_member (scope_view scope.entry) question (use_view how) (qualifier_view qualifier.entry) name.now) }
 {
     let mut least = None;
-    if behind(how, scope, qualifier, name).is_none() {
-        note_place(&mut least, true, 17, name.token.place);
+    let meant = behind(how, scope, qualifier, name);
+    match question {
+        Question::IsUnknown { .. } => {
+            if meant.is_none() {
+                note_place(&mut least, true, 17, name.token.place);
+            }
+        }
+        Question::IsLeftOut => note_left_out(meant, name, &mut least),
     }
     least
 }
 
 /// The least refusal of `Me`, which a class alone has.
 #[tactic(auto, using(crate::proofs::Noted::unless_if))]
-pub fn me_refusal(scope: Scope, place: Place) -> Option<Refusal>
-    ensures { result ≡ noted 17 None (violations.unless_true (scope_view scope.entry).here.source.is_class place) }
+pub fn me_refusal(scope: Scope, question: Question, place: Place) -> Option<Refusal>
+    ensures { result ≡ noted (rule_of question) None (at_me (scope_view scope.entry) question place) }
 {
     let mut least = None;
     let here = scope.here;
-    note_place(&mut least, !here.source.is_class, 17, place);
+    match question {
+        Question::IsUnknown { .. } => note_place(&mut least, !here.source.is_class, 17, place),
+        Question::IsLeftOut => {}
+    }
+    least
+}
+
+/// The least refusal of a member of a With block, by the place of its dot.
+#[tactic(auto, using(crate::proofs::Noted::unless_if))]
+pub fn with_refusal(question: Question, dot: Place, name: &Identifier) -> Option<Refusal>
+    ensures { result ≡ noted (rule_of question) None (at_with_member question dot name.now) }
+{
+    let mut least = None;
+    match question {
+        Question::IsUnknown { in_with } => note_place(&mut least, !in_with, 17, dot),
+        Question::IsLeftOut => note_suffix(name, &mut least),
+    }
     least
 }
 
 /// The least refusal of an item as an expression that is used like this.
-pub fn taken<'a>(scope: Scope<'a>, how: Use, item: NamesItem<'a>) -> Option<Refusal>
-    ensures { result ≡ found.taken (scope_view scope.entry) (use_view how) (names_item_view item.entry) }
+pub fn taken<'a>(
+    scope: Scope<'a>,
+    question: Question,
+    how: Use,
+    item: NamesItem<'a>,
+) -> Option<Refusal>
+    ensures { result ≡ found.taken (scope_view scope.entry) question (use_view how) (names_item_view item.entry) }
 {
     match item {
-        NamesItem::Name(name) => name_refusal(scope, how, name),
-        NamesItem::Member { qualifier, name } => member_refusal(scope, how, qualifier, name),
+        NamesItem::Name(name) => name_refusal(scope, question, how, name),
+        NamesItem::Member { qualifier, name } => {
+            member_refusal(scope, question, how, qualifier, name)
+        }
         NamesItem::Ended(least) => least,
-        NamesItem::Arguments(_) => me_refusal(scope, NOWHERE),
+        NamesItem::Arguments(_) => me_refusal(scope, question, NOWHERE),
     }
 }
 
@@ -178,12 +221,21 @@ fn qualifier_in<'a>(scope: Scope<'a>, item: NamesItem<'a>) -> Option<Qualifier<'
 }
 
 /// An item with a dot and a name behind it.
-pub fn with_member<'a>(scope: Scope<'a>, base: NamesItem<'a>, name: &'a Identifier) -> NamesItem<'a>
-    ensures { names_item_view result ≡ found.of_member (found.qualifier_in (scope_view scope.entry) (names_item_view base.entry)) name.now
-        (found.taken (scope_view scope.entry) scopes.before_dot (names_item_view base.entry)) }
+pub fn with_member<'a>(
+    scope: Scope<'a>,
+    question: Question,
+    base: NamesItem<'a>,
+    name: &'a Identifier,
+) -> NamesItem<'a>
+    ensures { names_item_view result ≡ found.of_member question (found.qualifier_in (scope_view scope.entry) (names_item_view base.entry)) name.now
+        (found.taken (scope_view scope.entry) question scopes.before_dot (names_item_view base.entry)) }
 {
     match qualifier_in(scope, base) {
         Some(qualifier) => NamesItem::Member { qualifier, name },
-        None => NamesItem::Ended(taken(scope, Use::BeforeDot, base)),
+        None => {
+            let mut least = taken(scope, question, Use::BeforeDot, base);
+            note_suffix_asked(question, name, &mut least);
+            NamesItem::Ended(least)
+        }
     }
 }

@@ -1,22 +1,26 @@
-//! S17 at what is said: unknown names.
+//! S17 and S23 at what is said: names that are unknown, and what is left out.
 
 ghost use Rattle.std.specs.Prelude.{◌≡◌, List, map, OnOk, flat_map};
 ghost use Rattle.std.specs.List.{list_any};
 ghost use Rattle.binder.specs.Scopes.{plainly};
 ghost use Rattle.binder.specs.Violations as violations;
-ghost use Rattle.binder.specs.Violations.{name_fault, names_said, place_of_name, unless_true};
 ghost use Rattle.declared_names.specs.View.{entry_view, scope_view};
+ghost use Rattle.use_rules.specs.Asked.{at_name, at_raised, at_type, rule_of, said_asked, said_faults};
 ghost use Rattle.use_rules.specs.Found.{noted};
 ghost use Rattle.said_parts.specs.View.{all_said, said_view};
 
+use crate::left_out::note_suffix_asked;
 use crate::names_item::name_refusal;
 use crate::names_walk::{note_names, note_names_in_arguments};
 use crate::noting::note_place;
-use declared_names::{Entry, Scope, Use, What};
+use crate::question::Question;
+use crate::said_types::place_of_type;
+use declared_names::{Entry, Scope, TypeMeant, Use, What, type_meant};
 use refusal_order::note_both;
 use said_parts::Said;
 use std::alloc::Global;
 use vba_base::{NoMemory, Refusal};
+use vba_expression::TypeName;
 use vba_words::Identifier;
 
 /// Is an entry the event of a name?
@@ -48,74 +52,104 @@ fn has_event(name: &Identifier, entries: &[Entry]) -> bool
 
 /// Notes an event that the module hasn't.
 #[tactic(auto, using(crate::proofs::Noted::unless_if))]
-fn note_raised(scope: Scope, name: &Identifier, least: &mut Option<Refusal>)
-    ensures { least.new ≡ noted 17 least.old
-        (unless_true (list_any (violations.is_event name.now) (scope_view scope.entry).here.entries) (place_of_name name.now)) }
+fn note_raised(scope: Scope, question: Question, name: &Identifier, least: &mut Option<Refusal>)
+    ensures { least.new ≡ noted (rule_of question) least.old (at_raised (scope_view scope.entry) question name.now) }
 {
-    let broken = !has_event(name, scope.here.entries.as_slice());
-    note_place(least, broken, 17, name.token.place);
-}
-
-/// Notes the variable of a loop, where it is unknown.
-#[tactic(auto, using(crate::proofs::Noted::noted_alone))]
-fn note_counter(scope: Scope, name: &Identifier, least: &mut Option<Refusal>)
-    ensures { least.new ≡ noted 17 least.old (name_fault (scope_view scope.entry) plainly name.now) }
-{
-    note_both(least, name_refusal(scope, Use::Plainly, name));
-}
-
-/// Notes where what is said breaks S17, inside a With block or not.
-#[tactic(auto, using(crate::proofs::SaidFound::arguments_names))]
-pub fn note_names_said<'a>(
-    alloc: Global,
-    scope: Scope<'a>,
-    is_within: bool,
-    said: Said<'a>,
-    least: &mut Option<Refusal>,
-) -> Result<(), NoMemory>
-    ensures { OnOk result (least.new ≡ noted 17 least.old (flat_map (names_said (scope_view scope.entry) is_within) (said_view said.entry))) }
-{
-    match said {
-        Said::ConstantExpression(expression) | Said::Expression(expression) => {
-            note_names(alloc, scope, is_within, Use::Plainly, expression, least)
+    match question {
+        Question::IsUnknown { .. } => {
+            let broken = !has_event(name, scope.here.entries.as_slice());
+            note_place(least, broken, 17, name.token.place);
         }
-        Said::Redimmed { place, .. } => {
-            note_names(alloc, scope, is_within, Use::Plainly, place, least)
-        }
-        Said::Called(expression) => {
-            note_names(alloc, scope, is_within, Use::Called, expression, least)
-        }
-        Said::Arguments(arguments) => {
-            note_names_in_arguments(alloc, scope, is_within, arguments, least)
-        }
-        Said::Counter(name) => {
-            note_counter(scope, name, least);
-            Ok(())
-        }
-        Said::Raises(name) => {
-            note_raised(scope, name, least);
-            Ok(())
-        }
-        Said::Declares { .. }
-        | Said::DeclaresConstant(_)
-        | Said::TypeNamed(_)
-        | Said::NewNamed(_)
-        | Said::GoesTo(_) => Ok(()),
+        Question::IsLeftOut => {}
     }
 }
 
-/// The same of all that is said.
+/// Notes a type that the language leaves out.
+fn note_type(
+    scope: Scope,
+    question: Question,
+    name: &TypeName,
+    least: &mut Option<Refusal>,
+) -> Result<(), NoMemory>
+    ensures { OnOk result (least.new ≡ noted (rule_of question) least.old (at_type (scope_view scope.entry) question name.now)) }
+{
+    match question {
+        Question::IsUnknown { .. } => Ok(()),
+        Question::IsLeftOut => {
+            if let Some(TypeMeant::LeftOut) = type_meant(scope, name)? {
+                note_place(least, true, 23, place_of_type(name));
+            }
+            Ok(())
+        }
+    }
+}
+
+/// Notes the variable of a loop.
+#[tactic(auto, using(crate::proofs::Noted::noted_alone))]
+fn note_counter(scope: Scope, question: Question, name: &Identifier, least: &mut Option<Refusal>)
+    ensures { least.new ≡ noted (rule_of question) least.old (at_name (scope_view scope.entry) question plainly name.now) }
+{
+    note_both(least, name_refusal(scope, question, Use::Plainly, name));
+}
+
+/// Notes where the answer is yes in what is said.
+#[tactic(auto, using(crate::proofs::SaidFound::arguments_asked))]
+fn note_names_said<'a>(
+    alloc: Global,
+    scope: Scope<'a>,
+    question: Question,
+    said: Said<'a>,
+    least: &mut Option<Refusal>,
+) -> Result<(), NoMemory>
+    ensures { OnOk result (least.new ≡ noted (rule_of question) least.old (flat_map (said_asked (scope_view scope.entry) question) (said_view said.entry))) }
+{
+    match said {
+        Said::ConstantExpression(expression) | Said::Expression(expression) => {
+            note_names(alloc, scope, question, Use::Plainly, expression, least)
+        }
+        Said::Redimmed { place, .. } => {
+            note_names(alloc, scope, question, Use::Plainly, place, least)
+        }
+        Said::Called(expression) => {
+            note_names(alloc, scope, question, Use::Called, expression, least)
+        }
+        Said::Arguments(arguments) => {
+            note_names_in_arguments(alloc, scope, question, arguments, least)
+        }
+        Said::TypeNamed(name) => note_type(scope, question, name, least),
+        Said::Counter(name) => {
+            note_counter(scope, question, name, least);
+            Ok(())
+        }
+        Said::Raises(name) => {
+            note_raised(scope, question, name, least);
+            Ok(())
+        }
+        Said::Declares { variable, .. } => {
+            note_suffix_asked(question, &variable.name, least);
+            Ok(())
+        }
+        Said::DeclaresConstant(constant) => {
+            note_suffix_asked(question, &constant.name, least);
+            Ok(())
+        }
+        Said::NewNamed(_) | Said::GoesTo(_) => Ok(()),
+    }
+}
+
+/// Notes where all that is said breaks the rule that is asked for: S17, inside a With block or not, or S23.
+#[tactic(auto, using(crate::proofs::AskedRules::rules_asked))]
 pub fn note_all_names<'a>(
     alloc: Global,
     scope: Scope<'a>,
-    is_within: bool,
+    question: Question,
     said: &[Said<'a>],
     least: &mut Option<Refusal>,
 ) -> Result<(), NoMemory>
-    ensures { OnOk result (least.new ≡ noted 17 least.old (flat_map (names_said (scope_view scope.entry) is_within) (all_said said.now))) }
+    ensures { OnOk result (least.new ≡ noted (rule_of question) least.old (flat_map (said_faults (scope_view scope.entry) question) (all_said said.now))) }
 {
     for one in said {
-        note_names_said(alloc, scope, is_within, *one, least)?;
+        note_names_said(alloc, scope, question, *one, least)?;
     }
     Ok(())
 }

@@ -18,7 +18,7 @@ use vba_base::{NoMemory, Place, Refusal};
 use vba_expression::TypeName;
 
 /// The place of the name of a type: that of its first name.
-fn place_of_type(name: &TypeName) -> Place
+pub fn place_of_type(name: &TypeName) -> Place
     ensures { result ≡ place_of_type name.now }
 {
     match &name.qualifier {

@@ -14,7 +14,7 @@ use Rattle.binder.specs.Scopes.{Space, spaces_from}
 use Rattle.binder.specs.Names.{scope_of}
 use Rattle.binder.specs.Violations.{violations, first_broken}
 use Rattle.binder.specs.Options.{or_else}
-use Rattle.binder.specs.Bind.{Answer, refused, answer_by, broken_rule, not_built, project_of, startup_fault}
+use Rattle.binder.specs.Bind.{Answer, refused, answer_by, not_built, project_of}
 use Rattle.constant_values.specs.Rounds.{AreNumbered}
 use Rattle.constant_values.proofs.Looked.{spaces_from_numbered}
 use Rattle.declared_names.specs.Outside.{the_outside}
@@ -24,7 +24,7 @@ use Rattle.bind_project.specs.declared.bound.Bound.TheVariants as bound
 use Rattle.list_file.specs.Lists.{Start}
 use Rattle.declared_names.specs.View.{source_view}
 use Rattle.declared_names.specs.declared.space.Source as declared_names
-use Rattle.vba_cli.specs.Program.{Kept, begins_at, bound_kept, bound_modules, bound_sources, each, kept_of, main_of, module_of, program_of}
+use Rattle.vba_cli.specs.Program.{Kept, begins_at, bound_kept, bound_modules, bound_sources, broken_rule, each, kept_of, main_of, module_of, program_of, static_rule}
 use Rattle.vba_cli.specs.Programs.{IsProgram, IsUnbroken, first_fold}
 
 -- modules are numbered
@@ -35,9 +35,9 @@ modules_numbered ms spaces e = subst (λ ss. AreNumbered ss) (sym e) (spaces_fro
 abbrev broken_in : List Space → Option Refusal
 broken_in spaces = first_broken (map (λ space. violations (scope_of the_outside spaces space)) spaces)
 
--- whether the macro to begin with isn't there
-abbrev unstarted_in : Option Start → List Source → List Space → Option Refusal
-unstarted_in start ms spaces = startup_fault the_outside spaces (begins_at start ms)
+-- what is asked where names and types are found
+abbrev static_in : Option Start → List Source → List Space → Option Refusal
+static_in start ms spaces = static_rule (begins_at start ms) spaces
 
 abbrev left : List Source → Option Place
 left ms = not_built the_outside ms
@@ -48,24 +48,24 @@ project start ms = project_of the_outside ms (begins_at start ms)
 pub modules_broken : (start : Option Start) (ms : List Source) (spaces : List Space) (r : Refusal) → spaces ≡ spaces_from 0 ms → broken_in spaces ≡ Some r
     → bound_modules start ms ≡ refused r
 modules_broken start ms spaces r e broken =
-    ap (λ v. answer_by (or_else v (unstarted_in start ms (spaces_from 0 ms))) (left ms) (project start ms)) (subst (λ ss. broken_in ss ≡ Some r) e broken)
+    ap (λ v. answer_by (or_else v (static_in start ms (spaces_from 0 ms))) (left ms) (project start ms)) (subst (λ ss. broken_in ss ≡ Some r) e broken)
 
 -- the first rule, where none of names is broken
-rule_by : (start : Option Start) (ms : List Source) (spaces : List Space) (found : Option Refusal) → spaces ≡ spaces_from 0 ms → broken_in spaces ≡ None → unstarted_in start ms spaces ≡ found
-    → broken_rule the_outside ms (begins_at start ms) ≡ found
+rule_by : (start : Option Start) (ms : List Source) (spaces : List Space) (found : Option Refusal) → spaces ≡ spaces_from 0 ms → broken_in spaces ≡ None → static_in start ms spaces ≡ found
+    → broken_rule (begins_at start ms) ms ≡ found
 rule_by start ms spaces found e whole there =
-    ap (λ v. or_else v (unstarted_in start ms (spaces_from 0 ms))) (subst (λ ss. broken_in ss ≡ None) e whole) ∙ subst (λ ss. unstarted_in start ms ss ≡ found) e there
+    ap (λ v. or_else v (static_in start ms (spaces_from 0 ms))) (subst (λ ss. broken_in ss ≡ None) e whole) ∙ subst (λ ss. static_in start ms ss ≡ found) e there
 
-pub modules_unstarted : (start : Option Start) (ms : List Source) (spaces : List Space) (r : Refusal) → spaces ≡ spaces_from 0 ms → broken_in spaces ≡ None → unstarted_in start ms spaces ≡ Some r
+pub modules_faulty : (start : Option Start) (ms : List Source) (spaces : List Space) (r : Refusal) → spaces ≡ spaces_from 0 ms → broken_in spaces ≡ None → static_in start ms spaces ≡ Some r
     → bound_modules start ms ≡ refused r
-modules_unstarted start ms spaces r e whole there = ap (λ v. answer_by v (left ms) (project start ms)) (rule_by start ms spaces (Some r) e whole there)
+modules_faulty start ms spaces r e whole there = ap (λ v. answer_by v (left ms) (project start ms)) (rule_by start ms spaces (Some r) e whole there)
 
 unbroken_by : (x : Option Place) (y : Option Project) → IsUnbroken (answer_by None x y)
 unbroken_by (Some place) y = tt
 unbroken_by None (Some pr) = tt
 unbroken_by None None = tt
 
-pub modules_bound : (start : Option Start) (ms : List Source) (spaces : List Space) (b : Bound) → spaces ≡ spaces_from 0 ms → broken_in spaces ≡ None → unstarted_in start ms spaces ≡ None
+pub modules_bound : (start : Option Start) (ms : List Source) (spaces : List Space) (b : Bound) → spaces ≡ spaces_from 0 ms → broken_in spaces ≡ None → static_in start ms spaces ≡ None
     → IsBound the_outside spaces (begins_at start ms) b → IsProgram (bound_modules start ms) (Ok b)
 modules_bound start ms spaces (bound.NotBuilt place) e whole there is =
     subst (λ v. IsUnbroken (answer_by v (left ms) (project start ms))) (sym (rule_by start ms spaces None e whole there)) (unbroken_by (left ms) (project start ms))

@@ -63,6 +63,7 @@ rule_word rule =
     else if rule == 20 then codes "bad constant expression"
     else if rule == 21 then codes "recursive type"
     else if rule == 22 then codes "bad WithEvents"
+    else if rule == 23 then codes "outside type"
     else if rule == 33 then codes "startup"
     else []
 

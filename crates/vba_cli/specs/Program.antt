@@ -1,5 +1,5 @@
 -- What source files are: a project that runs, or why they are none. The rules come in phases: those of tokens and
--- directives for all modules, then those of lines and modules for all, then those of names and of the startup.
+-- directives for all modules, then those of lines and modules for all, then those of names, then the startup and S23.
 use Rattle.std.specs.Prelude.{ℕ, suc, List, [], ◌∷◌, codes, false, Option, Some, None, Result, Ok, Err}
 use Rattle.vba_base.specs.Decode.{decoded}
 use Rattle.vba_base.specs.declared.place.Refusal.{Refusal}
@@ -9,8 +9,12 @@ use Rattle.vba_module.specs.Parts.{Part, parts_of_lines}
 use Rattle.vba_module.specs.Verdict.{trees_of}
 use Rattle.module_parser.specs.Parsed.{verdict, read_lexed}
 use Rattle.binder.specs.Sources.{Source, given_name, name_or}
-use Rattle.binder.specs.Bind.{Answer, Startup, refused, bind_of}
+use Rattle.binder.specs.Bind.{Answer, Startup, refused, answer_by, not_built, project_of, startup_fault}
+use Rattle.binder.specs.Options.{or_else}
+use Rattle.binder.specs.Scopes.{Space, spaces_from}
+use Rattle.binder.specs.Violations as names
 use Rattle.declared_names.specs.Outside.{the_outside}
+use Rattle.name_rules.specs.FirstLeftOut.{first_left_out}
 use Rattle.list_file.specs.Lists.{Start}
 
 -- ---- one phase for all modules
@@ -67,9 +71,21 @@ abbrev pub begins_at : Option Start → List Source → Startup
 begins_at None ms = main_of ms
 begins_at (Some start) ms = record { module_fold = start.in_module; sub_fold = start.procedure }
 
+-- a macro to begin with that isn't there is told at the front of the project, so before what the language leaves out
+abbrev pub static_rule : Startup → List Space → Option Refusal
+static_rule st spaces = or_else (startup_fault the_outside spaces st) (first_left_out the_outside spaces)
+
+-- the first rule that modules break
+abbrev pub broken_rule : Startup → List Source → Option Refusal
+broken_rule st ms = or_else (names.verdict the_outside ms) (static_rule st (spaces_from 0 ms))
+
+-- modules, bound with the macro to begin with
+abbrev pub bound_with : Startup → List Source → Answer
+bound_with st ms = answer_by (broken_rule st ms) (not_built the_outside ms) (project_of the_outside ms st)
+
 -- a project of these modules
 abbrev pub bound_modules : Option Start → List Source → Answer
-bound_modules start ms = bind_of the_outside ms (begins_at start ms)
+bound_modules start ms = bound_with (begins_at start ms) ms
 
 -- ---- all phases
 

@@ -107,6 +107,7 @@ fn rule_word(rule: u8) -> &'static str
         20 => "bad constant expression",
         21 => "recursive type",
         22 => "bad WithEvents",
+        23 => "outside type",
         33 => "startup",
         _ => "",
     }

@@ -11,7 +11,7 @@ ghost use Rattle.list_file.specs.Sources.{bytes_view};
 ghost use Rattle.list_file.specs.View.{start_view};
 ghost use Rattle.bind_project.specs.Bound.{IsBound};
 ghost use Rattle.project_tables.specs.Startups.{startup_view};
-ghost use Rattle.vba_cli.specs.Program.{begins_at, bound_modules, program_of};
+ghost use Rattle.vba_cli.specs.Program.{begins_at, bound_modules, program_of, static_rule};
 ghost use Rattle.vba_cli.specs.Programs.{IsProgram, first_fold, module_view};
 
 use crate::modules::ReadModule;
@@ -19,14 +19,15 @@ use crate::phases::{keep_all, read_all};
 use bind_project::{Bound, Startup as BoundStartup, bind, startup_fault};
 use declared_names::{Source, Space, spaces_of};
 use list_file::{FileBytes, Startup};
-use name_rules::verdict;
+use name_rules::{first_left_out, verdict};
 use std::alloc::Global;
 use vba_base::{NoMemory, OrMemory, Refusal};
 
 /// The project that the files of standard modules are, or the place of a part that isn't built yet. The run begins at
 /// the startup of their list, or else at Main of the first module. The fault is the first rule that is broken: the
 /// first of the rules of tokens and directives, in the order of the modules, else the first of those of lines and
-/// modules, else the first of those of names, else that the startup isn't there. No file has more than 67108864 bytes.
+/// modules, else the first of those of names; else that the startup isn't there, else the first of what the language
+/// leaves out. No file has more than 67108864 bytes.
 #[tactic(auto, unfolding(crate::specs::Program::program_of))]
 pub fn program(
     alloc: Global,
@@ -118,9 +119,9 @@ fn judge(
     judged(alloc, Modules { spaces, start })
 }
 
-// The modules of a project: refused by the first rule of names that they break, or where the macro to begin with isn't
-// there, or else bound.
-#[tactic(auto, using(crate::proofs::Bound::modules_broken, crate::proofs::Bound::modules_unstarted, crate::proofs::Bound::modules_bound))]
+// The modules of a project: refused by the first rule of names that they break, or by the first that is asked behind
+// it, or else bound.
+#[tactic(auto, using(crate::proofs::Bound::modules_broken, crate::proofs::Bound::modules_faulty, crate::proofs::Bound::modules_bound))]
 fn judged<'a>(alloc: Global, modules: Modules<'a>) -> Result<Bound, OrMemory<Refusal>>
     requires { AreNumbered (map space_view modules.spaces.now) }
     ensures { (ms : List PlainSource) → map space_view modules.entry.spaces.now ≡ spaces_from 0 ms → IsProgram (bound_modules (option_map (λ s. start_view s.now) modules.entry.start) ms) result }
@@ -128,9 +129,23 @@ fn judged<'a>(alloc: Global, modules: Modules<'a>) -> Result<Bound, OrMemory<Ref
     if let Some(refusal) = verdict(alloc, modules.spaces)? {
         return Err(OrMemory::Fault(refusal));
     }
-    match fault_at(modules.spaces, modules.start)? {
+    match static_fault(alloc, modules.spaces, modules.start)? {
         Some(refusal) => Err(OrMemory::Fault(refusal)),
         None => Ok(bind_at(alloc, modules.spaces, modules.start)?),
+    }
+}
+
+// What is asked where names and types are found: S33, and then S23.
+fn static_fault<'a>(
+    alloc: Global,
+    spaces: &'a [Space<'a>],
+    start: Option<&'a Startup>,
+) -> Result<Option<Refusal>, NoMemory>
+    ensures { (ms : List PlainSource) → map space_view spaces.now ≡ spaces_from 0 ms → IfOk result (λ fault. fault ≡ static_rule (begins_at (option_map (λ s. start_view s.now) start.entry) ms) (map space_view spaces.now)) }
+{
+    match fault_at(spaces, start)? {
+        Some(refusal) => Ok(Some(refusal)),
+        None => first_left_out(alloc, spaces),
     }
 }
 

@@ -108,7 +108,7 @@ unfolding digits
 bounds_stay_is = refl
 
 -- 9: no storage, outside the bounds, too many numbers, a high bound below its low one, Preserve with other bounds than
--- the last upper one; 13: no array
+-- the last upper one; 450: numbers behind no array; 13: Erase of none
 abbrev outside_bounds : Project
 outside_bounds = main (long_array ∷ type.variant ∷ []) (flat 0 (
     on_error skipped ∷ show (el (longs 1) 0) ∷ redim_to (longs 1) 2 ∷ show (el (longs 1) 3) ∷ el_becomes (longs 1) 3 (n 1) ∷
@@ -118,7 +118,7 @@ outside_bounds = main (long_array ∷ type.variant ∷ []) (flat 0 (
     show (at_place type.variant (item (any 2) (one 0))) ∷ erase (an_array (variable (any 2)) no_arrays) ∷ show err ∷ []))
 
 pub outside_bounds_is : told (meaning outside_bounds 50)
-    ≡ (Ended, Raised (pos 9) ∷ Raised (pos 9) ∷ Raised (pos 9) ∷ Raised (pos 9) ∷ Raised (pos 9) ∷ Raised (pos 9) ∷ line (codes " 9 ") ∷ Raised (pos 13) ∷ Raised (pos 13) ∷ line (codes " 13 ") ∷ [])
+    ≡ (Ended, Raised (pos 9) ∷ Raised (pos 9) ∷ Raised (pos 9) ∷ Raised (pos 9) ∷ Raised (pos 9) ∷ Raised (pos 9) ∷ line (codes " 9 ") ∷ Raised (pos 450) ∷ Raised (pos 13) ∷ line (codes " 13 ") ∷ [])
 unfolding digits
 outside_bounds_is = refl
 

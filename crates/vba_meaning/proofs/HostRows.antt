@@ -14,7 +14,7 @@ use Rattle.vba_values.specs.declared.types.OpKind.TheVariants as op
 use Rattle.vba_values.specs.Types as type
 use Rattle.vba_values.specs.Val.{null, object}
 use Rattle.sheet_host.specs.Books.{Sheets}
-use Rattle.bound_project.specs.Expressions.{Variable, Expr, constant, err_source, err_description, err_value, host_object, active_sheet, host_member, variable, Exprs, no_exprs, also, no_prints, shown}
+use Rattle.bound_project.specs.Expressions.{Variable, Expr, constant, err_source, err_description, err_value, host_object, active_sheet, host_member, named_member, variable, Exprs, no_exprs, also, no_prints, shown}
 use Rattle.bound_project.specs.Statements.{Action, skipped, set, set_member, assign_default, assign_member, evaluate, print, for_each, next_each, on_error}
 use Rattle.bound_project.specs.Project.{Project}
 use Rattle.vba_meaning.specs.Memory.{Ended, Stopped, outside}
@@ -111,6 +111,22 @@ refused_are : told (meaning refused book 50) ≡
     (Ended, Raised (pos 438) ∷ Raised (pos 449) ∷ Raised (pos 449) ∷ Raised (pos 450) ∷ Raised (pos 450) ∷ Raised (pos 91) ∷ Raised (pos 424) ∷ Raised (pos 11) ∷ [])
 unfolding division folded caseless
 refused_are = refl
+
+-- On Error Resume Next: arguments that are named come to their parameters; then a name that there isn't, a parameter that
+-- is given twice, one that is lacking, and a name behind a member that takes none, each before its argument is evaluated
+abbrev by_name : Project
+by_name = main [] (flat 0 (
+    on_error skipped ∷ show (address_of (cells 0 (codes "c" ∷ codes "r" ∷ []) (pair (n 2) (n 3)))) ∷ show (address_of (cells 1 (codes "c" ∷ []) (pair (n 2) (n 3)))) ∷
+    show (cells 0 (codes "r" ∷ codes "q" ∷ []) (pair half half)) ∷ show (cells 1 (codes "r" ∷ []) (pair half half)) ∷ show (cells 0 (codes "c" ∷ codes "c" ∷ []) (pair half half)) ∷
+    show (cells 0 (codes "c" ∷ []) (also half no_exprs)) ∷
+    show (e type.variant (named_member (cell_at 1 1) (codes "row") (record { before = 0; names = codes "r" ∷ [] }) (also half no_exprs))) ∷ [])) where
+      cells : ℕ → List (List ℕ) → Exprs → Expr
+      cells before names es = e type.range (named_member here (codes "cells") (record { before = before; names = names }) es)
+
+by_name_is : told (meaning by_name book 50) ≡
+    (Ended, line (codes "$B$3") ∷ line (codes "$C$2") ∷ Raised (pos 450) ∷ Raised (pos 450) ∷ Raised (pos 450) ∷ Raised (pos 449) ∷ Raised (pos 450) ∷ [])
+unfolding division digits folded caseless
+by_name_is = refl
 
 -- For Each v In Range("A1:B2") ¶ Debug.Print v.Address ¶ Next v
 abbrev walked : Project

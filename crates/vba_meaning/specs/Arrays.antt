@@ -41,12 +41,12 @@ indexed_object (Host ErrObject) m = Bad-at 450 m
 indexed_object o m = Bad-at 438 m
 
 -- the path of the element with these numbers, of the array that is now at a path: 9 where there is no such place any
--- more, 13 where there is no array
+-- more, 450 where there is neither an array nor an object, so that the numbers are arguments too many
 abbrev pub element_in : Path → Option Val → List Val → Memory → Effect Path
 element_in p None vs m = on_fine (numbers vs m) (λ zs m1. Bad-at 9 m1)
 element_in p (Some (array bounds of items)) vs m = on_fine (offset_at bounds vs m) (λ k m1. Fine (element_path p k of) m1)
 element_in p (Some (object o)) vs m = indexed_object o m
-element_in p (Some v) vs m = on_fine (numbers vs m) (λ zs m1. Bad-at 13 m1)
+element_in p (Some v) vs m = Bad-at 450 m
 
 abbrev pub element_at : Path → List Val → Memory → Effect Path
 element_at p vs m = element_in p (value_at m p) vs m
@@ -55,7 +55,7 @@ element_at p vs m = element_in p (value_at m p) vs m
 abbrev pub indexed : Val → List Val → Memory → Effect Val
 indexed (array bounds of items) vs m = on_fine (offset_at bounds vs m) (λ k m1. read_value (Some (item_at items k)) m1)
 indexed (object o) vs m = indexed_object o m
-indexed v vs m = on_fine (numbers vs m) (λ zs m1. Bad-at 13 m1)
+indexed v vs m = Bad-at 450 m
 
 abbrev pub part_of : (field : ℕ) → Val → Memory → Effect Val
 part_of i v m = read_value (path_value v (Field i ∷ [])) m
@@ -137,7 +137,7 @@ block_over i m = done (displaced (kept_at i m) (with_top m (record (top m) { kee
 -- where a With block's dot leads: to its place, or to the value that the block keeps
 abbrev pub place_kept : ℕ → Option Kept → Memory → Effect Path
 place_kept i None m = Bad-at 91 m
-place_kept i (Some (only v)) m = Fine (record { root = in_block (length (rest m.frames)) i; steps = []; of = type.variant; bounded = false }) m
+place_kept i (Some (only v)) m = Fine (record { root = in_block (length (rest m.frames)) i; steps = []; of = type.variant; bounded = false; makes = None }) m
 place_kept i (Some (at_path p)) m = Fine p m
 place_kept i (Some (walk begun v k)) m = Bad-at 91 m
 

@@ -31,8 +31,8 @@ use Rattle.bound_project.specs.Expressions.{Variable, ErrMember, err_number, err
 use Rattle.bound_project.specs.Statements.{Handling, passed_on, skipped, handled_at}
 use Rattle.bound_project.specs.Project.{Declarations, Module, Parameter, no_name, procedure_at}
 use Rattle.vba_meaning.specs.Paths.{Root, in_object, Path}
-use Rattle.vba_meaning.specs.Memory.{Error, Why, stop_said, outside, Slot, value, path, Loop, Kept, only, Memory, top, with_top, found, without, put, value_at, path_of, is_locked, no_error, number_or}
-use Rattle.vba_meaning.specs.References.{hold, displaced, replaced, kept_value, object_at}
+use Rattle.vba_meaning.specs.Memory.{Error, Why, stop_said, outside, Slot, value, path, Loop, Kept, only, Memory, top, with_top, found, without, put, value_at, path_of, is_locked, no_error, number_or, object_at}
+use Rattle.vba_meaning.specs.References.{hold, displaced, replaced, kept_value}
 use Rattle.vba_values.specs.Messages.{message_of}
 
 -- what a run tells ([MS-VBAL] has no trace; Debug.Print is the host's)

@@ -6,4 +6,5 @@ pub mod Arrays
 pub mod Objects
 pub mod Library
 pub mod Host
+pub mod ByName
 pub mod Meaning

@@ -8,17 +8,18 @@ use Rattle.vba_values.specs.Val.{Val, empty, missing, object}
 use Rattle.error_frames.specs.declared.frame.ResumeKind.TheVariants as kind
 use Rattle.error_frames.specs.declared.frame.Taken.{Taken}
 use Rattle.error_frames.specs.declared.frame.Taken.TheVariants as taken
-use Rattle.bound_project.specs.Expressions.{Expr, expr, Node, not_given, constant, load, element_value, field_value, unary, binary, call, err_value, default_of, default_if_any, same, is_type, library, bound_of, host_object, active_sheet, host_member, Lvalue, variable, item, element, field, kept_place, Args, no_args, by_place, by_copy, by_default, by_list, in_order, Exprs, no_exprs, also, given_count, Prints, no_prints, shown, zone, operand_type}
-use Rattle.bound_project.specs.Statements.{Resizes, no_resizes, resize, Arrays, no_arrays, an_array, Tests, no_tests, test_is, test_range, Action, assign, assign_item, set, assign_default, assign_member, set_member, evaluate, let_property, set_property, print, raise, test, go_to, for_to, next, for_each, next_each, exit_each, select, case_of, redim, erase, with_place, with_value, end_with, go_sub, return_sub, exit_to, on_error, end_handler, clear_err, resume_again, resume_next, resume_at, stop, end_run, Statement}
+use Rattle.bound_project.specs.Expressions.{Expr, expr, Node, not_given, constant, load, load_made, element_value, field_value, unary, binary, call, err_value, default_of, default_if_any, same, is_type, library, bound_of, host_object, active_sheet, host_member, named_member, this, new_object, method, Lvalue, variable, item, element, field, kept_place, object_field, as_new, Args, no_args, by_place, by_copy, by_default, by_list, in_order, Exprs, no_exprs, also, given_count, Prints, no_prints, shown, zone, operand_type}
+use Rattle.bound_project.specs.Statements.{Resizes, no_resizes, resize, Arrays, no_arrays, an_array, Tests, no_tests, test_is, test_range, Action, assign, assign_item, set, assign_default, assign_member, set_member, evaluate, let_property, set_property, let_method, set_method, print, raise, test, go_to, for_to, next, for_each, next_each, exit_each, select, case_of, redim, erase, with_place, with_value, end_with, go_sub, return_sub, exit_to, on_error, end_handler, clear_err, resume_again, resume_next, resume_at, stop, end_run, Statement}
 use Rattle.sheet_host.specs.Books.{Sheets}
 use Rattle.bound_project.specs.Project.{Project, class_at, statement_at, next_of, first_values}
 use Rattle.vba_meaning.specs.Paths.{Path, field_path}
-use Rattle.vba_meaning.specs.Memory.{Error, Ending, Ended, Faulted, Stopped, Going, Slot, value, path, Memory, Object, top, at_statement, frame_left, path_of, result, entered, error_here, number_or, opening}
-use Rattle.vba_meaning.specs.References.{objects_in, objects_in_values, is_last, hold, next_waiting, taken_off, let_held, held_by, let_frame, object_at, as_told, gone, closed}
+use Rattle.vba_meaning.specs.Memory.{Error, Ending, Ended, Faulted, Stopped, Going, Slot, value, path, Memory, Object, top, at_statement, frame_left, path_of, result, entered, error_here, number_or, opening, object_at}
+use Rattle.vba_meaning.specs.References.{objects_in, objects_in_values, is_last, hold, next_waiting, taken_off, let_held, held_by, let_frame, as_told, gone, closed}
 use Rattle.vba_meaning.specs.Effects.{Event, Raised, Term, Effect, Fine, Bad-at, Out, Tell, operated, operated_alone, fitted, plain, condition, read_path, lent, unlent, slot_values, packed, reordered, startup_slots, show_value, printed, loop_off, loop_on, next_round, keep, selected, fits, fits_between, gone_sub, returned_sub, policy_of, err_off, policy_on, handler_off, failed_statement, resumed, taken_by, with_taken, raised_by, err_of, set_object, stop_here}
 use Rattle.vba_meaning.specs.Arrays.{part_of, redimmed, erased, keep_path, block_over, dot_at, each_off, each_begun, each_next}
-use Rattle.vba_meaning.specs.Objects.{compared, typed_as, set_at}
+use Rattle.vba_meaning.specs.Objects.{compared, typed_as, set_at, made, own_object, object_there, field_in, made_for, initialize_of, stored_made, made_at}
 use Rattle.vba_meaning.specs.Host.{first_sheet, item_by, member_there, member_called, is_raise, error_given, written_default, place_at, assigned_at, item_assigned, member_assigned, member_not_set}
+use Rattle.vba_meaning.specs.ByName.{named_there, in_parameter_order}
 use Rattle.vba_meaning.specs.Library.{library_called, bound_at, plain_if_any}
 
 -- the memory, and how many turns were begun
@@ -87,6 +88,11 @@ abbrev pub member_used : Project → (name : List ℕ) → (base begun : Val) �
 member_used pr name base begun vs s =
     if is_raise name base then (perform (error_given vs) s >>= λ e s1. raise_error e s1) else perform (member_called pr.declared name vs base begun) s
 
+-- a new object is wholly made before it is there: its Class_Initialize has run
+abbrev pub initialized : Callee → Option ℕ → Val → State → Res Val
+initialized callee None v s = Got v s
+initialized callee (Some p) v s = callee.call p v [] s >>= λ r s1. Got v s1
+
 abbrev mutual
   -- operands from left to right, and always both
   pub eval : Expr → Callee → Project → State → Res Val
@@ -96,6 +102,10 @@ abbrev mutual
   eval_node not_given callee pr s = Got missing s
   eval_node (constant v) callee pr s = Got v s
   eval_node (load x) callee pr s = eval_place x callee pr s >>= λ p s1. perform (read_path p) s1
+  -- an object that is made is there once its Class_Initialize has run
+  eval_node (load_made x) callee pr s =
+      eval_place x callee pr s >>= λ q s1. perform (made_for pr.declared q) s1 >>= λ v s2. initialized callee (initialize_of pr.declared q v) v s2 >>= λ w s3.
+      perform (stored_made q w) s3 >>= λ u s4. perform (read_path q) s4
   eval_node (element_value e es) callee pr s = eval e callee pr s >>= λ v s1. eval_list es callee pr s1 >>= λ xs s2. perform (item_by v (slot_values xs)) s2
   eval_node (field_value e i) callee pr s = eval e callee pr s >>= λ v s1. perform (part_of i v) s1
   eval_node (unary o a) callee pr s = eval a callee pr s >>= λ v s1. perform (operated_alone o (operand_type a) v) s1
@@ -111,6 +121,14 @@ abbrev mutual
   eval_node (host_member e name es) callee pr s =
       eval e callee pr s >>= λ v s1. perform (member_there pr.declared name (given_count es) v) s1 >>= λ w s2. eval_list es callee pr s2 >>= λ xs s3.
       member_used pr name v w (slot_values xs) s3
+  eval_node (named_member e name by es) callee pr s =
+      eval e callee pr s >>= λ v s1. perform (named_there name by (given_count es) v) s1 >>= λ w s2. eval_list es callee pr s2 >>= λ xs s3.
+      member_used pr name v w (in_parameter_order v name by (slot_values xs)) s3
+  eval_node this callee pr s = perform own_object s
+  eval_node (new_object c) callee pr s = perform (made pr.declared c) s >>= λ v s1. initialized callee (class_at pr.declared c).initialize v s1
+  -- that there is an object is asked before the arguments are evaluated
+  eval_node (method e p args) callee pr s =
+      eval e callee pr s >>= λ v s1. perform (object_there v) s1 >>= λ w s2. evals args callee pr s2 >>= λ xs s3. callee.call p w xs s3
   eval_node (same a b) callee pr s = eval a callee pr s >>= λ v s1. eval b callee pr s1 >>= λ w s2. perform (compared v w) s2
   eval_node (is_type e of) callee pr s = eval e callee pr s >>= λ v s1. perform (typed_as of v) s1
   eval_node (library f text_form es compare base) callee pr s = eval_list es callee pr s >>= λ xs s1. perform (library_called pr.declared f text_form compare base (slot_values xs)) s1
@@ -124,6 +142,8 @@ abbrev mutual
   eval_place (element x es) callee pr s = eval_place x callee pr s >>= λ q s1. eval_list es callee pr s1 >>= λ xs s2. perform (place_at q (slot_values xs)) s2
   eval_place (field x i of bounded) callee pr s = eval_place x callee pr s >>= λ q s1. Got (field_path q i of bounded) s1
   eval_place (kept_place i) callee pr s = perform (dot_at i) s
+  eval_place (object_field e i of bounded) callee pr s = eval e callee pr s >>= λ v s1. perform (field_in i of bounded v) s1
+  eval_place (as_new c x) callee pr s = eval_place x callee pr s >>= λ q s1. Got (made_at c q) s1
 
   -- arguments in the order of the text, each made what its parameter takes before the next ([MS-VBAL] 5.3.1.11)
   pub evals : Args → Callee → Project → State → Res (List Slot)
@@ -189,6 +209,12 @@ exec (let_property q args e of) callee pr p i k s =
     eval e callee pr s >>= λ v s1. evals args callee pr s1 >>= λ xs s2. perform (plain v) s2 >>= λ w s3. perform (fitted of w) s3 >>= λ x s4. callee.call q empty (xs ++ value x ∷ []) s4 >>= λ r s5. Got k s5
 exec (set_property q args e of) callee pr p i k s =
     eval e callee pr s >>= λ v s1. evals args callee pr s1 >>= λ xs s2. perform (set_object of v) s2 >>= λ x s3. callee.call q empty (xs ++ value x ∷ []) s3 >>= λ r s4. Got k s4
+exec (let_method base q args e of) callee pr p i k s =
+    eval e callee pr s >>= λ v s1. eval base callee pr s1 >>= λ b s2. perform (object_there b) s2 >>= λ w s3. evals args callee pr s3 >>= λ xs s4.
+    perform (plain v) s4 >>= λ x s5. perform (fitted of x) s5 >>= λ y s6. callee.call q w (xs ++ value y ∷ []) s6 >>= λ r s7. Got k s7
+exec (set_method base q args e of) callee pr p i k s =
+    eval e callee pr s >>= λ v s1. eval base callee pr s1 >>= λ b s2. perform (object_there b) s2 >>= λ w s3. evals args callee pr s3 >>= λ xs s4.
+    perform (set_object of v) s4 >>= λ y s5. callee.call q w (xs ++ value y ∷ []) s5 >>= λ r s6. Got k s6
 exec (print ps ends) callee pr p i k s = eval_prints ps callee pr s >>= λ xs s1. perform (printed ends xs) s1 >>= λ u s2. Got k s2
 exec (raise args) callee pr p i k s = evals args callee pr s >>= λ xs s1. raise_error (raised_by xs s1.memory) s1
 exec (test sense e to other) callee pr p i k s = eval e callee pr s >>= λ v s1. perform (condition sense v) s1 >>= λ b s2. Got (if b then to else other) s2

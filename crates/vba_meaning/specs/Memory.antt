@@ -1,7 +1,8 @@
 -- What a run remembers: frames, variables, objects and Err. Turns and events are counted and told outside of it.
-use Rattle.std.specs.Prelude.{ℕ, ◌==◌, nat_lt, ℤ, pos, List, [], ◌∷◌, ◌++◌, length, map, Bool, true, if◌then◌else◌, Option, Some, None, slice_get, slice_set}
+use Rattle.std.specs.Prelude.{ℕ, ◌==◌, nat_lt, ℤ, pos, List, [], ◌∷◌, ◌++◌, length, map, Bool, true, if◌then◌else◌, Option, Some, None, slice_get, slice_index_or, slice_set}
 use Rattle.vba_values.specs.declared.types.Compare.{Compare}
 use Rattle.vba_values.specs.declared.fault.OutKind.{OutKind}
+use Rattle.vba_values.specs.declared.object.ObjRef.TheVariants.{Heap}
 use Rattle.vba_values.specs.Types.{Declared}
 use Rattle.vba_values.specs.Val.{Val, empty, object}
 use Rattle.arrays_udt.specs.declared.paths.PathStep.{PathStep}
@@ -9,8 +10,8 @@ use Rattle.arrays_udt.specs.Paths.{path_value, with_path}
 use Rattle.error_frames.specs.declared.frame.FrameErrors.{FrameErrors}
 use Rattle.sheet_host.specs.Books.{Sheets}
 use Rattle.error_frames.specs.Decision as decision
-use Rattle.bound_project.specs.Expressions.{Storage, local, shared, Variable}
-use Rattle.vba_meaning.specs.Paths.{Root, in_frame, in_project, in_block, in_object, Path, plain_steps, any_below}
+use Rattle.bound_project.specs.Expressions.{Storage, local, shared, own, Variable}
+use Rattle.vba_meaning.specs.Paths.{Root, in_frame, in_project, in_fields, in_block, in_object, Path, plain_steps, any_below}
 use Rattle.bound_project.specs.Project.{Declarations, Procedure, procedure_at, first_value, first_values}
 
 -- an error on its way, and what Err keeps of the last one: its number, a source and a description where they were
@@ -174,15 +175,33 @@ value_kept (Some (only v)) = Some v
 value_kept (Some (at_path p)) = None
 value_kept (Some (walk begun v k)) = None
 
+abbrev pub no_object : Object
+no_object = record { class = 0; told = true; fields = [] }
+
+abbrev pub object_or : Option Object → Object
+object_or None = no_object
+object_or (Some b) = b
+
+abbrev pub object_at : Memory → ℕ → Object
+object_at m o = object_or (slice_index_or m.objects o None)
+
+abbrev pub with_object : Memory → ℕ → Option Object → Memory
+with_object m o b = record m { objects = slice_set m.objects o b }
+
+abbrev pub with_field : Object → ℕ → Val → Object
+with_field b i v = record b { fields = slice_set b.fields i v }
+
 abbrev pub root_value : Memory → Root → Option Val
 root_value m (in_frame k x) = value_in (slice_get (frame_at m.frames k).slots x)
 root_value m (in_project x) = slice_get m.shared x
+root_value m (in_fields o i) = slice_get (object_at m o).fields i
 root_value m (in_block k i) = value_kept (found (frame_at m.frames k).keeps i)
 root_value m (in_object o) = Some (object o)
 
 abbrev pub with_root : Memory → Root → Val → Memory
 with_root m (in_frame k x) v = record m { frames = with_slot m.frames k x (value v) }
 with_root m (in_project x) v = record m { shared = slice_set m.shared x v }
+with_root m (in_fields o i) v = with_object m o (Some (with_field (object_at m o) i v))
 with_root m (in_block k i) v = record m { frames = with_kept m.frames k i (only v) }
 with_root m (in_object o) v = m
 
@@ -207,12 +226,18 @@ path_or None p = p
 path_or (Some (value v)) p = p
 path_or (Some (path q)) p = q
 
+-- the number of a counted object
+abbrev pub number_of : Val → ℕ
+number_of (object (Heap id)) = id.0
+number_of v = 0
+
 -- where a variable is; a ByRef parameter leads to where its argument is
 abbrev pub path_of : Memory → Variable → Path
 path_of m x = path_by x.storage where
   path_by : Storage → Path
-  path_by (local i) = path_or (slice_get (top m).slots i) (record { root = in_frame (length (rest m.frames)) i; steps = []; of = x.of; bounded = x.bounded })
-  path_by (shared i) = record { root = in_project i; steps = []; of = x.of; bounded = x.bounded }
+  path_by (local i) = path_or (slice_get (top m).slots i) (record { root = in_frame (length (rest m.frames)) i; steps = []; of = x.of; bounded = x.bounded; makes = None })
+  path_by (shared i) = record { root = in_project i; steps = []; of = x.of; bounded = x.bounded; makes = None }
+  path_by (own i) = record { root = in_fields (number_of (top m).me) i; steps = []; of = x.of; bounded = x.bounded; makes = None }
 
 -- ---- paths that frames hold
 

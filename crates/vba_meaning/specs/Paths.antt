@@ -1,5 +1,5 @@
 -- Paths: where values are. A path is no value; frames hold paths, and what they lead through can't be replaced.
-use Rattle.std.specs.Prelude.{ℕ, ◌==◌, List, [], ◌∷◌, ◌++◌, Bool, false, not, ◌&&◌, ◌||◌}
+use Rattle.std.specs.Prelude.{ℕ, ◌==◌, List, [], ◌∷◌, ◌++◌, Bool, false, not, Option, None, ◌&&◌, ◌||◌}
 use Rattle.vba_values.specs.declared.object.ObjRef.{ObjRef}
 use Rattle.vba_values.specs.Types.{Declared}
 use Rattle.vba_values.specs.Types as type
@@ -7,11 +7,13 @@ use Rattle.arrays_udt.specs.declared.paths.PathStep.{PathStep}
 use Rattle.arrays_udt.specs.declared.paths.PathStep.TheVariants.{Field, Element}
 use Rattle.arrays_udt.specs.Paths.{same_step}
 
--- where a path begins: a variable of a frame, whose number is that of the frames below it, or of the project; the value
--- that a With block of a frame keeps; or an object that an index gave, which no variable has
+-- where a path begins: a variable of a frame, whose number is that of the frames below it, or of the project; a variable
+-- of a counted object, by the object's number; the value that a With block of a frame keeps; or an object that an index
+-- gave, which no variable has
 pub data Root : Type 0 where
   in_frame : (frame variable : ℕ) → Root
   in_project : ℕ → Root
+  in_fields : (number field : ℕ) → Root
   in_block : (frame header : ℕ) → Root
   in_object : ObjRef → Root
 
@@ -21,12 +23,14 @@ pub record Step : Type 0 where
   pub moves : Bool
 
 -- a path leads to a value: to a variable, then to fields and elements inside it. It has the declared type of what is
--- there, and whether that is an array declared with bounds
+-- there, whether that is an array declared with bounds, and the class of which an object is made where it is read while
+-- it has Nothing, if it is declared As New
 pub record Path : Type 0 where
   pub root : Root
   pub steps : List Step
   pub of : Declared
   pub bounded : Bool
+  pub makes : Option ℕ
 
 abbrev pub plain_steps : List Step → List PathStep
 plain_steps [] = []
@@ -34,18 +38,19 @@ plain_steps (s ∷ steps) = s.step ∷ plain_steps steps
 
 -- the path of an element, and of a field
 abbrev pub element_path : Path → (offset : ℕ) → Declared → Path
-element_path p offset of = record { root = p.root; steps = p.steps ++ record { step = Element offset; moves = not p.bounded } ∷ []; of = of; bounded = false }
+element_path p offset of = record { root = p.root; steps = p.steps ++ record { step = Element offset; moves = not p.bounded } ∷ []; of = of; bounded = false; makes = None }
 
 abbrev pub field_path : Path → (field : ℕ) → Declared → (bounded : Bool) → Path
-field_path p i of bounded = record { root = p.root; steps = p.steps ++ record { step = Field i; moves = false } ∷ []; of = of; bounded = bounded }
+field_path p i of bounded = record { root = p.root; steps = p.steps ++ record { step = Field i; moves = false } ∷ []; of = of; bounded = bounded; makes = None }
 
 -- where an object is that no variable has
 abbrev pub object_path : ObjRef → Path
-object_path o = record { root = in_object o; steps = []; of = type.variant; bounded = false }
+object_path o = record { root = in_object o; steps = []; of = type.variant; bounded = false; makes = None }
 
 abbrev pub same_root : Root → Root → Bool
 same_root (in_frame k x) (in_frame j y) = k == j && x == y
 same_root (in_project x) (in_project y) = x == y
+same_root (in_fields o i) (in_fields n j) = o == n && i == j
 same_root (in_block k i) (in_block j h) = k == j && i == h
 same_root a b = false
 

@@ -4,7 +4,7 @@ use Rattle.vba_values.specs.declared.object.ObjRef.{ObjRef}
 use Rattle.vba_values.specs.declared.object.ObjRef.TheVariants.{Nothing, Heap, Host}
 use Rattle.vba_values.specs.Val.{Val, Vals, empty, object, array, udt, no_vals, val}
 use Rattle.vba_meaning.specs.Paths.{Path}
-use Rattle.vba_meaning.specs.Memory.{Memory, Frame, Object, Slot, value, path, Kept, only, at_path, walk, top, with_top, rest, value_at, with_value, value_or_empty}
+use Rattle.vba_meaning.specs.Memory.{Memory, Frame, Object, Slot, value, path, Kept, only, at_path, walk, top, with_top, rest, value_at, with_value, value_or_empty, object_at, with_object}
 
 abbrev pub objects_of_reference : ObjRef → List ℕ
 objects_of_reference Nothing = []
@@ -118,19 +118,6 @@ abbrev pub let_frame : Memory → Memory
 let_frame m = waits (held_by (top m)) (with_top m (emptied (top m)))
 
 -- ---- objects
-
-abbrev pub no_object : Object
-no_object = record { class = 0; told = true; fields = [] }
-
-abbrev pub object_or : Option Object → Object
-object_or None = no_object
-object_or (Some b) = b
-
-abbrev pub object_at : Memory → ℕ → Object
-object_at m o = object_or (slice_index_or m.objects o None)
-
-abbrev pub with_object : Memory → ℕ → Option Object → Memory
-with_object m o b = record m { objects = slice_set m.objects o b }
 
 abbrev pub as_told : ℕ → Memory → Memory
 as_told o m = with_object m o (Some (record (object_at m o) { told = true }))

@@ -14,7 +14,7 @@ returns c =
     let i = c.requires.writer.entry in
     let d = draft_view c.args.draft.now in
     let e = draft_view c.pass_rest.new.draft in
-    let P : ActionKind → Type 0 = λ (k : ActionKind). Lets env w.routine [] d e k in
+    let P : ActionKind → Type 0 = λ (k : ActionKind). Lets env w.property [] d e k in
     subst P (sym c.property_kind.ensures)
     (lets_bare env w c.in_ok-procedure.procedure c.in_ok-parameters.parameters.now c.in-Some.front.now c.in-Some.last.now c.in_ok-arguments.arguments d e
     c.requires.writer c.in_ok-procedure.ensures (λ placed. c.in_ok-parameters.ensures i.entry (written_view w.written) placed i.at i.what) c.in-Some.ensures.cases.0 c.in_ok-arguments.ensures c.in_ok-pass_rest.ensures)

@@ -35,6 +35,6 @@ returns-in_ok-term-in-Member c =
     let d = draft_view c.args.draft.now in
     let x = c.in-Member.call in
     let y = c.in_ok-term-in-Member.term in
-    let A : Item → Type 0 = λ (i : Item). Closes i d d (record { place = x.place; name = None; is_qualifier = false; term = y }) in
+    let A : Item → Type 0 = λ (i : Item). Closes i d d (record { place = x.place; name = None; dotted = None; term = y }) in
     let N : Item → Type 0 = λ (i : Item). ItemNamed d.tables i in
     subst A (sym c.in-Member.is) (closes_member x y d (subst N c.in-Member.is c.requires) c.in_ok-term-in-Member.ensures)

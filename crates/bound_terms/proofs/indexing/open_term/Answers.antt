@@ -1,4 +1,5 @@
 use Rattle.std.proofs.Common.{sym, subst}
+use Rattle.std.specs.Prelude.{IfOk}
 use Rattle.bound_project.specs.DraftView.{draft_view}
 use Rattle.binder.specs.Terms.{Env}
 use Rattle.bound_calls.specs.declared.term.Term.{Term}
@@ -24,6 +25,5 @@ returns-in_ok-indexed-in-Value c =
 
 pub returns-in-Routine : goal.returns-in-Routine
 returns-in-Routine c =
-    let d = draft_view c.args.draft.now in
-    let P : Term → Type 0 = λ (t : Term). (env : Env) → OpensTerm env c.args.tree t d d (item.Call c.open_call.result) in
-    subst P (sym c.in-Routine.is) (λ env. c.open_call.ensures env d)
+    let P : Term → Type 0 = λ (t : Term). IfOk c.open_routine.result (λ i. (env : Env) → OpensTerm env c.args.tree t (draft_view c.args.draft.now) (draft_view c.open_routine.new.draft) i) in
+    subst P (sym c.in-Routine.is) c.open_routine.ensures

@@ -1,5 +1,4 @@
-use Rattle.std.proofs.Common.{Option, sym, ap, subst, ◌∙◌}
-use Rattle.std.specs.Prelude.{is_some}
+use Rattle.std.proofs.Common.{Option, sym, subst}
 use Rattle.bound_project.specs.DraftView.{draft_view}
 use Rattle.binder.specs.Scopes.{Meant, behind, plainly}
 use Rattle.binder.specs.ExpressionsBound.{meant_term}
@@ -25,6 +24,5 @@ returns c =
     let e = draft_view c.meant_term.new.draft in
     let q = qualifier_view c.args.qualifier in
     let A : Option Meant → Type 0 = λ (m : Option Meant). MakesLeaf env d e c.in_ok-found.found (meant_term env f m) in
-    λ k. makes_behind env c.args.tree f q d e c.from_zero-term.result c.is_there-is_qualifier.result
-    (c.from_zero-term.ensures env d e (meant_term env f (behind plainly env.scope q f)) (subst A c.behind-meant.ensures c.in_ok-found.ensures))
-    (c.is_there-is_qualifier.ensures ∙ ap is_some c.enum_behind.ensures) k
+    λ k. makes_behind env c.args.tree f q d e c.from_zero-term.result c.dotted.result
+    (c.from_zero-term.ensures env d e (meant_term env f (behind plainly env.scope q f)) (subst A c.behind-meant.ensures c.in_ok-found.ensures)) c.dotted.ensures k

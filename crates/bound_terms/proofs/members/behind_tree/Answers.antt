@@ -4,4 +4,4 @@ use Rattle.bound_terms.proofs.Fielding.{makes_member}
 use Rattle.bound_terms.proofs.members.behind_tree.Goals as goal
 
 pub returns : goal.returns
-returns c = λ plain k. makes_member (env_view c.args.env) c.args.tree c.args.member.now (draft_view c.args.draft.now) (draft_view c.behind_term.new.draft) c.in_ok-term.term c.in_ok-term.ensures plain k
+returns c = λ k. makes_member (env_view c.args.env) c.args.tree c.args.member.now (draft_view c.args.draft.now) (draft_view c.behind_term.new.draft) c.in_ok-term.term c.in_ok-term.ensures k

@@ -8,10 +8,9 @@ use Rattle.binder.specs.Terms.{a_routine}
 use Rattle.binder.specs.ExpressionsBound.{entry_term}
 use Rattle.declared_names.specs.declared.entry.What.{What}
 use Rattle.declared_names.specs.View.{space_view, what_view, written_view}
-use Rattle.bound_calls.specs.declared.term.Term.TheVariants as term
 use Rattle.bound_calls.specs.Steps.{MakesLeaf}
 use Rattle.bound_terms.specs.View.{env_view}
-use Rattle.bound_terms.proofs.NamedTerms.{leaf_as, routine_leaf, entry_variable, entry_procedure}
+use Rattle.bound_terms.proofs.NamedTerms.{leaf_as, entry_variable, entry_procedure}
 use Rattle.bound_terms.proofs.names.standard_term.Goals as goal
 
 pub module_variable-requires-clause-standard : goal.module_variable-requires-clause-standard
@@ -32,18 +31,18 @@ returns-in-Variable c =
     subst P (sym c.in-Variable.is)
     (IfOk-weaker c.module_variable.result _ _ (λ t m d x. leaf_as env d d t _ _ (sym (entry_variable env x space n e.name.now e.is_public (variable_view c.in-Variable.variable.now) class)) (m d)) c.module_variable.ensures)
 
-pub routine_of-requires-clause-what : goal.routine_of-requires-clause-what
-routine_of-requires-clause-what c = ap what_view c.in-Procedure.is
+pub procedure_term-requires-clause-what : goal.procedure_term-requires-clause-what
+procedure_term-requires-clause-what c = ap what_view c.in-Procedure.is
 
-pub returns-in_ok-routine-in-Procedure : goal.returns-in_ok-routine-in-Procedure
-returns-in_ok-routine-in-Procedure c =
+pub returns-in-Procedure : goal.returns-in-Procedure
+returns-in-Procedure c =
     let env = env_view c.args.env in
     let space = space_view c.args.space.now in
     let n = c.args.number in
     let e = c.args.entry in
     let w = written_view c.in-Procedure.written in
-    let r = c.in_ok-routine-in-Procedure.routine in
     let class : space.source.is_class ≡ false = sym c.is_class.ensures ∙ c.if-is_class.false in
-    let P : What → Type 0 = λ (k : What). (d : Drafted) (x : Identifier) → MakesLeaf env d d (term.Routine r) (entry_term env x space n (record { name = e.name.now; is_public = e.is_public; what = what_view k })) in
+    let P : What → Type 0 = λ (k : What). IfOk c.procedure_term.result
+    (λ t. (d : Drafted) (x : Identifier) → MakesLeaf env d d t (entry_term env x space n (record { name = e.name.now; is_public = e.is_public; what = what_view k }))) in
     subst P (sym c.in-Procedure.is)
-    (λ d x. leaf_as env d d (term.Routine r) (a_routine space n w) _ (sym (entry_procedure env x space n e.name.now e.is_public w class)) (routine_leaf env d r (a_routine space n w) c.in_ok-routine-in-Procedure.ensures))
+    (IfOk-weaker c.procedure_term.result _ _ (λ t m d x. leaf_as env d d t (a_routine space n w) _ (sym (entry_procedure env x space n e.name.now e.is_public w class)) (m d)) c.procedure_term.ensures)

@@ -1,4 +1,4 @@
-use Rattle.std.proofs.Common.{refl, sym, subst, Option, Some, false}
+use Rattle.std.proofs.Common.{refl, sym, subst, Option, Some, None}
 use Rattle.std.specs.Prelude.{reverse}
 use Rattle.vba_expression.specs.Tree.{name}
 use Rattle.bound_project.specs.DraftView.{draft_view}
@@ -26,5 +26,5 @@ returns c =
     let e = draft_view c.settle.new.draft in
     let f = draft_view c.meant_term.new.draft in
     let A : Option Meant → Type 0 = λ m. MakesLeaf env e f c.in_ok-term.term (meant_term env x m) in
-    goes_leaf env (reverse c.args.stack.now.items) (reverse c.settle.new.stack.items) (reverse c.put_item.new.stack.items) d e f (record { place = x.token.place; name = Some c.args.name; is_qualifier = false; term = c.in_ok-term.term }) (name x)
+    goes_leaf env (reverse c.args.stack.now.items) (reverse c.settle.new.stack.items) (reverse c.put_item.new.stack.items) d e f (record { place = x.token.place; name = Some c.args.name; dotted = None; term = c.in_ok-term.term }) (name x)
     (c.in_ok-settle.ensures env) (subst A c.declares-meant.ensures c.in_ok-term.ensures) refl refl tt c.in_ok-put_item.ensures

@@ -1,6 +1,7 @@
 use Rattle.std.proofs.Common.{◌≡◌, ◌++◌, ap, ◌∙◌, rules}
 use Rattle.std.specs.Prelude.{is_some}
 use Rattle.binder.specs.Said.{header_said}
+use Rattle.binder.specs.Violations.{types_said}
 use Rattle.declared_names.specs.View.{scope_view, written_view}
 use Rattle.module_parts.specs.View.{parts_view}
 use Rattle.said_parts.specs.View.{all_said}
@@ -14,5 +15,5 @@ returns-clause-types c =
     let parts : parts_view c.slice.result.now ≡ p.body = ap parts_view c.slice.ensures in
     let said : all_said c.as_slice.result.now ≡ header_said p =
     ap all_said c.as_slice.ensures.value ∙ (c.in_ok-push_header.ensures ∙ ap (λ items. all_said items ++ header_said p) c.new-said.ensures.items) in
-    inside_noted c.note_body.result c.note_body.new.found.types c.note_all_types.new.least c.args.found.now.types (scope_view c.args.scope) p
+    inside_noted 16 (types_said (scope_view c.args.scope)) c.note_body.result c.note_body.new.found.types c.note_all_types.new.least c.args.found.now.types p
     (all_said c.as_slice.result.now) c.is_some-is_static.result (parts_view c.slice.result.now) static parts said c.in_ok-note_all_types.ensures c.note_body.ensures.types

@@ -1,7 +1,8 @@
 use Rattle.std.proofs.Common.{◌≡◌, true, ap, sym, ◌∙◌}
 use Rattle.std.specs.Prelude.{nat_lt, ◌+◌}
 use Rattle.std.proofs.lemmas.Bool.{lt-ltb}
-use Rattle.vba_meaning.specs.References.{is_last, object_at}
+use Rattle.vba_meaning.specs.Memory.{object_at}
+use Rattle.vba_meaning.specs.References.{is_last}
 use Rattle.vba_meaning.specs.Meaning.{with_memory, turned}
 use Rattle.run_memory.specs.View.{memory_view}
 use Rattle.pcode.specs.Machine.{lets_one_by, ends_by, looking, tells}

@@ -6,4 +6,4 @@ use Rattle.use_rules.proofs.names_walk.pass_nodes.Given as goal
 
 abbrev pub invariant-loop-passed : goal.invariant-loop-passed
 invariant-loop-passed l =
-    names_through (scope_view l.scope) l.is_within (names_stack l.stack.items) (drop l.passed-index l.nodes) ≡ names_through (scope_view l.scope) l.is_within [] l.nodes
+    names_through (scope_view l.scope) l.question (names_stack l.stack.items) (drop l.passed-index l.nodes) ≡ names_through (scope_view l.scope) l.question [] l.nodes

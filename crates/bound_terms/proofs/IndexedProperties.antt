@@ -1,0 +1,145 @@
+-- Brackets behind properties without parameters, which index what these give.
+use Rattle.std.specs.Prelude.{option_and_then, MatchBool}
+use Rattle.std.proofs.Common.{◌≡◌, ℕ, suc, ◌==◌, Bool, true, false, ◌&&◌, List, [], ◌∷◌, map, length, Option, Some, None, option_map, if◌then◌else◌, refl, sym, ap, subst, ◌∙◌}
+use Rattle.vba_base.specs.declared.place.Place.{Place}
+use Rattle.vba_words.specs.declared.identifier.Identifier.{Identifier}
+use Rattle.vba_tree.specs.Tree.{Parameter}
+use Rattle.vba_expression.specs.Tree.{Expr}
+use Rattle.vba_values.specs.Types.{Declared}
+use Rattle.vba_values.specs.Types as type
+use Rattle.bound_project.specs.View.{declared_view, parameter_view}
+use Rattle.bound_project.specs.Expressions.{Exprs, element_value}
+use Rattle.bound_project.specs.Expressions as bound
+use Rattle.bound_project.specs.Pieces.{Piece, an_expr}
+use Rattle.bound_project.specs.Project as project
+use Rattle.bound_project.specs.Drafts.{Drafted}
+use Rattle.binder.specs.Constants.{home, place_of_expression}
+use Rattle.binder.specs.Declarations.{Written, What, a_variable, a_constant, an_enum, a_member, a_type, an_event, a_procedure, Entry}
+use Rattle.binder.specs.Names.{scope_in}
+use Rattle.binder.specs.Scopes.{Space, Scope, first_at, is_named, seen_from}
+use Rattle.binder.specs.Storage.{bound_parameter, bound_parameters, takes_value}
+use Rattle.binder.specs.Terms.{Env, Given, a_routine, a_value, bound_arguments, expression_of}
+use Rattle.binder.specs.Terms as terms
+use Rattle.binder.specs.ExpressionsBound.{argument_of, bare_call, call_value, call_with, callee, element_type, if_there, indexed, indexed_value, indexes_value, is_get, is_property, item_of, node_or, numbers_of, operand_of, parameters_in, procedure_with, reader, term_of, with_type}
+use Rattle.declared_names.specs.View.{written_view}
+use Rattle.bound_calls.specs.declared.term.Ending.{Ending}
+use Rattle.bound_calls.specs.declared.term.Indexed.{Indexed}
+use Rattle.bound_calls.specs.declared.term.Item.TheVariants as items
+use Rattle.bound_calls.specs.declared.term.Routine.{Routine}
+use Rattle.bound_calls.specs.declared.term.Term.TheVariants as term
+use Rattle.bound_calls.specs.declared.term.Tree.{Tree}
+use Rattle.bound_calls.specs.Indexing.{OpensTerm}
+use Rattle.bound_calls.specs.Standing.{RoutineStands}
+use Rattle.bound_calls.specs.Taking.{CallsRoutine}
+use Rattle.bound_calls.proofs.Growing.{grown_twice}
+use Rattle.bound_terms.specs.Indexing.{IndexesValue, PushesWhole}
+use Rattle.bound_terms.specs.Properties.{first_wanted, is_wanted, property_with, wants}
+use Rattle.bound_terms.proofs.Elements.{opens_whole}
+use Rattle.bound_terms.proofs.Lookups.{get_same, property_found, with_entry}
+
+-- ---- the Get of a property
+
+-- what was found passes
+abbrev Passes : {A : Type 0} → (A → Bool) → Option (ℕ × A) → Type 0
+Passes test None = Unit {0}
+Passes test (Some f) = test f.1 ≡ true
+
+passes : {A : Type 0} (test : A → Bool) (from : ℕ) (xs : List A) → Passes test (first_at test from xs)
+passes test from [] = tt
+passes {A} test from (x ∷ xs) = at (test x) refl (first_at test (suc from) xs) (passes test (suc from) xs)
+  where
+    at : (b : Bool) → test x ≡ b → (r : Option (ℕ × A)) → Passes test r → Passes test (if b then Some (from, x) else r)
+    at true is r h = is
+    at false is r h = h
+
+last_holds : (a b c : Bool) → (a && (b && c)) ≡ true → c ≡ true
+last_holds true true c h = h
+last_holds true false c h = let e : false ≡ true = h in absurd cc
+last_holds false b c h = let e : false ≡ true = h in absurd cc
+
+wanted_get : (w : What) (n : ℕ) (x : Identifier) (public : Bool) (read : ℕ × Written) → wants true w ≡ true → with_entry (Some (n, record { name = x; is_public = public; what = w })) ≡ Some read → is_get read.1.kind ≡ true
+wanted_get (a_procedure p) n x public read h found =
+    let e : Some (n, p) ≡ Some read = found in
+    let same : (n, p) ≡ read = cc in
+    ap (λ (f : ℕ × Written). is_get f.1.kind) (sym same) ∙ sym (get_same p.kind) ∙ h
+wanted_get (a_variable v) n x public read h found = let e : false ≡ true = h in absurd cc
+wanted_get (a_constant c) n x public read h found = let e : false ≡ true = h in absurd cc
+wanted_get an_enum n x public read h found = let e : false ≡ true = h in absurd cc
+wanted_get (a_member value steps) n x public read h found = let e : false ≡ true = h in absurd cc
+wanted_get (a_type fields) n x public read h found = let e : false ≡ true = h in absurd cc
+wanted_get (an_event ps) n x public read h found = let e : false ≡ true = h in absurd cc
+
+found_get : (s : Scope) (space : Space) (x : Identifier) (read : ℕ × Written) → procedure_with s is_get space x ≡ Some read → is_get read.1.kind ≡ true
+found_get s space x read h =
+    let test : Entry → Bool = λ (e : Entry). is_named x.name e.name && (seen_from s space e && wants true e.what) in
+    at (first_wanted true s space x) (passes test 0 space.entries) (property_found true s space x ∙ h)
+  where
+    at : (o : Option (ℕ × Entry)) → Passes (λ (e : Entry). is_named x.name e.name && (seen_from s space e && wants true e.what)) o → with_entry o ≡ Some read → is_get read.1.kind ≡ true
+    at None p h = let e : None ≡ Some read = h in absurd cc
+    at (Some f) p h = wanted_get f.1.what f.0 f.1.name f.1.is_public read (last_holds (is_named x.name f.1.name) (seen_from s space f.1) (wants true f.1.what) p) h
+
+-- what is read of a property is a Get
+read_get : (s : Scope) (space : Space) (number : ℕ) (w : Written) (read : ℕ × Written) → is_property w.kind ≡ true → reader s space number w ≡ Some read → is_get read.1.kind ≡ true
+read_get s space number w read property reads =
+    found_get s space w.name read (sym (ap (λ (b : Bool). if b then procedure_with s is_get space w.name else Some (number, w)) property) ∙ reads)
+
+-- without parameters none are written
+none_written : (s : Scope) (takes : Bool) (ps : List Parameter) → bound_parameters s takes ps ≡ [] → (length ps == 0) ≡ true
+none_written s takes [] h = refl
+none_written s takes (p ∷ []) h = let e : bound_parameter s takes p ∷ [] ≡ [] = h in absurd cc
+none_written s takes (p ∷ q ∷ ps) h = let e : bound_parameter s false p ∷ bound_parameters s takes (q ∷ ps) ≡ [] = h in absurd cc
+
+-- ---- what brackets make of it
+
+abbrev no_value : Declared → terms.Term → Place → Option bound.Expr
+no_value of t place = None
+
+property_indexed : (env : Env) (place : Place) (z : terms.Term) (space : Space) (number : ℕ) (w : Written) (read : ℕ × Written) (made : bound.Node) (of u : Declared) (gs : List Given) (es : Exprs) → z ≡ a_routine space number w
+    → reader env.scope space number w ≡ Some read → is_get read.1.kind ≡ true → parameters_in env.scope space read.1 ≡ [] → bare_call env space number w ≡ a_value made of → element_type of ≡ Some u → numbers_of (operand_of env) gs ≡ Some es
+    → indexed env place (item_of place z) gs ≡ a_value (element_value (expression_of made place of) es) u
+property_indexed env place z space number w read made of u [] es is reads get none call element numbers = let e : None ≡ Some es = numbers in absurd cc
+property_indexed env place z space number w read made of u (g ∷ gs) es is reads get none call element numbers =
+    let index : bound.Node → Declared → terms.Term = λ (n : bound.Node) (v : Declared). indexed_value place n v (numbers_of (operand_of env) (g ∷ gs)) in
+    let called_as : ℕ × Written → terms.Term = λ (f : ℕ × Written).
+    if is_get f.1.kind && length f.1.parameters == 0 then node_or (call_value env space f.0 f.1 (Some bound.no_args)) index
+    else call_value env space f.0 f.1 (bound_arguments (argument_of env) (parameters_in env.scope space f.1) (g ∷ gs)) in
+    let bare : ℕ × Written → terms.Term = λ (f : ℕ × Written). call_value env space f.0 f.1 (bound_arguments no_value (parameters_in env.scope space f.1) []) in
+    let found : indexed env place (a_routine space number w) (g ∷ gs) ≡ called_as read = ap (λ (o : Option (ℕ × Written)). if_there (option_map called_as o)) reads in
+    let bare_is : bare_call env space number w ≡ bare read = ap (λ (o : Option (ℕ × Written)). if_there (option_map bare o)) reads in
+    let value_is : call_value env space read.0 read.1 (Some bound.no_args) ≡ a_value made of =
+    ap (λ (ps : List project.Parameter). call_value env space read.0 read.1 (bound_arguments no_value ps [])) (sym none) ∙ sym bare_is ∙ call in
+    let no_parameters : (length read.1.parameters == 0) ≡ true = none_written (scope_in (home env.scope space) read.1) (takes_value read.1.kind) read.1.parameters none in
+    let T : Declared → Exprs → terms.Term = λ (v : Declared) (xs : Exprs). a_value (element_value (expression_of made place of) xs) v in
+    let rest : terms.Term = call_value env space read.0 read.1 (bound_arguments (argument_of env) (parameters_in env.scope space read.1) (g ∷ gs)) in
+    ap (λ (y : terms.Term). indexed env place (item_of place y) (g ∷ gs)) is ∙ found
+    ∙ ap (λ (b : Bool). if b && length read.1.parameters == 0 then node_or (call_value env space read.0 read.1 (Some bound.no_args)) index else rest) get
+    ∙ ap (λ (b : Bool). if b then node_or (call_value env space read.0 read.1 (Some bound.no_args)) index else rest) no_parameters
+    ∙ ap (λ (y : terms.Term). node_or y index) value_is
+    ∙ ap (λ (o : Option Declared). with_type o (numbers_of (operand_of env) (g ∷ gs)) T) element ∙ ap (λ (o : Option Exprs). with_type (Some u) o T) numbers
+
+-- ---- arguments begin
+
+pub indexes : (r : Routine) (b : Bool) → b ≡ is_property (written_view r.written).kind → r.parameters.now ≡ [] → MatchBool b (IndexesValue r) (Unit {0})
+indexes r true is none = record { property = sym is; none = none }
+indexes r false is none = tt
+
+pub opens_property : (env : Env) (x : Tree) (r : Routine) (ending : Ending) (d m e : Drafted) (i : Indexed) → IndexesValue r → CallsRoutine r d m ending → PushesWhole ending x.place m e i → OpensTerm env x (term.Routine r) d e (items.Indexed i)
+opens_property env x r ending d m e i v c p =
+    opens_whole env x (term.Routine r) i d e (grown_twice d m e c.grown p.grown) p.is (λ tree below at h.
+    let place = place_of_expression tree in
+    let z = callee env tree (term_of env tree) in
+    let b = c.stands env z below h in
+    let same : a_routine h.space h.number h.written ≡ a_routine b.space b.number b.written = sym h.is ∙ b.is in
+    let space_is : h.space ≡ b.space = cc in
+    let number_is : h.number ≡ b.number = cc in
+    let written_is : h.written ≡ b.written = cc in
+    let call : bare_call env h.space h.number h.written ≡ a_value b.called.made (declared_view ending.of) =
+    ap (λ (s : Space). bare_call env s h.number h.written) space_is ∙ ap (λ (n : ℕ). bare_call env b.space n h.written) number_is ∙ ap (λ (w : Written). bare_call env b.space b.number w) written_is ∙ b.called.is in
+    let property : is_property h.written.kind ≡ true = ap (λ (w : Written). is_property w.kind) h.written_is ∙ v.property in
+    record {
+      whole = expression_of b.called.made place (declared_view ending.of);
+      is = λ gs es numbers.
+          property_indexed env place z h.space h.number h.written h.read b.called.made (declared_view ending.of) (declared_view i.of) gs es h.is h.reads (read_get env.scope h.space h.number h.written h.read property h.reads)
+          (sym h.parameters_are ∙ ap (λ l. map parameter_view l) v.none) call p.element_is numbers;
+      on_top = p.stands b.called.made below b.called.ends ∙ ap (λ (q : Place). an_expr (expression_of b.called.made q (declared_view ending.of)) ∷ below) at;
+    })

@@ -1,0 +1,11 @@
+use Rattle.std.proofs.Common.{◌≡◌, drop, map}
+use Rattle.std.specs.Prelude.{flat_map}
+use Rattle.binder.specs.LeftOut.{entry_left_out}
+use Rattle.declared_names.specs.View.{entry_view, scope_view}
+use Rattle.use_rules.specs.Found.{noted}
+use Rattle.name_rules.proofs.left_out.note_entries.Given as goal
+
+abbrev pub invariant-loop-entry : goal.invariant-loop-entry
+invariant-loop-entry l =
+    noted 23 l.least (flat_map (entry_left_out (scope_view l.scope)) (map entry_view (drop l.entry-index l.entries)))
+    ≡ noted 23 l.fn.least (flat_map (entry_left_out (scope_view l.scope)) (map entry_view l.entries))

@@ -1,0 +1,13 @@
+pub mod Indexed
+pub mod Stored
+pub mod Blocks
+pub mod Looks
+pub mod Leaving
+pub mod Chains
+pub mod Variables
+pub mod Loops
+pub mod Hosts
+pub mod Moves
+pub mod Steps
+pub mod Whole
+mod Rows

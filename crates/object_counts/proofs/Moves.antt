@@ -1,0 +1,291 @@
+-- What a move raises, and what each instruction does.
+use Rattle.std.proofs.Common.{◌≡◌, ℕ, zero, suc, ◌+◌, Bool, true, false, List, [], ◌∷◌, ◌++◌, length, Option, Some, None, refl}
+use Rattle.std.specs.Prelude.{nat_lt, slice_index, if◌then◌else◌}
+use Rattle.vba_values.specs.Val.{Val, empty, boolean, object}
+use Rattle.vba_values.specs.declared.object.ObjRef.TheVariants.{Host}
+use Rattle.error_frames.specs.declared.frame.ResumeKind.TheVariants as kind
+use Rattle.bound_project.specs.Project.{class_at}
+use Rattle.vba_meaning.specs.Paths.{Path, field_path}
+use Rattle.vba_meaning.specs.Memory.{Error, Ending, Ended, Stopped, Slot, value, path, Memory, top, at_statement, path_of, entered, error_here}
+use Rattle.vba_meaning.specs.References.{let_held, held_by, let_frame}
+use Rattle.vba_meaning.specs.Effects.{Event, Raised, Effect, Fine, Bad-at, Out, Tell, unlent, slot_values, packed, reordered, raised_by, err_of, failed_statement}
+use Rattle.vba_meaning.specs.Objects.{initialize_of, made_at}
+use Rattle.vba_meaning.specs.Host.{is_raise}
+use Rattle.vba_meaning.specs.ByName.{in_parameter_order}
+use Rattle.vba_meaning.specs.Meaning.{State, with_memory, turned}
+use Rattle.pcode.specs.Instructions.{Instr, Begin, Push, LoadErr, PathOf, ReadThrough, ElementOf, ElementIn, FieldOf, Dot, Index, PartOf, Operate, OperateAlone, Plain, PlainIfAny, PushHost, FirstSheet, MemberThere, MemberOf, NamedThere, NamedOf, PushThis, New, ObjectThere, FieldIn, AsNew, MakeThere, StoreMade, Same, IsType, Library, BoundAt, Fit, FitObject, Drop, Lend, Pack, Reorder, Lift, Call, CallOf, Store, SetAt, StoreDefault, StoreMember, StoreItem, SetMember, ShowText, Show, Throw, LoopOff, LoopOn, NextRound, EachOff, EachOn, NextItem, Keep, Selected, IfFits, IfBetween, Redim, EraseAt, KeepPath, DropKept, PutReturn, TakeReturn, SetPolicy, HandlerOff, ErrOff, Again, Behind, Resumes, Finish, Branch, Halt, StopHere, Leave, Code, next_statement, entry_of}
+use Rattle.pcode.specs.Machine.{After, Goes-on, Return, Back-to, Back, Caller, Config, Move, Goes, Ends, Sticks, Tells, Turns, at, failing, letting, lets, lets_all, finishes, raised, done_then, then_at, then_push, then_push_path, then_let_go, then_test, then_jump, then_branch, pops, pops_path, take_args, pushed, uses_member, enters, enter_by, calls, initializes, then_statement, Choices, act}
+use Rattle.object_counts.specs.Gains.{gains_behind, entered_gains, member_used_gains}
+use Rattle.object_counts.specs.Counting.{for_value, for_path, for_args, call_gains, initialize_gains, act_gains}
+use Rattle.object_counts.proofs.Looks.{Grows, same, top_same}
+use Rattle.object_counts.proofs.Leaving.{entered_grows, held_waits, frame_waits}
+use Rattle.object_counts.proofs.Chains.{Raises, Law, with_nil, nil_with}
+use Rattle.object_counts.proofs.Looks.{grown}
+use Rattle.object_counts.proofs.Variables.{operated_law, operated_alone_law, set_object_law, fitted_law, plain_law, plain_if_any_law, condition_law, compared_law, typed_as_law, object_there_law, field_in_law, show_value_law, read_path_law, own_object_law, selected_law, keep_law, set_at_law, loop_on_law, next_round_law, loop_off_law, fits_law, fits_between_law, lent_law, unlent_grows, printed_law, gone_sub_law, returned_sub_law, err_off_law, policy_on_law, handler_off_law, resumed_law, stop_here_law, library_law, bound_at_law, made_law, made_for_law, stored_made_law}
+use Rattle.object_counts.proofs.Loops.{part_of_law, redimmed_law, erased_law, keep_path_law, block_over_law, dot_at_law, each_off_law, each_begun_law, each_next_law}
+use Rattle.object_counts.proofs.Hosts.{first_sheet_law, written_default_law, item_law, member_there_law, named_there_law, member_called_law, error_given_law, place_at_law, assigned_at_law, item_assigned_law, member_assigned_law, member_not_set_law}
+
+module _ (bound : ℕ) where
+  -- wherever the move leads, these references are there once more
+  abbrev pub Comes : Memory → List ℕ → Move → Type 0
+  Comes m gs (Goes c) = Grows m gs c.state.memory
+  Comes m gs (Ends e s) = Grows m gs s.memory
+  Comes m gs Sticks = Unit {0}
+  Comes m gs (Tells es v) = Comes m gs v
+  Comes m gs (Turns s v) = (nat_lt s.begun bound ≡ false → Grows m gs s.memory) × (nat_lt s.begun bound ≡ true → Comes m gs v)
+
+  pub record Adds (m : Memory) (gs : List ℕ) (v : Move) : Type 0 where
+    pub law : Comes m gs v
+
+  pub goes : {m : Memory} {gs : List ℕ} (c : Config) → Grows m gs c.state.memory → Adds m gs (Goes c)
+  goes c h = record { law = h }
+
+  pub ends : {m : Memory} {gs : List ℕ} (e : Ending) (s : State) → Grows m gs s.memory → Adds m gs (Ends e s)
+  ends e s h = record { law = h }
+
+  pub sticks : {m : Memory} {gs : List ℕ} → Adds m gs Sticks
+  sticks = record { law = tt }
+
+  pub telling : {m : Memory} {gs : List ℕ} {v : Move} (es : List Event) → Adds m gs v → Adds m gs (Tells es v)
+  telling es a = record { law = a.law }
+
+  pub turning : {m : Memory} {gs : List ℕ} {v : Move} (s : State) → Grows m gs s.memory → Adds m gs v → Adds m gs (Turns s v)
+  turning s h a = record { law = (λ f. h, λ t. a.law) }
+
+  moved_comes : {m m1 : Memory} {gs : List ℕ} (hs : List ℕ) → Grows m gs m1 → (v : Move) → Comes m1 hs v → Comes m (gs ++ hs) v
+  moved_comes hs a (Goes c) h = grown a h
+  moved_comes hs a (Ends e s) h = grown a h
+  moved_comes hs a Sticks h = tt
+  moved_comes hs a (Tells es v) h = moved_comes hs a v h
+  moved_comes hs a (Turns s v) h = (λ f. grown a (h.0 f), λ t. moved_comes hs a v (h.1 t))
+
+  pub moved_adds : {m m1 : Memory} {gs hs : List ℕ} {v : Move} → Grows m gs m1 → Adds m1 hs v → Adds m (gs ++ hs) v
+  moved_adds {hs = hs} {v = v} a h = record { law = moved_comes hs a v h.law }
+
+  -- after what looking doesn't see
+  pub from : {m m1 : Memory} {gs : List ℕ} {v : Move} → Grows m [] m1 → Adds m1 gs v → Adds m gs v
+  from a h = moved_adds a h
+
+  pub either : {m : Memory} {gs hs : List ℕ} {v w : Move} (b : Bool) → Adds m gs v → Adds m hs w → Adds m (if b then gs else hs) (if b then v else w)
+  either true a c = a
+  either false a c = c
+
+  pub both : {m : Memory} {gs : List ℕ} {v w : Move} (b : Bool) → Adds m gs v → Adds m gs w → Adds m gs (if b then v else w)
+  both true a c = a
+  both false a c = c
+
+  pub raises : {m : Memory} {gs : List ℕ} (e : Error) (bs : List Back) (s : State) → Grows m gs s.memory → Adds m gs (raised e bs s)
+  raises e bs s h = turning s h (telling (Raised e.number ∷ []) (goes (failing e bs (turned s)) h))
+
+  pub lets_adds : {m : Memory} {gs : List ℕ} (after : After) (bs : List Back) (s : State) → Grows m gs s.memory → Adds m gs (lets after bs s)
+  lets_adds after bs s h = goes (letting (length (top s.memory).held) after bs (with_memory s (let_held s.memory))) (nil_with h (held_waits s.memory))
+
+  pub lets_all_adds : {m : Memory} {gs : List ℕ} (after : After) (bs : List Back) (s : State) → Grows m gs s.memory → Adds m gs (lets_all after bs s)
+  lets_all_adds after bs s h = goes (letting (length (held_by (top s.memory))) after bs (with_memory s (let_frame s.memory))) (nil_with h (frame_waits s.memory))
+
+  finishes_adds : {m : Memory} {gs : List ℕ} (to : ℕ) (bs : List Back) (s : State) → Grows m gs s.memory → Adds m gs (finishes to bs s)
+  finishes_adds to bs s h = lets_adds (Goes-on to) bs (with_memory s (unlent s.memory)) (nil_with h (unlent_grows s.memory))
+
+  -- ---- effects
+
+  done_comes : {A : Type 0} (gs : List ℕ) (m : Memory) (e : Effect A) (bs : List Back) (s : State) (go : A → State → Move) → Raises m gs e
+      → ((v : A) (s1 : State) → Grows m gs s1.memory → Adds m gs (go v s1)) → Adds m gs (done_then e bs s go)
+  done_comes gs m (Fine v m1) bs s go h k = k v (with_memory s m1) h
+  done_comes gs m (Bad-at n m1) bs s go h k = raises (error_here n m1) bs (with_memory s m1) h
+  done_comes gs m (Out w m1) bs s go h k = ends (Stopped w (top m1).procedure (top m1).statement) (with_memory s m1) h
+  done_comes gs m (Tell es e) bs s go h k = telling es (done_comes gs m e bs s go h k)
+
+  does : {A : Type 0} {gs : List ℕ} {m : Memory} {e : Effect A} (bs : List Back) (s : State) {go : A → State → Move} → Law m gs e
+      → ((v : A) (s1 : State) → Grows m gs s1.memory → Adds m gs (go v s1)) → Adds m gs (done_then e bs s go)
+  does {gs = gs} {m = m} {e = e} bs s {go = go} a k = done_comes gs m e bs s go a.law k
+
+  done_further : {A : Type 0} (gs : List ℕ) (m : Memory) (h : A → Memory → List ℕ) (e : Effect A) (bs : List Back) (s : State) (go : A → State → Move) → Raises m gs e
+      → ((v : A) (s1 : State) → Adds s1.memory (h v s1.memory) (go v s1)) → Adds m (gs ++ gains_behind e h) (done_then e bs s go)
+  done_further gs m h (Fine v m1) bs s go a k = moved_adds a (k v (with_memory s m1))
+  done_further gs m h (Bad-at n m1) bs s go a k = raises (error_here n m1) bs (with_memory s m1) (with_nil a)
+  done_further gs m h (Out w m1) bs s go a k = ends (Stopped w (top m1).procedure (top m1).statement) (with_memory s m1) (with_nil a)
+  done_further gs m h (Tell es e) bs s go a k = telling es (done_further gs m h e bs s go a k)
+
+  does_further : {A : Type 0} {gs : List ℕ} {m : Memory} {e : Effect A} (h : A → Memory → List ℕ) (bs : List Back) (s : State) {go : A → State → Move} → Law m gs e
+      → ((v : A) (s1 : State) → Adds s1.memory (h v s1.memory) (go v s1)) → Adds m (gs ++ gains_behind e h) (done_then e bs s go)
+  does_further {gs = gs} {m = m} {e = e} h bs s {go = go} a k = done_further gs m h e bs s go a.law k
+
+  -- what comes next, by what an effect gives
+  on : {A : Type 0} {m : Memory} {gs : List ℕ} (pc : ℕ) (st : List Slot) (bs : List Back) (v : A) (s : State) → Grows m gs s.memory → Adds m gs (then_at pc st bs v s)
+  on pc st bs v s h = goes (at pc st bs s) h
+
+  pushes : {m : Memory} {gs : List ℕ} (pc : ℕ) (st : List Slot) (bs : List Back) (v : Val) (s : State) → Grows m gs s.memory → Adds m gs (then_push pc st bs v s)
+  pushes pc st bs v s h = goes (at pc (value v ∷ st) bs s) h
+
+  pushes_path : {m : Memory} {gs : List ℕ} (pc : ℕ) (st : List Slot) (bs : List Back) (q : Path) (s : State) → Grows m gs s.memory → Adds m gs (then_push_path pc st bs q s)
+  pushes_path pc st bs q s h = goes (at pc (path q ∷ st) bs s) h
+
+  lets_go : {m : Memory} {gs : List ℕ} (pc : ℕ) (st : List Slot) (bs : List Back) (k : ℕ) (s : State) → Grows m gs s.memory → Adds m gs (then_let_go pc st bs k s)
+  lets_go pc st bs k s h = goes (letting k (Back-to pc st) bs s) h
+
+  tests : {m : Memory} {gs : List ℕ} (pc : ℕ) (st : List Slot) (bs : List Back) (b : Bool) (s : State) → Grows m gs s.memory → Adds m gs (then_test pc st bs b s)
+  tests pc st bs b s h = goes (at pc (value (boolean b) ∷ st) bs s) h
+
+  jumps : {m : Memory} {gs : List ℕ} (to pc : ℕ) (st : List Slot) (bs : List Back) (b : Bool) (s : State) → Grows m gs s.memory → Adds m gs (then_jump to pc st bs b s)
+  jumps to pc st bs b s h = both b (finishes_adds to bs s h) (goes (at pc st bs s) h)
+
+  branches : {m : Memory} {gs : List ℕ} (to other : ℕ) (bs : List Back) (b : Bool) (s : State) → Grows m gs s.memory → Adds m gs (then_branch to other bs b s)
+  branches to other bs b s h = finishes_adds (if b then to else other) bs s h
+
+  goes_on_at : {m : Memory} {gs : List ℕ} (code : Code) (p : ℕ) (bs : List Back) (i : ℕ) (s : State) → Grows m gs s.memory → Adds m gs (then_statement code p bs i s)
+  goes_on_at code p bs i s h = finishes_adds (entry_of code p i) bs s h
+
+  -- ---- operands
+
+  on_value : {m : Memory} {g : Val → List Slot → List ℕ} {go : Val → List Slot → Move} (st : List Slot) → ((v : Val) (st1 : List Slot) → Adds m (g v st1) (go v st1)) → Adds m (for_value st g) (pops st go)
+  on_value [] h = sticks
+  on_value (value v ∷ st) h = h v st
+  on_value (path p ∷ st) h = sticks
+
+  a_value : {m : Memory} {go : Val → List Slot → Move} (st : List Slot) → ((v : Val) (st1 : List Slot) → Adds m [] (go v st1)) → Adds m [] (pops st go)
+  a_value [] h = sticks
+  a_value (value v ∷ st) h = h v st
+  a_value (path p ∷ st) h = sticks
+
+  on_path : {m : Memory} {g : Path → List Slot → List ℕ} {go : Path → List Slot → Move} (st : List Slot) → ((q : Path) (st1 : List Slot) → Adds m (g q st1) (go q st1)) → Adds m (for_path st g) (pops_path st go)
+  on_path [] h = sticks
+  on_path (value v ∷ st) h = sticks
+  on_path (path p ∷ st) h = h p st
+
+  a_path : {m : Memory} {go : Path → List Slot → Move} (st : List Slot) → ((q : Path) (st1 : List Slot) → Adds m [] (go q st1)) → Adds m [] (pops_path st go)
+  a_path [] h = sticks
+  a_path (value v ∷ st) h = sticks
+  a_path (path p ∷ st) h = h p st
+
+  on_args : {m : Memory} {g : List Slot → List Slot → List ℕ} {go : List Slot → List Slot → Move} (n : ℕ) (st xs : List Slot) → ((ys st1 : List Slot) → Adds m (g ys st1) (go ys st1))
+      → Adds m (for_args n st xs g) (take_args n st xs go)
+  on_args zero st xs h = h xs st
+  on_args (suc n) [] xs h = sticks
+  on_args (suc n) (x ∷ st) xs h = on_args n st (x ∷ xs) h
+
+  the_args : {m : Memory} {go : List Slot → List Slot → Move} (n : ℕ) (st xs : List Slot) → ((ys st1 : List Slot) → Adds m [] (go ys st1)) → Adds m [] (take_args n st xs go)
+  the_args zero st xs h = h xs st
+  the_args (suc n) [] xs h = sticks
+  the_args (suc n) (x ∷ st) xs h = the_args n st (x ∷ xs) h
+
+  module _ (code : Code) where
+    -- ---- calls
+
+    pub enters_adds : (called : Bool) (p : ℕ) (me : Val) (xs : List Slot) (bs : List Back) (s : State) → Adds s.memory (entered_gains code.declared p me xs) (enters code called p me xs bs s)
+    enters_adds called p me xs bs s =
+        let s1 : State = with_memory s (entered code.declared called p me xs s.memory) in
+        let h : Grows s.memory (entered_gains code.declared p me xs) s1.memory = entered_grows code.declared called p me xs s.memory in
+        turning s1 h (goes (at (slice_index code.starts p) [] bs (turned s1)) h)
+
+    pub enter_by_adds : (called : Bool) (p : ℕ) (me : Val) (xs : List Slot) (bs : List Back) (s : State) (full : Move) → Adds s.memory [] full
+        → Adds s.memory (call_gains code p me xs s.memory.frames) (enter_by code called p me xs bs s full)
+    enter_by_adds called p me xs bs s full h = either (nat_lt (length s.memory.frames) 2000) (enters_adds called p me xs bs s) h
+
+    calls_adds : (p : ℕ) (me : Val) (xs : List Slot) (pc : ℕ) (st : List Slot) (bs : List Back) (s : State) → Adds s.memory (call_gains code p me xs s.memory.frames) (calls code p me xs pc st bs s)
+    calls_adds p me xs pc st bs s = enter_by_adds true p me xs (Caller pc st ∷ bs) s _ (raises (error_here 28 s.memory) bs s (same s.memory))
+
+    initializes_adds : (o : Option ℕ) (v : Val) (pc : ℕ) (st : List Slot) (bs : List Back) (s : State) → Adds s.memory (initialize_gains code o v s.memory.frames) (initializes code o v pc st bs s)
+    initializes_adds None v pc st bs s = goes (at pc (value empty ∷ value v ∷ st) bs s) (same s.memory)
+    initializes_adds (Some p) v pc st bs s = calls_adds p v [] pc (value v ∷ st) bs s
+
+    member_adds : (name : List ℕ) (base begun : Val) (vs : List Val) (pc : ℕ) (st : List Slot) (bs : List Back) (s : State)
+        → Adds s.memory (member_used_gains name base begun vs s.memory) (uses_member code name base begun vs pc st bs s)
+    member_adds name base begun vs pc st bs s =
+        either (is_raise name base)
+        (does bs s (error_given_law vs s.memory) (λ e s1 h. raises e bs s1 h))
+        (does bs s (member_called_law code.declared name vs base begun s.memory) (pushes pc st bs))
+
+    -- ---- instructions
+
+    pub act_adds : (by : Choices) (o : Option Instr) (pc : ℕ) (st : List Slot) (bs : List Back) (s : State) → Adds s.memory (act_gains code o st s.memory) (act by code o pc st bs s)
+    act_adds by None pc st bs s = sticks
+    act_adds by (Some (Begin i)) pc st bs s =
+        turning s (same s.memory) (goes (at (pc + 1) st bs (with_memory (turned s) (at_statement s.memory i))) (top_same s.memory (record (top s.memory) { statement = Some i }) (λ h. h) (λ o. refl)))
+    act_adds by (Some (Push v)) pc st bs s = goes (at (pc + 1) (value v ∷ st) bs s) (same s.memory)
+    act_adds by (Some (LoadErr member)) pc st bs s = goes (at (pc + 1) (value (err_of code.declared member s.memory.err) ∷ st) bs s) (same s.memory)
+    act_adds by (Some (PathOf x)) pc st bs s = goes (at (pc + 1) (path (path_of s.memory x) ∷ st) bs s) (same s.memory)
+    act_adds by (Some ReadThrough) pc st bs s = on_path st (λ q st1. does bs s (read_path_law q s.memory) (pushes (pc + 1) st1 bs))
+    act_adds by (Some (ElementOf k)) pc st bs s = a_path st (λ q st1. the_args k st1 [] (λ xs st2. does bs s (place_at_law q (slot_values xs) s.memory) (pushes_path (pc + 1) st2 bs)))
+    act_adds by (Some (ElementIn k)) pc st bs s = the_args k st [] (λ xs st1. a_path st1 (λ q st2. does bs s (place_at_law q (slot_values xs) s.memory) (pushes_path (pc + 1) st2 bs)))
+    act_adds by (Some (FieldOf i of bounded)) pc st bs s = a_path st (λ q st1. goes (at (pc + 1) (path (field_path q i of bounded) ∷ st1) bs s) (same s.memory))
+    act_adds by (Some (Dot i)) pc st bs s = does bs s (dot_at_law i s.memory) (pushes_path (pc + 1) st bs)
+    act_adds by (Some (Index k)) pc st bs s = on_args k st [] (λ xs st1. on_value st1 (λ v st2. does bs s (item_law v (slot_values xs) s.memory) (pushes (pc + 1) st2 bs)))
+    act_adds by (Some (PartOf i)) pc st bs s = on_value st (λ v st1. does bs s (part_of_law i v s.memory) (pushes (pc + 1) st1 bs))
+    act_adds by (Some (Operate o compare l r)) pc st bs s = a_value st (λ w st1. a_value st1 (λ v st2. does bs s (operated_law o compare l r v w s.memory) (pushes (pc + 1) st2 bs)))
+    act_adds by (Some (OperateAlone o of)) pc st bs s = a_value st (λ v st1. does bs s (operated_alone_law o of v s.memory) (pushes (pc + 1) st1 bs))
+    act_adds by (Some Plain) pc st bs s = a_value st (λ v st1. does bs s (plain_law v s.memory) (pushes (pc + 1) st1 bs))
+    act_adds by (Some (PushHost reference)) pc st bs s = goes (at (pc + 1) (value (object (Host reference)) ∷ st) bs s) (same s.memory)
+    act_adds by (Some FirstSheet) pc st bs s = does bs s (first_sheet_law s.memory) (pushes (pc + 1) st bs)
+    act_adds by (Some (MemberThere name k)) pc st bs s = a_value st (λ v st1. does bs s (member_there_law code.declared name k v s.memory) (pushes (pc + 1) (value v ∷ st1) bs))
+    act_adds by (Some (MemberOf name k)) pc st bs s =
+        on_args k st [] (λ xs st1. on_value st1 (λ w st2. on_value st2 (λ v st3. member_adds name v w (slot_values xs) (pc + 1) st3 bs s)))
+    act_adds by (Some (NamedThere name how k)) pc st bs s = a_value st (λ v st1. does bs s (named_there_law name how k v s.memory) (pushes (pc + 1) (value v ∷ st1) bs))
+    act_adds by (Some (NamedOf name how k)) pc st bs s =
+        on_args k st [] (λ xs st1. on_value st1 (λ w st2. on_value st2 (λ v st3. member_adds name v w (in_parameter_order v name how (slot_values xs)) (pc + 1) st3 bs s)))
+    act_adds by (Some (StoreMember name k)) pc st bs s =
+        on_args k st [] (λ xs st1. on_value st1 (λ x st2. on_value st2 (λ w st3. on_value st3 (λ v st4.
+        does bs s (member_assigned_law code.declared name (slot_values xs) w x v s.memory) (on (pc + 1) st4 bs)))))
+    act_adds by (Some PlainIfAny) pc st bs s = a_value st (λ v st1. does bs s (plain_if_any_law v s.memory) (pushes (pc + 1) st1 bs))
+    act_adds by (Some (Library f text_form compare base k)) pc st bs s =
+        on_args k st [] (λ xs st1. does bs s (library_law code.declared f text_form compare base (slot_values xs) s.memory) (pushes (pc + 1) st1 bs))
+    act_adds by (Some (BoundAt upper z)) pc st bs s = a_path st (λ q st1. does bs s (bound_at_law upper z q s.memory) (pushes (pc + 1) st1 bs))
+    act_adds by (Some PushThis) pc st bs s = does bs s (own_object_law s.memory) (pushes (pc + 1) st bs)
+    act_adds by (Some (New c)) pc st bs s =
+        does_further (λ v m1. initialize_gains code (class_at code.declared c).initialize v m1.frames) bs s (made_law code.declared c s.memory) (λ v s1. initializes_adds (class_at code.declared c).initialize v (pc + 1) st bs s1)
+    act_adds by (Some ObjectThere) pc st bs s = a_value st (λ v st1. does bs s (object_there_law v s.memory) (pushes (pc + 1) st1 bs))
+    act_adds by (Some (FieldIn i of bounded)) pc st bs s = a_value st (λ v st1. does bs s (field_in_law i of bounded v s.memory) (pushes_path (pc + 1) st1 bs))
+    act_adds by (Some (AsNew c)) pc st bs s = a_path st (λ q st1. goes (at (pc + 1) (path (made_at c q) ∷ st1) bs s) (same s.memory))
+    act_adds by (Some MakeThere) pc st bs s =
+        on_path st (λ q st1.
+        does_further (λ v m1. initialize_gains code (initialize_of code.declared q v) v m1.frames) bs s (made_for_law code.declared q s.memory) (λ v s1. initializes_adds (initialize_of code.declared q v) v (pc + 1) (path q ∷ st1) bs s1))
+    act_adds by (Some StoreMade) pc st bs s = on_value st (λ v st1. on_path st1 (λ q st2. does bs s (stored_made_law q v s.memory) (on (pc + 1) (path q ∷ st2) bs)))
+    act_adds by (Some Same) pc st bs s = a_value st (λ w st1. a_value st1 (λ v st2. does bs s (compared_law v w s.memory) (pushes (pc + 1) st2 bs)))
+    act_adds by (Some (IsType of)) pc st bs s = a_value st (λ v st1. does bs s (typed_as_law of v s.memory) (pushes (pc + 1) st1 bs))
+    act_adds by (Some (FitObject of)) pc st bs s = a_value st (λ v st1. does bs s (set_object_law of v s.memory) (pushes (pc + 1) st1 bs))
+    act_adds by (Some (Fit of)) pc st bs s = a_value st (λ v st1. does bs s (fitted_law of v s.memory) (pushes (pc + 1) st1 bs))
+    act_adds by (Some Drop) pc st bs s = a_value st (λ v st1. goes (at (pc + 1) st1 bs s) (same s.memory))
+    act_adds by (Some Lend) pc st bs s = a_path st (λ q st1. does bs s (lent_law q s.memory) (on (pc + 1) (path q ∷ st1) bs))
+    act_adds by (Some (Pack k)) pc st bs s = the_args k st [] (λ xs st1. goes (at (pc + 1) (value (packed xs) ∷ st1) bs s) (same s.memory))
+    act_adds by (Some (Reorder order k)) pc st bs s = the_args k st [] (λ xs st1. goes (at (pc + 1) (pushed (reordered order xs) st1) bs s) (same s.memory))
+    act_adds by (Some (Lift k)) pc st bs s = the_args k st [] (λ xs st1. a_value st1 (λ v st2. goes (at (pc + 1) (value v ∷ pushed xs st2) bs s) (same s.memory)))
+    act_adds by (Some (Call p k)) pc st bs s = on_args k st [] (λ xs st1. calls_adds p empty xs (pc + 1) st1 bs s)
+    act_adds by (Some (CallOf p k)) pc st bs s = on_args k st [] (λ xs st1. on_value st1 (λ v st2. calls_adds p v xs (pc + 1) st2 bs s))
+    act_adds by (Some Store) pc st bs s = on_path st (λ q st1. on_value st1 (λ v st2. does bs s (assigned_at_law q v s.memory) (on (pc + 1) st2 bs)))
+    act_adds by (Some SetAt) pc st bs s = on_path st (λ q st1. on_value st1 (λ v st2. does bs s (set_at_law q v s.memory) (on (pc + 1) st2 bs)))
+    act_adds by (Some StoreDefault) pc st bs s = a_value st (λ w st1. a_value st1 (λ v st2. does bs s (written_default_law w v s.memory) (on (pc + 1) st2 bs)))
+    act_adds by (Some (StoreItem k)) pc st bs s =
+        on_args k st [] (λ xs st1. on_value st1 (λ w st2. on_value st2 (λ v st3. does bs s (item_assigned_law w (slot_values xs) v s.memory) (on (pc + 1) st3 bs))))
+    act_adds by (Some SetMember) pc st bs s = a_value st (λ w st1. a_value st1 (λ v st2. does bs s (member_not_set_law w s.memory) (on (pc + 1) st2 bs)))
+    act_adds by (Some ShowText) pc st bs s = a_value st (λ v st1. does bs s (show_value_law v s.memory) (pushes (pc + 1) st1 bs))
+    act_adds by (Some (Show ends k)) pc st bs s = the_args k st [] (λ xs st1. does bs s (printed_law ends xs s.memory) (on (pc + 1) st1 bs))
+    act_adds by (Some (Throw k)) pc st bs s = the_args k st [] (λ xs st1. raises (raised_by xs s.memory) bs s (same s.memory))
+    act_adds by (Some (LoopOff i)) pc st bs s = does bs s (loop_off_law i s.memory) (on (pc + 1) st bs)
+    act_adds by (Some (LoopOn x i compare t u)) pc st bs s =
+        on_value st (λ step st1. on_value st1 (λ end st2. on_value st2 (λ start st3. does bs s (loop_on_law x i compare t u start end step s.memory) (tests (pc + 1) st3 bs))))
+    act_adds by (Some (NextRound x i)) pc st bs s = does bs s (next_round_law x i s.memory) (tests (pc + 1) st bs)
+    act_adds by (Some (EachOff i)) pc st bs s = does bs s (each_off_law i s.memory) (on (pc + 1) st bs)
+    act_adds by (Some (EachOn i)) pc st bs s = on_value st (λ v st1. does bs s (each_begun_law i v s.memory) (lets_go (pc + 1) st1 bs))
+    act_adds by (Some (NextItem x i)) pc st bs s = does bs s (each_next_law x i s.memory) (tests (pc + 1) st bs)
+    act_adds by (Some (Keep i)) pc st bs s = on_value st (λ v st1. does bs s (keep_law i v s.memory) (on (pc + 1) st1 bs))
+    act_adds by (Some (Selected i)) pc st bs s = does bs s (selected_law i s.memory) (pushes (pc + 1) st bs)
+    act_adds by (Some (IfFits o compare of t to)) pc st bs s = a_value st (λ w st1. a_value st1 (λ v st2. does bs s (fits_law o compare of t v w s.memory) (jumps to (pc + 1) st2 bs)))
+    act_adds by (Some (IfBetween compare of t u to)) pc st bs s =
+        a_value st (λ y st1. a_value st1 (λ x st2. a_value st2 (λ v st3. does bs s (fits_between_law compare of t u v x y s.memory) (jumps to (pc + 1) st3 bs))))
+    act_adds by (Some (Redim preserve of k)) pc st bs s =
+        on_args k st [] (λ xs st1. on_path st1 (λ q st2. does bs s (redimmed_law code.declared preserve of q (slot_values xs) s.memory) (lets_go (pc + 1) st2 bs)))
+    act_adds by (Some EraseAt) pc st bs s = on_path st (λ q st1. does bs s (erased_law code.declared q s.memory) (lets_go (pc + 1) st1 bs))
+    act_adds by (Some (KeepPath i)) pc st bs s = a_path st (λ q st1. does bs s (keep_path_law i q s.memory) (on (pc + 1) st1 bs))
+    act_adds by (Some (DropKept i)) pc st bs s = does bs s (block_over_law i s.memory) (on (pc + 1) st bs)
+    act_adds by (Some (PutReturn i)) pc st bs s = does bs s (gone_sub_law i s.memory) (on (pc + 1) st bs)
+    act_adds by (Some (TakeReturn p)) pc st bs s = does bs s (returned_sub_law s.memory) (goes_on_at code p bs)
+    act_adds by (Some (SetPolicy b)) pc st bs s = does bs s (policy_on_law b s.memory) (on (pc + 1) st bs)
+    act_adds by (Some HandlerOff) pc st bs s = does bs s (handler_off_law s.memory) (on (pc + 1) st bs)
+    act_adds by (Some ErrOff) pc st bs s = does bs s (err_off_law s.memory) (on (pc + 1) st bs)
+    act_adds by (Some (Again p)) pc st bs s = does bs s (resumed_law kind.Again 0 s.memory) (goes_on_at code p bs)
+    act_adds by (Some (Behind p)) pc st bs s = does bs s (resumed_law kind.Next (next_statement code p (failed_statement s.memory)) s.memory) (goes_on_at code p bs)
+    act_adds by (Some (Resumes p to)) pc st bs s = does bs s (resumed_law (kind.Label (record { 0 = to })) 0 s.memory) (goes_on_at code p bs)
+    act_adds by (Some (Finish to)) pc st bs s = finishes_adds to bs s (same s.memory)
+    act_adds by (Some (Branch sense to other)) pc st bs s = a_value st (λ v st1. does bs s (condition_law sense v s.memory) (branches to other bs))
+    act_adds by (Some Halt) pc st bs s = ends Ended s (same s.memory)
+    act_adds by (Some StopHere) pc st bs s = does bs s (stop_here_law s.memory) (on (pc + 1) st bs)
+    act_adds by (Some Leave) pc st bs s = lets_all_adds Return bs s (same s.memory)

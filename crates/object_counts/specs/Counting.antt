@@ -1,0 +1,188 @@
+-- The machine that counts: beside the machine's state it stores a reference count for each object, and asks the stored
+-- count whether a reference was the last one, where the machine of the theorems looks over the whole memory. Each step
+-- first lowers the counts of what it gives up, then asks, and then raises the counts of what it has stored or holds.
+use Rattle.std.specs.Prelude.{ℕ, zero, suc, ◌==◌, nat_lt, List, [], ◌∷◌, ◌++◌, length, Option, Some, None, if◌then◌else◌, slice_get}
+use Rattle.vba_values.specs.declared.object.ObjRef.TheVariants.{Heap}
+use Rattle.vba_values.specs.Val.{Val, empty, object}
+use Rattle.sheet_host.specs.Books.{Sheets}
+use Rattle.bound_project.specs.Project.{class_at, first_values}
+use Rattle.vba_meaning.specs.Paths.{Path}
+use Rattle.vba_meaning.specs.Memory.{Ending, Going, Slot, value, path, Frame, Memory, top, result, object_at}
+use Rattle.vba_meaning.specs.References.{objects_in, objects_in_values, objects_in_slots, objects_kept, next_waiting, taken_off}
+use Rattle.vba_meaning.specs.Effects.{Event, slot_values, startup_slots, read_path, selected}
+use Rattle.vba_meaning.specs.Arrays.{part_of}
+use Rattle.vba_meaning.specs.Objects.{made, own_object, made_for, initialize_of}
+use Rattle.vba_meaning.specs.Host.{item_by}
+use Rattle.vba_meaning.specs.Library.{library_called}
+use Rattle.vba_meaning.specs.ByName.{in_parameter_order}
+use Rattle.vba_meaning.specs.Meaning.{State}
+use Rattle.pcode.specs.Instructions.{Instr, ReadThrough, Index, PartOf, MemberOf, NamedOf, PushThis, New, MakeThere, StoreMade, Library, Call, CallOf, Store, SetAt, StoreMember, StoreItem, LoopOn, NextRound, EachOn, NextItem, Keep, Selected, Redim, EraseAt, Code}
+use Rattle.pcode.specs.Machine.{Return, Pass, Close, Mode, At, Letting, Back, Caller, EndOf, Config, Move, Goes, Ends, Sticks, Tells, Turns, Choices, step_by, first_move}
+use Rattle.object_counts.specs.Counts.{count_of, raise_all, lower_all}
+use Rattle.object_counts.specs.Gains.{gains_behind, given_gains, assigned_at_gains, set_at_gains, counted_gains, next_round_gains, each_begun_gains, each_next_gains, redimmed_gains, erased_gains, member_gains, member_used_gains, made_gains, made_for_gains, stored_made_gains, entered_gains}
+
+-- the test for the last reference: the stored count is 0
+abbrev pub by_counts : List ℕ → Choices
+by_counts counts = record { is_last = λ m o. count_of counts o == 0; new_number = λ m. length m.objects }
+
+-- ---- what a step gives up
+
+-- all that is left in a frame
+abbrev pub all_in : Frame → List ℕ
+all_in f = objects_in_slots f.slots ++ (objects_kept f.keeps ++ (objects_in f.me ++ f.held))
+
+-- the next one of the references that wait
+abbrev pub front : List ℕ → List ℕ
+front [] = []
+front (o ∷ os) = o ∷ []
+
+-- a step lets go of one waiting reference, or leaves a frame with all that is left in it; else it gives up nothing
+abbrev pub lost : Mode → Memory → List ℕ
+lost (Letting (suc k) after) m = front m.waiting
+lost (Letting zero Return) m = all_in (top m)
+lost (Letting zero (Pass e)) m = all_in (top m)
+lost mode m = []
+
+-- ---- what an instruction raises
+
+-- by the value on top of the stack; where there is none the machine sticks
+abbrev pub for_value : List Slot → (Val → List Slot → List ℕ) → List ℕ
+for_value [] f = []
+for_value (value v ∷ st) f = f v st
+for_value (path p ∷ st) f = []
+
+-- by the path on top
+abbrev pub for_path : List Slot → (Path → List Slot → List ℕ) → List ℕ
+for_path [] f = []
+for_path (value v ∷ st) f = []
+for_path (path p ∷ st) f = f p st
+
+-- by so many operands
+abbrev pub for_args : ℕ → List Slot → List Slot → (List Slot → List Slot → List ℕ) → List ℕ
+for_args zero st xs f = f xs st
+for_args (suc n) [] xs f = []
+for_args (suc n) (x ∷ st) xs f = for_args n st (x ∷ xs) f
+
+-- a call, unless 2000 calls stand
+abbrev pub call_gains : Code → (procedure : ℕ) → Val → List Slot → List Frame → List ℕ
+call_gains code p me xs frames = if nat_lt (length frames) 2000 then entered_gains code.declared p me xs else []
+
+-- the Class_Initialize of a new object
+abbrev pub initialize_gains : Code → Option ℕ → Val → List Frame → List ℕ
+initialize_gains code None v frames = []
+initialize_gains code (Some p) v frames = call_gains code p v [] frames
+
+-- an instruction, by its operands; of those that don't stand here none raises a count
+abbrev pub act_gains : Code → Option Instr → List Slot → Memory → List ℕ
+act_gains code (Some ReadThrough) st m = for_path st (λ q st1. given_gains (read_path q m))
+act_gains code (Some (Index k)) st m = for_args k st [] (λ xs st1. for_value st1 (λ v st2. given_gains (item_by v (slot_values xs) m)))
+act_gains code (Some (PartOf i)) st m = for_value st (λ v st1. given_gains (part_of i v m))
+act_gains code (Some (MemberOf name k)) st m =
+    for_args k st [] (λ xs st1. for_value st1 (λ w st2. for_value st2 (λ v st3. member_used_gains name v w (slot_values xs) m)))
+act_gains code (Some (NamedOf name by k)) st m =
+    for_args k st [] (λ xs st1. for_value st1 (λ w st2. for_value st2 (λ v st3. member_used_gains name v w (in_parameter_order v name by (slot_values xs)) m)))
+act_gains code (Some (StoreMember name k)) st m =
+    for_args k st [] (λ xs st1. for_value st1 (λ x st2. for_value st2 (λ w st3. for_value st3 (λ v st4. member_gains name (slot_values xs) w x m))))
+act_gains code (Some (StoreItem k)) st m =
+    for_args k st [] (λ xs st1. for_value st1 (λ w st2. for_value st2 (λ v st3. given_gains (item_by w (slot_values xs) m))))
+act_gains code (Some (Library f text_form compare base k)) st m =
+    for_args k st [] (λ xs st1. given_gains (library_called code.declared f text_form compare base (slot_values xs) m))
+act_gains code (Some PushThis) st m = given_gains (own_object m)
+act_gains code (Some (Selected i)) st m = given_gains (selected i m)
+act_gains code (Some (Keep i)) st m = for_value st (λ v st1. objects_in v)
+act_gains code (Some (New c)) st m =
+    made_gains code.declared c m ++ gains_behind (made code.declared c m) (λ v m1. initialize_gains code (class_at code.declared c).initialize v m1.frames)
+act_gains code (Some MakeThere) st m =
+    for_path st (λ q st1. made_for_gains code.declared q m ++ gains_behind (made_for code.declared q m) (λ v m1. initialize_gains code (initialize_of code.declared q v) v m1.frames))
+act_gains code (Some StoreMade) st m = for_value st (λ v st1. for_path st1 (λ q st2. stored_made_gains q v m))
+act_gains code (Some (Call p k)) st m = for_args k st [] (λ xs st1. call_gains code p empty xs m.frames)
+act_gains code (Some (CallOf p k)) st m = for_args k st [] (λ xs st1. for_value st1 (λ v st2. call_gains code p v xs m.frames))
+act_gains code (Some Store) st m = for_path st (λ q st1. for_value st1 (λ v st2. assigned_at_gains q v m))
+act_gains code (Some SetAt) st m = for_path st (λ q st1. for_value st1 (λ v st2. set_at_gains q v m))
+act_gains code (Some (LoopOn x i compare t u)) st m = for_value st (λ step st1. for_value st1 (λ end st2. for_value st2 (λ start st3. counted_gains x start m)))
+act_gains code (Some (NextRound x i)) st m = next_round_gains x i m
+act_gains code (Some (EachOn i)) st m = for_value st (λ v st1. each_begun_gains v m)
+act_gains code (Some (NextItem x i)) st m = each_next_gains x i m
+act_gains code (Some (Redim preserve of k)) st m =
+    for_args k st [] (λ xs st1. for_path st1 (λ q st2. redimmed_gains code.declared preserve of q (slot_values xs) m))
+act_gains code (Some EraseAt) st m = for_path st (λ q st1. erased_gains code.declared q m)
+act_gains code _ st m = []
+
+-- ---- what a step raises
+
+-- a Class_Terminate has its object as Me
+abbrev pub terminate_gains : Code → Option ℕ → (number : ℕ) → List Frame → List ℕ
+terminate_gains code None o frames = []
+terminate_gains code (Some p) o frames = call_gains code p (object (Heap (record { 0 = o }))) [] frames
+
+-- where a turn is left, the last reference to an object calls its Class_Terminate, once
+abbrev pub let_one_gains : Choices → Code → (bound : ℕ) → (number : ℕ) → State → List ℕ
+let_one_gains by code bound o s =
+    if by.is_last s.memory o
+    then (if nat_lt s.begun bound then (if (object_at s.memory o).told then [] else terminate_gains code (class_at code.declared (object_at s.memory o).class).terminate o s.memory.frames) else [])
+    else []
+
+-- a variable of a module takes its first value
+abbrev pub closing_gains : List Val → ℕ → (shared : List Val) → List ℕ
+closing_gains [] g shared = []
+closing_gains (v ∷ vs) g shared = if nat_lt g (length shared) then objects_in v else []
+
+-- the caller's statement holds the result
+abbrev pub return_gains : Code → List Back → Memory → List ℕ
+return_gains code [] m = closing_gains (first_values code.declared code.declared.shared) 0 m.shared
+return_gains code (Caller ret st ∷ bs) m = objects_in (result m)
+return_gains code (EndOf o k after ∷ bs) m = []
+
+-- a whole step
+abbrev pub gained : Choices → Code → (bound : ℕ) → Mode → List Slot → List Back → State → List ℕ
+gained by code bound (At pc) st bs s = act_gains code (slice_get code.instrs pc) st s.memory
+gained by code bound (Letting (suc k) after) st bs s = let_one_gains by code bound (next_waiting s.memory.waiting) (record s { memory = taken_off s.memory })
+gained by code bound (Letting zero Return) st bs s = return_gains code bs s.memory
+gained by code bound (Letting zero (Pass e)) st bs s = objects_in (result s.memory)
+gained by code bound (Letting zero (Close vs g)) st bs s = closing_gains vs g s.memory.shared
+gained by code bound mode st bs s = []
+
+-- ---- steps and runs
+
+-- the counts once a step has given up what it gives up
+abbrev pub lowered : List ℕ → Config → List ℕ
+lowered counts c = lower_all counts (lost c.mode c.state.memory)
+
+-- and once it is made
+abbrev pub counted_after : Code → (bound : ℕ) → List ℕ → Config → List ℕ
+counted_after code bound counts c = raise_all (lowered counts c) (gained (by_counts (lowered counts c)) code bound c.mode c.stack c.backs c.state)
+
+-- where a run is after so many steps, or how it ended, with the counts that are stored there
+pub data Outcome : Type 0 where
+  Running : (counts : List ℕ) → Config → Outcome
+  Finished : (counts : List ℕ) → Ending → State → List Event → Outcome
+  Jammed : Outcome
+
+-- events are told before
+abbrev pub telling : List Event → Outcome → Outcome
+telling es (Running counts c) = Running counts c
+telling es (Finished counts e s more) = Finished counts e s (es ++ more)
+telling es Jammed = Jammed
+
+-- what comes of a move after which these counts are stored, with a bound on turns
+abbrev pub follow_counted : (bound : ℕ) → List ℕ → Move → (List ℕ → Config → Outcome) → Outcome
+follow_counted bound counts (Goes c) more = more counts c
+follow_counted bound counts (Ends e s) more = Finished counts e s []
+follow_counted bound counts Sticks more = Jammed
+follow_counted bound counts (Tells es m) more = telling es (follow_counted bound counts m more)
+follow_counted bound counts (Turns s m) more = if nat_lt s.begun bound then follow_counted bound counts m more else Finished counts Going s []
+
+-- at most so many steps of the machine that counts
+abbrev pub counting_machine : Code → (bound steps : ℕ) → List ℕ → Config → Outcome
+counting_machine code bound zero counts c = Running counts c
+counting_machine code bound (suc k) counts c =
+    follow_counted bound (counted_after code bound counts c) (step_by (by_counts (lowered counts c)) code c) (counting_machine code bound k)
+
+-- before the first step: what module variables begin with, and the call of the macro
+abbrev pub first_counts : Code → List ℕ
+first_counts code =
+    raise_all [] (objects_in_values (first_values code.declared code.declared.shared) ++ entered_gains code.declared code.startup empty (startup_slots code.declared code.startup))
+
+-- a run of a code that counts, with a bound on turns, of at most so many steps
+abbrev pub run_counted : Code → Sheets → (bound steps : ℕ) → Outcome
+run_counted code book bound k = follow_counted bound (first_counts code) (first_move code book) (counting_machine code bound k)

@@ -1,0 +1,4 @@
+pub mod Balance
+pub mod Counting
+pub mod Counts
+pub mod Gains
