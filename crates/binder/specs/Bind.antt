@@ -4,7 +4,6 @@ use Rattle.std.specs.Prelude.{ℕ, suc, Bool, true, false, ◌&&◌, ◌||◌, n
 use Rattle.std.specs.List.{list_all, list_any}
 use Rattle.vba_base.specs.declared.place.Place.{Place}
 use Rattle.vba_base.specs.declared.place.Refusal.{Refusal}
-use Rattle.refusal_order.specs.Least.{fault_list, least_of}
 use Rattle.vba_lexer.specs.declared.number.TypeSuffix.{TypeSuffix}
 use Rattle.vba_lexer.specs.declared.number.TypeSuffix.TheVariants as suffix
 use Rattle.vba_values.specs.Types.{Declared}
@@ -30,7 +29,7 @@ use Rattle.binder.specs.Storage.{kind_of, declared_result, declarations_if, is_f
 use Rattle.binder.specs.Storage as storage
 use Rattle.binder.specs.StatementsBound.{Around, part_statements, all_statements, blocks_in}
 use Rattle.binder.specs.Violations.{verdict}
-use Rattle.binder.specs.LeftOut.{left_out_violations}
+use Rattle.binder.specs.LeftOut.{first_left_out}
 
 -- ---- procedures
 
@@ -232,13 +231,14 @@ startup_fault o spaces st = at (startup_number (scope_of o spaces no_space) st s
     at None = Some (record { rule = 33; place = record { «module» = 1; line = 1; column = 1 } })
     at (Some number) = None
 
--- what is asked where names and types are found: what the language leaves out, and the macro to begin with
-abbrev pub static_violations : Outside → List Space → Startup → List Refusal
-static_violations o spaces st = fault_list (startup_fault o spaces st) ++ left_out_violations o spaces
+-- what is asked where names and types are found: the macro to begin with, which is told at the front of the project and
+-- so before all else, and what the language leaves out
+abbrev pub static_rule : Outside → List Space → Startup → Option Refusal
+static_rule o spaces st = or_else (startup_fault o spaces st) (first_left_out o spaces)
 
--- the first rule that is broken: of names and types in their modules, and then the least of the others
+-- the first rule that is broken: of names and types in their modules, and then the first of the others
 abbrev pub broken_rule : Outside → List Source → Startup → Option Refusal
-broken_rule o sources st = or_else (verdict o sources) (least_of None (static_violations o (spaces_from 0 sources) st))
+broken_rule o sources st = or_else (verdict o sources) (static_rule o (spaces_from 0 sources) st)
 
 -- modules in the order of the project, bound
 abbrev pub bind_of : Outside → List Source → Startup → Answer

@@ -1,6 +1,6 @@
 -- S23: what the language leaves out: the types Double, Single, Date and Decimal, the suffixes ! and #, and the functions
 -- that VBA's library has and this one hasn't.
-use Rattle.std.specs.Prelude.{Bool, List, [], ◌∷◌, ◌++◌, flat_map, Option, Some, None, if◌then◌else◌}
+use Rattle.std.specs.Prelude.{Bool, List, [], ◌∷◌, ◌++◌, flat_map, map, Option, Some, None, if◌then◌else◌}
 use Rattle.vba_base.specs.declared.place.Place.{Place}
 use Rattle.vba_base.specs.declared.place.Refusal.{Refusal}
 use Rattle.vba_lexer.specs.declared.number.TypeSuffix.{TypeSuffix}
@@ -18,7 +18,7 @@ use Rattle.binder.specs.Scopes.{Outside, Space, Scope, Use, plainly, called, bef
 use Rattle.binder.specs.Scopes as scope
 use Rattle.binder.specs.Names.{scope_of}
 use Rattle.binder.specs.Types.{TypeMeant, left_out, type_meant}
-use Rattle.binder.specs.Violations.{in_space, in_body, place_of_name, place_of_type}
+use Rattle.binder.specs.Violations.{first_broken, in_space, in_body, place_of_name, place_of_type}
 
 -- a name with the suffix of a Single or a Double
 abbrev pub suffix_left_out : Identifier → List Place
@@ -59,12 +59,14 @@ abbrev mutual
   names_left_out s how (unary operator token e) = names_left_out s plainly e
   names_left_out s how (binary l operator token r) = names_left_out s plainly l ++ names_left_out s plainly r
 
+  -- the same in arguments, where the names of arguments are none of these
   pub left_out_in_args : Scope → Args → List Place
   left_out_in_args s no_args = []
   left_out_in_args s (missing before comma) = left_out_in_args s before
   left_out_in_args s (plain before comma e) = left_out_in_args s before ++ names_left_out s plainly e
   left_out_in_args s (expr.named before comma x mark e) = left_out_in_args s before ++ names_left_out s plainly e
 
+-- the same in what a statement or a declaration says
 abbrev pub said_left_out : Scope → Said → List Place
 said_left_out s (declares l) = suffix_left_out l.name
 said_left_out s (type_named t) = type_left_out (type_meant s t) t
@@ -74,17 +76,20 @@ said_left_out s (say.called e) = names_left_out s called e
 said_left_out s (redimmed e clause) = names_left_out s plainly e
 said_left_out s other = []
 
+-- parameters by their suffixes: their types are said
 abbrev pub parameters_left_out : List Parameter → List Place
 parameters_left_out ps = flat_map (λ p. suffix_left_out p.name) ps
 
--- an entry of a module: its name, and what it says
-abbrev pub entry_left_out : Scope → Entry → List Place
-entry_left_out s e = suffix_left_out e.name ++ (inside e.what ++ flat_map (said_left_out s) (entry_said e.what))
-  where
-    inside : What → List Place
-    inside (an_event ps) = parameters_left_out ps
-    inside other = []
+-- the parameters of an event
+abbrev pub event_left_out : What → List Place
+event_left_out (an_event ps) = parameters_left_out ps
+event_left_out what = []
 
+-- an entry of a module: its name, its parameters where it is an event, and what it says
+abbrev pub entry_left_out : Scope → Entry → List Place
+entry_left_out s e = suffix_left_out e.name ++ (event_left_out e.what ++ flat_map (said_left_out s) (entry_said e.what))
+
+-- a procedure: its parameters, and what is said in its body
 abbrev pub procedure_left_out : Scope → Written → List Place
 procedure_left_out s p = parameters_left_out p.parameters ++ in_body (λ within. said_left_out s) p
 
@@ -92,6 +97,6 @@ procedure_left_out s p = parameters_left_out p.parameters ++ in_body (λ within.
 abbrev pub left_out_in : Scope → List Place
 left_out_in s = in_space entry_left_out procedure_left_out s
 
--- where each module of a project breaks the rule
-abbrev pub left_out_violations : Outside → List Space → List Refusal
-left_out_violations o spaces = flat_map (λ (space : Space). broken 23 (left_out_in (scope_of o spaces space))) spaces
+-- the least place in the first module that has something left out
+abbrev pub first_left_out : Outside → List Space → Option Refusal
+first_left_out o spaces = first_broken (map (λ (space : Space). broken 23 (left_out_in (scope_of o spaces space))) spaces)

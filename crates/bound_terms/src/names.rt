@@ -154,7 +154,7 @@ fn constant_term<'a>(
 {
     let found = meant_value(alloc, env.constants, name, Some(meant))?;
     let Some(known) = found else {
-        return Err(OrMemory::Fault(NotYet));
+        return Ok(Term::Nothing);
     };
     let value = copy_value(alloc, &known.value)?;
     let term = value_term(draft, value, known.of)?;

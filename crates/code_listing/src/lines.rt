@@ -1,17 +1,19 @@
-ghost use Rattle.std.specs.Prelude.{◌≡◌, ◌++◌, IfOk, length, string_bytes, if◌then◌else◌};
+ghost use Rattle.std.specs.Prelude.{◌≡◌, ◌<◌, ◌++◌, IfOk, length, string_bytes, if◌then◌else◌};
 ghost use Rattle.std.specs.Fmt.{decimal};
 ghost use Rattle.vba_values.specs.View.{view};
-ghost use Rattle.bound_project.specs.Pieces.{constant_in, name_in};
+ghost use Rattle.bound_project.specs.Pieces.{Tables, constant_in, name_in};
+ghost use Rattle.bound_project.specs.View.{variable_view};
 ghost use Rattle.pcode.specs.View.{code_view, instr_view, tables_of};
 ghost use Rattle.code_listing.specs.Listing as lists;
 ghost use Rattle.code_listing.specs.Numbers as numbers;
-ghost use Rattle.code_listing.specs.View.{line_view};
+ghost use Rattle.code_listing.specs.View.{kind_of, line_view};
 
 use crate::numbers::{
     bit_of, compare_number, function_number, handler_number, host_detail, host_number,
     member_number, operator_number, policy_number, storage_number, type_detail, type_number,
     value_number, value_size, variable_number,
 };
+use bound_project::Variable;
 use pcode::{Code, Instr};
 use std::alloc::{AllocError, Global};
 use vba_base::NoMemory;
@@ -73,7 +75,15 @@ fn branch_line(op: u32, sense: bool, to: u32, other: u32) -> Line
     }
 }
 
-// An instruction of a code as a line tells it.
+// A variable, and a block.
+fn variable_line(op: u32, variable: Variable, block: u32) -> Line
+    ensures { line_view result ≡ lists.listed_as op (numbers.variable_number (variable_view variable).storage) block }
+{
+    listed_as(op, variable_number(variable), number(block))
+}
+
+// An instruction of a code as a line tells it; here those of the kinds up to 11: the beginning of a statement, values and
+// places.
 fn listed(code: &Code, instr: Instr) -> Line
     ensures { line_view result ≡ lists.listed (instr_view (tables_of code.now) instr) }
 {
@@ -98,6 +108,16 @@ fn listed(code: &Code, instr: Instr) -> Line
         Instr::Dot { block } => listed_as(9, number(block), 0),
         Instr::Index { numbers } => listed_as(10, number(numbers), 0),
         Instr::PartOf { field } => listed_as(11, number(field), 0),
+        _ => operator_line(code, instr),
+    }
+}
+
+// The same of the kinds from 12 on; here up to 24: operators, members of objects, functions and types.
+fn operator_line(code: &Code, instr: Instr) -> Line
+    requires { 11 < kind_of (tables_of code.now) instr }
+    ensures { line_view result ≡ lists.listed (instr_view (tables_of code.now) instr) }
+{
+    match instr {
         Instr::Operate {
             operator,
             compare,
@@ -122,6 +142,16 @@ fn listed(code: &Code, instr: Instr) -> Line
         } => listed_as(22, bit_of(is_upper), number(dimension.unsigned_abs())),
         Instr::Fit(of) => listed_as(23, type_number(of), type_detail(of)),
         Instr::FitObject(of) => listed_as(24, type_number(of), type_detail(of)),
+        _ => call_line(code, instr),
+    }
+}
+
+// The same of the kinds from 25 on; here up to 37: arguments, calls, assignments, and what is shown or raised.
+fn call_line(code: &Code, instr: Instr) -> Line
+    requires { 24 < kind_of (tables_of code.now) instr }
+    ensures { line_view result ≡ lists.listed (instr_view (tables_of code.now) instr) }
+{
+    match instr {
         Instr::Drop => listed_as(25, 0, 0),
         Instr::Lend => listed_as(26, 0, 0),
         Instr::Pack { arguments } => listed_as(27, number(arguments), 0),
@@ -142,24 +172,22 @@ fn listed(code: &Code, instr: Instr) -> Line
         Instr::ShowText => listed_as(35, 0, 0),
         Instr::Show { ends, items } => listed_as(36, number(items), bit_of(ends)),
         Instr::Throw { arguments } => listed_as(37, number(arguments), 0),
+        _ => block_line(instr),
+    }
+}
+
+// The same of the kinds from 38 on; here up to 51: loops, and what else a block keeps and tests.
+fn block_line(instr: Instr) -> Line
+    requires { (t : Tables) → 37 < kind_of t instr }
+    ensures { (t : Tables) → line_view result ≡ lists.listed (instr_view t instr) }
+{
+    match instr {
         Instr::LoopOff { block } => listed_as(38, number(block), 0),
-        Instr::LoopOn { counter, block, .. } => listed_as(
-            39,
-            variable_number(counter),
-            number(block),
-        ),
-        Instr::NextRound { counter, block } => listed_as(
-            40,
-            variable_number(counter),
-            number(block),
-        ),
+        Instr::LoopOn { counter, block, .. } => variable_line(39, counter, block),
+        Instr::NextRound { counter, block } => variable_line(40, counter, block),
         Instr::EachOff { block } => listed_as(41, number(block), 0),
         Instr::EachOn { block } => listed_as(42, number(block), 0),
-        Instr::NextItem { control, block } => listed_as(
-            43,
-            variable_number(control),
-            number(block),
-        ),
+        Instr::NextItem { control, block } => variable_line(43, control, block),
         Instr::Keep { block } => listed_as(44, number(block), 0),
         Instr::Selected { block } => listed_as(45, number(block), 0),
         Instr::IfFits { operator, to, .. } => listed_as(46, operator_number(operator), number(to)),
@@ -172,6 +200,16 @@ fn listed(code: &Code, instr: Instr) -> Line
         Instr::EraseAt => listed_as(49, 0, 0),
         Instr::KeepPath { block } => listed_as(50, number(block), 0),
         Instr::DropKept { block } => listed_as(51, number(block), 0),
+        _ => control_line(instr),
+    }
+}
+
+// The same of the kinds from 52 on: jumps, errors, ends, and two assignments.
+fn control_line(instr: Instr) -> Line
+    requires { (t : Tables) → 51 < kind_of t instr }
+    ensures { (t : Tables) → line_view result ≡ lists.listed (instr_view t instr) }
+{
+    match instr {
         Instr::PutReturn { statement } => listed_as(52, number(statement), 0),
         Instr::TakeReturn { procedure } => listed_as(53, number(procedure), 0),
         Instr::SetPolicy(policy) => listed_as(54, policy_number(policy), handler_number(policy)),
@@ -189,7 +227,8 @@ fn listed(code: &Code, instr: Instr) -> Line
         Instr::StopHere => listed_as(63, 0, 0),
         Instr::Leave => listed_as(64, 0, 0),
         Instr::StoreItem { numbers } => listed_as(65, number(numbers), 0),
-        Instr::SetMember => listed_as(66, 0, 0),
+        // Only SetMember is left.
+        _ => listed_as(66, 0, 0),
     }
 }
 

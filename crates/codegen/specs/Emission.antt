@@ -37,54 +37,66 @@ constant_number added i = if nat_lt i added.empty then i else added.empty
 abbrev pub order_length : List (List ℕ) → ℕ → ℕ
 order_length orders i = length (slice_index_or orders i [])
 
--- the first instruction of a node that has two
-abbrev pub first_instrs : Around → NodeKind → List Instr
-first_instrs around (node.Item x count) = instr.PathOf x ∷ []
-first_instrs around (node.CallInOrder p count order) = instr.Reorder order count ∷ []
-first_instrs around node.TestBegins = instr.Selected around.header ∷ []
-first_instrs around k = []
+-- a value that stands alone: a constant, an object of the host, or what Err tells
+abbrev pub value_instrs : Added → NodeKind → List Instr
+value_instrs added node.NotGiven = instr.Push added.missing ∷ []
+value_instrs added node.Zone = instr.Push added.empty ∷ []
+value_instrs added (node.Constant i) = instr.Push (constant_number added i) ∷ []
+value_instrs added (node.ByDefault i) = instr.Push (constant_number added i) ∷ []
+value_instrs added (node.HostObject reference) = instr.PushHost reference ∷ []
+value_instrs added node.ActiveSheet = instr.FirstSheet ∷ []
+value_instrs added (node.ErrValue member) = instr.LoadErr member ∷ []
+value_instrs added k = []
 
--- the instruction of a node, or its last one
-abbrev pub last_instr : Added → List (List ℕ) → Around → NodeKind → Instr
-last_instr added orders around node.NotGiven = instr.Push added.missing
-last_instr added orders around (node.Constant i) = instr.Push (constant_number added i)
-last_instr added orders around (node.Variable x) = instr.PathOf x
-last_instr added orders around (node.Item x count) = instr.ElementOf count
-last_instr added orders around (node.Element count) = instr.ElementIn count
-last_instr added orders around (node.Field i of bounded) = instr.FieldOf i of bounded
-last_instr added orders around (node.KeptPlace header) = instr.Dot header
-last_instr added orders around node.Load = instr.ReadThrough
-last_instr added orders around (node.ElementValue count) = instr.Index count
-last_instr added orders around (node.FieldValue i) = instr.PartOf i
-last_instr added orders around (node.Unary o of) = instr.OperateAlone o of
-last_instr added orders around (node.Binary o compare left right) = instr.Operate o compare left right
-last_instr added orders around (node.Call p count) = instr.Call p count
-last_instr added orders around (node.CallInOrder p count order) = instr.Call p (order_length orders order)
-last_instr added orders around (node.ErrValue member) = instr.LoadErr member
-last_instr added orders around (node.Library f text_form count compare one) = instr.Library f text_form compare one count
-last_instr added orders around (node.BoundOf upper z) = instr.BoundAt upper z
-last_instr added orders around node.DefaultOf = instr.Plain
-last_instr added orders around node.DefaultIfAny = instr.PlainIfAny
-last_instr added orders around node.Same = instr.Same
-last_instr added orders around (node.IsType of) = instr.IsType of
-last_instr added orders around (node.HostObject reference) = instr.PushHost reference
-last_instr added orders around node.ActiveSheet = instr.FirstSheet
-last_instr added orders around (node.MemberThere i given) = instr.MemberThere (constant_number added i) given
-last_instr added orders around (node.HostMember i count) = instr.MemberOf (constant_number added i) count
-last_instr added orders around node.ByPlace = instr.Lend
-last_instr added orders around (node.ByCopy of) = instr.Fit of
-last_instr added orders around (node.ByDefault i) = instr.Push (constant_number added i)
-last_instr added orders around (node.ByList count) = instr.Pack count
-last_instr added orders around node.Shown = instr.ShowText
-last_instr added orders around node.Zone = instr.Push added.empty
-last_instr added orders around node.TestBegins = instr.Plain
-last_instr added orders around (node.TestIs o of) = instr.IfFits o around.compare around.of of around.to
-last_instr added orders around (node.TestRange low high) = instr.IfBetween around.compare around.of low high around.to
-last_instr added orders around (node.Resize count of) = instr.Redim around.preserve of count
-last_instr added orders around node.Erased = instr.EraseAt
+-- a place, or what is read of a place or of the parts of a value
+abbrev pub place_instrs : NodeKind → List Instr
+place_instrs (node.Variable x) = instr.PathOf x ∷ []
+place_instrs (node.Item x count) = instr.PathOf x ∷ instr.ElementOf count ∷ []
+place_instrs (node.Element count) = instr.ElementIn count ∷ []
+place_instrs (node.Field i of bounded) = instr.FieldOf i of bounded ∷ []
+place_instrs (node.KeptPlace header) = instr.Dot header ∷ []
+place_instrs node.Load = instr.ReadThrough ∷ []
+place_instrs (node.ElementValue count) = instr.Index count ∷ []
+place_instrs (node.FieldValue i) = instr.PartOf i ∷ []
+place_instrs (node.BoundOf upper z) = instr.BoundAt upper z ∷ []
+place_instrs k = []
 
+-- an operator, a function of the library, or what an object gives way to
+abbrev pub operator_instrs : NodeKind → List Instr
+operator_instrs (node.Unary o of) = instr.OperateAlone o of ∷ []
+operator_instrs (node.Binary o compare left right) = instr.Operate o compare left right ∷ []
+operator_instrs (node.Library f text_form count compare one) = instr.Library f text_form compare one count ∷ []
+operator_instrs node.DefaultOf = instr.Plain ∷ []
+operator_instrs node.DefaultIfAny = instr.PlainIfAny ∷ []
+operator_instrs node.Same = instr.Same ∷ []
+operator_instrs (node.IsType of) = instr.IsType of ∷ []
+operator_instrs k = []
+
+-- a call, a member of an object of the host, or an argument
+abbrev pub call_instrs : Added → List (List ℕ) → NodeKind → List Instr
+call_instrs added orders (node.Call p count) = instr.Call p count ∷ []
+call_instrs added orders (node.CallInOrder p count order) = instr.Reorder order count ∷ instr.Call p (order_length orders order) ∷ []
+call_instrs added orders (node.MemberThere i given) = instr.MemberThere (constant_number added i) given ∷ []
+call_instrs added orders (node.HostMember i count) = instr.MemberOf (constant_number added i) count ∷ []
+call_instrs added orders node.ByPlace = instr.Lend ∷ []
+call_instrs added orders (node.ByCopy of) = instr.Fit of ∷ []
+call_instrs added orders (node.ByList count) = instr.Pack count ∷ []
+call_instrs added orders k = []
+
+-- an item of Debug.Print, a test of a Case, an array of a ReDim or of an Erase
+abbrev pub part_instrs : Around → NodeKind → List Instr
+part_instrs around node.Shown = instr.ShowText ∷ []
+part_instrs around node.TestBegins = instr.Selected around.header ∷ instr.Plain ∷ []
+part_instrs around (node.TestIs o of) = instr.IfFits o around.compare around.of of around.to ∷ []
+part_instrs around (node.TestRange low high) = instr.IfBetween around.compare around.of low high around.to ∷ []
+part_instrs around (node.Resize count of) = instr.Redim around.preserve of count ∷ []
+part_instrs around node.Erased = instr.EraseAt ∷ []
+part_instrs around k = []
+
+-- of a node: all of these but one are empty
 abbrev pub node_instrs : Added → List (List ℕ) → Around → NodeKind → List Instr
-node_instrs added orders around k = first_instrs around k ++ last_instr added orders around k ∷ []
+node_instrs added orders around k =
+    value_instrs added k ++ (place_instrs k ++ (operator_instrs k ++ (call_instrs added orders k ++ part_instrs around k)))
 
 abbrev pub nodes_instrs : Added → List (List ℕ) → Around → List Node → List Instr
 nodes_instrs added orders around [] = []
@@ -120,37 +132,54 @@ property_instrs q count of = instr.Lift count ∷ instr.Plain ∷ instr.Fit of �
 abbrev pub object_property_instrs : (procedure arguments : ℕ) → DeclaredType → List Instr
 object_property_instrs q count of = instr.Lift count ∷ instr.FitObject of ∷ instr.Call q (suc count) ∷ instr.Drop ∷ []
 
--- what is done behind its nodes
+-- an assignment, or Set
+abbrev pub assignment_instrs : Added → ActionKind → List Instr
+assignment_instrs added kind.Assign = instr.Store ∷ []
+assignment_instrs added (kind.AssignItem count) = instr.StoreItem count ∷ []
+assignment_instrs added kind.Set = instr.SetAt ∷ []
+assignment_instrs added kind.AssignDefault = instr.StoreDefault ∷ []
+assignment_instrs added (kind.AssignMember n count) = instr.StoreMember (constant_number added n) count ∷ []
+assignment_instrs added kind.SetMember = instr.SetMember ∷ []
+assignment_instrs added k = []
+
+-- an assignment to a property
+abbrev pub property_assignment_instrs : List (List ℕ) → ActionKind → List Instr
+property_assignment_instrs orders (kind.LetProperty q count of) = property_instrs q count of
+property_assignment_instrs orders (kind.LetPropertyInOrder q count order of) = instr.Reorder order count ∷ property_instrs q (order_length orders order) of
+property_assignment_instrs orders (kind.SetProperty q count of) = object_property_instrs q count of
+property_assignment_instrs orders (kind.SetPropertyInOrder q count order of) = instr.Reorder order count ∷ object_property_instrs q (order_length orders order) of
+property_assignment_instrs orders k = []
+
+-- the first or the last line of a loop
+abbrev pub loop_instrs : (statement : ℕ) → ActionKind → List Instr
+loop_instrs i (kind.For x compare last step first behind) = instr.LoopOn x i compare last step ∷ []
+loop_instrs i (kind.Next x header first) = instr.NextRound x header ∷ []
+loop_instrs i (kind.ForEach x first behind) = instr.EachOn i ∷ instr.NextItem x i ∷ []
+loop_instrs i (kind.NextEach x header first) = instr.NextItem x header ∷ []
+loop_instrs i k = []
+
+-- what a block keeps, what handles errors, and what stands alone
+abbrev pub control_instrs : (statement next : ℕ) → ActionKind → List Instr
+control_instrs i next kind.Evaluate = instr.Drop ∷ []
+control_instrs i next (kind.Print count ends) = instr.Show ends count ∷ []
+control_instrs i next (kind.RaiseInOrder count order) = instr.Reorder order count ∷ []
+control_instrs i next (kind.Select first) = instr.Keep i ∷ []
+control_instrs i next kind.WithValue = instr.Keep i ∷ []
+control_instrs i next kind.WithPlace = instr.KeepPath i ∷ []
+control_instrs i next (kind.EndWith header) = instr.DropKept header ∷ []
+control_instrs i next (kind.ExitEach header to) = instr.DropKept header ∷ []
+control_instrs i next (kind.GoSub to) = instr.PutReturn next ∷ []
+control_instrs i next (kind.ExitTo end) = instr.ErrOff ∷ []
+control_instrs i next kind.ClearErr = instr.ErrOff ∷ []
+control_instrs i next (kind.OnError handling) = instr.SetPolicy (policy_in handling) ∷ []
+control_instrs i next kind.EndHandler = instr.HandlerOff ∷ []
+control_instrs i next kind.Stop = instr.StopHere ∷ []
+control_instrs i next k = []
+
+-- what is done behind its nodes: all of these but one are empty
 abbrev pub work_instrs : Added → List (List ℕ) → (statement next : ℕ) → ActionKind → List Instr
-work_instrs added orders i next kind.Assign = instr.Store ∷ []
-work_instrs added orders i next (kind.AssignItem count) = instr.StoreItem count ∷ []
-work_instrs added orders i next kind.Set = instr.SetAt ∷ []
-work_instrs added orders i next kind.AssignDefault = instr.StoreDefault ∷ []
-work_instrs added orders i next (kind.AssignMember n count) = instr.StoreMember (constant_number added n) count ∷ []
-work_instrs added orders i next kind.SetMember = instr.SetMember ∷ []
-work_instrs added orders i next kind.Evaluate = instr.Drop ∷ []
-work_instrs added orders i next (kind.LetProperty q count of) = property_instrs q count of
-work_instrs added orders i next (kind.LetPropertyInOrder q count order of) = instr.Reorder order count ∷ property_instrs q (order_length orders order) of
-work_instrs added orders i next (kind.SetProperty q count of) = object_property_instrs q count of
-work_instrs added orders i next (kind.SetPropertyInOrder q count order of) = instr.Reorder order count ∷ object_property_instrs q (order_length orders order) of
-work_instrs added orders i next (kind.RaiseInOrder count order) = instr.Reorder order count ∷ []
-work_instrs added orders i next (kind.Print count ends) = instr.Show ends count ∷ []
-work_instrs added orders i next (kind.For x compare last step first behind) = instr.LoopOn x i compare last step ∷ []
-work_instrs added orders i next (kind.Next x header first) = instr.NextRound x header ∷ []
-work_instrs added orders i next (kind.ForEach x first behind) = instr.EachOn i ∷ instr.NextItem x i ∷ []
-work_instrs added orders i next (kind.NextEach x header first) = instr.NextItem x header ∷ []
-work_instrs added orders i next (kind.ExitEach header to) = instr.DropKept header ∷ []
-work_instrs added orders i next (kind.Select first) = instr.Keep i ∷ []
-work_instrs added orders i next kind.WithPlace = instr.KeepPath i ∷ []
-work_instrs added orders i next kind.WithValue = instr.Keep i ∷ []
-work_instrs added orders i next (kind.EndWith header) = instr.DropKept header ∷ []
-work_instrs added orders i next (kind.GoSub to) = instr.PutReturn next ∷ []
-work_instrs added orders i next (kind.ExitTo end) = instr.ErrOff ∷ []
-work_instrs added orders i next (kind.OnError handling) = instr.SetPolicy (policy_in handling) ∷ []
-work_instrs added orders i next kind.EndHandler = instr.HandlerOff ∷ []
-work_instrs added orders i next kind.ClearErr = instr.ErrOff ∷ []
-work_instrs added orders i next kind.Stop = instr.StopHere ∷ []
-work_instrs added orders i next k = []
+work_instrs added orders i next k =
+    assignment_instrs added k ++ (property_assignment_instrs orders k ++ (loop_instrs i k ++ control_instrs i next k))
 
 -- where it goes on
 abbrev pub end_instr : List (List ℕ) → Row → (procedure next : ℕ) → ActionKind → Instr

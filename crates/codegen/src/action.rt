@@ -1,7 +1,7 @@
 ghost use Rattle.std.specs.Prelude.{◌≡◌, suc, [], ◌∷◌, ◌++◌, IfOk, OnOk, slice_index};
-ghost use Rattle.codegen.specs.Emission.{action_instrs, around_of, before_instrs, constant_number, end_instr, lists_of, object_property_instrs, order_length, policy_in, property_instrs, work_instrs};
+ghost use Rattle.codegen.specs.Emission.{action_instrs, around_of, assignment_instrs, before_instrs, control_instrs, end_instr, lists_of, loop_instrs, object_property_instrs, order_length, policy_in, property_assignment_instrs, property_instrs, work_instrs};
 
-use crate::node::{Added, Around, constant_number, emit_nodes, order_length, put};
+use crate::node::{Added, Around, constant_number, emit_nodes, order_length, put, put_two};
 use bound_project::{ActionKind, DeclaredType, ElementType, Handling, Node, TooLong};
 use error_frames::{At, Policy};
 use pcode::Instr;
@@ -65,11 +65,12 @@ fn put_before(
 ) -> Result<(), OrMemory<TooLong>>
     ensures { OnOk result (code.new.items ≡ code.old.items ++ before_instrs statement action) }
 {
-    match action {
-        ActionKind::For { .. } => put(code, Instr::LoopOff { block: statement }),
-        ActionKind::ForEach { .. } => put(code, Instr::EachOff { block: statement }),
-        _ => Ok(()),
-    }
+    let instr = match action {
+        ActionKind::For { .. } => Instr::LoopOff { block: statement },
+        ActionKind::ForEach { .. } => Instr::EachOff { block: statement },
+        _ => return Ok(()),
+    };
+    put(code, instr)
 }
 
 fn policy_of(handling: Handling) -> Policy
@@ -136,13 +137,6 @@ fn put_object_property(
     Ok(())
 }
 
-fn put_two(code: &mut Vec<Instr>, first: Instr, second: Instr) -> Result<(), OrMemory<TooLong>>
-    ensures { OnOk result (code.new.items ≡ code.old.items ++ first ∷ second ∷ []) }
-{
-    put(code, first)?;
-    put(code, second)
-}
-
 fn put_property_in_order(
     code: &mut Vec<Instr>,
     orders: &[Vec<u32>],
@@ -175,38 +169,40 @@ fn put_object_property_in_order(
     put_object_property(code, procedure, all, of)
 }
 
-// The assignment to a member of an object of the host.
-fn put_member(
-    code: &mut Vec<Instr>,
-    added: Added,
-    name: u32,
-    arguments: u32,
-) -> Result<(), OrMemory<TooLong>>
-    ensures { OnOk result (code.new.items ≡ code.old.items ++ Instr.StoreMember (constant_number added name) arguments ∷ []) }
-{
-    let name = constant_number(added, name);
-    put(code, Instr::StoreMember { name, arguments })
-}
+// A statement's work is of one of several sorts; for one of another sort each of these puts nothing.
 
-fn put_work(
+// An assignment, or Set.
+fn put_assignment(
     code: &mut Vec<Instr>,
     added: Added,
-    orders: &[Vec<u32>],
-    statement: u32,
-    next: u32,
     action: ActionKind,
 ) -> Result<(), OrMemory<TooLong>>
-    ensures { OnOk result (code.new.items ≡ code.old.items ++ work_instrs added (lists_of orders.now) statement next action) }
+    ensures { OnOk result (code.new.items ≡ code.old.items ++ assignment_instrs added action) }
 {
-    let block = statement;
+    let instr = match action {
+        ActionKind::Assign => Instr::Store,
+        ActionKind::AssignItem { numbers } => Instr::StoreItem { numbers },
+        ActionKind::Set => Instr::SetAt,
+        ActionKind::AssignDefault => Instr::StoreDefault,
+        ActionKind::AssignMember { name, arguments } => Instr::StoreMember {
+            name: constant_number(added, name),
+            arguments,
+        },
+        ActionKind::SetMember => Instr::SetMember,
+        _ => return Ok(()),
+    };
+    put(code, instr)
+}
+
+// An assignment to a property.
+fn put_property_assignment(
+    code: &mut Vec<Instr>,
+    orders: &[Vec<u32>],
+    action: ActionKind,
+) -> Result<(), OrMemory<TooLong>>
+    ensures { OnOk result (code.new.items ≡ code.old.items ++ property_assignment_instrs (lists_of orders.now) action) }
+{
     match action {
-        ActionKind::Assign => put(code, Instr::Store),
-        ActionKind::AssignItem { numbers } => put(code, Instr::StoreItem { numbers }),
-        ActionKind::Set => put(code, Instr::SetAt),
-        ActionKind::AssignDefault => put(code, Instr::StoreDefault),
-        ActionKind::AssignMember { name, arguments } => put_member(code, added, name, arguments),
-        ActionKind::SetMember => put(code, Instr::SetMember),
-        ActionKind::Evaluate => put(code, Instr::Drop),
         ActionKind::LetProperty {
             procedure,
             arguments,
@@ -229,66 +225,89 @@ fn put_work(
             order,
             of,
         } => put_object_property_in_order(code, orders, procedure, arguments, order, of),
-        ActionKind::RaiseInOrder { arguments, order } => {
-            put(code, Instr::Reorder { order, arguments })
-        }
-        ActionKind::Print { items, ends } => put(code, Instr::Show { ends, items }),
+        _ => Ok(()),
+    }
+}
+
+// The first or the last line of a loop.
+fn put_loop(code: &mut Vec<Instr>, block: u32, action: ActionKind) -> Result<(), OrMemory<TooLong>>
+    ensures { OnOk result (code.new.items ≡ code.old.items ++ loop_instrs block action) }
+{
+    let instr = match action {
         ActionKind::For {
             counter,
             compare,
             last,
             step,
             ..
-        } => put(
-            code,
-            Instr::LoopOn {
-                counter,
-                block,
-                compare,
-                last,
-                step,
-            },
-        ),
+        } => Instr::LoopOn {
+            counter,
+            block,
+            compare,
+            last,
+            step,
+        },
         ActionKind::Next {
             counter,
-            header,
+            header: block,
             ..
-        } => put(
-            code,
-            Instr::NextRound {
-                counter,
-                block: header,
-            },
-        ),
-        ActionKind::ForEach { control, .. } => put_two(
-            code,
-            Instr::EachOn { block },
-            Instr::NextItem { control, block },
-        ),
+        } => Instr::NextRound { counter, block },
+        ActionKind::ForEach { control, .. } => {
+            let item = Instr::NextItem { control, block };
+            return put_two(code, Instr::EachOn { block }, item);
+        }
         ActionKind::NextEach {
             control,
-            header,
+            header: block,
             ..
-        } => put(
-            code,
-            Instr::NextItem {
-                control,
-                block: header,
-            },
-        ),
-        ActionKind::ExitEach { header, .. } => put(code, Instr::DropKept { block: header }),
-        ActionKind::Select { .. } => put(code, Instr::Keep { block }),
-        ActionKind::WithPlace => put(code, Instr::KeepPath { block }),
-        ActionKind::WithValue => put(code, Instr::Keep { block }),
-        ActionKind::EndWith { header } => put(code, Instr::DropKept { block: header }),
-        ActionKind::GoSub { .. } => put(code, Instr::PutReturn { statement: next }),
-        ActionKind::ExitTo { .. } => put(code, Instr::ErrOff),
-        ActionKind::OnError(handling) => put(code, Instr::SetPolicy(policy_of(handling))),
-        ActionKind::EndHandler => put(code, Instr::HandlerOff),
-        ActionKind::ClearErr => put(code, Instr::ErrOff),
-        ActionKind::Stop => put(code, Instr::StopHere),
-        _ => Ok(()),
-    }
+        } => Instr::NextItem { control, block },
+        _ => return Ok(()),
+    };
+    put(code, instr)
+}
+
+// What a block keeps, what handles errors, and what stands alone.
+fn put_control(
+    code: &mut Vec<Instr>,
+    block: u32,
+    next: u32,
+    action: ActionKind,
+) -> Result<(), OrMemory<TooLong>>
+    ensures { OnOk result (code.new.items ≡ code.old.items ++ control_instrs block next action) }
+{
+    let instr = match action {
+        ActionKind::Evaluate => Instr::Drop,
+        ActionKind::Print { items, ends } => Instr::Show { ends, items },
+        ActionKind::RaiseInOrder { arguments, order } => Instr::Reorder { order, arguments },
+        ActionKind::Select { .. } | ActionKind::WithValue => Instr::Keep { block },
+        ActionKind::WithPlace => Instr::KeepPath { block },
+        ActionKind::EndWith { header } | ActionKind::ExitEach { header, .. } => {
+            Instr::DropKept { block: header }
+        }
+        ActionKind::GoSub { .. } => Instr::PutReturn { statement: next },
+        ActionKind::ExitTo { .. } | ActionKind::ClearErr => Instr::ErrOff,
+        ActionKind::OnError(handling) => Instr::SetPolicy(policy_of(handling)),
+        ActionKind::EndHandler => Instr::HandlerOff,
+        ActionKind::Stop => Instr::StopHere,
+        _ => return Ok(()),
+    };
+    put(code, instr)
+}
+
+fn put_work(
+    code: &mut Vec<Instr>,
+    added: Added,
+    orders: &[Vec<u32>],
+    statement: u32,
+    next: u32,
+    action: ActionKind,
+) -> Result<(), OrMemory<TooLong>>
+    ensures { OnOk result (code.new.items ≡ code.old.items ++ work_instrs added (lists_of orders.now) statement next action) }
+{
+    put_assignment(code, added, action)?;
+    put_property_assignment(code, orders, action)?;
+    put_loop(code, statement, action)?;
+    put_control(code, statement, next, action)
 }
 
 fn branch_to(row: &[u32], sense: bool, to: u32, other: u32) -> Instr
@@ -316,39 +335,41 @@ fn throw_in_order(orders: &[Vec<u32>], order: u32) -> Result<Instr, OrMemory<Too
     Ok(Instr::Throw { arguments })
 }
 
-fn end_of(
+// Where a statement goes on.
+fn put_end(
+    code: &mut Vec<Instr>,
     orders: &[Vec<u32>],
     row: &[u32],
     numbers: Numbers,
     action: ActionKind,
-) -> Result<Instr, OrMemory<TooLong>>
-    ensures { IfOk result (λ end. end ≡ end_instr (lists_of orders.now) row.now numbers.procedure numbers.next action) }
+) -> Result<(), OrMemory<TooLong>>
+    ensures { OnOk result (code.new.items ≡ code.old.items ++ end_instr (lists_of orders.now) row.now numbers.procedure numbers.next action ∷ []) }
 {
     let procedure = numbers.procedure;
-    match action {
-        ActionKind::Raise { arguments } => Ok(Instr::Throw { arguments }),
-        ActionKind::RaiseInOrder { order, .. } => throw_in_order(orders, order),
-        ActionKind::Test { sense, to, other } => Ok(branch_to(row, sense, to, other)),
-        ActionKind::GoTo { to } => Ok(finish_at(row, to)),
-        ActionKind::For { first, behind, .. } => Ok(branch_to(row, true, first, behind)),
-        ActionKind::Next { first, .. } => Ok(branch_to(row, true, first, numbers.next)),
-        ActionKind::ForEach { first, behind, .. } => Ok(branch_to(row, true, first, behind)),
-        ActionKind::NextEach { first, .. } => Ok(branch_to(row, true, first, numbers.next)),
-        ActionKind::ExitEach { to, .. } => Ok(finish_at(row, to)),
-        ActionKind::Select { first } => Ok(finish_at(row, first)),
-        ActionKind::Case { other, .. } => Ok(finish_at(row, other)),
-        ActionKind::GoSub { to } => Ok(finish_at(row, to)),
-        ActionKind::Return => Ok(Instr::TakeReturn { procedure }),
-        ActionKind::ExitTo { end } => Ok(finish_at(row, end)),
-        ActionKind::ResumeAgain => Ok(Instr::Again { procedure }),
-        ActionKind::ResumeNext => Ok(Instr::Behind { procedure }),
-        ActionKind::ResumeAt { to } => Ok(Instr::Resumes {
+    let end = match action {
+        ActionKind::Raise { arguments } => Instr::Throw { arguments },
+        ActionKind::RaiseInOrder { order, .. } => throw_in_order(orders, order)?,
+        ActionKind::Test { sense, to, other } => branch_to(row, sense, to, other),
+        ActionKind::GoTo { to } | ActionKind::GoSub { to } => finish_at(row, to),
+        ActionKind::For { first, behind, .. } => branch_to(row, true, first, behind),
+        ActionKind::Next { first, .. } => branch_to(row, true, first, numbers.next),
+        ActionKind::ForEach { first, behind, .. } => branch_to(row, true, first, behind),
+        ActionKind::NextEach { first, .. } => branch_to(row, true, first, numbers.next),
+        ActionKind::ExitEach { to, .. } => finish_at(row, to),
+        ActionKind::Select { first } => finish_at(row, first),
+        ActionKind::Case { other, .. } => finish_at(row, other),
+        ActionKind::Return => Instr::TakeReturn { procedure },
+        ActionKind::ExitTo { end } => finish_at(row, end),
+        ActionKind::ResumeAgain => Instr::Again { procedure },
+        ActionKind::ResumeNext => Instr::Behind { procedure },
+        ActionKind::ResumeAt { to } => Instr::Resumes {
             procedure,
             statement: to,
-        }),
-        ActionKind::End => Ok(Instr::Halt),
-        _ => Ok(finish_at(row, numbers.next)),
-    }
+        },
+        ActionKind::End => Instr::Halt,
+        _ => finish_at(row, numbers.next),
+    };
+    put(code, end)
 }
 
 /// What a statement does with its nodes.
@@ -367,6 +388,5 @@ pub fn emit_action(
     put_before(code, numbers.statement, action)?;
     emit_nodes(code, added, orders, around_of(row, action), nodes)?;
     put_work(code, added, orders, numbers.statement, numbers.next, action)?;
-    let end = end_of(orders, row, numbers, action)?;
-    put(code, end)
+    put_end(code, orders, row, numbers, action)
 }

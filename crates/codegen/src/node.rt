@@ -1,5 +1,5 @@
 ghost use Rattle.std.specs.Prelude.{◌≡◌, [], ◌∷◌, ◌++◌, IfOk, OnOk};
-ghost use Rattle.codegen.specs.Emission.{constant_number, first_instrs, last_instr, lists_of, node_instrs, nodes_instrs, order_length};
+ghost use Rattle.codegen.specs.Emission.{call_instrs, constant_number, lists_of, node_instrs, nodes_instrs, operator_instrs, order_length, part_instrs, place_instrs, value_instrs};
 
 use bound_project::{DeclaredType, Node, NodeKind, TooLong};
 use pcode::Instr;
@@ -54,43 +54,46 @@ pub fn order_length(orders: &[Vec<u32>], order: u32) -> Result<u32, OrMemory<Too
     }
 }
 
-fn put_first(code: &mut Vec<Instr>, around: Around, kind: NodeKind) -> Result<(), OrMemory<TooLong>>
-    ensures { OnOk result (code.new.items ≡ code.old.items ++ first_instrs around kind) }
+pub fn put_two(code: &mut Vec<Instr>, first: Instr, second: Instr) -> Result<(), OrMemory<TooLong>>
+    ensures { OnOk result (code.new.items ≡ code.old.items ++ first ∷ second ∷ []) }
 {
-    match kind {
-        NodeKind::Item { variable, .. } => put(code, Instr::PathOf(variable)),
-        NodeKind::CallInOrder {
-            arguments,
-            order,
-            ..
-        } => put(code, Instr::Reorder { order, arguments }),
-        NodeKind::TestBegins => put(
-            code,
-            Instr::Selected {
-                block: around.header,
-            },
-        ),
-        _ => Ok(()),
-    }
+    put(code, first)?;
+    put(code, second)
 }
 
-fn last_of(
-    added: Added,
-    orders: &[Vec<u32>],
-    around: Around,
-    kind: NodeKind,
-) -> Result<Instr, OrMemory<TooLong>>
-    ensures { IfOk result (λ i. i ≡ last_instr added (lists_of orders.now) around kind) }
+// A node is one of several sorts; for one of another sort each of these puts nothing.
+
+// A value that stands alone: a constant, an object of the host, or what Err tells.
+fn put_value(code: &mut Vec<Instr>, added: Added, kind: NodeKind) -> Result<(), OrMemory<TooLong>>
+    ensures { OnOk result (code.new.items ≡ code.old.items ++ value_instrs added kind) }
 {
-    Ok(match kind {
+    let instr = match kind {
         NodeKind::NotGiven => Instr::Push {
             constant: added.missing,
         },
-        NodeKind::Constant { constant } => Instr::Push {
+        NodeKind::Zone => Instr::Push {
+            constant: added.empty,
+        },
+        NodeKind::Constant { constant } | NodeKind::ByDefault { constant } => Instr::Push {
             constant: constant_number(added, constant),
         },
+        NodeKind::HostObject(reference) => Instr::PushHost(reference),
+        NodeKind::ActiveSheet => Instr::FirstSheet,
+        NodeKind::ErrValue(member) => Instr::LoadErr(member),
+        _ => return Ok(()),
+    };
+    put(code, instr)
+}
+
+// A place, or what is read of a place or of the parts of a value.
+fn put_place(code: &mut Vec<Instr>, kind: NodeKind) -> Result<(), OrMemory<TooLong>>
+    ensures { OnOk result (code.new.items ≡ code.old.items ++ place_instrs kind) }
+{
+    let instr = match kind {
         NodeKind::Variable(variable) => Instr::PathOf(variable),
-        NodeKind::Item { numbers, .. } => Instr::ElementOf { numbers },
+        NodeKind::Item { variable, numbers } => {
+            return put_two(code, Instr::PathOf(variable), Instr::ElementOf { numbers });
+        }
         NodeKind::Element { numbers } => Instr::ElementIn { numbers },
         NodeKind::Field {
             field,
@@ -105,6 +108,23 @@ fn last_of(
         NodeKind::Load => Instr::ReadThrough,
         NodeKind::ElementValue { numbers } => Instr::Index { numbers },
         NodeKind::FieldValue { field } => Instr::PartOf { field },
+        NodeKind::BoundOf {
+            is_upper,
+            dimension,
+        } => Instr::BoundAt {
+            is_upper,
+            dimension,
+        },
+        _ => return Ok(()),
+    };
+    put(code, instr)
+}
+
+// An operator, a function of the library, or what an object gives way to.
+fn put_operator(code: &mut Vec<Instr>, kind: NodeKind) -> Result<(), OrMemory<TooLong>>
+    ensures { OnOk result (code.new.items ≡ code.old.items ++ operator_instrs kind) }
+{
+    let instr = match kind {
         NodeKind::Unary { operator, of } => Instr::OperateAlone { operator, of },
         NodeKind::Binary {
             operator,
@@ -117,22 +137,6 @@ fn last_of(
             left,
             right,
         },
-        NodeKind::Call {
-            procedure,
-            arguments,
-        } => Instr::Call {
-            procedure,
-            arguments,
-        },
-        NodeKind::CallInOrder {
-            procedure,
-            order,
-            ..
-        } => Instr::Call {
-            procedure,
-            arguments: order_length(orders, order)?,
-        },
-        NodeKind::ErrValue(member) => Instr::LoadErr(member),
         NodeKind::Library {
             function,
             is_text_form,
@@ -146,19 +150,55 @@ fn last_of(
             is_base_one,
             arguments: values,
         },
-        NodeKind::BoundOf {
-            is_upper,
-            dimension,
-        } => Instr::BoundAt {
-            is_upper,
-            dimension,
-        },
         NodeKind::DefaultOf => Instr::Plain,
         NodeKind::DefaultIfAny => Instr::PlainIfAny,
         NodeKind::Same => Instr::Same,
         NodeKind::IsType(of) => Instr::IsType(of),
-        NodeKind::HostObject(reference) => Instr::PushHost(reference),
-        NodeKind::ActiveSheet => Instr::FirstSheet,
+        _ => return Ok(()),
+    };
+    put(code, instr)
+}
+
+fn put_call_in_order(
+    code: &mut Vec<Instr>,
+    orders: &[Vec<u32>],
+    procedure: u32,
+    arguments: u32,
+    order: u32,
+) -> Result<(), OrMemory<TooLong>>
+    ensures { OnOk result (code.new.items ≡ code.old.items
+        ++ Instr.Reorder order arguments ∷ Instr.Call procedure (order_length (lists_of orders.now) order) ∷ []) }
+{
+    let all = order_length(orders, order)?;
+    let call = Instr::Call {
+        procedure,
+        arguments: all,
+    };
+    put_two(code, Instr::Reorder { order, arguments }, call)
+}
+
+// A call, a member of an object of the host, or an argument.
+fn put_call(
+    code: &mut Vec<Instr>,
+    added: Added,
+    orders: &[Vec<u32>],
+    kind: NodeKind,
+) -> Result<(), OrMemory<TooLong>>
+    ensures { OnOk result (code.new.items ≡ code.old.items ++ call_instrs added (lists_of orders.now) kind) }
+{
+    let instr = match kind {
+        NodeKind::Call {
+            procedure,
+            arguments,
+        } => Instr::Call {
+            procedure,
+            arguments,
+        },
+        NodeKind::CallInOrder {
+            procedure,
+            arguments,
+            order,
+        } => return put_call_in_order(code, orders, procedure, arguments, order),
         NodeKind::MemberThere { name, given } => Instr::MemberThere {
             name: constant_number(added, name),
             given,
@@ -169,15 +209,22 @@ fn last_of(
         },
         NodeKind::ByPlace => Instr::Lend,
         NodeKind::ByCopy(of) => Instr::Fit(of),
-        NodeKind::ByDefault { constant } => Instr::Push {
-            constant: constant_number(added, constant),
-        },
         NodeKind::ByList { values } => Instr::Pack { arguments: values },
+        _ => return Ok(()),
+    };
+    put(code, instr)
+}
+
+// An item of Debug.Print, a test of a Case, an array of a ReDim or of an Erase.
+fn put_part(code: &mut Vec<Instr>, around: Around, kind: NodeKind) -> Result<(), OrMemory<TooLong>>
+    ensures { OnOk result (code.new.items ≡ code.old.items ++ part_instrs around kind) }
+{
+    let instr = match kind {
         NodeKind::Shown => Instr::ShowText,
-        NodeKind::Zone => Instr::Push {
-            constant: added.empty,
-        },
-        NodeKind::TestBegins => Instr::Plain,
+        NodeKind::TestBegins => {
+            let block = around.header;
+            return put_two(code, Instr::Selected { block }, Instr::Plain);
+        }
         NodeKind::TestIs { operator, of } => Instr::IfFits {
             operator,
             compare: around.compare,
@@ -198,7 +245,9 @@ fn last_of(
             bounds,
         },
         NodeKind::Erased => Instr::EraseAt,
-    })
+        _ => return Ok(()),
+    };
+    put(code, instr)
 }
 
 fn emit_node(
@@ -210,9 +259,11 @@ fn emit_node(
 ) -> Result<(), OrMemory<TooLong>>
     ensures { OnOk result (code.new.items ≡ code.old.items ++ node_instrs added (lists_of orders.now) around kind) }
 {
-    put_first(code, around, kind)?;
-    let last = last_of(added, orders, around, kind)?;
-    put(code, last)
+    put_value(code, added, kind)?;
+    put_place(code, kind)?;
+    put_operator(code, kind)?;
+    put_call(code, added, orders, kind)?;
+    put_part(code, around, kind)
 }
 
 /// The instructions of nodes, in order.

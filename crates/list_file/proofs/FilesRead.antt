@@ -10,7 +10,7 @@ use Rattle.vba_base.specs.Map.{FileMap, bytes_of}
 use Rattle.vba_base.specs.Outside.{Told, Counts}
 use Rattle.list_file.specs.declared.files.ReadStop.{ReadStop}
 use Rattle.list_file.specs.declared.files.ReadStop.TheVariants as stop
-use Rattle.list_file.specs.declared.bytes.FileBytes.{FileBytes}
+use Rattle.list_file.specs.declared.bytes.ModuleBytes.{ModuleBytes}
 use Rattle.list_file.specs.Sources.{outcome}
 use Rattle.list_file.specs.Files.{room, file_of, onto, followed_by, files_of, total, call_limit, FilesAt, ups, IsCount, Counted, IsMeant, FilesTold, ReadInOrder}
 
@@ -282,6 +282,6 @@ all_read all taken_first xs number taken old now on =
     subst (λ names. ReadInOrder names 1 taken_first (Ok xs) old now) (sym (append-nil on.done) ∙ on.whole) on.read
 
 -- the reason is the one that was given
-pub stops_by : (r : Result (Vec FileBytes Global) ReadStop) (reason : ReadStop) → IsErrAnd r (λ e. e ≡ reason) → outcome r ≡ Err reason
+pub stops_by : (r : Result (Vec ModuleBytes Global) ReadStop) (reason : ReadStop) → IsErrAnd r (λ e. e ≡ reason) → outcome r ≡ Err reason
 stops_by (Ok files) reason is = absurd is
 stops_by (Err e) reason is = ap Err is

@@ -1,3 +1,4 @@
 pub mod Reading
 pub mod FilesRead
+pub mod ModulesRead
 pub mod Rows

@@ -15,8 +15,6 @@ use Rattle.list_file.specs.declared.list.Partial.{Partial}
 use Rattle.list_file.specs.declared.list.SheetPath.{SheetPath}
 use Rattle.list_file.specs.Lines.{entry_of}
 use Rattle.list_file.specs.Lists.{ModuleAt, SheetAt, Listed, HaveNewNames, is_listed, has_module, with_entry, listed_on, listed_from, nothing_listed, whole_list}
-use Rattle.list_file.specs.Plans.{first_class, lists_class}
-use Rattle.list_file.specs.Sources.{paths_view}
 use Rattle.list_file.specs.Seen.{HasFolds, count_of, folds_of}
 use Rattle.list_file.specs.View.{module_view, partial_view, sheet_view}
 
@@ -95,36 +93,3 @@ pub line_wrong : (number : ℕ) (l : Listed) (source : List ℕ) (size : ℕ) (e
 line_wrong number l source size ending first wrong =
     ap (listed_from number l) first.lines
     ∙ ap (λ (o : Option Listed). listed_on number o (λ (l2 : Listed). listed_from (suc number) l2 (lines_behind ending (drop (size + end_size ending) source)))) wrong
-
--- the rest of the lines, behind those that list no class
-pub record ClassesGoOn (source rest : List ℕ) (number : ℕ) : Type 0 where
-  pub counted : number + length rest ≤ length source + 1
-  pub goes_on : first_class number (lines_of rest) ≡ first_class 1 (lines_of source)
-
--- a line lists no class
-pub line_passed : (number : ℕ) (source : List ℕ) (size : ℕ) (ending : Ending) → IsFirstLine source size ending → is_last ending ≡ false
-    → lists_class (take size source) ≡ false → first_class number (lines_of source) ≡ first_class (suc number) (lines_of (drop (size + end_size ending) source))
-line_passed number source size ending first more passed =
-    let e : lines_behind ending (drop (size + end_size ending) source) ≡ lines_of (drop (size + end_size ending) source) = rw more in
-    ap (first_class number) (first.lines ∙ ap (λ (lines : List PhysicalLine). record { text = take size source; ending = ending } ∷ lines) e)
-    ∙ ap (λ (b : Bool). if b then Some number else first_class (suc number) (lines_of (drop (size + end_size ending) source))) passed
-
--- the last line lists none
-pub last_passed : (number : ℕ) (source : List ℕ) (size : ℕ) (ending : Ending) → IsFirstLine source size ending → is_last ending ≡ true
-    → lists_class (take size source) ≡ false → first_class number (lines_of source) ≡ None
-last_passed number source size ending first last passed =
-    let e : lines_behind ending (drop (size + end_size ending) source) ≡ [] = rw last in
-    ap (first_class number) (first.lines ∙ ap (λ (lines : List PhysicalLine). record { text = take size source; ending = ending } ∷ lines) e)
-    ∙ ap (λ (b : Bool). if b then Some number else None) passed
-
--- a line lists one
-pub line_found : (number : ℕ) (source : List ℕ) (size : ℕ) (ending : Ending) → IsFirstLine source size ending
-    → lists_class (take size source) ≡ true → first_class number (lines_of source) ≡ Some number
-line_found number source size ending first found =
-    ap (first_class number) first.lines
-    ∙ ap (λ (b : Bool). if b then Some number else first_class (suc number) (lines_behind ending (drop (size + end_size ending) source))) found
-
--- the paths of modules are those of what they stand for
-pub paths_seen : (modules : List ModulePath) → paths_view modules ≡ map (λ (m : ModuleAt). m.path) (map module_view modules)
-paths_seen [] = refl
-paths_seen (m ∷ modules) = ap (λ (paths : List (List ℕ)). string_bytes m.path ∷ paths) (paths_seen modules)

@@ -1,13 +1,12 @@
 -- The definitions on worked rows.
-use Rattle.std.specs.Prelude.{◌≡◌, [], ◌∷◌, ◌++◌, codes, true, Some, None, Err}
+use Rattle.std.specs.Prelude.{◌≡◌, [], ◌∷◌, ◌++◌, codes, true, Err}
 use Rattle.std.proofs.Common.{refl}
 use Rattle.caseless.proofs.Computing.{caseless}
 use Rattle.vba_base.specs.Fold.{folded}
 use Rattle.vba_base.specs.Text.{encoded}
-use Rattle.vba_lexer.specs.Lines.{lines_of}
 use Rattle.list_file.specs.Lines.{entry_of, says_nothing, a_module, a_sheet, no_entry}
 use Rattle.list_file.specs.Lists.{list_of}
-use Rattle.list_file.specs.Plans.{plan_of, bad_line, first_class}
+use Rattle.list_file.specs.Plans.{plan_of, bad_line}
 
 -- a comment, blanks, a path with what no path needs, a name up to the first `;`
 row_comment : entry_of (codes "# a list") ≡ says_nothing
@@ -46,10 +45,3 @@ row_third_line = refl
 row_repeated_sheet : list_of (codes "Sheet=A;p" ++ 10 ∷ codes "Sheet=a;q") ≡ Err 2
 unfolding folded caseless
 row_repeated_sheet = refl
-
--- the first line that lists a class
-row_class_line : first_class 1 (lines_of (codes "Module=m" ++ 10 ∷ codes "Sheet=A;p" ++ 10 ∷ codes "Class=c")) ≡ Some 3
-row_class_line = refl
-
-row_no_class : first_class 1 (lines_of (codes "#Class=c" ++ 10 ∷ codes "Module=m" ++ 10 ∷ codes "Sheet=A;p")) ≡ None
-row_no_class = refl

@@ -3,9 +3,10 @@
 ghost use Rattle.std.specs.Prelude.{◌≡◌, ◌≤◌, ◌<◌, ◌+◌, [], ◌∷◌, IfOk, Result, length};
 ghost use Rattle.list_file.specs.Files.{FilesAt, ReadInOrder, call_limit, room, total};
 ghost use Rattle.list_file.specs.declared.files.ReadStop.TheVariants as stops;
-ghost use Rattle.list_file.specs.Sources.{bytes_view, outcome, outcome_of_one, paths_view};
+ghost use Rattle.list_file.specs.Plans.{module_files};
+ghost use Rattle.list_file.specs.Sources.{bytes_view, files_view, modules_view, outcome, outcome_of_one, paths_view};
 
-use crate::bytes::FileBytes;
+use crate::bytes::{FileBytes, ModuleBytes};
 use crate::list::ModulePath;
 use std::alloc::{AllocFailed, Global};
 use vba_base::{Files, ReadAnswer};
@@ -62,10 +63,11 @@ pub fn read_modules<F: Files>(
     files: &mut F,
     modules: &[ModulePath],
     taken: u64,
-) -> Result<Vec<FileBytes>, ReadStop>
+) -> Result<Vec<ModuleBytes>, ReadStop>
     requires count { length modules.now ≤ 67108865 }
     requires within { taken ≤ call_limit }
     ensures count { IfOk result (λ files. length files.items ≡ length modules.now) }
+    ensures listed { IfOk result (λ files. files_view files.items ≡ module_files (modules_view modules.now) (bytes_view files.items)) }
     ensures within { IfOk result (λ files. taken + total (bytes_view files.items) ≤ call_limit) }
     ensures read { let old : FilesAt = record { told = F.told files.old; counts = F.counts files.old } in
         let new : FilesAt = record { told = F.told files.new; counts = F.counts files.new } in
@@ -79,14 +81,14 @@ pub fn read_modules<F: Files>(
         let file = read_file(alloc, files, module.path.as_str(), number, taken)?;
         number += 1;
         taken += file.bytes.len() as u64;
-        read.push(file)?;
+        read.push(file.of_module(module.is_class))?;
         left = rest;
     }
     Ok(read)
 }
 
 /// How many bytes the files have together.
-pub fn size_of(files: &[FileBytes]) -> u64
+pub fn size_of(files: &[ModuleBytes]) -> u64
     requires { total (bytes_view files.now) ≤ call_limit }
     ensures { result ≡ total (bytes_view files.now) }
 {

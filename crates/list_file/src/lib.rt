@@ -9,7 +9,7 @@ mod list;
 mod plan;
 mod read;
 
-pub use bytes::FileBytes;
+pub use bytes::{FileBytes, ModuleBytes};
 pub use files::{ReadStop, read_file, read_modules, size_of};
 pub use list::{ListFile, ModulePath, SheetPath, Startup};
 pub use plan::{Plan, plan_of};

@@ -9,7 +9,7 @@ use Rattle.vba_words.specs.declared.identifier.Identifier.{Identifier}
 use Rattle.vba_tree.specs.Tree.{Parameter}
 use Rattle.vba_module.specs.Verdict.{broken}
 use Rattle.binder.specs.Declarations.{What, a_variable, a_constant, an_enum, a_member, a_type, an_event, a_procedure, Written}
-use Rattle.binder.specs.LeftOut.{entry_left_out, parameters_left_out, procedure_left_out, said_left_out, suffix_left_out}
+use Rattle.binder.specs.LeftOut.{entry_left_out, event_left_out, parameters_left_out, procedure_left_out, said_left_out, suffix_left_out}
 use Rattle.binder.specs.Names.{scope_in}
 use Rattle.binder.specs.Said.{Said, entry_said}
 use Rattle.binder.specs.Scopes.{Scope}
@@ -18,7 +18,6 @@ use Rattle.declared_names.specs.declared.entry.Entry.{Entry}
 use Rattle.declared_names.specs.View.{entry_view}
 use Rattle.use_rules.specs.Found.{noted}
 use Rattle.use_rules.proofs.Noted.{noted_append, noted_broken}
-use Rattle.name_rules.specs.LeftOut.{event_left_out}
 
 pub suffixes_of : (ps : List Parameter) → flat_map suffix_left_out (map (λ (p : Parameter). p.name) ps) ≡ parameters_left_out ps
 suffixes_of ps = flat_map-map suffix_left_out (λ (p : Parameter). p.name) ps

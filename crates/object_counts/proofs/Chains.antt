@@ -8,6 +8,7 @@ use Rattle.vba_meaning.specs.Paths.{Path}
 use Rattle.vba_meaning.specs.Memory.{Memory, Why, outside}
 use Rattle.vba_meaning.specs.References.{objects_in, times}
 use Rattle.vba_meaning.specs.Effects.{Event, Effect, Fine, Bad-at, Out, Tell, on_fine, answered}
+use Rattle.vba_meaning.specs.Collections.{with_none}
 use Rattle.object_counts.specs.Gains.{gains_behind, given_gains}
 use Rattle.object_counts.proofs.Looks.{Grows, same, grown, IsThere}
 
@@ -141,6 +142,59 @@ chained_holds m (Tell es e) a k = chained_holds m e a k
 
 pub then_holds : {A : Type 0} {m : Memory} {f : A → Memory → Effect Val} {e : Effect A} → Law m [] e → ((v : A) (m1 : Memory) → Holds m1 (f v m1)) → Holds m (on_fine e f)
 then_holds {m = m} {e = e} a k = record { law = chained_holds m e a.law k }
+
+-- ---- effects of whose value it is known what is raised
+
+abbrev pub GivesBy : {A : Type 0} → (A → Memory → List ℕ) → Memory → Effect A → Type 0
+GivesBy h m (Fine v m1) = Grows m (h v m1) m1
+GivesBy h m (Bad-at n m1) = Grows m [] m1
+GivesBy h m (Out w m1) = Grows m [] m1
+GivesBy h m (Tell es e) = GivesBy h m e
+
+pub record By {A : Type 0} (h : A → Memory → List ℕ) (m : Memory) (e : Effect A) : Type 0 where
+  pub law : GivesBy h m e
+
+by_raises : {A : Type 0} (h : A → Memory → List ℕ) (m : Memory) (e : Effect A) → GivesBy h m e → Raises m (gains_behind e h) e
+by_raises h m (Fine v m1) a = a
+by_raises h m (Bad-at n m1) a = a
+by_raises h m (Out w m1) a = a
+by_raises h m (Tell es e) a = by_raises h m e a
+
+pub by_law : {A : Type 0} {h : A → Memory → List ℕ} {m : Memory} {e : Effect A} → By h m e → Law m (gains_behind e h) e
+by_law {h = h} {m = m} {e = e} a = record { law = by_raises h m e a.law }
+
+moved_by : {A : Type 0} (h : A → Memory → List ℕ) {m m1 : Memory} → Grows m [] m1 → (e : Effect A) → GivesBy h m1 e → GivesBy h m e
+moved_by h a (Fine v m2) k = grown a k
+moved_by h a (Bad-at n m2) k = grown a k
+moved_by h a (Out w m2) k = grown a k
+moved_by h a (Tell es e) k = moved_by h a e k
+
+chained_by : {A B : Type 0} (h : B → Memory → List ℕ) (m : Memory) {f : A → Memory → Effect B} (e : Effect A) → Raises m [] e → ((v : A) (m1 : Memory) → By h m1 (f v m1)) → GivesBy h m (on_fine e f)
+chained_by h m {f = f} (Fine v m1) a k = moved_by h a (f v m1) (k v m1).law
+chained_by h m (Bad-at n m1) a k = a
+chained_by h m (Out w m1) a k = a
+chained_by h m (Tell es e) a k = chained_by h m e a k
+
+pub then_by : {A B : Type 0} {h : B → Memory → List ℕ} {m : Memory} {f : A → Memory → Effect B} {e : Effect A} → Law m [] e → ((v : A) (m1 : Memory) → By h m1 (f v m1)) → By h m (on_fine e f)
+then_by {h = h} {m = m} {e = e} a k = record { law = chained_by h m e a.law k }
+
+pub both_by : {A : Type 0} {h : A → Memory → List ℕ} {m : Memory} {e f : Effect A} (b : Bool) → By h m e → By h m f → By h m (if b then e else f)
+both_by true a c = a
+both_by false a c = c
+
+-- a value that is held, while no reference waits
+held_by_none : (m : Memory) (e : Effect Val) → GivesHeld m e → GivesBy (λ (r : Val × ℕ) m1. objects_in r.0) m (with_none e)
+held_by_none m (Fine v m1) h = h
+held_by_none m (Bad-at n m1) h = h
+held_by_none m (Out w m1) h = h
+held_by_none m (Tell es e) h = held_by_none m e h
+
+pub none_waits : {m : Memory} {e : Effect Val} → Holds m e → By (λ (r : Val × ℕ) m1. objects_in r.0) m (with_none e)
+none_waits {m = m} {e = e} h = record { law = held_by_none m e h.law }
+
+pub both_hold : {m : Memory} {e f : Effect Val} (b : Bool) → Holds m e → Holds m f → Holds m (if b then e else f)
+both_hold true a c = a
+both_hold false a c = c
 
 -- ---- effects whose value refers to nothing
 

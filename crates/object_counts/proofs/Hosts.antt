@@ -31,17 +31,19 @@ use Rattle.sheet_host.specs.Sheets.{Position, value_at as cell_at, used_area, nt
 use Rattle.sheet_host.specs.Writing.{cells_of}
 use Rattle.bound_project.specs.Expressions.{ByName, err_number, err_source, err_description}
 use Rattle.bound_project.specs.Project.{Declarations}
-use Rattle.vba_meaning.specs.Paths.{Root, in_frame, in_project, in_fields, in_block, in_object, Step, Path}
+use Rattle.vba_meaning.specs.Paths.{Root, in_frame, in_project, in_fields, in_block, in_object, in_item, Step, Path}
 use Rattle.vba_meaning.specs.Memory.{Memory, value, outside, value_at}
-use Rattle.vba_meaning.specs.Effects.{Effect, Fine, Bad-at, on_fine, done, plain, err_of, is_true, range_value, area_in, raised_by, assigned}
+use Rattle.vba_meaning.specs.Effects.{Effect, Fine, Bad-at, on_fine, done, plain, err_of, is_true, range_value, area_in, raised_by, assigned, is_collection}
 use Rattle.vba_meaning.specs.Arrays.{number_in, indexed}
-use Rattle.vba_meaning.specs.Host.{sheet_value, long_value, area_found, whole_sheet, long_of, units_in, text_of, area_by, cell_found, cells_found, spanned, area_of, range_between, range_found, sheet_numbered, sheet_by, sheet_found, first_sheet, cell_events, cells_put, area_written, one_cleared, cleared, member_value, two, takes, fits_in, are_places, can_index, plains, item_by, member_begun, member_there, as_given, member_by, member_called, number_given, text_given, error_given, written_default, path_to, place_at, assigned_at, item_assigned, with_mark, mark_set, assigned_through, member_set, member_assigned, member_not_set}
+use Rattle.vba_meaning.specs.Host.{sheet_value, long_value, area_found, whole_sheet, long_of, units_in, text_of, area_by, cell_found, cells_found, spanned, area_of, range_between, range_found, sheet_numbered, sheet_by, sheet_found, first_sheet, cell_events, cells_put, area_written, one_cleared, cleared, member_value, two, takes, fits_in, are_places, can_index, plains, item_by, member_begun, member_there, as_given, member_by, member_called, number_given, text_given, error_given, written_default, object_member, path_to, place_at, item_written, assigned_at, item_assigned, with_mark, mark_set, assigned_through, member_set, through_item, member_assigned, member_not_set}
+use Rattle.vba_meaning.specs.Collections.{CollectionMember, is_item, takes_in_collection, names_in_collection}
 use Rattle.vba_meaning.specs.ByName.{parameter_names, parameters_given, first_given, named_begun, named_there}
-use Rattle.object_counts.specs.Gains.{gains_behind, given_gains, assigned_gains, assigned_at_gains, member_by_gains, member_gains}
+use Rattle.object_counts.specs.Gains.{gains_behind, given_gains, assigned_gains, assigned_at_gains, member_by_gains, member_gains, object_member_gains, through_gains, member_assigned_gains, place_at_gains}
 use Rattle.object_counts.proofs.Looks.{Grows, same}
-use Rattle.object_counts.proofs.Chains.{Law, fine, bad, out, told, then_still, after_still, answered_law, either, both, AllOf, one_of, Holds, held_law, then_holds, Bare, bare_holds, bare_law, then_bare}
+use Rattle.object_counts.proofs.Chains.{Law, fine, bad, out, told, then_still, after_still, answered_law, either, both, AllOf, one_of, Holds, held_law, then_holds, both_hold, Bare, bare_holds, bare_law, then_bare}
 use Rattle.object_counts.proofs.Variables.{plain_law, err_off_law, assigned_law, alike}
 use Rattle.object_counts.proofs.Loops.{indexed_holds, indexed_object_bare, element_in_law}
+use Rattle.object_counts.proofs.Items.{collection_member_law, item_found_holds, collection_used_law}
 
 -- ---- sheets and areas that are found
 
@@ -136,6 +138,7 @@ pub written_default_law : (target v : Val) (m : Memory) → Law m [] (written_de
 written_default_law (object Nothing) v m = bad 91 (same m)
 written_default_law (object (Host (host.Area s t l r c))) v m = area_written_law (area_in s t l r c) v m
 written_default_law (object (Host host.Sheets)) v m = bad 449 (same m)
+written_default_law (object (Heap id)) v m = both (is_collection (Heap id) m) (bad 449 (same m)) (bad 438 (same m))
 written_default_law (object o) v m = bad 438 (same m)
 written_default_law w v m = bad 424 (same m)
 
@@ -197,16 +200,17 @@ plains_law (v ∷ vs) m = then_still (plain_law v m) (λ w m1. then_still (plain
 unindexed : (o : ObjRef) (vs : List Val) (m : Memory) → Bare m (on_fine (plains vs m) (λ ws m1. indexed (object o) ws m1))
 unindexed o vs m = then_bare (plains_law vs m) (λ ws m1. indexed_object_bare o m1)
 
-item_bare : (o : ObjRef) (vs : List Val) (m : Memory) → Bare m (item_by (object o) vs m)
-item_bare (Host host.Sheets) vs m = sheet_found_bare vs m
-item_bare (Host (host.Area s t l r c)) vs m = cell_found_bare (area_in s t l r c) vs m
-item_bare o vs m = unindexed o vs m
+item_of_object : (o : ObjRef) (vs : List Val) (m : Memory) → Holds m (item_by (object o) vs m)
+item_of_object (Host host.Sheets) vs m = bare_holds (sheet_found_bare vs m)
+item_of_object (Host (host.Area s t l r c)) vs m = bare_holds (cell_found_bare (area_in s t l r c) vs m)
+item_of_object (Heap id) vs m = both_hold (is_collection (Heap id) m) (item_found_holds id.0 vs m) (bare_holds (unindexed (Heap id) vs m))
+item_of_object o vs m = bare_holds (unindexed o vs m)
 
 item_of_value : (v : Val) (vs : List Val) (m : Memory) → Holds m (on_fine (plains vs m) (λ ws m1. indexed v ws m1))
 item_of_value v vs m = then_holds (plains_law vs m) (λ ws m1. indexed_holds v ws m1)
 
 item_holds : (v : Val) (vs : List Val) (m : Memory) → Holds m (item_by v vs m)
-item_holds (object o) vs m = bare_holds (item_bare o vs m)
+item_holds (object o) vs m = item_of_object o vs m
 item_holds v vs m = item_of_value v vs m
 
 pub item_law : (v : Val) (vs : List Val) (m : Memory) → Law m (given_gains (item_by v vs m)) (item_by v vs m)
@@ -218,7 +222,7 @@ member_begun_law d r how k m =
 
 pub member_there_law : (d : Declarations) (name : List ℕ) (k : ℕ) (v : Val) (m : Memory) → Law m [] (member_there d name k v m)
 member_there_law d name k (object Nothing) m = bad 91 (same m)
-member_there_law d name k (object (Heap id)) m = bad 438 (same m)
+member_there_law d name k (object (Heap id)) m = then_still (collection_member_law id.0 name m) (λ how m1. empty_behind (fits_in_law (takes_in_collection how) k m1))
 member_there_law d name k (object (Host r)) m = then_still (answered_law (member_of r name) m) (λ how m1. member_begun_law d r how k m1)
 member_there_law d name k v m = bad 424 (same m)
 
@@ -226,15 +230,18 @@ first_given_law : (before : ℕ) (ps : List ℕ) (m : Memory) → Law m [] (firs
 first_given_law zero ps m = both (list_any (λ p. p == 0) ps) (fine empty (same m)) (bad 449 (same m))
 first_given_law (suc before) ps m = fine empty (same m)
 
-begun_by : (r : HostRef) (n : ℕ) (by : ByName) (k : ℕ) (m : Memory) (x : Option (List ℕ)) → parameters_given (parameter_names r n) by.before by.names ≡ x → Law m [] (named_begun r n by k m)
-begun_by r n by k m None e = rw e (bad 450 (same m))
-begun_by r n by k m (Some ps) e = rw e (then_still (fits_in_law (takes r n) k m) (λ u m1. first_given_law by.before ps m1))
+begun_by : (xs : List (List ℕ)) (ns : List ℕ) (by : ByName) (k : ℕ) (m : Memory) (x : Option (List ℕ)) → parameters_given xs by.before by.names ≡ x → Law m [] (named_begun xs ns by k m)
+begun_by xs ns by k m None e = rw e (bad 450 (same m))
+begun_by xs ns by k m (Some ps) e = rw e (then_still (fits_in_law ns k m) (λ u m1. first_given_law by.before ps m1))
+
+named_begun_law : (xs : List (List ℕ)) (ns : List ℕ) (by : ByName) (k : ℕ) (m : Memory) → Law m [] (named_begun xs ns by k m)
+named_begun_law xs ns by k m = begun_by xs ns by k m (parameters_given xs by.before by.names) refl
 
 pub named_there_law : (name : List ℕ) (by : ByName) (k : ℕ) (v : Val) (m : Memory) → Law m [] (named_there name by k v m)
 named_there_law name by k (object Nothing) m = bad 91 (same m)
-named_there_law name by k (object (Heap id)) m = bad 438 (same m)
+named_there_law name by k (object (Heap id)) m = then_still (collection_member_law id.0 name m) (λ how m1. named_begun_law (names_in_collection how) (takes_in_collection how) by k m1)
 named_there_law name by k (object (Host r)) m =
-    then_still (answered_law (member_of r name) m) (λ how m1. begun_by r (number_of how) by k m1 (parameters_given (parameter_names r (number_of how)) by.before by.names) refl)
+    then_still (answered_law (member_of r name) m) (λ how m1. named_begun_law (parameter_names r (number_of how)) (takes r (number_of how)) by k m1)
 named_there_law name by k v m = bad 424 (same m)
 
 member_by_law : (d : Declarations) (r : HostRef) (how : HostMember) (vs : List Val) (begun : Val) (m : Memory) → Law m (member_by_gains r how vs begun m) (member_by d r how vs begun m)
@@ -243,6 +250,11 @@ member_by_law d r how vs begun m = either (are_places r how (length vs)) (item_l
 pub member_called_law : (d : Declarations) (name : List ℕ) (vs : List Val) (base begun : Val) (m : Memory) → Law m (member_gains name vs base begun m) (member_called d name vs base begun m)
 member_called_law d name vs (object (Host r)) begun m = after_still (answered_law (member_of r name) m) (λ how m1. member_by_law d r how (as_given vs) begun m1)
 member_called_law d name vs v begun m = bad 424 (same m)
+
+-- of a counted object
+pub object_member_law : (name : List ℕ) (vs : List Val) (base : Val) (m : Memory) → Law m (object_member_gains name vs base m) (object_member name vs base m)
+object_member_law name vs (object (Heap id)) m = after_still (collection_member_law id.0 name m) (λ how m1. collection_used_law id.0 how (as_given vs) m1)
+object_member_law name vs v m = bad 424 (same m)
 
 -- ---- Err.Raise
 
@@ -263,11 +275,11 @@ error_given_law vs m =
 
 -- ---- places that numbers lead to
 
-place_by : (p : Path) (vs : List Val) (m : Memory) (x : Option Val) → value_at m p ≡ x → Law m [] (place_at p vs m)
-place_by p vs m (Some (object o)) e = rw e (then_still (bare_law (item_bare o vs m)) (λ w m1. fine (path_to w) (same m1)))
+place_by : (p : Path) (vs : List Val) (m : Memory) (x : Option Val) → value_at m p ≡ x → Law m (place_at_gains p vs m) (place_at p vs m)
+place_by p vs m (Some (object o)) e = rw e (then_still (item_law (object o) vs m) (λ w m1. fine (path_to w) (same m1)))
 place_by p vs m x e = rw e (element_in_law p (value_at m p) vs m)
 
-pub place_at_law : (p : Path) (vs : List Val) (m : Memory) → Law m [] (place_at p vs m)
+pub place_at_law : (p : Path) (vs : List Val) (m : Memory) → Law m (place_at_gains p vs m) (place_at p vs m)
 place_at_law p vs m = place_by p vs m (value_at m p) refl
 
 assigned_here : (r : Root) (steps : List Step) (of : Declared) (bounded : Bool) (makes : Option ℕ) (v : Val) (m : Memory)
@@ -276,9 +288,14 @@ assigned_here : (r : Root) (steps : List Step) (of : Declared) (bounded : Bool) 
 assigned_here r steps of bounded makes v m =
     let p : Path = record { root = r; steps = steps; of = of; bounded = bounded; makes = makes } in after_still (plain_law v m) (λ w m1. assigned_law p w m1)
 
+item_written_law : (w : Val) (steps : List Step) (v : Val) (m : Memory) → Law m [] (item_written w steps v m)
+item_written_law w [] v m = written_default_law w v m
+item_written_law w (s ∷ steps) v m = then_still (plain_law v m) (λ x m1. fine tt (same m1))
+
 assigned_from : (r : Root) (steps : List Step) (of : Declared) (bounded : Bool) (makes : Option ℕ) (v : Val) (m : Memory)
     → let p : Path = record { root = r; steps = steps; of = of; bounded = bounded; makes = makes } in Law m (assigned_at_gains p v m) (assigned_at p v m)
 assigned_from (in_object o) steps of bounded makes v m = written_default_law (object o) v m
+assigned_from (in_item w) steps of bounded makes v m = item_written_law w steps v m
 assigned_from (in_frame k x) steps of bounded makes v m = assigned_here (in_frame k x) steps of bounded makes v m
 assigned_from (in_project x) steps of bounded makes v m = assigned_here (in_project x) steps of bounded makes v m
 assigned_from (in_fields n i) steps of bounded makes v m = assigned_here (in_fields n i) steps of bounded makes v m
@@ -322,7 +339,12 @@ member_set_law d host.Application (Write n) [] begun v m = mark_law n v m
 member_set_law d (host.Area s t l r c) (Write n) [] begun v m = area_written_law (area_in s t l r c) v m
 member_set_law d r how vs begun v m = set_through d r how vs begun v m
 
-pub member_assigned_law : (d : Declarations) (name : List ℕ) (vs : List Val) (base begun v : Val) (m : Memory) → Law m (member_gains name vs base begun m) (member_assigned d name vs base begun v m)
+through_item_law : (o : ℕ) (how : CollectionMember) (vs : List Val) (v : Val) (m : Memory) → Law m (through_gains o how vs m) (through_item o how vs v m)
+through_item_law o is_item vs v m = then_still (held_law (item_found_holds o vs m)) (λ w m1. written_default_law w v m1)
+through_item_law o member vs v m = bad 438 (same m)
+
+pub member_assigned_law : (d : Declarations) (name : List ℕ) (vs : List Val) (base begun v : Val) (m : Memory) → Law m (member_assigned_gains name vs base begun m) (member_assigned d name vs base begun v m)
+member_assigned_law d name vs (object (Heap id)) begun v m = after_still (collection_member_law id.0 name m) (λ how m1. through_item_law id.0 how (as_given vs) v m1)
 member_assigned_law d name vs (object (Host r)) begun v m = after_still (answered_law (member_of r name) m) (λ how m1. member_set_law d r how (as_given vs) begun v m1)
 member_assigned_law d name vs base begun v m = bad 424 (same m)
 

@@ -6,6 +6,7 @@ pub mod Leaving
 pub mod Chains
 pub mod Variables
 pub mod Loops
+pub mod Items
 pub mod Hosts
 pub mod Moves
 pub mod Steps

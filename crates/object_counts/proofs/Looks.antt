@@ -2,7 +2,7 @@
 use Rattle.std.proofs.Common.{◌≡◌, ℕ, ◌+◌, Bool, true, List, [], ◌∷◌, ◌++◌, Option, Some, None, refl, ap, arith}
 use Rattle.vba_values.specs.Val.{Val}
 use Rattle.arrays_udt.specs.Paths.{with_path}
-use Rattle.vba_meaning.specs.Paths.{Root, in_frame, in_project, in_fields, in_block, in_object, Path, plain_steps}
+use Rattle.vba_meaning.specs.Paths.{Root, in_frame, in_project, in_fields, in_block, in_object, in_item, Path, plain_steps}
 use Rattle.vba_meaning.specs.Memory.{value, Kept, walk, Memory, Frame, first_or, rest, top, with_top, root_value, with_root, inner_or_none, value_at, written, with_value, value_or_empty, found, put, without}
 use Rattle.vba_meaning.specs.References.{objects_in, objects_in_slots, objects_kept, kept_value, times, times_in_frames, looks, hold, displaced, replaced, waits}
 use Rattle.vba_meaning.specs.Effects.{kept_at}
@@ -90,6 +90,7 @@ IsVariable (in_project x) = Unit {0}
 IsVariable (in_fields n i) = Unit {0}
 IsVariable (in_block k i) = Unit {0}
 IsVariable (in_object o) = ⊥
+IsVariable (in_item v) = ⊥
 
 root_set : (o : ℕ) (m : Memory) (r : Root) (old w : Val) → FramesInOrder m.frames → IsVariable r → root_value m r ≡ Some old → looks (with_root m r w) o + in_value o old ≡ looks m o + in_value o w
 root_set o m (in_frame k x) old w h is e = omega (arith, slot_in_frames o m.frames k x old w e)
@@ -97,6 +98,7 @@ root_set o m (in_project x) old w h is e = omega (arith, values_set o m.shared x
 root_set o m (in_fields n i) old w h is e = omega (arith, fields_set o m.objects n i old w e)
 root_set o m (in_block k i) old w h is e = omega (arith, kept_in_frames o m.frames k i old w h e)
 root_set o m (in_object r) old w h is e = absurd is
+root_set o m (in_item v) old w h is e = absurd is
 
 root_ordered : (m : Memory) (r : Root) (w : Val) → FramesInOrder m.frames → FramesInOrder (with_root m r w).frames
 root_ordered m (in_frame k x) w h = slot_ordered m.frames k x (value w) h
@@ -104,6 +106,7 @@ root_ordered m (in_project x) w h = h
 root_ordered m (in_fields n i) w h = h
 root_ordered m (in_block k i) w h = kept_ordered m.frames k i _ h
 root_ordered m (in_object r) w h = h
+root_ordered m (in_item v) w h = h
 
 -- there is this value at the path, and a variable has it
 pub record IsThere (m : Memory) (p : Path) (old : Val) : Type 0 where

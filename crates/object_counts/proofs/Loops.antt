@@ -2,7 +2,7 @@
 use Rattle.std.proofs.Common.{◌≡◌, ℕ, suc, Bool, true, false, List, [], ◌∷◌, Option, Some, None, refl, sym, subst}
 use Rattle.std.specs.Prelude.{if◌then◌else◌}
 use Rattle.vba_values.specs.declared.object.ObjRef.{ObjRef}
-use Rattle.vba_values.specs.declared.object.ObjRef.TheVariants.{Nothing, Host}
+use Rattle.vba_values.specs.declared.object.ObjRef.TheVariants.{Nothing, Heap, Host}
 use Rattle.vba_values.specs.declared.object.HostRef.TheVariants as host
 use Rattle.vba_values.specs.declared.value.Bound.{Bound}
 use Rattle.vba_values.specs.Types.{Declared}
@@ -18,11 +18,12 @@ use Rattle.bound_project.specs.Expressions.{Variable}
 use Rattle.bound_project.specs.Project.{Declarations, types_of}
 use Rattle.vba_meaning.specs.Paths.{Path, element_path}
 use Rattle.vba_meaning.specs.Memory.{Kept, only, at_path, walk, Memory, top, found, value_at, path_of}
-use Rattle.vba_meaning.specs.Effects.{Effect, Fine, Bad-at}
-use Rattle.vba_meaning.specs.Arrays.{number_in, numbers, offset_at, indexed_object, element_in, indexed, part_of, bounds_of, element_type, new_array, resized_array, preserved, redim_value, redimmed, erased_value, erased, keep_path, block_over, place_kept, dot_at, walking, not_walking, each_off, walkable, each_begun, item_stored, next_item, item_of, each_by, each_next}
+use Rattle.vba_meaning.specs.References.{objects_in, kept_value}
+use Rattle.vba_meaning.specs.Effects.{Effect, Fine, Bad-at, is_collection}
+use Rattle.vba_meaning.specs.Arrays.{number_in, numbers, offset_at, indexed_object, element_in, indexed, part_of, bounds_of, element_type, new_array, resized_array, preserved, redim_value, redimmed, erased_value, erased, kept_of, keep_path, block_over, place_kept, dot_at, walking, not_walking, each_off, walkable, each_begun, item_stored, next_item, item_of, each_by, each_next}
 use Rattle.object_counts.specs.Gains.{given_gains, each_begun_gains, item_stored_gains, next_item_gains, each_by_gains, each_next_gains, redimmed_gains, erased_gains}
 use Rattle.object_counts.proofs.Looks.{Grows, same, keeping_grows, over_grows, still_walking, walking_grows, IsThere, exchanged_grows}
-use Rattle.object_counts.proofs.Chains.{Law, fine, bad, moved, then_still, after_still, answered_law, Holds, held_law, then_holds, Bare, bare_holds, then_found, Stays, then_stays, both_stay, answered_stays}
+use Rattle.object_counts.proofs.Chains.{Law, fine, bad, moved, then_still, after_still, answered_law, both, Holds, held_law, then_holds, Bare, bare_holds, then_found, Stays, then_stays, both_stay, answered_stays}
 use Rattle.object_counts.proofs.Variables.{fitted_law, read_value_holds, replaceable_finds, assignable_finds, stored_law}
 
 -- ---- elements and fields
@@ -113,8 +114,8 @@ erased_law d p m =
 
 -- ---- With
 
-pub keep_path_law : (i : ℕ) (p : Path) (m : Memory) → Law m [] (keep_path i p m)
-keep_path_law i p m = fine tt (keeping_grows i (at_path p) m)
+pub keep_path_law : (i : ℕ) (p : Path) (m : Memory) → Law m (objects_in (kept_value (kept_of p))) (keep_path i p m)
+keep_path_law i p m = fine tt (keeping_grows i (kept_of p) m)
 
 pub block_over_law : (i : ℕ) (m : Memory) → Law m [] (block_over i m)
 block_over_law i m = fine tt (over_grows i m)
@@ -144,6 +145,7 @@ walkable_law (array bounds of items) m = fine tt (same m)
 walkable_law (object Nothing) m = bad 91 (same m)
 walkable_law (object (Host host.Sheets)) m = fine tt (same m)
 walkable_law (object (Host (host.Area s t l r c))) m = fine tt (same m)
+walkable_law (object (Heap id)) m = both (is_collection (Heap id) m) (fine tt (same m)) (bad 438 (same m))
 walkable_law (object o) m = bad 438 (same m)
 walkable_law v m = bad 13 (same m)
 

@@ -10,7 +10,7 @@ use Rattle.vba_meaning.specs.Memory.{Error, Ending, Ended, Stopped, Slot, value,
 use Rattle.vba_meaning.specs.References.{let_held, held_by, let_frame}
 use Rattle.vba_meaning.specs.Effects.{Event, Raised, Effect, Fine, Bad-at, Out, Tell, unlent, slot_values, packed, reordered, raised_by, err_of, failed_statement}
 use Rattle.vba_meaning.specs.Objects.{initialize_of, made_at}
-use Rattle.vba_meaning.specs.Host.{is_raise}
+use Rattle.vba_meaning.specs.Host.{is_counted, is_raise}
 use Rattle.vba_meaning.specs.ByName.{in_parameter_order}
 use Rattle.vba_meaning.specs.Meaning.{State, with_memory, turned}
 use Rattle.pcode.specs.Instructions.{Instr, Begin, Push, LoadErr, PathOf, ReadThrough, ElementOf, ElementIn, FieldOf, Dot, Index, PartOf, Operate, OperateAlone, Plain, PlainIfAny, PushHost, FirstSheet, MemberThere, MemberOf, NamedThere, NamedOf, PushThis, New, ObjectThere, FieldIn, AsNew, MakeThere, StoreMade, Same, IsType, Library, BoundAt, Fit, FitObject, Drop, Lend, Pack, Reorder, Lift, Call, CallOf, Store, SetAt, StoreDefault, StoreMember, StoreItem, SetMember, ShowText, Show, Throw, LoopOff, LoopOn, NextRound, EachOff, EachOn, NextItem, Keep, Selected, IfFits, IfBetween, Redim, EraseAt, KeepPath, DropKept, PutReturn, TakeReturn, SetPolicy, HandlerOff, ErrOff, Again, Behind, Resumes, Finish, Branch, Halt, StopHere, Leave, Code, next_statement, entry_of}
@@ -23,7 +23,7 @@ use Rattle.object_counts.proofs.Chains.{Raises, Law, with_nil, nil_with}
 use Rattle.object_counts.proofs.Looks.{grown}
 use Rattle.object_counts.proofs.Variables.{operated_law, operated_alone_law, set_object_law, fitted_law, plain_law, plain_if_any_law, condition_law, compared_law, typed_as_law, object_there_law, field_in_law, show_value_law, read_path_law, own_object_law, selected_law, keep_law, set_at_law, loop_on_law, next_round_law, loop_off_law, fits_law, fits_between_law, lent_law, unlent_grows, printed_law, gone_sub_law, returned_sub_law, err_off_law, policy_on_law, handler_off_law, resumed_law, stop_here_law, library_law, bound_at_law, made_law, made_for_law, stored_made_law}
 use Rattle.object_counts.proofs.Loops.{part_of_law, redimmed_law, erased_law, keep_path_law, block_over_law, dot_at_law, each_off_law, each_begun_law, each_next_law}
-use Rattle.object_counts.proofs.Hosts.{first_sheet_law, written_default_law, item_law, member_there_law, named_there_law, member_called_law, error_given_law, place_at_law, assigned_at_law, item_assigned_law, member_assigned_law, member_not_set_law}
+use Rattle.object_counts.proofs.Hosts.{first_sheet_law, written_default_law, item_law, member_there_law, named_there_law, member_called_law, object_member_law, error_given_law, place_at_law, assigned_at_law, item_assigned_law, member_assigned_law, member_not_set_law}
 
 module _ (bound : ℕ) where
   -- wherever the move leads, these references are there once more
@@ -193,7 +193,9 @@ module _ (bound : ℕ) where
     member_adds name base begun vs pc st bs s =
         either (is_raise name base)
         (does bs s (error_given_law vs s.memory) (λ e s1 h. raises e bs s1 h))
-        (does bs s (member_called_law code.declared name vs base begun s.memory) (pushes pc st bs))
+        (either (is_counted base)
+        (does bs s (object_member_law name vs base s.memory) (λ r s1 h. lets_go pc (value r.0 ∷ st) bs r.1 s1 h))
+        (does bs s (member_called_law code.declared name vs base begun s.memory) (pushes pc st bs)))
 
     -- ---- instructions
 
@@ -205,8 +207,8 @@ module _ (bound : ℕ) where
     act_adds by (Some (LoadErr member)) pc st bs s = goes (at (pc + 1) (value (err_of code.declared member s.memory.err) ∷ st) bs s) (same s.memory)
     act_adds by (Some (PathOf x)) pc st bs s = goes (at (pc + 1) (path (path_of s.memory x) ∷ st) bs s) (same s.memory)
     act_adds by (Some ReadThrough) pc st bs s = on_path st (λ q st1. does bs s (read_path_law q s.memory) (pushes (pc + 1) st1 bs))
-    act_adds by (Some (ElementOf k)) pc st bs s = a_path st (λ q st1. the_args k st1 [] (λ xs st2. does bs s (place_at_law q (slot_values xs) s.memory) (pushes_path (pc + 1) st2 bs)))
-    act_adds by (Some (ElementIn k)) pc st bs s = the_args k st [] (λ xs st1. a_path st1 (λ q st2. does bs s (place_at_law q (slot_values xs) s.memory) (pushes_path (pc + 1) st2 bs)))
+    act_adds by (Some (ElementOf k)) pc st bs s = on_path st (λ q st1. on_args k st1 [] (λ xs st2. does bs s (place_at_law q (slot_values xs) s.memory) (pushes_path (pc + 1) st2 bs)))
+    act_adds by (Some (ElementIn k)) pc st bs s = on_args k st [] (λ xs st1. on_path st1 (λ q st2. does bs s (place_at_law q (slot_values xs) s.memory) (pushes_path (pc + 1) st2 bs)))
     act_adds by (Some (FieldOf i of bounded)) pc st bs s = a_path st (λ q st1. goes (at (pc + 1) (path (field_path q i of bounded) ∷ st1) bs s) (same s.memory))
     act_adds by (Some (Dot i)) pc st bs s = does bs s (dot_at_law i s.memory) (pushes_path (pc + 1) st bs)
     act_adds by (Some (Index k)) pc st bs s = on_args k st [] (λ xs st1. on_value st1 (λ v st2. does bs s (item_law v (slot_values xs) s.memory) (pushes (pc + 1) st2 bs)))
@@ -274,7 +276,7 @@ module _ (bound : ℕ) where
     act_adds by (Some (Redim preserve of k)) pc st bs s =
         on_args k st [] (λ xs st1. on_path st1 (λ q st2. does bs s (redimmed_law code.declared preserve of q (slot_values xs) s.memory) (lets_go (pc + 1) st2 bs)))
     act_adds by (Some EraseAt) pc st bs s = on_path st (λ q st1. does bs s (erased_law code.declared q s.memory) (lets_go (pc + 1) st1 bs))
-    act_adds by (Some (KeepPath i)) pc st bs s = a_path st (λ q st1. does bs s (keep_path_law i q s.memory) (on (pc + 1) st1 bs))
+    act_adds by (Some (KeepPath i)) pc st bs s = on_path st (λ q st1. does bs s (keep_path_law i q s.memory) (on (pc + 1) st1 bs))
     act_adds by (Some (DropKept i)) pc st bs s = does bs s (block_over_law i s.memory) (on (pc + 1) st bs)
     act_adds by (Some (PutReturn i)) pc st bs s = does bs s (gone_sub_law i s.memory) (on (pc + 1) st bs)
     act_adds by (Some (TakeReturn p)) pc st bs s = does bs s (returned_sub_law s.memory) (goes_on_at code p bs)

@@ -23,10 +23,10 @@ use Rattle.error_frames.specs.declared.frame.ResumeKind.{ResumeKind}
 use Rattle.error_frames.specs.Resume as resumption
 use Rattle.bound_project.specs.Expressions.{Variable}
 use Rattle.bound_project.specs.Project.{Declarations}
-use Rattle.vba_meaning.specs.Paths.{Root, in_frame, in_project, in_fields, in_block, in_object, Step, Path}
+use Rattle.vba_meaning.specs.Paths.{Root, in_frame, in_project, in_fields, in_block, in_object, in_item, Step, Path}
 use Rattle.vba_meaning.specs.Memory.{Error, stop_said, Slot, Loop, only, Memory, Frame, top, with_top, found, without, value_at, path_of, is_locked, no_error}
 use Rattle.vba_meaning.specs.References.{objects_in, looks}
-use Rattle.vba_meaning.specs.Effects.{Effect, Fine, Bad-at, Out, Tell, on_fine, operated, operated_alone, takes_object, set_reference, set_object, fitted, area_in, plain_reference, plain, as_told_by, is_true, condition, read_value, read_path, has_parts, replaceable_by, replaceable, assignable, stored, assigned, lent, unlent, shown_text, shown_by, show_value, printed, loop_off, looping, within, counted, loop_on, stepped, next_round, kept_at, keep, selected, fits, fits_between, gone_sub, returned_to, returned_sub, with_err, err_off, policy_on, handler_off, at_number, resumed_by, resumed, stop_here}
+use Rattle.vba_meaning.specs.Effects.{Effect, Fine, Bad-at, Out, Tell, on_fine, operated, operated_alone, is_collection, takes_object, set_reference, set_object, fitted, area_in, plain_reference, plain, as_told_by, is_true, condition, read_value, read_path, has_parts, replaceable_by, replaceable, assignable, stored, assigned, lent, unlent, shown_text, shown_by, show_value, printed, loop_off, looping, within, counted, loop_on, stepped, next_round, kept_at, keep, selected, fits, fits_between, gone_sub, returned_to, returned_sub, with_err, err_off, policy_on, handler_off, at_number, resumed_by, resumed, stop_here}
 use Rattle.vba_meaning.specs.Objects.{compared, typed_as, set_at, told_made, made, own_object, object_there, field_in, made_for, stored_made}
 use Rattle.vba_meaning.specs.Library.{library_answer, library_called, bound_in, bound_at, plain_if_any}
 use Rattle.object_counts.specs.Gains.{given_gains, stored_gains, assigned_gains, set_at_gains, counted_gains, stepped_gains, next_round_gains, made_gains, made_for_gains, stored_made_gains}
@@ -64,6 +64,7 @@ plain_of Nothing m = bad 91 (same m)
 plain_of (Host host.ErrObject) m = fine _ (same m)
 plain_of (Host (host.Area s t l r c)) m = answered_law (area_value m.book (area_in s t l r c)) m
 plain_of (Host host.Sheets) m = bad 449 (same m)
+plain_of (Heap id) m = both (is_collection (Heap id) m) (bad 449 (same m)) (bad 438 (same m))
 plain_of o m = bad 438 (same m)
 
 pub plain_law : (v : Val) (m : Memory) → Law m [] (plain v m)
@@ -145,6 +146,7 @@ found_from (in_project x) steps of bounded makes m = found_here (in_project x) s
 found_from (in_fields n i) steps of bounded makes m = found_here (in_fields n i) steps of bounded makes m tt
 found_from (in_block k i) steps of bounded makes m = found_here (in_block k i) steps of bounded makes m tt
 found_from (in_object o) steps of bounded makes m = same m
+found_from (in_item v) steps of bounded makes m = same m
 
 pub replaceable_finds : (p : Path) (m : Memory) → Finds m p (replaceable p m)
 replaceable_finds p m = record { law = found_from p.root p.steps p.of p.bounded p.makes m }

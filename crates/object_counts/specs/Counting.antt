@@ -8,18 +8,18 @@ use Rattle.sheet_host.specs.Books.{Sheets}
 use Rattle.bound_project.specs.Project.{class_at, first_values}
 use Rattle.vba_meaning.specs.Paths.{Path}
 use Rattle.vba_meaning.specs.Memory.{Ending, Going, Slot, value, path, Frame, Memory, top, result, object_at}
-use Rattle.vba_meaning.specs.References.{objects_in, objects_in_values, objects_in_slots, objects_kept, next_waiting, taken_off}
+use Rattle.vba_meaning.specs.References.{objects_in, objects_in_values, objects_in_slots, objects_kept, kept_value, next_waiting, taken_off}
 use Rattle.vba_meaning.specs.Effects.{Event, slot_values, startup_slots, read_path, selected}
-use Rattle.vba_meaning.specs.Arrays.{part_of}
+use Rattle.vba_meaning.specs.Arrays.{part_of, kept_of}
 use Rattle.vba_meaning.specs.Objects.{made, own_object, made_for, initialize_of}
 use Rattle.vba_meaning.specs.Host.{item_by}
 use Rattle.vba_meaning.specs.Library.{library_called}
 use Rattle.vba_meaning.specs.ByName.{in_parameter_order}
 use Rattle.vba_meaning.specs.Meaning.{State}
-use Rattle.pcode.specs.Instructions.{Instr, ReadThrough, Index, PartOf, MemberOf, NamedOf, PushThis, New, MakeThere, StoreMade, Library, Call, CallOf, Store, SetAt, StoreMember, StoreItem, LoopOn, NextRound, EachOn, NextItem, Keep, Selected, Redim, EraseAt, Code}
+use Rattle.pcode.specs.Instructions.{Instr, ReadThrough, ElementOf, ElementIn, Index, PartOf, MemberOf, NamedOf, PushThis, New, MakeThere, StoreMade, Library, Call, CallOf, Store, SetAt, StoreMember, StoreItem, LoopOn, NextRound, EachOn, NextItem, Keep, KeepPath, Selected, Redim, EraseAt, Code}
 use Rattle.pcode.specs.Machine.{Return, Pass, Close, Mode, At, Letting, Back, Caller, EndOf, Config, Move, Goes, Ends, Sticks, Tells, Turns, Choices, step_by, first_move}
 use Rattle.object_counts.specs.Counts.{count_of, raise_all, lower_all}
-use Rattle.object_counts.specs.Gains.{gains_behind, given_gains, assigned_at_gains, set_at_gains, counted_gains, next_round_gains, each_begun_gains, each_next_gains, redimmed_gains, erased_gains, member_gains, member_used_gains, made_gains, made_for_gains, stored_made_gains, entered_gains}
+use Rattle.object_counts.specs.Gains.{gains_behind, given_gains, assigned_at_gains, set_at_gains, counted_gains, next_round_gains, each_begun_gains, each_next_gains, redimmed_gains, erased_gains, member_used_gains, member_assigned_gains, place_at_gains, made_gains, made_for_gains, stored_made_gains, entered_gains}
 
 -- the test for the last reference: the stored count is 0
 abbrev pub by_counts : List ℕ → Choices
@@ -75,6 +75,8 @@ initialize_gains code (Some p) v frames = call_gains code p v [] frames
 -- an instruction, by its operands; of those that don't stand here none raises a count
 abbrev pub act_gains : Code → Option Instr → List Slot → Memory → List ℕ
 act_gains code (Some ReadThrough) st m = for_path st (λ q st1. given_gains (read_path q m))
+act_gains code (Some (ElementOf k)) st m = for_path st (λ q st1. for_args k st1 [] (λ xs st2. place_at_gains q (slot_values xs) m))
+act_gains code (Some (ElementIn k)) st m = for_args k st [] (λ xs st1. for_path st1 (λ q st2. place_at_gains q (slot_values xs) m))
 act_gains code (Some (Index k)) st m = for_args k st [] (λ xs st1. for_value st1 (λ v st2. given_gains (item_by v (slot_values xs) m)))
 act_gains code (Some (PartOf i)) st m = for_value st (λ v st1. given_gains (part_of i v m))
 act_gains code (Some (MemberOf name k)) st m =
@@ -82,7 +84,7 @@ act_gains code (Some (MemberOf name k)) st m =
 act_gains code (Some (NamedOf name by k)) st m =
     for_args k st [] (λ xs st1. for_value st1 (λ w st2. for_value st2 (λ v st3. member_used_gains name v w (in_parameter_order v name by (slot_values xs)) m)))
 act_gains code (Some (StoreMember name k)) st m =
-    for_args k st [] (λ xs st1. for_value st1 (λ x st2. for_value st2 (λ w st3. for_value st3 (λ v st4. member_gains name (slot_values xs) w x m))))
+    for_args k st [] (λ xs st1. for_value st1 (λ x st2. for_value st2 (λ w st3. for_value st3 (λ v st4. member_assigned_gains name (slot_values xs) w x m))))
 act_gains code (Some (StoreItem k)) st m =
     for_args k st [] (λ xs st1. for_value st1 (λ w st2. for_value st2 (λ v st3. given_gains (item_by w (slot_values xs) m))))
 act_gains code (Some (Library f text_form compare base k)) st m =
@@ -90,6 +92,7 @@ act_gains code (Some (Library f text_form compare base k)) st m =
 act_gains code (Some PushThis) st m = given_gains (own_object m)
 act_gains code (Some (Selected i)) st m = given_gains (selected i m)
 act_gains code (Some (Keep i)) st m = for_value st (λ v st1. objects_in v)
+act_gains code (Some (KeepPath i)) st m = for_path st (λ q st1. objects_in (kept_value (kept_of q)))
 act_gains code (Some (New c)) st m =
     made_gains code.declared c m ++ gains_behind (made code.declared c m) (λ v m1. initialize_gains code (class_at code.declared c).initialize v m1.frames)
 act_gains code (Some MakeThere) st m =

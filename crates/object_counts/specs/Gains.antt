@@ -1,24 +1,25 @@
 -- What each effect raises: the references in the values that it stores, holds or keeps, as soon as it does. What gives
 -- way is held or waits, and counts as before; so no effect lowers a count.
-use Rattle.std.specs.Prelude.{ℕ, suc, List, [], ◌∷◌, ◌++◌, length, map, Bool, true, Option, Some, None, if◌then◌else◌}
+use Rattle.std.specs.Prelude.{ℕ, suc, List, [], ◌∷◌, ◌++◌, length, map, Bool, true, Option, Some, None, if◌then◌else◌, nat_lt, slice_index_or}
 use Rattle.vba_values.specs.declared.object.HostRef.{HostRef}
-use Rattle.vba_values.specs.declared.object.ObjRef.TheVariants.{Nothing, Host}
+use Rattle.vba_values.specs.declared.object.ObjRef.TheVariants.{Nothing, Heap, Host}
 use Rattle.vba_values.specs.declared.types.OpKind.TheVariants as op
 use Rattle.vba_values.specs.Types.{Declared}
-use Rattle.vba_values.specs.Val.{Val, empty, object}
+use Rattle.vba_values.specs.Val.{Val, empty, missing, object}
 use Rattle.vba_values.specs.Coerce.{coerce_of}
 use Rattle.sheet_host.specs.declared.members.HostMember.{HostMember}
 use Rattle.sheet_host.specs.Members.{member_of}
 use Rattle.arrays_udt.specs.Shapes.{shape_of}
 use Rattle.bound_project.specs.Expressions.{Variable}
 use Rattle.bound_project.specs.Project.{Declarations, procedure_at}
-use Rattle.vba_meaning.specs.Paths.{Root, in_object, Path}
+use Rattle.vba_meaning.specs.Paths.{Root, in_object, in_item, Path}
 use Rattle.vba_meaning.specs.Memory.{Slot, Loop, Kept, walk, Memory, top, found, value_at, path_of, own_slots, received}
 use Rattle.vba_meaning.specs.References.{objects_in, objects_in_values, objects_in_slots}
 use Rattle.vba_meaning.specs.Effects.{Effect, Fine, Bad-at, Out, Tell, answered, operated, fitted, plain, set_object, read_path, replaceable, assignable, assigned}
 use Rattle.vba_meaning.specs.Arrays.{numbers, bounds_of, redim_value, erased_value, walkable, walking, item_of}
 use Rattle.vba_meaning.specs.Objects.{new_instance}
-use Rattle.vba_meaning.specs.Host.{as_given, are_places, is_raise, item_by}
+use Rattle.vba_meaning.specs.Collections.{CollectionMember, is_add, is_item, collection_member, item_found, collection_used}
+use Rattle.vba_meaning.specs.Host.{as_given, are_places, is_counted, is_raise, item_by}
 
 -- what is raised behind an effect, where that came to a value
 abbrev pub gains_behind : {A : Type 0} → Effect A → (A → Memory → List ℕ) → List ℕ
@@ -41,12 +42,13 @@ stored_gains p v m = gains_behind (assignable p m) (λ old m1. objects_in v)
 abbrev pub assigned_gains : Path → Val → Memory → List ℕ
 assigned_gains p v m = gains_behind (answered (coerce_of v p.of) m) (λ w m1. stored_gains p w m1)
 
--- Let at a place: an object that an index gave keeps none
+-- Let at a place: an object or item that an index gave keeps none
 abbrev pub assigned_at_gains : Path → Val → Memory → List ℕ
 assigned_at_gains p v m = at p.root
   where
     at : Root → List ℕ
     at (in_object o) = []
+    at (in_item w) = []
     at root = gains_behind (plain v m) (λ w m1. assigned_gains p w m1)
 
 -- Set stores an object that the place may have
@@ -115,9 +117,41 @@ abbrev pub member_gains : (name : List ℕ) → List Val → (base begun : Val) 
 member_gains name vs (object (Host r)) begun m = gains_behind (answered (member_of r name) m) (λ how m1. member_by_gains r how (as_given vs) begun m1)
 member_gains name vs v begun m = []
 
+-- of a member of a Collection, behind it: Add stores an item where there is such an object, and what another one gives is
+-- held
+abbrev pub added_gains : (number : ℕ) → Val → Memory → List ℕ
+added_gains o v m = if nat_lt o (length m.objects) then objects_in v else []
+
+abbrev pub used_gains : (number : ℕ) → CollectionMember → List Val → Val × ℕ → Memory → List ℕ
+used_gains o is_add vs r m = added_gains o (slice_index_or vs 0 missing) m
+used_gains o member vs r m = objects_in r.0
+
+-- by its name
+abbrev pub object_member_gains : (name : List ℕ) → List Val → (base : Val) → Memory → List ℕ
+object_member_gains name vs (object (Heap id)) m =
+    gains_behind (collection_member id.0 name m) (λ how m1. gains_behind (collection_used id.0 how (as_given vs) m1) (λ r m2. used_gains id.0 how (as_given vs) r m2))
+object_member_gains name vs v m = []
+
 -- Err.Raise holds nothing
 abbrev pub member_used_gains : (name : List ℕ) → (base begun : Val) → List Val → Memory → List ℕ
-member_used_gains name base begun vs m = if is_raise name base then [] else member_gains name vs base begun m
+member_used_gains name base begun vs m = if is_raise name base then [] else if is_counted base then object_member_gains name vs base m else member_gains name vs base begun m
+
+-- a member that is assigned to: the item of a Collection that is found is held
+abbrev pub through_gains : (number : ℕ) → CollectionMember → List Val → Memory → List ℕ
+through_gains o is_item vs m = given_gains (item_found o vs m)
+through_gains o member vs m = []
+
+abbrev pub member_assigned_gains : (name : List ℕ) → List Val → (base begun : Val) → Memory → List ℕ
+member_assigned_gains name vs (object (Heap id)) begun m = gains_behind (collection_member id.0 name m) (λ how m1. through_gains id.0 how (as_given vs) m1)
+member_assigned_gains name vs base begun m = member_gains name vs base begun m
+
+-- the item of an object that numbers lead to
+abbrev pub place_at_gains : Path → List Val → Memory → List ℕ
+place_at_gains p vs m = at (value_at m p)
+  where
+    at : Option Val → List ℕ
+    at (Some (object o)) = given_gains (item_by (object o) vs m)
+    at found = []
 
 -- ---- objects and calls
 

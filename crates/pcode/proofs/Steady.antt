@@ -17,12 +17,12 @@ use Rattle.vba_meaning.specs.Memory.{Error, Ending, Ended, Faulted, Going, Slot,
 use Rattle.vba_meaning.specs.References.{objects_in, objects_in_values, hold, held_by, is_last, next_waiting, taken_off, let_frame, as_told, gone, closed}
 use Rattle.vba_meaning.specs.Effects.{Event, Effect, Fine, Bad-at, Out, Tell, lent, slot_values, packed, reordered, printed, loop_off, keep, selected, gone_sub, policy_on, handler_off, err_off, stop_here, taken_by, err_of}
 use Rattle.vba_meaning.specs.Arrays.{each_off, block_over, keep_path}
-use Rattle.vba_meaning.specs.Host.{is_raise, error_given}
+use Rattle.vba_meaning.specs.Host.{is_counted, object_member, is_raise, error_given}
 use Rattle.vba_meaning.specs.ByName.{in_parameter_order}
 use Rattle.vba_meaning.specs.Meaning.{State, with_memory, turned, left}
 use Rattle.vba_meaning.specs.Objects.{made, own_object, made_for, initialize_of, stored_made, made_at}
 use Rattle.pcode.specs.Instructions.{Instr, Begin, Push, PushHost, LoadErr, PathOf, ReadThrough, ElementOf, ElementIn, FieldOf, Dot, Index, PartOf, Operate, OperateAlone, Plain, PlainIfAny, FirstSheet, MemberThere, MemberOf, NamedThere, NamedOf, PushThis, New, ObjectThere, FieldIn, AsNew, MakeThere, StoreMade, Same, IsType, Library, BoundAt, Fit, FitObject, Drop, Lend, Pack, Reorder, Lift, Call, CallOf, Store, SetAt, StoreDefault, StoreMember, StoreItem, SetMember, ShowText, Show, Throw, LoopOff, LoopOn, NextRound, EachOff, EachOn, NextItem, Keep, Selected, IfFits, IfBetween, Redim, EraseAt, KeepPath, DropKept, PutReturn, TakeReturn, SetPolicy, HandlerOff, ErrOff, Again, Behind, Resumes, Finish, Branch, Halt, StopHere, Leave, Code, entry_of}
-use Rattle.pcode.specs.Machine.{After, Goes-on, Decide, Return, Back-to, Pass, Close, Back, Caller, EndOf, Config, Move, Goes, Ends, Tells, Turns, at, failing, letting, lets_all, finishes, raised, done_then, then_at, then_push, then_branch, pops, pops_path, take_args, pushed, initializes, looking, act, finished_by, terminates_by, ends_by, closing, returned_by, passed_on, next_by, takes, comes_by, step, Fin, Done, Unfinished, Stuck, tells, follow, machine, first_move, run_code}
+use Rattle.pcode.specs.Machine.{After, Goes-on, Decide, Return, Back-to, Pass, Close, Back, Caller, EndOf, Config, Move, Goes, Ends, Tells, Turns, at, failing, letting, lets_all, finishes, raised, done_then, then_at, then_push, then_let_go, then_branch, pops, pops_path, take_args, pushed, initializes, looking, act, finished_by, terminates_by, ends_by, closing, returned_by, passed_on, next_by, takes, comes_by, step, Fin, Done, Unfinished, Stuck, tells, follow, machine, first_move, run_code}
 use Rattle.pcode.specs.WellFormed.{Kind, a_value, a_path, Way, no_way, brings, value_off, path_off, taken_off as kinds_off, kinds_pushed, kinds_reordered, along, along_rest, along_all, Leads, Sound, SoundFrom, joined, Lands, begins, leaves, WellFormed}
 use Rattle.pcode.specs.Steady.{HasEnded, Steady}
 use Rattle.pcode.proofs.OneEnd.{Final, one_end}
@@ -372,14 +372,20 @@ module _ (code : Code) (well : WellFormed code) (bound : ℕ) where
           off_stops k st [] _ _ u e (λ xs st1 e1. value_off_stops st1 _ _ u e1 (λ w st2 e2. value_off_stops st2 _ _ u e2 (λ v st3 e3.
           either (is_raise name v)
           (does (error_given (slot_values xs) s.memory) bs s (λ error s1. raised error bs s1) l.good good (λ error s1 g1. raises error bs s1 l.good g1))
-          (does _ bs s _ l.good good (λ x s1 g1. on (value x ∷ st3) s1 g1 e3)))))
+          (either (is_counted v)
+          (does (object_member name (slot_values xs) v s.memory) bs s (λ r s1. then_let_go (pc + 1) (value r.0 ∷ st3) bs r.1 s1) l.good good (λ r s1 g1.
+          letting_stops bs (Back-to (pc + 1) (value r.0 ∷ st3)) l.good (after ∙ sym e3) (λ s2 g2. on (value r.0 ∷ st3) s2 g2 e3) r.1 s1 g1))
+          (does _ bs s _ l.good good (λ x s1 g1. on (value x ∷ st3) s1 g1 e3))))))
       acts (NamedThere name by k) pc st s u good after on e q h =
           value_off_stops st _ _ u e (λ v st1 e1. does _ bs s _ l.good good (λ w s1 g1. on (value w ∷ value v ∷ st1) s1 g1 e1))
       acts (NamedOf name by k) pc st s u good after on e q h =
           off_stops k st [] _ _ u e (λ xs st1 e1. value_off_stops st1 _ _ u e1 (λ w st2 e2. value_off_stops st2 _ _ u e2 (λ v st3 e3.
           either (is_raise name v)
           (does (error_given (in_parameter_order v name by (slot_values xs)) s.memory) bs s (λ error s1. raised error bs s1) l.good good (λ error s1 g1. raises error bs s1 l.good g1))
-          (does _ bs s _ l.good good (λ x s1 g1. on (value x ∷ st3) s1 g1 e3)))))
+          (either (is_counted v)
+          (does (object_member name (in_parameter_order v name by (slot_values xs)) v s.memory) bs s (λ r s1. then_let_go (pc + 1) (value r.0 ∷ st3) bs r.1 s1) l.good good (λ r s1 g1.
+          letting_stops bs (Back-to (pc + 1) (value r.0 ∷ st3)) l.good (after ∙ sym e3) (λ s2 g2. on (value r.0 ∷ st3) s2 g2 e3) r.1 s1 g1))
+          (does _ bs s _ l.good good (λ x s1 g1. on (value x ∷ st3) s1 g1 e3))))))
       acts (StoreMember name k) pc st s u good after on e q h =
           off_stops k st [] _ _ u e (λ xs st1 e1.
           value_off_stops st1 _ _ u e1 (λ x st2 e2. value_off_stops st2 _ _ u e2 (λ w st3 e3. value_off_stops st3 _ _ u e3 (λ v st4 e4. does _ bs s _ l.good good (λ t s1 g1. on st4 s1 g1 e4)))))

@@ -17,7 +17,7 @@ use crate::machine::Machine;
 use crate::step::{Step, Why};
 use pcode::Code;
 use run_host::{
-    error_given, first_sheet, is_raise, item_assigned, member_assigned, member_called,
+    error_given, first_sheet, is_counted, is_raise, item_assigned, member_assigned, member_called,
     member_not_set, member_there, written_default,
 };
 use run_memory::{Memory, Slot};
@@ -135,7 +135,8 @@ impl Machine {
         )
     }
 
-    // The same, with all of them off the operands: Err.Raise raises an error.
+    // The same, with all of them off the operands: Err.Raise raises an error. Collections aren't built: a member of a counted
+    // object is answered as want of memory.
     fn use_member(
         &mut self,
         alloc: Global,
@@ -153,6 +154,9 @@ impl Machine {
     {
         if is_raise(name, base) {
             return self.raise_given(alloc, turns, slots);
+        }
+        if is_counted(base) {
+            return Err(NoMemory);
         }
         self.call_member(alloc, code, turns, pc, name, slots, base, begun)
     }

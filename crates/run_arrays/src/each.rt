@@ -51,7 +51,8 @@ pub fn each_begun(
     Ok(count)
 }
 
-/// What can be walked: an array, the sheets, the cells of a range.
+/// What can be walked: an array, the sheets, the cells of a range. Collections aren't built: a counted object is answered
+/// as want of memory.
 fn walkable(value: &Value) -> Result<(), OrMemory<Bad>>
     ensures { (m : PlainMemory) → Acts (λ done. done) result m (walkable (view value.now) m) }
 {
@@ -59,6 +60,7 @@ fn walkable(value: &Value) -> Result<(), OrMemory<Bad>>
         Value::Array(_) => return Ok(()),
         Value::Object(ObjRef::Host(HostRef::Sheets | HostRef::Area { .. })) => return Ok(()),
         Value::Object(ObjRef::Nothing) => 91,
+        Value::Object(ObjRef::Heap(_)) => return Err(OrMemory::NoMemory),
         Value::Object(_) => 438,
         Value::Empty
         | Value::Null

@@ -58,7 +58,7 @@ pub fn item_walked(memory: &Memory, alloc: Global, header: u32) -> Result<Option
 }
 
 /// An item of what is walked, where there is one: of the sheets a sheet, of a range a cell by rows, of an array an
-/// element.
+/// element. Collections aren't built: a counted object is answered as want of memory.
 fn item_of(
     memory: &Memory,
     alloc: Global,
@@ -80,6 +80,7 @@ fn item_of(
                 },
             ),
         ) => cell_item(*sheet, *top, *left, *rows, *columns, number),
+        Value::Object(ObjRef::Heap(_)) => Err(NoMemory),
         _ => element_item(alloc, value, number),
     }
 }

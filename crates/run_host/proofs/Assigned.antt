@@ -1,5 +1,5 @@
 -- Members that are assigned to, by how they are.
-use Rattle.std.proofs.Common.{◌≡◌, List, [], ◌∷◌, refl}
+use Rattle.std.proofs.Common.{◌≡◌, List, [], ◌∷◌, length, refl}
 use Rattle.vba_values.specs.declared.object.HostRef.{HostRef}
 use Rattle.vba_values.specs.declared.object.HostRef.TheVariants as host
 use Rattle.vba_values.specs.Val.{Val}
@@ -7,18 +7,18 @@ use Rattle.sheet_host.specs.declared.members.HostMember.{HostMember}
 use Rattle.sheet_host.specs.declared.members.HostMember.TheVariants.{Read, Write, Call}
 use Rattle.bound_project.specs.Project.{Declarations}
 use Rattle.vba_meaning.specs.Memory.{Memory}
-use Rattle.vba_meaning.specs.Effects.{Effect, Bad-at}
-use Rattle.vba_meaning.specs.Host.{area_written, mark_set, member_set}
+use Rattle.vba_meaning.specs.Effects.{Effect, Bad-at, on_fine}
+use Rattle.vba_meaning.specs.Host.{are_places, area_written, assigned_through, mark_set, member_by, member_set}
 use Rattle.run_host.specs.declared.assigning.Writes.{Writes}
 use Rattle.run_host.specs.declared.assigning.Writes.TheVariants as writes
-use Rattle.run_host.specs.Members.{set_through, way_of}
+use Rattle.run_host.specs.Members.{way_of}
 
 -- what is done in each way
 abbrev pub set_by : Writes → Declarations → HostRef → HostMember → List Val → (begun : Val) → Val → Memory → Effect (Unit {0})
 set_by writes.Nothing d r how vs begun v m = Bad-at 438 m
 set_by (writes.Mark n) d r how vs begun v m = mark_set n v m
 set_by (writes.Cells a) d r how vs begun v m = area_written a v m
-set_by writes.Through d r how vs begun v m = set_through d r how vs begun v m
+set_by writes.Through d r how vs begun v m = on_fine (member_by d r how vs begun m) (λ w m1. assigned_through (are_places r how (length vs)) w v m1)
 
 pub set_ways : (d : Declarations) (r : HostRef) (how : HostMember) (vs : List Val) (begun v : Val) (m : Memory)
     → member_set d r how vs begun v m ≡ set_by (way_of r how vs) d r how vs begun v m

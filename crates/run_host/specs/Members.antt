@@ -1,5 +1,5 @@
 -- Serves the code: members of the host, in the parts that its functions do.
-use Rattle.std.specs.Prelude.{ℕ, zero, ◌==◌, ◌&&◌, ℤ, List, [], ◌∷◌, length, Bool, true, false, Option, Some, None, if◌then◌else◌}
+use Rattle.std.specs.Prelude.{ℕ, zero, ◌==◌, ◌&&◌, ℤ, List, [], ◌∷◌, Bool, true, false, Option, Some, None, if◌then◌else◌}
 use Rattle.vba_values.specs.declared.object.HostRef.{HostRef}
 use Rattle.vba_values.specs.declared.object.HostRef.TheVariants as host
 use Rattle.vba_values.specs.declared.object.ObjRef.{ObjRef}
@@ -12,10 +12,9 @@ use Rattle.sheet_host.specs.declared.members.HostMember.{HostMember}
 use Rattle.sheet_host.specs.declared.members.HostMember.TheVariants.{Write, Call}
 use Rattle.sheet_host.specs.AddressText.{area_of_text}
 use Rattle.sheet_host.specs.Writing.{cell_of, cells_of}
-use Rattle.bound_project.specs.Project.{Declarations}
 use Rattle.vba_meaning.specs.Memory.{Memory}
 use Rattle.vba_meaning.specs.Effects.{Effect, Fine, Bad-at, on_fine, done, answered, plain, range_value, area_in}
-use Rattle.vba_meaning.specs.Host.{are_places, area_found, assigned_through, cells_put, item_by, long_of, member_by, sheet_by, spanned, text_of, units_in, written_default}
+use Rattle.vba_meaning.specs.Host.{area_found, cells_put, item_by, long_of, sheet_by, spanned, text_of, units_in, written_default}
 use Rattle.run_host.specs.declared.assigning.Writes.{Writes}
 use Rattle.run_host.specs.declared.assigning.Writes.TheVariants as writes
 
@@ -61,10 +60,6 @@ abbrev pub way_of : HostRef → HostMember → List Val → Writes
 way_of r (Call n) vs = writes.Nothing
 way_of r (Write n) [] = written_at_once r n
 way_of r how vs = writes.Through
-
--- what a member gives is written to
-abbrev pub set_through : Declarations → HostRef → HostMember → List Val → (begun : Val) → Val → Memory → Effect (Unit {0})
-set_through d r how vs begun v m = on_fine (member_by d r how vs begun m) (λ w m1. assigned_through (are_places r how (length vs)) w v m1)
 
 -- the cells that a value writes to an area are put there
 abbrev pub value_put : Area → Val → Memory → Effect (Unit {0})

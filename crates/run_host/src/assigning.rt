@@ -7,7 +7,7 @@ ghost use Rattle.vba_meaning.specs.Memory.{Memory as PlainMemory};
 ghost use Rattle.vba_meaning.specs.Host.{assigned_through, item_assigned, mark_set, member_assigned, member_not_set, member_set, with_mark, written_default};
 ghost use Rattle.run_memory.specs.Acts.{Acts};
 ghost use Rattle.run_memory.specs.View.{memory_view, slot_view};
-ghost use Rattle.run_host.specs.Members.{no_item_assigned, object_item_assigned, set_through, way_of, written_at_once};
+ghost use Rattle.run_host.specs.Members.{no_item_assigned, object_item_assigned, way_of, written_at_once};
 ghost use Rattle.run_host.specs.Tells.{Tells};
 ghost use Rattle.run_host.specs.View.{told_view};
 
@@ -35,7 +35,7 @@ pub enum Writes {
 }
 
 /// The default member of an object is written: Value of a range, and no other. 91 for Nothing, 449 for the sheets, 438 for
-/// other objects, 424 for what is no object.
+/// other objects, 424 for what is no object. Collections aren't built: a counted object is answered as want of memory.
 pub fn written_default(
     memory: &mut Memory,
     alloc: Global,
@@ -62,6 +62,7 @@ pub fn written_default(
             area_written(memory, alloc, area, value, told)
         }
         Value::Object(ObjRef::Host(HostRef::Sheets)) => Err(OrMemory::Fault(Bad::Raise(449))),
+        Value::Object(ObjRef::Heap(_)) => Err(OrMemory::NoMemory),
         Value::Object(_) => Err(OrMemory::Fault(Bad::Raise(438))),
         _ => Err(OrMemory::Fault(Bad::Raise(424))),
     }
@@ -129,7 +130,8 @@ pub fn member_not_set(base: &Value) -> Result<(), OrMemory<Bad>>
 }
 
 /// A member of a host object is assigned to, by its folded name, with its arguments and with what was given when that
-/// began: 438 where there is no such one or it can't be written, 424 for what is no host object.
+/// began: 438 where there is no such one or it can't be written, 424 for what is no object. Collections aren't built: a
+/// counted object is answered as want of memory.
 pub fn member_assigned(
     memory: &mut Memory,
     alloc: Global,
@@ -158,11 +160,12 @@ pub fn member_assigned(
                 told,
             )
         }
+        Value::Object(ObjRef::Heap(_)) => Err(OrMemory::NoMemory),
         _ => Err(OrMemory::Fault(Bad::Raise(424))),
     }
 }
 
-/// A member is assigned to.
+/// A member is assigned to, or what it gives is written to.
 fn member_set(
     memory: &mut Memory,
     alloc: Global,
@@ -180,7 +183,11 @@ fn member_set(
         Writes::Nothing => Err(OrMemory::Fault(Bad::Raise(438))),
         Writes::Mark(number) => mark_set(memory, alloc, number, value),
         Writes::Cells(area) => area_written(memory, alloc, area, value, told),
-        Writes::Through => set_through(memory, alloc, declared, of, how, slots, begun, value, told),
+        Writes::Through => {
+            let target = member_by(memory, alloc, declared, of, how, slots, begun, told)?;
+            let is_place = are_places(&of, how, slots.len());
+            assigned_through(memory, alloc, is_place, &target, value, told)
+        }
     }
 }
 
@@ -218,25 +225,6 @@ fn written_at_once(of: HostRef, number: u16) -> Writes
         | HostRef::RowsOf { .. }
         | HostRef::ColumnsOf { .. } => Writes::Through,
     }
-}
-
-/// What a member gives is written to.
-fn set_through(
-    memory: &mut Memory,
-    alloc: Global,
-    declared: &Declarations,
-    of: HostRef,
-    how: HostMember,
-    slots: &[Slot],
-    begun: &Value,
-    value: Value,
-    told: &mut Told,
-) -> Result<(), OrMemory<Bad>>
-    ensures { Tells (λ done. done) result (told_view told.old) (told_view told.new) (memory_view memory.new) (set_through (declarations_view declared.now) of how (slot_values (map slot_view slots.now)) (view begun.now) (view value) (memory_view memory.old)) }
-{
-    let target = member_by(memory, alloc, declared, of, how, slots, begun, told)?;
-    let is_place = are_places(&of, how, slots.len());
-    assigned_through(memory, alloc, is_place, &target, value, told)
 }
 
 /// Of an object the default member is written; an element of an array that nothing keeps takes the value for nothing, and

@@ -33,7 +33,7 @@ pub fn can_index(value: Value, given: u32) -> Result<Value, OrMemory<Bad>>
 }
 
 /// What arguments give of a value: a sheet of the sheets, a cell of a range, or an element, which the running statement
-/// holds then.
+/// holds then. Collections aren't built: a counted object is answered as want of memory.
 #[tactic(auto, using(run_memory::proofs::Refused::refused_then))]
 pub fn item_by(
     memory: &mut Memory,
@@ -59,6 +59,7 @@ pub fn item_by(
             let area = area_in(*sheet, *top, *left, *rows, *columns);
             cell_found(memory, alloc, area, slots)
         }
+        Value::Object(ObjRef::Heap(_)) => Err(OrMemory::NoMemory),
         _ => {
             let slots = plains(memory, alloc, slots)?;
             indexed(memory, alloc, value, slots.as_slice())

@@ -21,7 +21,7 @@ mod writing;
 pub use assigning::{item_assigned, member_assigned, member_not_set, written_default};
 pub use events::{Event, Told};
 pub use indexing::item_by;
-pub use members::{member_called, member_there};
+pub use members::{is_counted, member_called, member_there};
 pub use places::{assigned_at, place_at};
 pub use raising::{error_given, is_raise};
 pub use sheets::first_sheet;

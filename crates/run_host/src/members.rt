@@ -3,7 +3,7 @@ ghost use Rattle.std.specs.Prelude.{◌≡◌, map};
 ghost use Rattle.vba_values.specs.View.{view};
 ghost use Rattle.bound_project.specs.View.{declarations_view};
 ghost use Rattle.vba_meaning.specs.Effects.{slot_values};
-ghost use Rattle.vba_meaning.specs.Host.{member_begun, member_by, member_called, member_there};
+ghost use Rattle.vba_meaning.specs.Host.{is_counted, member_begun, member_by, member_called, member_there};
 ghost use Rattle.run_memory.specs.View.{memory_view, slot_view};
 ghost use Rattle.run_host.specs.Tells.{Tells};
 ghost use Rattle.run_host.specs.View.{told_view};
@@ -22,7 +22,8 @@ use vba_values::{Bad, HostRef, ObjRef, Value};
 
 /// A use of a member begins, by its folded name and how many arguments are given: 91 for Nothing, 438 where there is no
 /// such member, 450 and 449 for too many and too few arguments, 424 for what is no object. What is given is what the
-/// arguments index, where the member takes none itself, and else Empty.
+/// arguments index, where the member takes none itself, and else Empty. Collections aren't built: a counted object is
+/// answered as want of memory.
 pub fn member_there(
     memory: &mut Memory,
     alloc: Global,
@@ -36,13 +37,20 @@ pub fn member_there(
 {
     match base {
         Value::Object(ObjRef::Nothing) => Err(OrMemory::Fault(Bad::Raise(91))),
-        Value::Object(ObjRef::Heap(_)) => Err(OrMemory::Fault(Bad::Raise(438))),
+        Value::Object(ObjRef::Heap(_)) => Err(OrMemory::NoMemory),
         Value::Object(ObjRef::Host(of)) => {
             let how = member_named(of, name)?;
             member_begun(memory, alloc, declared, *of, how, given, told)
         }
         _ => Err(OrMemory::Fault(Bad::Raise(424))),
     }
+}
+
+/// Whether a member is one of a counted object.
+pub fn is_counted(base: &Value) -> bool
+    ensures { result ≡ is_counted (view base.now) }
+{
+    matches!(base, Value::Object(ObjRef::Heap(_)))
 }
 
 /// A use of a member begins.

@@ -1,5 +1,5 @@
 // Places that numbers lead to: elements of arrays, and items of objects ([MS-VBAL] 5.6.13).
-ghost use Rattle.std.specs.Prelude.{◌≡◌, map};
+ghost use Rattle.std.specs.Prelude.{◌≡◌, IfOk, map};
 ghost use Rattle.vba_values.specs.Val.{object};
 ghost use Rattle.vba_values.specs.View.{view};
 ghost use Rattle.vba_meaning.specs.Effects.{Fine, assigned, on_fine, plain, slot_values};
@@ -14,7 +14,7 @@ use crate::events::Told;
 use crate::indexing::item_by;
 use run_memory::{Memory, Path, Root, Slot};
 use std::alloc::Global;
-use vba_base::OrMemory;
+use vba_base::{NoMemory, OrMemory};
 use vba_values::{Bad, ObjRef, Value};
 
 /// Where arguments lead: to an array's element, or to the item of an object, which is no variable.
@@ -48,15 +48,18 @@ fn item_place(
         (on_fine (item_by (object reference) (slot_values (map slot_view slots.now)) (memory_view memory.old)) (λ w m1. Fine (path_to w) m1)) }
 {
     let item = item_by(memory, alloc, &Value::Object(reference), slots)?;
-    Ok(path_to(alloc, &item))
+    let path = path_to(alloc, &item)?;
+    Ok(path)
 }
 
-fn path_to(alloc: Global, value: &Value) -> Path
-    ensures { path_view result ≡ path_to (view value.now) }
+/// Where an object of the host is that an index gave. Collections aren't built: another item is answered as want of memory.
+fn path_to(alloc: Global, value: &Value) -> Result<Path, NoMemory>
+    ensures { IfOk result (λ path. path_view path ≡ path_to (view value.now)) }
 {
     match value {
-        Value::Object(reference) => Path::of_object(alloc, *reference),
-        _ => Path::of_object(alloc, ObjRef::Nothing),
+        Value::Object(ObjRef::Nothing) => Ok(Path::of_object(alloc, ObjRef::Nothing)),
+        Value::Object(ObjRef::Host(of)) => Ok(Path::of_object(alloc, ObjRef::Host(*of))),
+        _ => Err(NoMemory),
     }
 }
 

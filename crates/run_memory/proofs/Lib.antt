@@ -12,6 +12,7 @@ pub mod Found
 pub mod Frames
 pub mod Ids
 pub mod KeptInOrder
+pub mod KeptPlaces
 pub mod Bounds
 pub mod Named
 pub mod Received

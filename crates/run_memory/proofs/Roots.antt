@@ -5,7 +5,7 @@ use Rattle.vba_values.specs.Val.{Val}
 use Rattle.run_memory.specs.Exchanges.{frame_exchanged, frames_with, root_exchanged}
 use Rattle.run_memory.specs.Keeps.{frame_keeping}
 use Rattle.run_memory.proofs.Exchanged.{kept_changed, slot_changed}
-use Rattle.vba_meaning.specs.Paths.{Root, in_frame, in_project, in_fields, in_block, in_object}
+use Rattle.vba_meaning.specs.Paths.{Root, in_frame, in_project, in_fields, in_block, in_object, in_item}
 use Rattle.vba_meaning.specs.Memory.{Object, object_or, with_field, Frame, no_frame, Slot, value, Kept, only, Memory, frame_at, with_slot, with_kept, value_in, value_kept, found, put, root_value, with_root}
 
 set_there : {A : Type 0} (xs : List A) (i : ℕ) (a v : A) → slice_get xs i ≡ Some v → slice_get (slice_set xs i a) i ≡ Some a
@@ -144,6 +144,7 @@ root_twice m (in_block k i) v w =
     ∙ with_same (λ f. frame_keeping i (only w) (frame_keeping i (only v) f)) (frame_keeping i (only w)) (λ f. ap (λ ks. record f { keeps = ks }) (put_twice i (only v) (only w) f.keeps)) m.frames k
     ∙ kept_changed i w m.frames k)
 root_twice m (in_object o) v w = refl
+root_twice m (in_item u) v w = refl
 
 -- a value takes the place of one that was put there: as if it came at once
 here_again : (m : Memory) (r : Root) (w x : Val) → root_value (with_root m r w) r ≡ Some w
@@ -157,3 +158,4 @@ root_again m (in_fields o i) v w x e = here_again m (in_fields o i) w x (there_i
 root_again m (in_frame k y) v w x e = here_again m (in_frame k y) w x (there_in_frame m k y v w e)
 root_again m (in_block k i) v w x e = here_again m (in_block k i) w x (there_in_block m k i v w e)
 root_again m (in_object o) v w x e = refl
+root_again m (in_item u) v w x e = refl

@@ -79,7 +79,7 @@ frames_view stands top callers = if stands then frame_view top ∷ map frame_vie
 -- ---- the memory
 
 abbrev pub object_view : Object → plain_memory.Object
-object_view b = record { class = b.class; told = b.is_told; fields = map view b.fields.items }
+object_view b = record { class = b.class; told = b.is_told; fields = map view b.fields.items; keys = [] }
 
 abbrev pub error_view : RunError → plain_memory.Error
 error_view e = record { number = e.number; source = e.source; description = e.description; procedure = e.procedure; statement = e.statement }

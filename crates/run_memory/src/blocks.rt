@@ -48,6 +48,7 @@ impl Memory {
     }
 
     /// With keeps a place.
+    #[tactic(auto, using(crate::proofs::KeptPlaces::kept_as_place))]
     pub fn keep_path(&mut self, alloc: Global, header: u32, path: Path) -> Result<(), NoMemory>
         ensures { OnOk result (keep_path header (path_view path) (memory_view self.old) ≡ done (memory_view self.new)) }
     {

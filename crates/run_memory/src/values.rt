@@ -167,6 +167,7 @@ impl Memory {
         }
     }
 
+    /// An object as an operand. Collections aren't built: a counted object is answered as want of memory.
     pub fn plain_reference(&self, alloc: Global, reference: ObjRef) -> Result<Value, OrMemory<Bad>>
         ensures { Acts view result (memory_view self.now) (plain_reference reference (memory_view self.now)) }
     {
@@ -183,6 +184,7 @@ impl Memory {
                 },
             ) => self.value_in_area(alloc, area_in(sheet, top, left, rows, columns)),
             ObjRef::Host(HostRef::Sheets) => Err(OrMemory::Fault(Bad::Raise(449))),
+            ObjRef::Heap(_) => Err(OrMemory::NoMemory),
             _ => Err(OrMemory::Fault(Bad::Raise(438))),
         }
     }

@@ -19,7 +19,7 @@ use Rattle.vba_meaning.specs.References.{objects_in, objects_in_values, is_last,
 use Rattle.vba_meaning.specs.Effects.{Raised, Term, Effect, operated, operated_alone, fitted, plain, condition, read_path, lent, unlent, slot_values, packed, reordered, startup_slots, show_value, printed, loop_off, loop_on, next_round, keep, selected, fits, fits_between, gone_sub, returned_sub, policy_of, err_off, policy_on, handler_off, failed_statement, resumed, taken_by, with_taken, raised_by, err_of, set_object, stop_here}
 use Rattle.vba_meaning.specs.Arrays.{part_of, redimmed, erased, keep_path, block_over, dot_at, each_off, each_begun, each_next}
 use Rattle.vba_meaning.specs.Objects.{compared, typed_as, set_at, made, own_object, object_there, field_in, made_for, initialize_of, stored_made, made_at}
-use Rattle.vba_meaning.specs.Host.{first_sheet, item_by, place_at, assigned_at, member_there, member_called, is_raise, error_given, item_assigned, member_not_set, written_default, member_assigned}
+use Rattle.vba_meaning.specs.Host.{first_sheet, item_by, place_at, assigned_at, member_there, member_called, is_counted, object_member, is_raise, error_given, item_assigned, member_not_set, written_default, member_assigned}
 use Rattle.vba_meaning.specs.ByName.{named_there, in_parameter_order}
 use Rattle.vba_meaning.specs.Library.{library_called, bound_at, plain_if_any}
 use Rattle.vba_meaning.specs.Meaning.{State, Res, Got, Failed, Over, Told, Turn, ◌>>=◌, turn, turned, with_memory, raise_error, perform, Callee, initialized, eval, eval_node, eval_place, evals, eval_list, eval_prints, tested, cases, resizes, erases, exec, Doing, nowhere, enter, called_by, callees, terminate_by, tell, finish, end_of, one, let_go, lets_held, lets_frame, leave, left, pass_on, next_here, decide_by, decide, settle, at_statement_or, level, doing, close, Run, run_of, first_state, meaning, member_used}
@@ -171,14 +171,17 @@ module _ (pr : Project) (code : Code) (bound n : ℕ) (callee : Callee) (known :
   ends_at : {A : Type 0} {m : Move} {bad : Error → State → Move} {r : Res A} (on : ℕ → A → State → Move) {pc to : ℕ} → pc ≡ to → Runs code bound n m (on pc) bad r → Runs code bound n m (on to) bad r
   ends_at {m = m} {bad = bad} {r = r} on h a = subst (λ i. Runs code bound n m (on i) bad r) h a
 
-  -- a member is used, or Err raises an error
+  -- a member is used, Err raises an error, or an item leaves a Collection
   member_runs : (name : List ℕ) (v w : Val) (vs : List Val) (pc : ℕ) (st : List Slot) (bs : List Back) (s : State) → Enough bound n s
-      → Runs code bound n (uses_member code name v w vs pc st bs s) (on_value st bs pc) (failed bs) (member_used pr name v w vs s)
+      → Runs code bound n (uses_member code name v w vs pc st bs s) (on_value st bs pc) (failed bs) (member_used callee pr name v w vs s)
   member_runs name v w vs pc st bs s good =
       either (is_raise name v)
       (bind (perform (error_given vs) s) (performs {got = λ e s1. raised e bs s1} (error_given vs) bs s good) (λ e s1 g1. raises e bs s1 g1))
+      (either (is_counted v)
+      (bind (perform (object_member name vs v) s) (performs {got = λ r s1. then_let_go pc (value r.0 ∷ st) bs r.1 s1} (object_member name vs v) bs s good) (λ r s1 g1.
+      bind (callee.go r.1 s1) (all_go code bound n callee.go known.go r.1 (Back-to pc (value r.0 ∷ st)) bs s1 (failed bs) g1) (λ u s2 g2. here {got = on_value st bs pc} r.0 s2 g2)))
       (subst (λ d. Runs code bound n (done_then (member_called d name vs v w s.memory) bs s (on_value st bs pc)) (on_value st bs pc) (failed bs) (perform (member_called pr.declared name vs v w) s)) (sym tables)
-      (performs (member_called pr.declared name vs v w) bs s good))
+      (performs (member_called pr.declared name vs v w) bs s good)))
 
   -- a new object's Class_Initialize runs, and what it gives is dropped
   initial_runs : (o : Option ℕ) (v : Val) (pc to : ℕ) (st : List Slot) (bs : List Back) (s : State) → UpTo code.instrs pc (Drop ∷ []) to → Enough bound n s
@@ -259,12 +262,12 @@ module _ (pr : Project) (code : Code) (bound n : ℕ) (callee : Callee) (known :
         first (on_value st bs) (eval e callee pr s) (expr_code e) _ pc to _ has (λ mid h. expr_runs e pc mid st bs s h good) (λ v s1 g1 i h1.
         instr (MemberThere name (given_count es)) i (value v ∷ st) bs s1 h1.0
         (subst (λ d. Runs code bound n (done_then (member_there d name (given_count es) v s1.memory) bs s1 (on_value (value v ∷ st) bs (i + 1))) (on_value st bs to) (failed bs)
-        (perform (member_there pr.declared name (given_count es) v) s1 >>= λ w s2. eval_list es callee pr s2 >>= λ xs s3. member_used pr name v w (slot_values xs) s3)) (sym tables)
+        (perform (member_there pr.declared name (given_count es) v) s1 >>= λ w s2. eval_list es callee pr s2 >>= λ xs s3. member_used callee pr name v w (slot_values xs) s3)) (sym tables)
         (bind (perform (member_there pr.declared name (given_count es) v) s1) (performs {got = on_value (value v ∷ st) bs (i + 1)} (member_there pr.declared name (given_count es) v) bs s1 g1) (λ w s2 g2.
         first_each (on_args (value w ∷ value v ∷ st) bs) (eval_list es callee pr s2) (list_code es) _ (i + 1) to _ h1.1 (list_counts es callee pr s2)
         (λ mid h. list_runs es (i + 1) mid (value w ∷ value v ∷ st) bs s2 h g2) (λ xs s3 len g3 j h2.
         instr (MemberOf name (length xs)) j (pushed xs (value w ∷ value v ∷ st)) bs s3 (h2.0 ∙ ap (λ m. Some (MemberOf name m)) (sym len))
-        (subst (λ m. Runs code bound n m (on_value st bs to) (failed bs) (member_used pr name v w (slot_values xs) s3)) (sym (all_taken xs (value w ∷ value v ∷ st) _))
+        (subst (λ m. Runs code bound n m (on_value st bs to) (failed bs) (member_used callee pr name v w (slot_values xs) s3)) (sym (all_taken xs (value w ∷ value v ∷ st) _))
         (ends_at (on_value st bs) h2.1 (member_runs name v w (slot_values xs) (j + 1) st bs s3 g3))))))))
     node_runs (named_member e name by es) pc to st bs s has good =
         first (on_value st bs) (eval e callee pr s) (expr_code e) _ pc to _ has (λ mid h. expr_runs e pc mid st bs s h good) (λ v s1 g1 i h1.
@@ -273,7 +276,7 @@ module _ (pr : Project) (code : Code) (bound n : ℕ) (callee : Callee) (known :
         first_each (on_args (value w ∷ value v ∷ st) bs) (eval_list es callee pr s2) (list_code es) _ (i + 1) to _ h1.1 (list_counts es callee pr s2)
         (λ mid h. list_runs es (i + 1) mid (value w ∷ value v ∷ st) bs s2 h g2) (λ xs s3 len g3 j h2.
         instr (NamedOf name by (length xs)) j (pushed xs (value w ∷ value v ∷ st)) bs s3 (h2.0 ∙ ap (λ m. Some (NamedOf name by m)) (sym len))
-        (subst (λ m. Runs code bound n m (on_value st bs to) (failed bs) (member_used pr name v w (in_parameter_order v name by (slot_values xs)) s3)) (sym (all_taken xs (value w ∷ value v ∷ st) _))
+        (subst (λ m. Runs code bound n m (on_value st bs to) (failed bs) (member_used callee pr name v w (in_parameter_order v name by (slot_values xs)) s3)) (sym (all_taken xs (value w ∷ value v ∷ st) _))
         (ends_at (on_value st bs) h2.1 (member_runs name v w (in_parameter_order v name by (slot_values xs)) (j + 1) st bs s3 g3)))))))
     node_runs this pc to st bs s has good = instr PushThis pc st bs s has.0 (ends_at (on_value st bs) has.1 (performs own_object bs s good))
     node_runs (new_object c) pc to st bs s has good =

@@ -14,7 +14,7 @@ use Rattle.binder.specs.Scopes.{Space, spaces_from}
 use Rattle.binder.specs.Names.{scope_of}
 use Rattle.binder.specs.Violations.{violations, first_broken}
 use Rattle.binder.specs.Options.{or_else}
-use Rattle.binder.specs.Bind.{Answer, refused, answer_by, not_built, project_of}
+use Rattle.binder.specs.Bind.{Answer, refused, answer_by, broken_rule, not_built, project_of, static_rule}
 use Rattle.constant_values.specs.Rounds.{AreNumbered}
 use Rattle.constant_values.proofs.Looked.{spaces_from_numbered}
 use Rattle.declared_names.specs.Outside.{the_outside}
@@ -22,9 +22,10 @@ use Rattle.bind_project.specs.Bound.{IsBound}
 use Rattle.bind_project.specs.declared.bound.Bound.{Bound}
 use Rattle.bind_project.specs.declared.bound.Bound.TheVariants as bound
 use Rattle.list_file.specs.Lists.{Start}
+use Rattle.list_file.specs.Plans.{ModuleFile}
 use Rattle.declared_names.specs.View.{source_view}
 use Rattle.declared_names.specs.declared.space.Source as declared_names
-use Rattle.vba_cli.specs.Program.{Kept, begins_at, bound_kept, bound_modules, bound_sources, broken_rule, each, kept_of, main_of, module_of, program_of, static_rule}
+use Rattle.vba_cli.specs.Program.{Kept, begins_at, bound_kept, bound_modules, bound_sources, each, kept_of, main_of, module_of, program_of}
 use Rattle.vba_cli.specs.Programs.{IsProgram, IsUnbroken, first_fold}
 
 -- modules are numbered
@@ -37,7 +38,7 @@ broken_in spaces = first_broken (map (λ space. violations (scope_of the_outside
 
 -- what is asked where names and types are found
 abbrev static_in : Option Start → List Source → List Space → Option Refusal
-static_in start ms spaces = static_rule (begins_at start ms) spaces
+static_in start ms spaces = static_rule the_outside spaces (begins_at start ms)
 
 abbrev left : List Source → Option Place
 left ms = not_built the_outside ms
@@ -52,7 +53,7 @@ modules_broken start ms spaces r e broken =
 
 -- the first rule, where none of names is broken
 rule_by : (start : Option Start) (ms : List Source) (spaces : List Space) (found : Option Refusal) → spaces ≡ spaces_from 0 ms → broken_in spaces ≡ None → static_in start ms spaces ≡ found
-    → broken_rule (begins_at start ms) ms ≡ found
+    → broken_rule the_outside ms (begins_at start ms) ≡ found
 rule_by start ms spaces found e whole there =
     ap (λ v. or_else v (static_in start ms (spaces_from 0 ms))) (subst (λ ss. broken_in ss ≡ None) e whole) ∙ subst (λ ss. static_in start ms ss ≡ found) e there
 
@@ -77,7 +78,7 @@ modules_bound start ms spaces (bound.Runs pr) e whole there is =
     )
 
 -- files whose modules break no rule of their own are what these are bound to
-pub program_read : (start : Option Start) (files : List (List ℕ)) (ks : List Kept) (ms : List Source) (r : Result Bound (OrMemory Refusal))
+pub program_read : (start : Option Start) (files : List ModuleFile) (ks : List Kept) (ms : List Source) (r : Result Bound (OrMemory Refusal))
     → each kept_of 1 files ≡ Ok ks → each module_of 1 ks ≡ Ok ms → IsProgram (bound_modules start ms) r → IsProgram (program_of start files) r
 unfolding program_of
 program_read start files ks ms r kept read h =
@@ -96,7 +97,7 @@ fault_meant : {Y : Type 0} (e : OrMemory Refusal) (whole : Result Y Refusal) (re
 fault_meant e whole refusal fails is = subst (λ x. Fails x whole) is fails
 
 -- a rule of tokens and directives is broken
-pub program_unkept : (start : Option Start) (files : List (List ℕ)) (r : Result Bound (OrMemory Refusal)) (e : OrMemory Refusal)
+pub program_unkept : (start : Option Start) (files : List ModuleFile) (r : Result Bound (OrMemory Refusal)) (e : OrMemory Refusal)
     → IsErrAnd r (λ e1. e1 ≡ e) → Fails e (each kept_of 1 files) → IsProgram (program_of start files) r
 unfolding program_of
 program_unkept start files r e is fails =
@@ -104,7 +105,7 @@ program_unkept start files r e is fails =
     (λ refusal fault. ap (bound_kept start) (fault_meant e (each kept_of 1 files) refusal fails fault))
 
 -- a rule of lines and modules is broken
-pub program_unread : (start : Option Start) (files : List (List ℕ)) (ks : List Kept) (r : Result Bound (OrMemory Refusal)) (e : OrMemory Refusal)
+pub program_unread : (start : Option Start) (files : List ModuleFile) (ks : List Kept) (r : Result Bound (OrMemory Refusal)) (e : OrMemory Refusal)
     → IsErrAnd r (λ e1. e1 ≡ e) → each kept_of 1 files ≡ Ok ks → Fails e (each module_of 1 ks) → IsProgram (program_of start files) r
 unfolding program_of
 program_unread start files ks r e is kept fails =

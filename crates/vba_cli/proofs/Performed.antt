@@ -15,9 +15,9 @@ use Rattle.list_file.specs.declared.files.ReadStop.TheVariants as read
 use Rattle.list_file.specs.Files.{FilesAt, FilesTold, IsMeant, ReadInOrder, files_of, followed_by, onto, total}
 use Rattle.list_file.specs.declared.list.ModulePath.{ModulePath}
 use Rattle.list_file.specs.declared.list.SheetPath.{SheetPath}
-use Rattle.list_file.specs.Lists.{SheetAt, Start}
+use Rattle.list_file.specs.Lists.{ModuleAt, SheetAt, Start}
 use Rattle.list_file.specs.Sources.{paths_view, sheets_view}
-use Rattle.list_file.specs.Plans.{Plan, bad_line, class_at, project_at, plan_of}
+use Rattle.list_file.specs.Plans.{ModuleFile, Plan, bad_line, module_files, paths_at, plan_of, project_at}
 use Rattle.list_file.proofs.FilesRead.{joined, stopped, wanted}
 use Rattle.book_files.specs.Book.{ReadsAll, book_of}
 use Rattle.vba_cli.specs.declared.status.Status.{Status}
@@ -25,7 +25,7 @@ use Rattle.vba_cli.specs.declared.status.Status.TheVariants.{Ended, Faulted, Usa
 use Rattle.vba_cli.specs.Command.{ends_in_bas, path_in}
 use Rattle.vba_cli.specs.Named.{Named, named_by, nothing_named}
 use Rattle.vba_cli.specs.Program.{program_of}
-use Rattle.vba_cli.specs.Answer.{Shown, first_file, line_of_list, named_in, refused, shown_of_command, shown_of_files, shown_of_first, shown_of_plan, shown_of_source, unread, what_is_named}
+use Rattle.vba_cli.specs.Answer.{Shown, first_file, named_in, refused, shown_of_command, shown_of_files, shown_of_first, shown_of_plan, shown_of_source, standard_module, unread, what_is_named}
 use Rattle.vba_cli.specs.Contract.{IsAlone, IsNamed, World, book_paths, names_of}
 use Rattle.vba_cli.specs.Steps.{GoesOn, IsListOf, Meets, Performs, RanSources, ReadsFor, ReadsTo, files_in, with_files}
 use Rattle.vba_cli.specs.Told.{named_of}
@@ -138,16 +138,16 @@ first_told command bytes count (Some told) new p = first_is bytes (first_file to
 
 -- what a command shows of a file that is one standard module, or a list
 shown_alone : (left : Option Place) (command : Command) (files : FileMap) (bytes : List ℕ) → ends_in_bas (path_in command) ≡ true → first_file files command ≡ Ok bytes
-    → shown_of_command left files (Some command) ≡ shown_of_source left command [] (Ok []) (program_of None (bytes ∷ []))
+    → shown_of_command left files (Some command) ≡ shown_of_source left command [] (Ok []) (program_of None (standard_module bytes ∷ []))
 shown_alone left command files bytes bas is =
     ap (shown_of_first left command files) is
-    ∙ ap (λ b. if b then shown_of_source left command [] (Ok []) (program_of None (bytes ∷ [])) else shown_of_plan left command files (length bytes) (plan_of (decoded bytes))) bas
+    ∙ ap (λ b. if b then shown_of_source left command [] (Ok []) (program_of None (standard_module bytes ∷ [])) else shown_of_plan left command files (length bytes) (plan_of (decoded bytes))) bas
 
 shown_listed : (left : Option Place) (command : Command) (files : FileMap) (bytes : List ℕ) (plan : Plan) → ends_in_bas (path_in command) ≡ false → plan_of (decoded bytes) ≡ plan
     → first_file files command ≡ Ok bytes → shown_of_command left files (Some command) ≡ shown_of_plan left command files (length bytes) plan
 shown_listed left command files bytes plan list planned is =
     ap (shown_of_first left command files) is
-    ∙ ap (λ b. if b then shown_of_source left command [] (Ok []) (program_of None (bytes ∷ [])) else shown_of_plan left command files (length bytes) (plan_of (decoded bytes))) list
+    ∙ ap (λ b. if b then shown_of_source left command [] (Ok []) (program_of None (standard_module bytes ∷ [])) else shown_of_plan left command files (length bytes) (plan_of (decoded bytes))) list
     ∙ ap (shown_of_plan left command files (length bytes)) planned
 
 named_alone : (command : Command) (files : FileMap) (bytes : List ℕ) → ends_in_bas (path_in command) ≡ true → first_file files command ≡ Ok bytes
@@ -179,12 +179,14 @@ alone_goes command bytes modules sheets status result old new no_modules no_shee
 -- ---- one standard module
 
 pub went_alone : (command : Command) (bytes : List ℕ) (taken : ℕ) (result : Status) (old new : World) → ends_in_bas (path_in command) ≡ true → taken ≡ length bytes
-    → RanSources command [] 1 taken (program_of None (bytes ∷ [])) result old new → GoesOn command bytes nothing_named result old new
-went_alone command bytes taken result old new bas size ran = λ first p.
+    → (f : ModuleFile) → f.is_class ≡ false → f.bytes ≡ bytes → RanSources command [] 1 taken (program_of None (f ∷ [])) result old new → GoesOn command bytes nothing_named result old new
+went_alone command bytes taken result old new bas size f kind held ran0 = λ first p.
+    let file : f ≡ standard_module bytes = ap (λ k. record { is_class = k; bytes = f.bytes }) kind ∙ ap standard_module held in
+    let ran = subst (λ m. RanSources command [] 1 taken (program_of None (m ∷ [])) result old new) file ran0 in
     let told = first_told command bytes p.count first.told old.told p.told in
     let same : taken ≡ length bytes + total [] = omega (arith, size) in
-    went command nothing_named bytes [] (program_of None (bytes ∷ [])) result old first (files_in old) new p
-    (subst (λ k. RanSources command [] 1 k (program_of None (bytes ∷ [])) result old new) same ran)
+    went command nothing_named bytes [] (program_of None (standard_module bytes ∷ [])) result old first (files_in old) new p
+    (subst (λ k. RanSources command [] 1 k (program_of None (standard_module bytes ∷ [])) result old new) same ran)
     (λ left. map_told first.told (λ t is. shown_alone left command t.files bytes bas is) told)
     (λ is. refl)
     (map_told first.told (λ t is. named_alone command t.files bytes bas is) told)
@@ -273,27 +275,6 @@ went_bad command bytes line old list planned = λ first p.
       usage = λ none. absurd cc;
     }
 
--- a line lists a class
-pub went_class : (command : Command) (bytes : List ℕ) (line : ℕ) (old : World) → ends_in_bas (path_in command) ≡ false → plan_of (decoded bytes) ≡ class_at line
-    → GoesOn command bytes nothing_named (NotBuilt (line_of_list line)) old old
-went_class command bytes line old list planned = λ first p.
-    let told = first_told command bytes p.count first.told old.told p.told in
-    record {
-      left = None;
-      leaves = record { unspoilt = record { out_faults = refl; write_faults = p.write_faults }; out = refl };
-      meets =
-          map_told first.told
-          (λ t is.
-          subst (λ s. Meets s (NotBuilt (line_of_list line)) old.out old.out) (sym (shown_listed None command t.files bytes (class_at line) list planned is)) (refl, adds_none old.out))
-          told;
-      alone = λ is. refl;
-      listed = map_told first.told (λ t is. named_listed command t.files bytes (class_at line) list planned is) told;
-      mid = files_in old;
-      read = record { files = bytes ∷ []; read = p };
-      written = refl;
-      usage = λ none. absurd cc;
-    }
-
 -- memory ran out while the list was read
 pub went_wanting : (command : Command) (bytes : List ℕ) (old : World) → GoesOn command bytes nothing_named NoMemory old old
 went_wanting command bytes old = λ first p. record {
@@ -308,7 +289,10 @@ went_wanting command bytes old = λ first p. record {
   usage = λ none. absurd cc;
 }
 
-module _ (command : Command) (bytes : List ℕ) (taken : ℕ) (paths : List (List ℕ)) (sheets : List SheetAt) (start : Start) (is : IsListOf command bytes taken paths sheets start) where
+module _ (command : Command) (bytes : List ℕ) (taken : ℕ) (modules : List ModuleAt) (sheets : List SheetAt) (start : Start) (is : IsListOf command bytes taken modules sheets start) where
+  abbrev paths : List (List ℕ)
+  paths = paths_at modules
+
   abbrev l : Named
   l = record { modules = paths; sheets = sheets }
 
@@ -332,45 +316,45 @@ module _ (command : Command) (bytes : List ℕ) (taken : ℕ) (paths : List (Lis
   meant_told r ca cb (Some told) mid new p q = let there = subst (λ m. FilesTold paths 1 taken r cb m new) p.0 q in there.1
 
   shown_files : (left : Option Place) (told : Told) → first_file told.files command ≡ Ok bytes
-      → shown_of_command left told.files (Some command) ≡ shown_of_files left command told.files taken sheets start (files_of told.files 1 taken paths)
+      → shown_of_command left told.files (Some command) ≡ shown_of_files left command told.files taken modules sheets start (files_of told.files 1 taken paths)
   shown_files left told there =
-      shown_listed left command told.files bytes (project_at paths sheets start) is.list is.planned there
-      ∙ ap (λ k. shown_of_files left command told.files k sheets start (files_of told.files 1 k paths)) (sym is.taken_is)
+      shown_listed left command told.files bytes (project_at modules sheets start) is.list is.planned there
+      ∙ ap (λ k. shown_of_files left command told.files k modules sheets start (files_of told.files 1 k paths)) (sym is.taken_is)
 
   -- the modules were read, and run, checked or listed
   pub list_went_on : (xs : List (List ℕ)) (result : Status) (old : World) (last : FilesAt) (new : World) → length xs ≡ length paths → ReadInOrder paths 1 taken (Ok xs) (files_in old) last
-      → RanSources command sheets (length xs + 1) (taken + total xs) (program_of (Some start) xs) result (with_files old last) new → GoesOn command bytes l result old new
+      → RanSources command sheets (length xs + 1) (taken + total xs) (program_of (Some start) (module_files modules xs)) result (with_files old last) new → GoesOn command bytes l result old new
   list_went_on xs result old last new size q ran = λ first p.
       let there = first_told command bytes p.count first.told old.told p.told in
       let meant = meant_told (Ok xs) p.count q.count first.told old.told last.told p.told q.told in
       let number : length xs + 1 ≡ suc (length paths) = omega (arith, size) in
       let size_now : taken + total xs ≡ length bytes + total xs = let t = is.taken_is in omega (arith, t) in
-      went command l bytes xs (program_of (Some start) xs) result old first last new (modules_read (Ok xs) first (files_in old) last p q)
-      (subst (λ k. RanSources command sheets (suc (length paths)) k (program_of (Some start) xs) result (with_files old last) new) size_now
-      (subst (λ k. RanSources command sheets k (taken + total xs) (program_of (Some start) xs) result (with_files old last) new) number ran))
+      went command l bytes xs (program_of (Some start) (module_files modules xs)) result old first last new (modules_read (Ok xs) first (files_in old) last p q)
+      (subst (λ k. RanSources command sheets (suc (length paths)) k (program_of (Some start) (module_files modules xs)) result (with_files old last) new) size_now
+      (subst (λ k. RanSources command sheets k (taken + total xs) (program_of (Some start) (module_files modules xs)) result (with_files old last) new) number ran))
       (λ left.
       map_both first.told
       (λ t held all.
       shown_files left t held
-      ∙ ap (shown_of_files left command t.files taken sheets start) all
-      ∙ ap (λ k. shown_of_source left command sheets (book_of t.files (suc k) (taken + total xs) sheets) (program_of (Some start) xs)) size
-      ∙ ap (λ k. shown_of_source left command sheets (book_of t.files (suc (length paths)) k sheets) (program_of (Some start) xs)) size_now)
+      ∙ ap (shown_of_files left command t.files taken modules sheets start) all
+      ∙ ap (λ k. shown_of_source left command sheets (book_of t.files (suc k) (taken + total xs) sheets) (program_of (Some start) (module_files modules xs))) size
+      ∙ ap (λ k. shown_of_source left command sheets (book_of t.files (suc (length paths)) k sheets) (program_of (Some start) (module_files modules xs))) size_now)
       there meant)
       not_alone
-      (map_told first.told (λ t held. named_listed command t.files bytes (project_at paths sheets start) is.list is.planned held) there)
+      (map_told first.told (λ t held. named_listed command t.files bytes (project_at modules sheets start) is.list is.planned held) there)
 
   -- the same, with the modules and the sheets told otherwise
-  pub list_went_by : (xs ys : List (List ℕ)) (listed : List SheetAt) (number size : ℕ) (result : Status) (old : World) (last : FilesAt) (new : World) → length xs ≡ length paths
-      → ReadInOrder paths 1 taken (Ok xs) (files_in old) last → ys ≡ xs → listed ≡ sheets → number ≡ length ys + 1 → size ≡ taken + total ys
-      → RanSources command listed number size (program_of (Some start) ys) result (with_files old last) new → GoesOn command bytes l result old new
-  list_went_by xs ys listed number size result old last new count q same sheets_are number_is size_is ran =
+  pub list_went_by : (xs ys : List (List ℕ)) (fs : List ModuleFile) (listed : List SheetAt) (number size : ℕ) (result : Status) (old : World) (last : FilesAt) (new : World) → length xs ≡ length paths
+      → ReadInOrder paths 1 taken (Ok xs) (files_in old) last → ys ≡ xs → fs ≡ module_files modules xs → listed ≡ sheets → number ≡ length ys + 1 → size ≡ taken + total ys
+      → RanSources command listed number size (program_of (Some start) fs) result (with_files old last) new → GoesOn command bytes l result old new
+  list_went_by xs ys fs listed number size result old last new count q same files_are sheets_are number_is size_is ran =
       let number_now : number ≡ length xs + 1 = number_is ∙ ap (λ zs. length zs + 1) same in
       let size_now : size ≡ taken + total xs = size_is ∙ ap (λ zs. taken + total zs) same in
       list_went_on xs result old last new count q
-      (subst (λ k. RanSources command sheets (length xs + 1) k (program_of (Some start) xs) result (with_files old last) new) size_now
-      (subst (λ k. RanSources command sheets k size (program_of (Some start) xs) result (with_files old last) new) number_now
-      (subst (λ ss. RanSources command ss number size (program_of (Some start) xs) result (with_files old last) new) sheets_are
-      (subst (λ zs. RanSources command listed number size (program_of (Some start) zs) result (with_files old last) new) same ran))))
+      (subst (λ k. RanSources command sheets (length xs + 1) k (program_of (Some start) (module_files modules xs)) result (with_files old last) new) size_now
+      (subst (λ k. RanSources command sheets k size (program_of (Some start) (module_files modules xs)) result (with_files old last) new) number_now
+      (subst (λ ss. RanSources command ss number size (program_of (Some start) (module_files modules xs)) result (with_files old last) new) sheets_are
+      (subst (λ zs. RanSources command listed number size (program_of (Some start) zs) result (with_files old last) new) files_are ran))))
 
   -- one of the modules can't be read
   stopped_read : (reason : ReadStop) (first old last : FilesAt) → ReadInOrder (path_in command ∷ []) 0 0 (Ok (bytes ∷ [])) first old → ReadInOrder paths 1 taken (Err reason) old last
@@ -386,7 +370,7 @@ module _ (command : Command) (bytes : List ℕ) (taken : ℕ) (paths : List (Lis
         leaves = record { unspoilt = record { out_faults = refl; write_faults = q.write_faults ∙ p.write_faults }; out = refl };
         meets = map_any first.told (λ t. refl);
         alone = not_alone;
-        listed = map_told first.told (λ t held. inr (named_listed command t.files bytes (project_at paths sheets start) is.list is.planned held)) there;
+        listed = map_told first.told (λ t held. inr (named_listed command t.files bytes (project_at modules sheets start) is.list is.planned held)) there;
         mid = last;
         read = stopped_read (read.Failed n) first (files_in old) last p q;
         written = refl;
@@ -401,10 +385,10 @@ module _ (command : Command) (bytes : List ℕ) (taken : ℕ) (paths : List (Lis
         meets =
             map_both first.told
             (λ t held all.
-            subst (λ s. Meets s (TooLong n) old.out old.out) (sym (shown_files None t held ∙ ap (shown_of_files None command t.files taken sheets start) all)) (refl, adds_none old.out))
+            subst (λ s. Meets s (TooLong n) old.out old.out) (sym (shown_files None t held ∙ ap (shown_of_files None command t.files taken modules sheets start) all)) (refl, adds_none old.out))
             there meant;
         alone = not_alone;
-        listed = map_told first.told (λ t held. named_listed command t.files bytes (project_at paths sheets start) is.list is.planned held) there;
+        listed = map_told first.told (λ t held. named_listed command t.files bytes (project_at modules sheets start) is.list is.planned held) there;
         mid = last;
         read = stopped_read (read.TooLong n) first (files_in old) last p q;
         written = refl;
@@ -417,7 +401,7 @@ module _ (command : Command) (bytes : List ℕ) (taken : ℕ) (paths : List (Lis
         leaves = record { out_faults = refl; write_faults = q.write_faults ∙ p.write_faults };
         meets = map_any first.told (λ t. adds_prefix_none old.out (shown_of_command None t.files (Some command)).out);
         alone = not_alone;
-        listed = map_told first.told (λ t held. inr (named_listed command t.files bytes (project_at paths sheets start) is.list is.planned held)) there;
+        listed = map_told first.told (λ t held. inr (named_listed command t.files bytes (project_at modules sheets start) is.list is.planned held)) there;
         mid = last;
         read = stopped_read read.NoMemory first (files_in old) last p q;
         written = inl refl;

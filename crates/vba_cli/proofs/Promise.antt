@@ -22,8 +22,8 @@ use Rattle.command_words.specs.Words.{Command, run, check, code}
 use Rattle.list_file.specs.declared.files.ReadStop.{ReadStop}
 use Rattle.list_file.specs.declared.files.ReadStop.TheVariants as read
 use Rattle.list_file.specs.Files.{FilesAt, FilesTold, ReadInOrder, files_of, ups}
-use Rattle.list_file.specs.Lists.{SheetAt, Start}
-use Rattle.list_file.specs.Plans.{Plan, bad_line, class_at, project_at}
+use Rattle.list_file.specs.Lists.{ModuleAt, SheetAt, Start}
+use Rattle.list_file.specs.Plans.{Plan, bad_line, paths_at, project_at}
 use Rattle.book_files.specs.declared.stop.BookStop.{BookStop}
 use Rattle.book_files.specs.Book.{ReadsAll}
 use Rattle.book_files.specs.Saves.{IsWritten, Save, SavedTo, TellsSaves, WritesSaves, Written, save_names, with_saves}
@@ -102,15 +102,15 @@ source_silent left (run path turns trace save) sheets b answer = program_silent 
 source_silent left (check path) sheets b answer = check_silent answer
 source_silent left (code path) sheets b answer = program_silent left shown_of_code answer (λ pr. inl refl)
 
-files_silent : (left : Option Place) (command : Command) (files : FileMap) (taken : ℕ) (sheets : List SheetAt) (start : Start) (r : Result (List (List ℕ)) ReadStop)
-    → Silent (shown_of_files left command files taken sheets start r)
-files_silent left command files taken sheets start (Err reason) = inl refl
-files_silent left command files taken sheets start (Ok sources) = source_silent left command sheets _ _
+files_silent : (left : Option Place) (command : Command) (files : FileMap) (taken : ℕ) (modules : List ModuleAt) (sheets : List SheetAt) (start : Start) (r : Result (List (List ℕ)) ReadStop)
+    → Silent (shown_of_files left command files taken modules sheets start r)
+files_silent left command files taken modules sheets start (Err reason) = inl refl
+files_silent left command files taken modules sheets start (Ok sources) = source_silent left command sheets _ _
 
 plan_silent : (left : Option Place) (command : Command) (files : FileMap) (taken : ℕ) (plan : Plan) → Silent (shown_of_plan left command files taken plan)
 plan_silent left command files taken (bad_line line) = inl refl
-plan_silent left command files taken (class_at line) = inl refl
-plan_silent left command files taken (project_at paths sheets start) = files_silent left command files taken sheets start (files_of files 1 taken paths)
+plan_silent left command files taken (project_at modules sheets start) =
+    files_silent left command files taken modules sheets start (files_of files 1 taken (paths_at modules))
 
 if_silent : (b : Bool) (one other : Shown) → Silent one → Silent other → Silent (if b then one else other)
 if_silent true one other h k = h

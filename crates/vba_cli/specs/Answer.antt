@@ -19,8 +19,8 @@ use Rattle.command_words.specs.Words.{Command, run, check, code}
 use Rattle.list_file.specs.declared.files.ReadStop.{ReadStop}
 use Rattle.list_file.specs.declared.files.ReadStop.TheVariants as read_stop
 use Rattle.list_file.specs.Files.{file_of, files_of, total}
-use Rattle.list_file.specs.Lists.{SheetAt, Start}
-use Rattle.list_file.specs.Plans.{Plan, bad_line, class_at, project_at, plan_of}
+use Rattle.list_file.specs.Lists.{ModuleAt, SheetAt, Start}
+use Rattle.list_file.specs.Plans.{ModuleFile, Plan, bad_line, module_files, paths_at, plan_of, project_at}
 use Rattle.book_files.specs.declared.stop.BookStop.{BookStop}
 use Rattle.book_files.specs.declared.stop.BookStop.TheVariants as book_stop
 use Rattle.book_files.specs.Book.{book_of}
@@ -130,27 +130,27 @@ shown_of_source left (run path turns trace save) sheets book answer =
 shown_of_source left (check path) sheets book answer = shown_of_check answer
 shown_of_source left (code path) sheets book answer = shown_of_program left shown_of_code answer
 
--- what a command shows of the files of standard modules, with the sheets and the startup of its list, which has so many bytes
-abbrev pub shown_of_files : (left : Option Place) → Command → FileMap → (taken : ℕ) → List SheetAt → Start → Result (List (List ℕ)) ReadStop → Shown
-shown_of_files left command files taken sheets start (Err reason) = refused (unread reason)
-shown_of_files left command files taken sheets start (Ok sources) =
-    shown_of_source left command sheets (book_of files (suc (length sources)) (taken + total sources) sheets) (program_of (Some start) sources)
+-- what a command shows of the files of the modules of its list, with its sheets and its startup, where the list has so
+-- many bytes
+abbrev pub shown_of_files : (left : Option Place) → Command → FileMap → (taken : ℕ) → List ModuleAt → List SheetAt → Start → Result (List (List ℕ)) ReadStop → Shown
+shown_of_files left command files taken modules sheets start (Err reason) = refused (unread reason)
+shown_of_files left command files taken modules sheets start (Ok sources) =
+    shown_of_source left command sheets (book_of files (suc (length sources)) (taken + total sources) sheets) (program_of (Some start) (module_files modules sources))
 
--- the place of a line of the list
-abbrev pub line_of_list : ℕ → Place
-line_of_list line = record { «module» = 0; line = line; column = 1 }
-
--- what a command shows of its list, which has so many bytes; lists of classes aren't built yet
+-- what a command shows of its list, which has so many bytes
 abbrev pub shown_of_plan : (left : Option Place) → Command → FileMap → (taken : ℕ) → Plan → Shown
 shown_of_plan left command files taken (bad_line line) = refused (status.BadList line)
-shown_of_plan left command files taken (class_at line) = refused (status.NotBuilt (line_of_list line))
-shown_of_plan left command files taken (project_at paths sheets start) =
-    shown_of_files left command files taken sheets start (files_of files 1 taken paths)
+shown_of_plan left command files taken (project_at modules sheets start) =
+    shown_of_files left command files taken modules sheets start (files_of files 1 taken (paths_at modules))
+
+-- a standard module
+abbrev pub standard_module : List ℕ → ModuleFile
+standard_module bytes = record { is_class = false; bytes = bytes }
 
 -- the file that a command names: one standard module, or a list
 abbrev pub shown_of_bytes : (left : Option Place) → Command → FileMap → List ℕ → Shown
 shown_of_bytes left command files bytes =
-    if ends_in_bas (path_in command) then shown_of_source left command [] (Ok []) (program_of None (bytes ∷ []))
+    if ends_in_bas (path_in command) then shown_of_source left command [] (Ok []) (program_of None (standard_module bytes ∷ []))
     else shown_of_plan left command files (length bytes) (plan_of (decoded bytes))
 
 abbrev pub shown_of_first : (left : Option Place) → Command → FileMap → Result (List ℕ) ReadStop → Shown

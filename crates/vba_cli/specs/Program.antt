@@ -1,21 +1,18 @@
--- What source files are: a project that runs, or why they are none. The rules come in phases: those of tokens and
+-- What the files of modules are: a project that runs, or why they are none. The rules come in phases: those of tokens and
 -- directives for all modules, then those of lines and modules for all, then those of names, then the startup and S23.
-use Rattle.std.specs.Prelude.{ℕ, suc, List, [], ◌∷◌, codes, false, Option, Some, None, Result, Ok, Err}
+use Rattle.std.specs.Prelude.{ℕ, suc, Bool, List, [], ◌∷◌, codes, Option, Some, None, Result, Ok, Err}
 use Rattle.vba_base.specs.Decode.{decoded}
 use Rattle.vba_base.specs.declared.place.Refusal.{Refusal}
 use Rattle.vba_lexer.specs.Lexed.{LexedLine, lexed}
 use Rattle.cond_compile.specs.Selection.{selected}
-use Rattle.vba_module.specs.Parts.{Part, parts_of_lines}
+use Rattle.vba_module.specs.Parts.{parts_of_lines}
 use Rattle.vba_module.specs.Verdict.{trees_of}
 use Rattle.module_parser.specs.Parsed.{verdict, read_lexed}
 use Rattle.binder.specs.Sources.{Source, given_name, name_or}
-use Rattle.binder.specs.Bind.{Answer, Startup, refused, answer_by, not_built, project_of, startup_fault}
-use Rattle.binder.specs.Options.{or_else}
-use Rattle.binder.specs.Scopes.{Space, spaces_from}
-use Rattle.binder.specs.Violations as names
+use Rattle.binder.specs.Bind.{Answer, Startup, refused, bind_of}
 use Rattle.declared_names.specs.Outside.{the_outside}
-use Rattle.name_rules.specs.FirstLeftOut.{first_left_out}
 use Rattle.list_file.specs.Lists.{Start}
+use Rattle.list_file.specs.Plans.{ModuleFile}
 
 -- ---- one phase for all modules
 
@@ -32,24 +29,22 @@ each f number (x ∷ xs) = before (f number x) (each f (suc number) xs)
 
 -- ---- tokens and directives
 
--- a module that breaks none of their rules: its text, and the lines that conditional compilation keeps
+-- a module that breaks none of their rules: whether it is a class, its text, and the lines that conditional compilation
+-- keeps
 pub record Kept : Type 0 where
+  pub is_class : Bool
   pub text : List ℕ
   pub lines : List LexedLine
 
-abbrev pub kept_as : List ℕ → Result (List LexedLine) Refusal → Result Kept Refusal
-kept_as text (Err refusal) = Err refusal
-kept_as text (Ok lines) = Ok (record { text = text; lines = lines })
+abbrev pub kept_as : (is_class : Bool) → List ℕ → Result (List LexedLine) Refusal → Result Kept Refusal
+kept_as is_class text (Err refusal) = Err refusal
+kept_as is_class text (Ok lines) = Ok (record { is_class = is_class; text = text; lines = lines })
 
--- the module with this number, by the bytes of its file
-abbrev pub kept_of : ℕ → List ℕ → Result Kept Refusal
-kept_of number bytes = kept_as (decoded bytes) (selected (decoded bytes) (lexed number (decoded bytes)))
+-- the module with this number, by its file
+abbrev pub kept_of : ℕ → ModuleFile → Result Kept Refusal
+kept_of number file = kept_as file.is_class (decoded file.bytes) (selected (decoded file.bytes) (lexed number (decoded file.bytes)))
 
 -- ---- lines and modules
-
--- a standard module by its text and its parts
-abbrev pub standard_module : List ℕ → List Part → Source
-standard_module text parts = record { is_class = false; text = text; parts = parts }
 
 abbrev pub unless_broken : Option Refusal → Source → Result Source Refusal
 unless_broken None m = Ok m
@@ -57,7 +52,8 @@ unless_broken (Some refusal) m = Err refusal
 
 abbrev pub module_of : ℕ → Kept → Result Source Refusal
 module_of number k =
-    unless_broken (verdict false (read_lexed k.text k.lines)) (standard_module k.text (parts_of_lines (trees_of (read_lexed k.text k.lines))))
+    unless_broken (verdict k.is_class (read_lexed k.text k.lines))
+    (record { is_class = k.is_class; text = k.text; parts = parts_of_lines (trees_of (read_lexed k.text k.lines)) })
 
 -- ---- names
 
@@ -71,21 +67,9 @@ abbrev pub begins_at : Option Start → List Source → Startup
 begins_at None ms = main_of ms
 begins_at (Some start) ms = record { module_fold = start.in_module; sub_fold = start.procedure }
 
--- a macro to begin with that isn't there is told at the front of the project, so before what the language leaves out
-abbrev pub static_rule : Startup → List Space → Option Refusal
-static_rule st spaces = or_else (startup_fault the_outside spaces st) (first_left_out the_outside spaces)
-
--- the first rule that modules break
-abbrev pub broken_rule : Startup → List Source → Option Refusal
-broken_rule st ms = or_else (names.verdict the_outside ms) (static_rule st (spaces_from 0 ms))
-
--- modules, bound with the macro to begin with
-abbrev pub bound_with : Startup → List Source → Answer
-bound_with st ms = answer_by (broken_rule st ms) (not_built the_outside ms) (project_of the_outside ms st)
-
 -- a project of these modules
 abbrev pub bound_modules : Option Start → List Source → Answer
-bound_modules start ms = bound_with (begins_at start ms) ms
+bound_modules start ms = bind_of the_outside ms (begins_at start ms)
 
 -- ---- all phases
 
@@ -97,7 +81,7 @@ abbrev pub bound_kept : Option Start → Result (List Kept) Refusal → Answer
 bound_kept start (Err refusal) = refused refusal
 bound_kept start (Ok ks) = bound_sources start (each module_of 1 ks)
 
--- what the files of standard modules are bound to, in the order of the project: a project, the place of the first part
--- that has no meaning yet, or the first rule that is broken
-unfoldable pub program_of : Option Start → List (List ℕ) → Answer
+-- what the files of modules are bound to, in the order of the project: a project, the place of the first part that has no
+-- meaning yet, or the first rule that is broken
+unfoldable pub program_of : Option Start → List ModuleFile → Answer
 program_of start files = bound_kept start (each kept_of 1 files)

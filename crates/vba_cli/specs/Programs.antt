@@ -15,7 +15,6 @@ use Rattle.vba_lexer.specs.Lexed.{lines_view}
 use Rattle.vba_cli.specs.declared.kept.Kept.{Kept}
 use Rattle.vba_cli.specs.declared.modules.ReadModule.{ReadModule}
 use Rattle.vba_cli.specs.Program as program
-use Rattle.vba_cli.specs.Program.{standard_module}
 
 -- no rule is broken
 abbrev pub IsUnbroken : Answer → Type 0
@@ -30,14 +29,14 @@ IsProgram answer (Err NoMemory) = Unit {0}
 
 -- a module behind the rules of tokens and directives
 abbrev pub kept_view : Kept → program.Kept
-kept_view k = record { text = k.text; lines = lines_view k.lines.items }
+kept_view k = record { is_class = k.is_class; text = k.text; lines = lines_view k.lines.items }
 
 abbrev pub kepts_view : Vec Kept Global → List program.Kept
 kepts_view ks = map kept_view ks.items
 
 -- a module behind the rules of lines and modules
 abbrev pub module_view : ReadModule → Source
-module_view m = standard_module m.text.now (parts_view m.parts.items)
+module_view m = record { is_class = m.is_class; text = m.text.now; parts = parts_view m.parts.items }
 
 abbrev pub modules_view : Vec ReadModule Global → List Source
 modules_view ms = map module_view ms.items

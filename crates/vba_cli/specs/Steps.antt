@@ -15,7 +15,7 @@ use Rattle.vba_cli.specs.declared.sheets.ListedSheets.{ListedSheets}
 use Rattle.command_words.specs.Words.{Command}
 use Rattle.list_file.specs.declared.files.ReadStop.TheVariants as read
 use Rattle.list_file.specs.Files.{FilesAt, ReadInOrder, call_limit}
-use Rattle.list_file.specs.Lists.{HaveNewNames, SheetAt, Start}
+use Rattle.list_file.specs.Lists.{HaveNewNames, ModuleAt, SheetAt, Start}
 use Rattle.list_file.specs.Plans.{project_at, plan_of}
 use Rattle.list_file.specs.Sources.{sheets_view}
 use Rattle.book_files.specs.declared.stop.BookStop.{BookStop}
@@ -198,10 +198,10 @@ pub record Performs (command : Option Command) (l : Named) (result : Status) (ol
   pub written : WritesFor result (λ told. (shown_of_command left told.files command).saves) old.told mid (files_in new)
   pub usage : command ≡ None → UnlessUnwritten result status.Usage
 
--- a file with these bytes is a list of so many bytes, which has modules at these paths, these sheets and this startup
-pub record IsListOf (command : Command) (bytes : List ℕ) (taken : ℕ) (paths : List (List ℕ)) (sheets : List SheetAt) (start : Start) : Type 0 where
+-- a file with these bytes is a list of so many bytes, which has these modules, these sheets and this startup
+pub record IsListOf (command : Command) (bytes : List ℕ) (taken : ℕ) (modules : List ModuleAt) (sheets : List SheetAt) (start : Start) : Type 0 where
   pub list : ends_in_bas (path_in command) ≡ false
-  pub planned : plan_of (decoded bytes) ≡ project_at paths sheets start
+  pub planned : plan_of (decoded bytes) ≡ project_at modules sheets start
   pub taken_is : taken ≡ length bytes
 
 -- a command was performed from behind the reading of the file that it names, which has these bytes

@@ -5,10 +5,9 @@ ghost use Rattle.command_words.specs.View.{command_view};
 ghost use Rattle.list_file.specs.Files.{call_limit, file_limit, total};
 ghost use Rattle.list_file.specs.Lists.{HaveNewNames};
 ghost use Rattle.list_file.specs.Plans as plans;
-ghost use Rattle.list_file.specs.Sources.{IsListable, IsProper, bytes_view, paths_view, plan_view, sheets_view};
+ghost use Rattle.list_file.specs.Sources.{IsListable, IsProper, bytes_view, modules_view, plan_view, sheets_view};
 ghost use Rattle.list_file.specs.View.{start_view};
 ghost use Rattle.vba_base.specs.Decode.{decoded};
-ghost use Rattle.vba_cli.specs.Answer.{line_of_list};
 ghost use Rattle.vba_cli.specs.Command.{ends_in_bas, path_in};
 ghost use Rattle.vba_cli.specs.Contract.{World};
 ghost use Rattle.vba_cli.specs.Steps.{GoesOn, IsListOf, IsReadable, Performs};
@@ -20,11 +19,11 @@ use crate::sheets::ListedSheets;
 use crate::status::Status;
 use command_words::Command;
 use list_file::{
-    FileBytes, ListFile, ModulePath, Plan, SheetPath, Startup, plan_of, read_file, read_modules,
-    size_of,
+    FileBytes, ListFile, ModuleBytes, ModulePath, Plan, SheetPath, Startup, plan_of, read_file,
+    read_modules, size_of,
 };
 use std::alloc::Global;
-use vba_base::{Files, NoMemory, Place, Sink, decode_source};
+use vba_base::{Files, NoMemory, Sink, decode_source};
 
 /// How a command ended, with the modules and sheets of its list as far as the list was read.
 #[derive(Drop)]
@@ -84,7 +83,8 @@ fn take_bytes<F: Files, O: Sink>(
         number: 1,
         taken: file.bytes.len() as u64,
     };
-    let status = take_sources(alloc, command, &[file], None, none, files, out);
+    let source = file.of_module(false);
+    let status = take_sources(alloc, command, &[source], None, none, files, out);
     alone(alloc, status)
 }
 
@@ -113,20 +113,8 @@ fn take_list<F: Files, O: Sink>(
 {
     match plan_in(alloc, file.bytes.as_slice()) {
         Ok(Plan::BadLine(line)) => alone(alloc, Status::BadList(line)),
-        Ok(Plan::Class(line)) => alone(alloc, Status::NotBuilt(line_of_list(line))),
         Ok(Plan::Project(list)) => take_project(alloc, command, file, list, files, out),
         Err(_) => alone(alloc, Status::NoMemory),
-    }
-}
-
-// The place of a line of a list.
-fn line_of_list(line: u32) -> Place
-    ensures { result ≡ line_of_list line }
-{
-    Place {
-        module: 0,
-        line,
-        column: 1,
     }
 }
 
@@ -140,7 +128,7 @@ fn take_project<F: Files, O: Sink>(
     out: &mut O,
 ) -> Performed
     requires not_alone { ends_in_bas (path_in (command_view command)) ≡ false }
-    requires planned { plans.plan_of (decoded file.now.bytes.items) ≡ plans.project_at (paths_view list.modules.items) (sheets_view list.sheets.items) (start_view list.startup) }
+    requires planned { plans.plan_of (decoded file.now.bytes.items) ≡ plans.project_at (modules_view list.modules.items) (sheets_view list.sheets.items) (start_view list.startup) }
     requires listable { IsListable list }
     ensures { let old : World = record { told = F.told files.old; counts = F.counts files.old; out = O.taken out.old; out_faults = O.faults out.old; err = None; err_faults = 0 } in
         let new : World = record { told = F.told files.new; counts = F.counts files.new; out = O.taken out.new; out_faults = O.faults out.new; err = None; err_faults = 0 } in
@@ -187,7 +175,7 @@ fn take_listed<F: Files, O: Sink>(
     requires within { taken ≤ call_limit }
     ensures { let old : World = record { told = F.told files.old; counts = F.counts files.old; out = O.taken out.old; out_faults = O.faults out.old; err = None; err_faults = 0 } in
         let new : World = record { told = F.told files.new; counts = F.counts files.new; out = O.taken out.new; out_faults = O.faults out.new; err = None; err_faults = 0 } in
-        (bytes : List ℕ) → IsListOf (command_view command.entry) bytes taken (paths_view listed.entry.modules.now) (sheets_view listed.entry.sheets.now) (start_view listed.entry.startup.now)
+        (bytes : List ℕ) → IsListOf (command_view command.entry) bytes taken (modules_view listed.entry.modules.now) (sheets_view listed.entry.sheets.now) (start_view listed.entry.startup.now)
         → GoesOn (command_view command.entry) bytes (named_of listed.entry.modules.now listed.entry.sheets.now) result old new }
 {
     match read_modules(alloc, files, listed.modules, taken) {
@@ -209,7 +197,7 @@ fn take_listed<F: Files, O: Sink>(
 }
 
 // The sheets of a list whose files come behind the list, of so many bytes, and its modules.
-fn behind<'a>(sources: &[FileBytes], sheets: &'a [SheetPath], taken: u64) -> ListedSheets<'a>
+fn behind<'a>(sources: &[ModuleBytes], sheets: &'a [SheetPath], taken: u64) -> ListedSheets<'a>
     requires count { length sources.now + length sheets.now ≤ 67108865 }
     requires within { taken + total (bytes_view sources.now) ≤ call_limit }
     requires names { HaveNewNames [] (sheets_view sheets.now) }

@@ -1,9 +1,10 @@
 use module_parts::Part;
 use vba_base::Units;
 
-/// A standard module that breaks no rule of tokens, directives, lines and modules: its text and its parts.
+/// A module that breaks no rule of tokens, directives, lines and modules: whether it is a class, its text and its parts.
 #[derive(Drop)]
 pub struct ReadModule<'a> {
+    pub is_class: bool,
     pub text: &'a Units,
     pub parts: Vec<Part>,
 }

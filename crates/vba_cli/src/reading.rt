@@ -1,29 +1,29 @@
-//! The project that the files of standard modules are.
+//! The project that the files of modules are.
 
 ghost use Rattle.std.specs.Prelude.{◌≡◌, ◌≤◌, [], ◌∷◌, ◌++◌, length, map, option_map, IfOk, List, OnOk, Option};
-ghost use Rattle.binder.specs.Bind.{startup_fault as plain_fault};
+ghost use Rattle.binder.specs.Bind.{static_rule, startup_fault as plain_fault};
 ghost use Rattle.binder.specs.Sources.{Source as PlainSource};
 ghost use Rattle.binder.specs.Scopes.{spaces_from};
 ghost use Rattle.constant_values.specs.Rounds.{AreNumbered};
 ghost use Rattle.declared_names.specs.Outside.{the_outside};
 ghost use Rattle.declared_names.specs.View.{source_view, space_view};
-ghost use Rattle.list_file.specs.Sources.{bytes_view};
+ghost use Rattle.list_file.specs.Sources.{files_view};
 ghost use Rattle.list_file.specs.View.{start_view};
 ghost use Rattle.bind_project.specs.Bound.{IsBound};
 ghost use Rattle.project_tables.specs.Startups.{startup_view};
-ghost use Rattle.vba_cli.specs.Program.{begins_at, bound_modules, program_of, static_rule};
+ghost use Rattle.vba_cli.specs.Program.{begins_at, bound_modules, program_of};
 ghost use Rattle.vba_cli.specs.Programs.{IsProgram, first_fold, module_view};
 
 use crate::modules::ReadModule;
 use crate::phases::{keep_all, read_all};
 use bind_project::{Bound, Startup as BoundStartup, bind, startup_fault};
 use declared_names::{Source, Space, spaces_of};
-use list_file::{FileBytes, Startup};
+use list_file::{ModuleBytes, Startup};
 use name_rules::{first_left_out, verdict};
 use std::alloc::Global;
-use vba_base::{NoMemory, OrMemory, Refusal};
+use vba_base::{NoMemory, OrMemory, Place, Refusal};
 
-/// The project that the files of standard modules are, or the place of a part that isn't built yet. The run begins at
+/// The project that the files of modules are, or the place of a part that isn't built yet. The run begins at
 /// the startup of their list, or else at Main of the first module. The fault is the first rule that is broken: the
 /// first of the rules of tokens and directives, in the order of the modules, else the first of those of lines and
 /// modules, else the first of those of names; else that the startup isn't there, else the first of what the language
@@ -31,11 +31,11 @@ use vba_base::{NoMemory, OrMemory, Refusal};
 #[tactic(auto, unfolding(crate::specs::Program::program_of))]
 pub fn program(
     alloc: Global,
-    files: &[FileBytes],
+    files: &[ModuleBytes],
     start: Option<&Startup>,
 ) -> Result<Bound, OrMemory<Refusal>>
     requires { length files.now ≤ 67108865 }
-    ensures { IsProgram (program_of (option_map (λ s. start_view s.now) start.entry) (bytes_view files.now)) result }
+    ensures { IsProgram (program_of (option_map (λ s. start_view s.now) start.entry) (files_view files.now)) result }
 {
     let kept = keep_all(alloc, files)?;
     let modules = read_all(alloc, kept.as_slice())?;
@@ -57,13 +57,13 @@ fn sources_of<'a, 'b>(
 }
 
 // A module as the binder takes it.
-fn source_of<'a, 'b>(module: &'a ReadModule<'b>) -> Source<'a>
-    ensures { source_view result ≡ module_view module.now }
+fn source_of<'a, 'b>(read: &'a ReadModule<'b>) -> Source<'a>
+    ensures { source_view result ≡ module_view read.now }
 {
     Source {
-        is_class: false,
-        text: &*module.text,
-        parts: &module.parts,
+        is_class: read.is_class,
+        text: &*read.text,
+        parts: &read.parts,
     }
 }
 
@@ -141,7 +141,7 @@ fn static_fault<'a>(
     spaces: &'a [Space<'a>],
     start: Option<&'a Startup>,
 ) -> Result<Option<Refusal>, NoMemory>
-    ensures { (ms : List PlainSource) → map space_view spaces.now ≡ spaces_from 0 ms → IfOk result (λ fault. fault ≡ static_rule (begins_at (option_map (λ s. start_view s.now) start.entry) ms) (map space_view spaces.now)) }
+    ensures { (ms : List PlainSource) → map space_view spaces.now ≡ spaces_from 0 ms → IfOk result (λ fault. fault ≡ static_rule the_outside (map space_view spaces.now) (begins_at (option_map (λ s. start_view s.now) start.entry) ms)) }
 {
     match fault_at(spaces, start)? {
         Some(refusal) => Ok(Some(refusal)),
@@ -159,7 +159,22 @@ fn fault_at<'a>(
     startup_fault(spaces, startup_of(spaces, start))
 }
 
-// The modules of a project, bound with the macro to begin with.
+// The front of the first class.
+fn class_front(spaces: &[Space]) -> Option<Place> {
+    for space in spaces {
+        if space.source.is_class {
+            let module = u32::try_from(space.number).unwrap_or(u32::MAX);
+            return Some(Place {
+                module: module.saturating_add(1),
+                line: 1,
+                column: 1,
+            });
+        }
+    }
+    None
+}
+
+// The modules of a project, bound with the macro to begin with. A project that has a class isn't bound yet.
 fn bind_at<'a>(
     alloc: Global,
     spaces: &'a [Space<'a>],
@@ -168,7 +183,10 @@ fn bind_at<'a>(
     requires { AreNumbered (map space_view spaces.now) }
     ensures { (ms : List PlainSource) → map space_view spaces.now ≡ spaces_from 0 ms → IfOk result (IsBound the_outside (map space_view spaces.now) (begins_at (option_map (λ s. start_view s.now) start.entry) ms)) }
 {
-    bind(alloc, spaces, startup_of(spaces, start))
+    match class_front(spaces) {
+        Some(place) => Ok(Bound::NotBuilt(place)),
+        None => bind(alloc, spaces, startup_of(spaces, start)),
+    }
 }
 
 // The macro to begin with.

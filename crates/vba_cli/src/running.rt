@@ -5,7 +5,7 @@ ghost use Rattle.bound_project.specs.Bodies.{Fits, project_view};
 ghost use Rattle.command_words.specs.View.{command_view};
 ghost use Rattle.command_words.specs.Words as words;
 ghost use Rattle.list_file.specs.Files.{FilesAt};
-ghost use Rattle.list_file.specs.Sources.{bytes_view, sheets_view};
+ghost use Rattle.list_file.specs.Sources.{files_view, sheets_view};
 ghost use Rattle.list_file.specs.View.{start_view};
 ghost use Rattle.code_listing.specs.Listing.{listing_of};
 ghost use Rattle.pcode.specs.Layout.{code_of};
@@ -23,7 +23,7 @@ use bound_project::Project;
 use code_listing::listing;
 use codegen::compile;
 use command_words::Command;
-use list_file::{FileBytes, ReadStop, SheetPath, Startup};
+use list_file::{ModuleBytes, ReadStop, SheetPath, Startup};
 use pcode_run::Shows;
 use project_run::{Outcome, RunFault, run_project};
 use sheet_host::Book;
@@ -35,7 +35,7 @@ use vba_base::{Files, NoMemory, OrMemory, Sink, WriteAnswer};
 pub fn take_sources<F: Files, O: Sink>(
     alloc: Global,
     command: Command,
-    sources: &[FileBytes],
+    sources: &[ModuleBytes],
     start: Option<&Startup>,
     listed: ListedSheets,
     files: &mut F,
@@ -45,7 +45,7 @@ pub fn take_sources<F: Files, O: Sink>(
     requires readable { IsReadable listed }
     ensures { let old : World = record { told = F.told files.old; counts = F.counts files.old; out = O.taken out.old; out_faults = O.faults out.old; err = None; err_faults = 0 } in
         let new : World = record { told = F.told files.new; counts = F.counts files.new; out = O.taken out.new; out_faults = O.faults out.new; err = None; err_faults = 0 } in
-        RanSources (command_view command.entry) (sheets_view listed.entry.sheets.now) listed.entry.number listed.entry.taken (program_of (option_map (λ s. start_view s.now) start.entry) (bytes_view sources.now)) result old new }
+        RanSources (command_view command.entry) (sheets_view listed.entry.sheets.now) listed.entry.number listed.entry.taken (program_of (option_map (λ s. start_view s.now) start.entry) (files_view sources.now)) result old new }
 {
     match command {
         Command::Run {
@@ -67,7 +67,7 @@ pub fn take_sources<F: Files, O: Sink>(
 fn run_sources<F: Files, O: Sink>(
     alloc: Global,
     run: RunWords,
-    sources: &[FileBytes],
+    sources: &[ModuleBytes],
     start: Option<&Startup>,
     listed: ListedSheets,
     files: &mut F,
@@ -77,7 +77,7 @@ fn run_sources<F: Files, O: Sink>(
     requires readable { IsReadable listed }
     ensures { let old : World = record { told = F.told files.old; counts = F.counts files.old; out = O.taken out.old; out_faults = O.faults out.old; err = None; err_faults = 0 } in
         let new : World = record { told = F.told files.new; counts = F.counts files.new; out = O.taken out.new; out_faults = O.faults out.new; err = None; err_faults = 0 } in
-        (path : List ℕ) → RanSources (words.run path run.entry.turns run.entry.trace (option_map (λ s. s.now) run.entry.save)) (sheets_view listed.entry.sheets.now) listed.entry.number listed.entry.taken (program_of (option_map (λ s. start_view s.now) start.entry) (bytes_view sources.now)) result old new }
+        (path : List ℕ) → RanSources (words.run path run.entry.turns run.entry.trace (option_map (λ s. s.now) run.entry.save)) (sheets_view listed.entry.sheets.now) listed.entry.number listed.entry.taken (program_of (option_map (λ s. start_view s.now) start.entry) (files_view sources.now)) result old new }
 {
     match program(alloc, sources, start) {
         Ok(Bound::Runs(project)) => run_bound(alloc, run, project, listed, files, out),
@@ -91,12 +91,12 @@ fn run_sources<F: Files, O: Sink>(
 #[tactic(auto, using(crate::proofs::Shown::checked, crate::proofs::Shown::check_refused, crate::proofs::Shown::check_wanted))]
 fn check_sources<O: Sink>(
     alloc: Global,
-    sources: &[FileBytes],
+    sources: &[ModuleBytes],
     start: Option<&Startup>,
     out: &mut O,
 ) -> Status
     requires { length sources.now ≤ 67108865 }
-    ensures { (path : List ℕ) → RanAlone (words.check path) (program_of (option_map (λ s. start_view s.now) start.entry) (bytes_view sources.now)) result (O.taken out.old) (O.taken out.new) (O.faults out.old) (O.faults out.new) }
+    ensures { (path : List ℕ) → RanAlone (words.check path) (program_of (option_map (λ s. start_view s.now) start.entry) (files_view sources.now)) result (O.taken out.old) (O.taken out.new) (O.faults out.old) (O.faults out.new) }
 {
     match program(alloc, sources, start) {
         Ok(_) => put_ok(out),
@@ -116,12 +116,12 @@ fn put_ok<O: Sink>(out: &mut O) -> Status
 #[tactic(auto, using(crate::proofs::Shown::code_refused, crate::proofs::Shown::code_wanted))]
 fn code_sources<O: Sink>(
     alloc: Global,
-    sources: &[FileBytes],
+    sources: &[ModuleBytes],
     start: Option<&Startup>,
     out: &mut O,
 ) -> Status
     requires { length sources.now ≤ 67108865 }
-    ensures { (path : List ℕ) → RanAlone (words.code path) (program_of (option_map (λ s. start_view s.now) start.entry) (bytes_view sources.now)) result (O.taken out.old) (O.taken out.new) (O.faults out.old) (O.faults out.new) }
+    ensures { (path : List ℕ) → RanAlone (words.code path) (program_of (option_map (λ s. start_view s.now) start.entry) (files_view sources.now)) result (O.taken out.old) (O.taken out.new) (O.faults out.old) (O.faults out.new) }
 {
     match program(alloc, sources, start) {
         Ok(Bound::Runs(project)) => list_code(alloc, project, out),

@@ -29,6 +29,15 @@ pub lent_element_is : told (meaning lent_element 50) ≡ (Ended, Raised (pos 10)
 unfolding digits
 lent_element_is = refl
 
+-- the same without a policy: the error leaves Work and ends the run, and its place is the ReDim of Work
+abbrev lent_to_work : Project
+lent_to_work = program (long_array ∷ []) (
+    (sub [], flat 0 (redim_to (shared_longs 0) 3 ∷ do_call 1 (by_place (item (shared_longs 0) (one 1)) no_args) ∷ [])) ∷
+    (sub [], flat 0 (redim_to (shared_longs 0) 9 ∷ [])) ∷ [])
+
+pub lent_to_work_is : told (meaning lent_to_work 50) ≡ (fault 10 1 0, Raised (pos 10) ∷ [])
+lent_to_work_is = refl
+
 -- Type P: X As Long; Dim a() As P ¶ ReDim a(1) ¶ With a(1) ¶ .X = 3 ¶ End With ¶ Debug.Print a(1).X ¶ ReDim a(2) ¶
 -- Debug.Print a(2).X
 abbrev pub p_array : Variable

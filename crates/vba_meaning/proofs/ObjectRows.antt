@@ -1,5 +1,5 @@
 -- Worked rows of objects of classes.
-use Rattle.std.specs.Prelude.{◌≡◌, ℕ, pos, List, [], ◌∷◌, codes, true, false, refl, Option, Some, None}
+use Rattle.std.specs.Prelude.{◌≡◌, ℕ, pos, List, [], ◌∷◌, codes, false, refl, Option, Some, None}
 use Rattle.std.specs.Fmt.{digits}
 use Rattle.vba_values.specs.declared.object.ObjRef.TheVariants.{Nothing}
 use Rattle.vba_values.specs.Types.{Declared}

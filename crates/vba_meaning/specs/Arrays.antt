@@ -1,7 +1,7 @@
 -- What is done in one go with arrays, Types and With blocks.
-use Rattle.std.specs.Prelude.{ℕ, suc, ◌+◌, ◌*◌, ◌/◌, ◌%◌, nat_lt, ℤ, pos, List, [], ◌∷◌, length, Bool, true, false, if◌then◌else◌, Option, Some, None}
+use Rattle.std.specs.Prelude.{ℕ, suc, ◌+◌, ◌*◌, ◌/◌, ◌%◌, nat_lt, ℤ, pos, List, [], ◌∷◌, length, Bool, true, false, if◌then◌else◌, Option, Some, None, slice_get}
 use Rattle.vba_values.specs.declared.object.ObjRef.{ObjRef}
-use Rattle.vba_values.specs.declared.object.ObjRef.TheVariants.{Nothing, Host}
+use Rattle.vba_values.specs.declared.object.ObjRef.TheVariants.{Nothing, Heap, Host}
 use Rattle.vba_values.specs.declared.object.HostRef.TheVariants.{ErrObject, Sheet, Sheets, Area}
 use Rattle.vba_values.specs.declared.value.Bound.{Bound}
 use Rattle.vba_values.specs.Types.{Declared}
@@ -15,10 +15,10 @@ use Rattle.arrays_udt.specs.Fresh.{filled, initial}
 use Rattle.arrays_udt.specs.Paths.{path_value}
 use Rattle.bound_project.specs.Expressions.{Variable}
 use Rattle.bound_project.specs.Project.{Declarations, types_of}
-use Rattle.vba_meaning.specs.Paths.{in_block, Path, element_path}
-use Rattle.vba_meaning.specs.Memory.{Kept, only, at_path, walk, Memory, top, with_top, rest, found, without, put, value_at, with_value, path_of}
+use Rattle.vba_meaning.specs.Paths.{Root, in_block, in_item, Path, element_path}
+use Rattle.vba_meaning.specs.Memory.{Kept, only, at_path, walk, Memory, top, with_top, rest, found, without, put, value_at, with_value, path_of, object_at, value_in_item}
 use Rattle.vba_meaning.specs.References.{objects_in, displaced, waits}
-use Rattle.vba_meaning.specs.Effects.{Effect, Fine, Bad-at, on_fine, done, answered, fitted, read_value, replaceable, assignable, stored, kept_at, area_in, range_value}
+use Rattle.vba_meaning.specs.Effects.{Effect, Fine, Bad-at, on_fine, done, answered, fitted, read_value, replaceable, assignable, stored, kept_at, area_in, range_value, is_collection}
 
 -- ---- elements and fields ([MS-VBAL] 5.6.12, 5.6.13)
 
@@ -126,9 +126,16 @@ erased d p m =
 abbrev pub keeping : ℕ → Kept → Memory → Memory
 keeping i k m = displaced (kept_at i m) (with_top m (record (top m) { keeps = put i k (top m).keeps }))
 
--- the block keeps a place
+-- the block keeps a place; of an item of a Collection, which has none, the value
+abbrev pub kept_of : Path → Kept
+kept_of p = at p.root
+  where
+    at : Root → Kept
+    at (in_item v) = only (value_in_item v p.steps)
+    at root = at_path p
+
 abbrev pub keep_path : ℕ → Path → Memory → Effect (Unit {0})
-keep_path i p m = done (keeping i (at_path p) m)
+keep_path i p m = done (keeping i (kept_of p) m)
 
 -- a block is over: it keeps nothing any more
 abbrev pub block_over : ℕ → Memory → Effect (Unit {0})
@@ -157,12 +164,13 @@ not_walking i other m = m
 abbrev pub each_off : ℕ → Memory → Effect (Unit {0})
 each_off i m = done (not_walking i (found (top m).keeps i) m)
 
--- what can be walked: an array, the sheets, the cells of a range by rows
+-- what can be walked: an array, the sheets, the cells of a range by rows, a Collection
 abbrev pub walkable : Val → Memory → Effect (Unit {0})
 walkable (array bounds of items) m = done m
 walkable (object Nothing) m = Bad-at 91 m
 walkable (object (Host Sheets)) m = done m
 walkable (object (Host (Area s t l r c))) m = done m
+walkable (object (Heap id)) m = if is_collection (Heap id) m then done m else Bad-at 438 m
 walkable (object o) m = Bad-at 438 m
 walkable v m = Bad-at 13 m
 
@@ -179,10 +187,11 @@ abbrev pub next_item : Variable → ℕ → Val → (next : ℕ) → Option Val 
 next_item x i v k None m = on_fine (block_over i m) (λ u m1. Fine false m1)
 next_item x i v k (Some w) m = on_fine (item_stored x w (walking i true v (suc k) m)) (λ u m1. Fine true m1)
 
--- the k-th item of what is walked, where there is one
+-- the k-th item of what is walked, where there is one: of a Collection as it is now
 abbrev pub item_of : Val → ℕ → Memory → Option Val
 item_of (object (Host Sheets)) k m = if nat_lt k (length m.book) then Some (object (Host (Sheet (suc k)))) else None
 item_of (object (Host (Area s t l r c))) k m = if nat_lt k (r * c) then Some (range_value (area_in s (t + k / c) (l + k % c) 1 1)) else None
+item_of (object (Heap id)) k m = slice_get (object_at m id.0).fields k
 item_of v k m = path_value v (Element k ∷ [])
 
 abbrev pub each_by : Variable → ℕ → Option Kept → Memory → Effect Bool

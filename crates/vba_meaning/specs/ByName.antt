@@ -1,5 +1,5 @@
--- Members of the host whose arguments are named ([MS-VBAL] 5.6.13.1).
-use Rattle.std.specs.Prelude.{ℕ, zero, suc, nat_lt, ◌==◌, ◌&&◌, ◌||◌, List, [], ◌∷◌, ◌++◌, codes, Bool, if◌then◌else◌, bytes_eq, Option, Some, None, Result, Ok, Err, slice_index_or, take, drop, unwrap_or}
+-- Members of the host and of Collections whose arguments are named ([MS-VBAL] 5.6.13.1).
+use Rattle.std.specs.Prelude.{ℕ, zero, suc, nat_lt, ◌==◌, ◌&&◌, ◌||◌, List, [], ◌∷◌, ◌++◌, codes, if◌then◌else◌, bytes_eq, Option, Some, None, Result, Ok, Err, slice_index_or, take, drop, unwrap_or, option_map}
 use Rattle.std.specs.List.{list_any}
 use Rattle.vba_values.specs.declared.fault.Bad.{Bad}
 use Rattle.vba_values.specs.declared.object.HostRef.{HostRef}
@@ -11,6 +11,7 @@ use Rattle.sheet_host.specs.Members.{member_of, number_of}
 use Rattle.bound_project.specs.Expressions.{ByName}
 use Rattle.vba_meaning.specs.Memory.{Memory}
 use Rattle.vba_meaning.specs.Effects.{Effect, Fine, Bad-at, on_fine, answered}
+use Rattle.vba_meaning.specs.Collections.{member_by_name, takes_in_collection, names_in_collection, collection_member}
 use Rattle.vba_meaning.specs.Host.{takes, fits_in}
 
 -- the names of a member's parameters, by the member's number; a member that has such must be given the first
@@ -42,17 +43,18 @@ abbrev pub first_given : (before : ℕ) → List ℕ → Memory → Effect Val
 first_given zero ps m = if list_any (λ p. p == 0) ps then Fine empty m else Bad-at 449 m
 first_given (suc before) ps m = Fine empty m
 
-abbrev pub named_begun : HostRef → (number : ℕ) → ByName → (given : ℕ) → Memory → Effect Val
-named_begun r n by k m = at (parameters_given (parameter_names r n) by.before by.names)
+abbrev pub named_begun : (parameters : List (List ℕ)) → (takes : List ℕ) → ByName → (given : ℕ) → Memory → Effect Val
+named_begun xs takes by k m = at (parameters_given xs by.before by.names)
   where
     at : Option (List ℕ) → Effect Val
     at None = Bad-at 450 m
-    at (Some ps) = on_fine (fits_in (takes r n) k m) (λ u m1. first_given by.before ps m1)
+    at (Some ps) = on_fine (fits_in takes k m) (λ u m1. first_given by.before ps m1)
 
 abbrev pub named_there : (name : List ℕ) → ByName → (given : ℕ) → Val → Memory → Effect Val
 named_there name by k (object Nothing) m = Bad-at 91 m
-named_there name by k (object (Heap id)) m = Bad-at 438 m
-named_there name by k (object (Host r)) m = on_fine (answered (member_of r name) m) (λ how m1. named_begun r (number_of how) by k m1)
+named_there name by k (object (Heap id)) m = on_fine (collection_member id.0 name m) (λ how m1. named_begun (names_in_collection how) (takes_in_collection how) by k m1)
+named_there name by k (object (Host r)) m =
+    on_fine (answered (member_of r name) m) (λ how m1. named_begun (parameter_names r (number_of how)) (takes r (number_of how)) by k m1)
 named_there name by k v m = Bad-at 424 m
 
 -- what a parameter is given, of the arguments that have names: Missing where there is none
@@ -64,14 +66,18 @@ abbrev pub values_given : (first : ℕ) → (parameters : List (List ℕ)) → L
 values_given p [] qs vs = []
 values_given p (x ∷ xs) qs vs = value_given p qs vs ∷ values_given (suc p) xs qs vs
 
+-- the names of the parameters of a member that there is
+abbrev pub names_of_host : HostRef → Result HostMember Bad → List (List ℕ)
+names_of_host r (Err bad) = []
+names_of_host r (Ok how) = parameter_names r (number_of how)
+
+abbrev pub names_of_member : (base : Val) → (name : List ℕ) → List (List ℕ)
+names_of_member (object (Host r)) name = names_of_host r (member_of r name)
+names_of_member (object (Heap id)) name = unwrap_or (option_map names_in_collection (member_by_name name)) []
+names_of_member base name = []
+
 -- the arguments in the order of the parameters
 abbrev pub in_parameter_order : (base : Val) → (name : List ℕ) → ByName → List Val → List Val
-in_parameter_order (object (Host r)) name by vs = at (member_of r name)
-  where
-    ordered : List (List ℕ) → List Val
-    ordered xs = take by.before vs ++ values_given by.before (drop by.before xs) (unwrap_or (parameters_given xs by.before by.names) []) (drop by.before vs)
-
-    at : Result HostMember Bad → List Val
-    at (Err bad) = vs
-    at (Ok how) = ordered (parameter_names r (number_of how))
-in_parameter_order base name by vs = vs
+in_parameter_order base name by vs =
+    let xs = names_of_member base name in
+    take by.before vs ++ values_given by.before (drop by.before xs) (unwrap_or (parameters_given xs by.before by.names) []) (drop by.before vs)

@@ -30,7 +30,7 @@ use Rattle.error_frames.specs.Resume as resumption
 use Rattle.bound_project.specs.Expressions.{Variable, ErrMember, err_number, err_source, err_description}
 use Rattle.bound_project.specs.Statements.{Handling, passed_on, skipped, handled_at}
 use Rattle.bound_project.specs.Project.{Declarations, Module, Parameter, no_name, procedure_at}
-use Rattle.vba_meaning.specs.Paths.{Root, in_object, Path}
+use Rattle.vba_meaning.specs.Paths.{Root, in_object, in_item, Path}
 use Rattle.vba_meaning.specs.Memory.{Error, Why, stop_said, outside, Slot, value, path, Loop, Kept, only, Memory, top, with_top, found, without, put, value_at, path_of, is_locked, no_error, number_or, object_at}
 use Rattle.vba_meaning.specs.References.{hold, displaced, replaced, kept_value}
 use Rattle.vba_values.specs.Messages.{message_of}
@@ -91,10 +91,13 @@ abbrev pub is_area : ObjRef → Bool
 is_area (Host (Area s t l r c)) = true
 is_area reference = false
 
+abbrev pub is_collection : ObjRef → Memory → Bool
+is_collection o m = is_heap o && (class_of o m == 0)
+
 -- whether Set lets a variable of this type have an object that isn't Nothing ([MS-VBAL] 5.4.3.9)
 abbrev pub takes_object : Declared → ObjRef → Memory → Bool
 takes_object (type.class c) o m = is_heap o && (class_of o m == c)
-takes_object type.collection o m = is_heap o && (class_of o m == 0)
+takes_object type.collection o m = is_collection o m
 takes_object type.worksheet o m = is_sheet o
 takes_object type.range o m = is_area o
 takes_object of o m = true
@@ -123,12 +126,14 @@ area_in s t l r c = record { sheet = record { 0 = s }; top = t; left = l; rows =
 abbrev pub range_value : cells.Area → Val
 range_value a = object (Host (Area a.sheet.0 a.top a.left a.rows a.columns))
 
--- an operand: an object gives way to the value of its default member ([MS-VBAL] 5.6.2.3)
+-- an operand: an object gives way to the value of its default member ([MS-VBAL] 5.6.2.3); Item of a Collection must have
+-- an argument
 abbrev pub plain_reference : ObjRef → Memory → Effect Val
 plain_reference Nothing m = Bad-at 91 m
 plain_reference (Host ErrObject) m = Fine (whole kind.Long m.err.number) m
 plain_reference (Host (Area s t l r c)) m = answered (area_value m.book (area_in s t l r c)) m
 plain_reference (Host Sheets) m = Bad-at 449 m
+plain_reference (Heap id) m = if is_collection (Heap id) m then Bad-at 449 m else Bad-at 438 m
 plain_reference o m = Bad-at 438 m
 
 abbrev pub plain : Val → Memory → Effect Val
@@ -158,8 +163,8 @@ read_value (Some v) m = Fine v (hold v m)
 abbrev pub read_path : Path → Memory → Effect Val
 read_path p m = read_value (value_at m p) m
 
--- whether a value may be replaced: there is one, and no frame holds a path through an array there; an object that an
--- index gave has no place of its own
+-- whether a value may be replaced: there is one, and no frame holds a path through an array there; an object or an item
+-- that an index gave has no place of its own
 abbrev pub has_parts : Val → Bool
 has_parts (array bounds of items) = true
 has_parts (udt number fields) = true
@@ -174,6 +179,7 @@ replaceable p m = at p.root
   where
     at : Root → Effect Val
     at (in_object o) = Bad-at 438 m
+    at (in_item v) = Bad-at 438 m
     at root = replaceable_by p (value_at m p) m
 
 -- an array that is declared with bounds is never replaced by another one

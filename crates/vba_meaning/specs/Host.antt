@@ -28,10 +28,11 @@ use Rattle.sheet_host.specs.Size.{sheet_rows, sheet_columns}
 use Rattle.sheet_host.specs.Writing.{cells_of}
 use Rattle.bound_project.specs.Expressions.{err_number, err_source, err_description}
 use Rattle.bound_project.specs.Project.{Declarations}
-use Rattle.vba_meaning.specs.Paths.{Root, in_object, Path, object_path}
+use Rattle.vba_meaning.specs.Paths.{Root, in_object, in_item, Step, Path, object_path, item_path}
 use Rattle.vba_meaning.specs.Memory.{Error, value, Memory, outside, value_at as value_at_path}
-use Rattle.vba_meaning.specs.Effects.{Event, Effect, Fine, Bad-at, Out, Tell, Cell, on_fine, done, answered, plain, err_of, err_off, is_true, range_value, area_in, raised_by, assigned}
+use Rattle.vba_meaning.specs.Effects.{Event, Effect, Fine, Bad-at, Out, Tell, Cell, on_fine, done, answered, plain, err_of, err_off, is_true, range_value, area_in, raised_by, assigned, is_collection}
 use Rattle.vba_meaning.specs.Arrays.{number_in, indexed, element_at}
+use Rattle.vba_meaning.specs.Collections.{CollectionMember, is_item, takes_in_collection, collection_member, item_found, collection_used}
 
 -- ---- what is where
 
@@ -232,6 +233,7 @@ plains (v ∷ vs) m = on_fine (plain v m) (λ w m1. on_fine (plains vs m1) (λ w
 abbrev pub item_by : Val → List Val → Memory → Effect Val
 item_by (object (Host host.Sheets)) vs m = sheet_found vs m
 item_by (object (Host (host.Area s t l r c))) vs m = cell_found (area_in s t l r c) vs m
+item_by (object (Heap id)) vs m = if is_collection (Heap id) m then item_found id.0 vs m else on_fine (plains vs m) (λ ws m1. indexed (object (Heap id)) ws m1)
 item_by v vs m = on_fine (plains vs m) (λ ws m1. indexed v ws m1)
 
 -- a use of a member begins: whether there is such a one is asked before any argument is evaluated, and what the
@@ -243,7 +245,8 @@ member_begun d r how k m =
 
 abbrev pub member_there : Declarations → (name : List ℕ) → (given : ℕ) → Val → Memory → Effect Val
 member_there d name k (object Nothing) m = Bad-at 91 m
-member_there d name k (object (Heap id)) m = Bad-at 438 m
+member_there d name k (object (Heap id)) m =
+    on_fine (collection_member id.0 name m) (λ how m1. on_fine (fits_in (takes_in_collection how) k m1) (λ u m2. Fine empty m2))
 member_there d name k (object (Host r)) m = on_fine (answered (member_of r name) m) (λ how m1. member_begun d r how k m1)
 member_there d name k v m = Bad-at 424 m
 
@@ -262,6 +265,15 @@ member_by d r how vs begun m = if are_places r how (length vs) then item_by begu
 abbrev pub member_called : Declarations → (name : List ℕ) → List Val → (base begun : Val) → Memory → Effect Val
 member_called d name vs (object (Host r)) begun m = on_fine (answered (member_of r name) m) (λ how m1. member_by d r how (as_given vs) begun m1)
 member_called d name vs v begun m = Bad-at 424 m
+
+-- a member of a counted object is used: its value, and how many references wait to be let go at once
+abbrev pub is_counted : (base : Val) → Bool
+is_counted (object (Heap id)) = true
+is_counted v = false
+
+abbrev pub object_member : (name : List ℕ) → List Val → (base : Val) → Memory → Effect (Val × ℕ)
+object_member name vs (object (Heap id)) m = on_fine (collection_member id.0 name m) (λ how m1. collection_used id.0 how (as_given vs) m1)
+object_member name vs v m = Bad-at 424 m
 
 -- the arguments of Err.Raise, where Err was found in the run: a number, a source and a description
 abbrev pub is_raise : (name : List ℕ) → (base : Val) → Bool
@@ -283,11 +295,13 @@ error_given vs m =
     on_fine (text_given (slice_index_or vs 2 missing) m2) (λ description m3.
     Fine (raised_by (value number ∷ value source ∷ value description ∷ []) m3) m3)))
 
--- the default member of an object is written: Value of a range, and no other
+-- the default member of an object is written: Value of a range, and no other; that of the sheets and of a Collection must
+-- have an argument
 abbrev pub written_default : (target : Val) → Val → Memory → Effect (Unit {0})
 written_default (object Nothing) v m = Bad-at 91 m
 written_default (object (Host (host.Area s t l r c))) v m = area_written (area_in s t l r c) v m
 written_default (object (Host host.Sheets)) v m = Bad-at 449 m
+written_default (object (Heap id)) v m = if is_collection (Heap id) m then Bad-at 449 m else Bad-at 438 m
 written_default (object o) v m = Bad-at 438 m
 written_default w v m = Bad-at 424 m
 
@@ -295,8 +309,9 @@ written_default w v m = Bad-at 424 m
 
 -- where what an index gave lies: it is no variable's
 abbrev pub path_to : Val → Path
+path_to (object (Heap id)) = item_path (object (Heap id))
 path_to (object o) = object_path o
-path_to v = object_path Nothing
+path_to v = item_path v
 
 -- an array's element, or the item of an object, which is no variable ([MS-VBAL] 5.6.13)
 abbrev pub place_at : Path → List Val → Memory → Effect Path
@@ -306,6 +321,12 @@ place_at p vs m = at (value_at_path m p)
     at (Some (object o)) = on_fine (item_by (object o) vs m) (λ w m1. Fine (path_to w) m1)
     at found = element_at p vs m
 
+-- an item of a Collection is assigned to: its default member is written; an element of an array that is one takes the
+-- value for nothing
+abbrev pub item_written : Val → List Step → Val → Memory → Effect (Unit {0})
+item_written w [] v m = written_default w v m
+item_written w (s ∷ steps) v m = on_fine (plain v m) (λ x m1. done m1)
+
 -- Let at a place: an object gives way to its default value, and of an object that an index gave the default member is
 -- written ([MS-VBAL] 5.4.3.8)
 abbrev pub assigned_at : Path → Val → Memory → Effect (Unit {0})
@@ -313,6 +334,7 @@ assigned_at p v m = at p.root
   where
     at : Root → Effect (Unit {0})
     at (in_object o) = written_default (object o) v m
+    at (in_item w) = item_written w p.steps v m
     at root = on_fine (plain v m) (λ w m1. assigned p w m1)
 
 -- the same of an item of a value that no variable has: an element of an array that nothing keeps takes the value for
@@ -343,8 +365,14 @@ member_set d host.Application (Write n) [] begun v m = mark_set n v m
 member_set d (host.Area s t l r c) (Write n) [] begun v m = area_written (area_in s t l r c) v m
 member_set d r how vs begun v m = on_fine (member_by d r how vs begun m) (λ w m1. assigned_through (are_places r how (length vs)) w v m1)
 
+-- of a Collection an item's default member is written, and nothing else
+abbrev pub through_item : (number : ℕ) → CollectionMember → List Val → Val → Memory → Effect (Unit {0})
+through_item o is_item vs v m = on_fine (item_found o vs m) (λ w m1. written_default w v m1)
+through_item o member vs v m = Bad-at 438 m
+
 abbrev pub member_assigned : Declarations → (name : List ℕ) → List Val → (base begun : Val) → Val → Memory → Effect (Unit {0})
 member_assigned d name vs (object (Host r)) begun v m = on_fine (answered (member_of r name) m) (λ how m1. member_set d r how (as_given vs) begun v m1)
+member_assigned d name vs (object (Heap id)) begun v m = on_fine (collection_member id.0 name m) (λ how m1. through_item id.0 how (as_given vs) v m1)
 member_assigned d name vs base begun v m = Bad-at 424 m
 
 -- Set of a member: no object of the host has one that takes it

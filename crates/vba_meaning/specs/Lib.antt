@@ -4,6 +4,7 @@ pub mod References
 pub mod Effects
 pub mod Arrays
 pub mod Objects
+pub mod Collections
 pub mod Library
 pub mod Host
 pub mod ByName

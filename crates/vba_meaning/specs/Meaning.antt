@@ -18,7 +18,7 @@ use Rattle.vba_meaning.specs.References.{objects_in, objects_in_values, is_last,
 use Rattle.vba_meaning.specs.Effects.{Event, Raised, Term, Effect, Fine, Bad-at, Out, Tell, operated, operated_alone, fitted, plain, condition, read_path, lent, unlent, slot_values, packed, reordered, startup_slots, show_value, printed, loop_off, loop_on, next_round, keep, selected, fits, fits_between, gone_sub, returned_sub, policy_of, err_off, policy_on, handler_off, failed_statement, resumed, taken_by, with_taken, raised_by, err_of, set_object, stop_here}
 use Rattle.vba_meaning.specs.Arrays.{part_of, redimmed, erased, keep_path, block_over, dot_at, each_off, each_begun, each_next}
 use Rattle.vba_meaning.specs.Objects.{compared, typed_as, set_at, made, own_object, object_there, field_in, made_for, initialize_of, stored_made, made_at}
-use Rattle.vba_meaning.specs.Host.{first_sheet, item_by, member_there, member_called, is_raise, error_given, written_default, place_at, assigned_at, item_assigned, member_assigned, member_not_set}
+use Rattle.vba_meaning.specs.Host.{first_sheet, item_by, member_there, member_called, is_counted, object_member, is_raise, error_given, written_default, place_at, assigned_at, item_assigned, member_assigned, member_not_set}
 use Rattle.vba_meaning.specs.ByName.{named_there, in_parameter_order}
 use Rattle.vba_meaning.specs.Library.{library_called, bound_at, plain_if_any}
 
@@ -83,10 +83,13 @@ pub record Callee : Type 0 where
 abbrev pub given : Val → State → Res Val
 given v s = Got v (with_memory s (hold v s.memory))
 
--- what a member gives, with what was read when its use began; Err.Raise gives nothing but raises an error
-abbrev pub member_used : Project → (name : List ℕ) → (base begun : Val) → List Val → State → Res Val
-member_used pr name base begun vs s =
-    if is_raise name base then (perform (error_given vs) s >>= λ e s1. raise_error e s1) else perform (member_called pr.declared name vs base begun) s
+-- what a member gives, with what was read when its use began; Err.Raise gives nothing but raises an error, and what
+-- leaves a Collection is let go at once
+abbrev pub member_used : Callee → Project → (name : List ℕ) → (base begun : Val) → List Val → State → Res Val
+member_used callee pr name base begun vs s =
+    if is_raise name base then (perform (error_given vs) s >>= λ e s1. raise_error e s1)
+    else if is_counted base then (perform (object_member name vs base) s >>= λ r s1. callee.go r.1 s1 >>= λ u s2. Got r.0 s2)
+    else perform (member_called pr.declared name vs base begun) s
 
 -- a new object is wholly made before it is there: its Class_Initialize has run
 abbrev pub initialized : Callee → Option ℕ → Val → State → Res Val
@@ -120,10 +123,10 @@ abbrev mutual
   -- whether there is such a member is asked before its arguments are evaluated, and what they index is read
   eval_node (host_member e name es) callee pr s =
       eval e callee pr s >>= λ v s1. perform (member_there pr.declared name (given_count es) v) s1 >>= λ w s2. eval_list es callee pr s2 >>= λ xs s3.
-      member_used pr name v w (slot_values xs) s3
+      member_used callee pr name v w (slot_values xs) s3
   eval_node (named_member e name by es) callee pr s =
       eval e callee pr s >>= λ v s1. perform (named_there name by (given_count es) v) s1 >>= λ w s2. eval_list es callee pr s2 >>= λ xs s3.
-      member_used pr name v w (in_parameter_order v name by (slot_values xs)) s3
+      member_used callee pr name v w (in_parameter_order v name by (slot_values xs)) s3
   eval_node this callee pr s = perform own_object s
   eval_node (new_object c) callee pr s = perform (made pr.declared c) s >>= λ v s1. initialized callee (class_at pr.declared c).initialize v s1
   -- that there is an object is asked before the arguments are evaluated

@@ -11,7 +11,7 @@ use Rattle.error_frames.specs.declared.frame.FrameErrors.{FrameErrors}
 use Rattle.sheet_host.specs.Books.{Sheets}
 use Rattle.error_frames.specs.Decision as decision
 use Rattle.bound_project.specs.Expressions.{Storage, local, shared, own, Variable}
-use Rattle.vba_meaning.specs.Paths.{Root, in_frame, in_project, in_fields, in_block, in_object, Path, plain_steps, any_below}
+use Rattle.vba_meaning.specs.Paths.{Root, in_frame, in_project, in_fields, in_block, in_object, in_item, Step, Path, plain_steps, any_below}
 use Rattle.bound_project.specs.Project.{Declarations, Procedure, procedure_at, first_value, first_values}
 
 -- an error on its way, and what Err keeps of the last one: its number, a source and a description where they were
@@ -60,11 +60,12 @@ pub data Kept : Type 0 where
   -- what a For Each walks, whether the loop counts as begun, and the number of its next item
   walk : (begun : Bool) → Val → (next : ℕ) → Kept
 
--- a counted object
+-- a counted object. The fields of a Collection are its items, each of which may have a key
 pub record Object : Type 0 where
   pub class : ℕ
   pub told : Bool
   pub fields : List Val
+  pub keys : List (Option (List ℕ))
 
 -- a call that stands. One that code called hands its result on; a Class_Terminate that the end of an object called
 -- has none to hand on to
@@ -176,7 +177,7 @@ value_kept (Some (at_path p)) = None
 value_kept (Some (walk begun v k)) = None
 
 abbrev pub no_object : Object
-no_object = record { class = 0; told = true; fields = [] }
+no_object = record { class = 0; told = true; fields = []; keys = [] }
 
 abbrev pub object_or : Option Object → Object
 object_or None = no_object
@@ -197,6 +198,7 @@ root_value m (in_project x) = slice_get m.shared x
 root_value m (in_fields o i) = slice_get (object_at m o).fields i
 root_value m (in_block k i) = value_kept (found (frame_at m.frames k).keeps i)
 root_value m (in_object o) = Some (object o)
+root_value m (in_item v) = Some v
 
 abbrev pub with_root : Memory → Root → Val → Memory
 with_root m (in_frame k x) v = record m { frames = with_slot m.frames k x (value v) }
@@ -204,6 +206,7 @@ with_root m (in_project x) v = record m { shared = slice_set m.shared x v }
 with_root m (in_fields o i) v = with_object m o (Some (with_field (object_at m o) i v))
 with_root m (in_block k i) v = record m { frames = with_kept m.frames k i (only v) }
 with_root m (in_object o) v = m
+with_root m (in_item w) v = m
 
 abbrev pub inner_or_none : Option Val → List PathStep → Option Val
 inner_or_none None steps = None
@@ -282,13 +285,18 @@ abbrev pub calling : List Slot → List Frame → List Frame
 calling xs [] = []
 calling xs (f ∷ fs) = record f { pending = without_paths xs f.pending } ∷ fs
 
--- what a parameter has: an object that an index gave is no variable, so it is copied
+-- the value at steps inside an item of a Collection
+abbrev pub value_in_item : Val → List Step → Val
+value_in_item v steps = value_or_empty (path_value v (plain_steps steps))
+
+-- what a parameter has: an object or an item that an index gave is no variable, so it is copied
 abbrev pub received : Slot → Slot
 received (value v) = value v
 received (path p) = at p.root
   where
     at : Root → Slot
     at (in_object o) = value (object o)
+    at (in_item v) = value (value_in_item v p.steps)
     at root = path p
 
 abbrev pub own_slots : Declarations → Procedure → List Slot

@@ -1,5 +1,5 @@
 -- What is done in one go with objects and references to them.
-use Rattle.std.specs.Prelude.{ℕ, zero, suc, List, [], ◌∷◌, ◌++◌, length, Bool, true, false, Option, Some, None}
+use Rattle.std.specs.Prelude.{ℕ, zero, suc, [], ◌∷◌, ◌++◌, length, Bool, true, false, Option, Some, None}
 use Rattle.vba_values.specs.declared.object.ObjRef.TheVariants.{Nothing, Heap}
 use Rattle.vba_values.specs.Types.{Declared}
 use Rattle.vba_values.specs.Val.{Val, empty, boolean, object}
@@ -8,7 +8,7 @@ use Rattle.bound_project.specs.Project.{Declarations, class_at, first_values}
 use Rattle.vba_meaning.specs.Paths.{in_fields, Path}
 use Rattle.vba_meaning.specs.Memory.{Memory, Object, top, value_at}
 use Rattle.vba_meaning.specs.References.{hold}
-use Rattle.vba_meaning.specs.Effects.{Event, Init, Effect, Fine, Bad-at, Tell, on_fine, done, answered, takes_object, set_object, stored}
+use Rattle.vba_meaning.specs.Effects.{Init, Effect, Fine, Bad-at, Tell, on_fine, done, answered, takes_object, set_object, stored}
 
 -- Is: 424 where one of both is no object ([MS-VBAL] 5.6.9.7)
 abbrev pub compared : Val → Val → Memory → Effect Val
@@ -28,7 +28,7 @@ set_at p v m = on_fine (set_object p.of v m) (λ w m1. stored p w m1)
 
 -- a new object of a class: its variables have their first values
 abbrev pub new_instance : Declarations → (class : ℕ) → Object
-new_instance d c = record { class = c; told = is_collection c; fields = first_values d (class_at d c).fields }
+new_instance d c = record { class = c; told = is_collection c; fields = first_values d (class_at d c).fields; keys = [] }
   where
     is_collection : ℕ → Bool
     is_collection zero = true

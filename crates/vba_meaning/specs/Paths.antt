@@ -3,19 +3,21 @@ use Rattle.std.specs.Prelude.{ℕ, ◌==◌, List, [], ◌∷◌, ◌++◌, Bool
 use Rattle.vba_values.specs.declared.object.ObjRef.{ObjRef}
 use Rattle.vba_values.specs.Types.{Declared}
 use Rattle.vba_values.specs.Types as type
+use Rattle.vba_values.specs.Val.{Val}
 use Rattle.arrays_udt.specs.declared.paths.PathStep.{PathStep}
 use Rattle.arrays_udt.specs.declared.paths.PathStep.TheVariants.{Field, Element}
 use Rattle.arrays_udt.specs.Paths.{same_step}
 
 -- where a path begins: a variable of a frame, whose number is that of the frames below it, or of the project; a variable
--- of a counted object, by the object's number; the value that a With block of a frame keeps; or an object that an index
--- gave, which no variable has
+-- of a counted object, by the object's number; the value that a With block of a frame keeps; or an object or an item of
+-- a Collection that an index gave, which no variable has
 pub data Root : Type 0 where
   in_frame : (frame variable : ℕ) → Root
   in_project : ℕ → Root
   in_fields : (number field : ℕ) → Root
   in_block : (frame header : ℕ) → Root
   in_object : ObjRef → Root
+  in_item : Val → Root
 
 -- a step, and whether it leads into an array that can be replaced: one that isn't declared with bounds
 pub record Step : Type 0 where
@@ -46,6 +48,10 @@ field_path p i of bounded = record { root = p.root; steps = p.steps ++ record { 
 -- where an object is that no variable has
 abbrev pub object_path : ObjRef → Path
 object_path o = record { root = in_object o; steps = []; of = type.variant; bounded = false; makes = None }
+
+-- where an item of a Collection is
+abbrev pub item_path : Val → Path
+item_path v = record { root = in_item v; steps = []; of = type.variant; bounded = false; makes = None }
 
 abbrev pub same_root : Root → Root → Bool
 same_root (in_frame k x) (in_frame j y) = k == j && x == y

@@ -1,5 +1,8 @@
-use Rattle.std.proofs.Common.{None, sym, ◌∙◌}
+use Rattle.std.proofs.Common.{ℕ, None, ap, sym, ◌∙◌}
+use Rattle.std.specs.Prelude.{Vec}
+use Rattle.std.specs.declared.alloc.Global.{Global}
 use Rattle.command_words.specs.View.{command_view}
+use Rattle.list_file.specs.Sources.{file_view}
 use Rattle.vba_cli.specs.Contract.{World}
 use Rattle.vba_cli.proofs.Performed.{alone_goes, went_alone}
 use Rattle.vba_cli.proofs.lists.take_bytes.Goals as goal
@@ -13,4 +16,5 @@ returns g c =
     let new : World = record { told = g.F.Files.told c.take_sources-status.new.files; counts = g.F.Files.counts c.take_sources-status.new.files; out = g.O.Sink.taken c.take_sources-status.new.out; out_faults = g.O.Sink.faults c.take_sources-status.new.out; err = None; err_faults = 0 } in
     alone_goes command bytes c.alone.result.modules.items c.alone.result.sheets.items status c.alone.result.status old new
     c.alone.ensures.modules c.alone.ensures.sheets c.alone.ensures.status
-    (went_alone command bytes c.len.result status old new (sym c.names_module.ensures ∙ c.if-not-names_module.false) (c.len.ensures ∙ c.args.file.bytes.ok.0) c.take_sources-status.ensures)
+    (went_alone command bytes c.len.result status old new (sym c.names_module.ensures ∙ c.if-not-names_module.false) (c.len.ensures ∙ c.args.file.bytes.ok.0) (file_view c.of_module-source.result)
+    c.of_module-source.ensures.kind (ap (λ (v : Vec ℕ Global). v.items) c.of_module-source.ensures.bytes) c.take_sources-status.ensures)

@@ -3,10 +3,9 @@ use Rattle.command_words.specs.View.{command_view}
 use Rattle.list_file.specs.Plans as plans
 use Rattle.list_file.specs.Sources.{plan_view}
 use Rattle.vba_base.specs.Decode.{decoded}
-use Rattle.vba_cli.specs.declared.status.Status.TheVariants.{BadList, NoMemory, NotBuilt}
-use Rattle.vba_cli.specs.Answer.{line_of_list}
+use Rattle.vba_cli.specs.declared.status.Status.TheVariants.{BadList, NoMemory}
 use Rattle.vba_cli.specs.Contract.{World}
-use Rattle.vba_cli.proofs.Performed.{alone_goes, went_bad, went_class, went_wanting}
+use Rattle.vba_cli.proofs.Performed.{alone_goes, went_bad, went_wanting}
 use Rattle.vba_cli.proofs.lists.take_list.Goals as goal
 
 pub returns-in-Ok-BadLine : goal.returns-in-Ok-BadLine
@@ -18,17 +17,6 @@ returns-in-Ok-BadLine g c =
     ap (λ b. plans.plan_of (decoded b)) (sym c.as_slice.ensures.value) ∙ sym c.in-Ok-BadLine.ensures.plan ∙ ap plan_view c.in-Ok-BadLine.field-0-is in
     alone_goes command bytes c.alone.result.modules.items c.alone.result.sheets.items (BadList c.in-Ok-BadLine.line) c.alone.result.status old old
     c.alone.ensures.modules c.alone.ensures.sheets c.alone.ensures.status (went_bad command bytes c.in-Ok-BadLine.line old c.requires planned)
-
-pub returns-in-Ok-Class : goal.returns-in-Ok-Class
-returns-in-Ok-Class g c =
-    let command = command_view c.args.command in
-    let bytes = c.args.file.now.bytes.items in
-    let old : World = record { told = g.F.Files.told c.args.files.now; counts = g.F.Files.counts c.args.files.now; out = g.O.Sink.taken c.args.out.now; out_faults = g.O.Sink.faults c.args.out.now; err = None; err_faults = 0 } in
-    let planned : plans.plan_of (decoded bytes) ≡ plans.class_at c.in-Ok-Class.line =
-    ap (λ b. plans.plan_of (decoded b)) (sym c.as_slice.ensures.value) ∙ sym c.in-Ok-Class.ensures.plan ∙ ap plan_view c.in-Ok-Class.field-0-is in
-    let status = c.alone-in-Ok-Class.ensures.status ∙ ap NotBuilt c.line_of_list.ensures in
-    alone_goes command bytes c.alone-in-Ok-Class.result.modules.items c.alone-in-Ok-Class.result.sheets.items (NotBuilt (line_of_list c.in-Ok-Class.line)) c.alone-in-Ok-Class.result.status old old
-    c.alone-in-Ok-Class.ensures.modules c.alone-in-Ok-Class.ensures.sheets status (went_class command bytes c.in-Ok-Class.line old c.requires planned)
 
 pub returns-in-Err : goal.returns-in-Err
 returns-in-Err g c =

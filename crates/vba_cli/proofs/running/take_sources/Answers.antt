@@ -2,7 +2,7 @@ use Rattle.std.proofs.Common.{ap, subst, sym}
 use Rattle.std.specs.Prelude.{None, option_map}
 use Rattle.command_words.specs.View.{command_view}
 use Rattle.command_words.specs.Words.{check, code}
-use Rattle.list_file.specs.Sources.{bytes_view, sheets_view}
+use Rattle.list_file.specs.Sources.{files_view, sheets_view}
 use Rattle.list_file.specs.View.{start_view}
 use Rattle.vba_cli.specs.Contract.{World}
 use Rattle.vba_cli.specs.Program.{program_of}
@@ -12,7 +12,7 @@ use Rattle.vba_cli.proofs.running.take_sources.Goals as goal
 
 pub returns-in-Check : goal.returns-in-Check
 returns-in-Check g c =
-    let meant = program_of (option_map (λ s. start_view s.now) c.args.start) (bytes_view c.args.sources.now) in
+    let meant = program_of (option_map (λ s. start_view s.now) c.args.start) (files_view c.args.sources.now) in
     let sheets = sheets_view c.args.listed.sheets.now in
     let old : World = record { told = g.F.Files.told c.args.files.now; counts = g.F.Files.counts c.args.files.now; out = g.O.Sink.taken c.args.out.now; out_faults = g.O.Sink.faults c.args.out.now; err = None; err_faults = 0 } in
     let out = g.O.Sink.taken c.check_sources.new.out in
@@ -22,7 +22,7 @@ returns-in-Check g c =
 
 pub returns-in-Code : goal.returns-in-Code
 returns-in-Code g c =
-    let meant = program_of (option_map (λ s. start_view s.now) c.args.start) (bytes_view c.args.sources.now) in
+    let meant = program_of (option_map (λ s. start_view s.now) c.args.start) (files_view c.args.sources.now) in
     let sheets = sheets_view c.args.listed.sheets.now in
     let old : World = record { told = g.F.Files.told c.args.files.now; counts = g.F.Files.counts c.args.files.now; out = g.O.Sink.taken c.args.out.now; out_faults = g.O.Sink.faults c.args.out.now; err = None; err_faults = 0 } in
     let out = g.O.Sink.taken c.code_sources.new.out in
