@@ -1,7 +1,7 @@
 -- Statements without their places, to compare them.
 use Rattle.std.specs.Prelude.{List, [], ◌∷◌}
-use Rattle.bound_project.specs.Expressions.{Expr, expr, Node, not_given, constant, load, load_made, element_value, field_value, unary, binary, call, err_value, default_of, default_if_any, host_object, active_sheet, host_member, named_member, this, new_object, method, same, is_type, library, bound_of, Lvalue, variable, item, element, field, kept_place, object_field, as_new, Args, no_args, by_place, by_copy, by_default, by_list, in_order, Exprs, no_exprs, also, Prints, no_prints, shown, zone}
-use Rattle.bound_project.specs.Statements.{Tests, no_tests, test_is, test_range, Action, assign, assign_item, set, assign_default, assign_member, set_member, evaluate, let_property, let_method, set_method, print, raise, test, for_to, for_each, select, case_of, with_place, with_value, Statement}
+use Rattle.bound_project.specs.Expressions.{Expr, expr, Node, not_given, constant, load, load_made, element_value, field_value, unary, binary, call, err_value, default_of, default_if_any, host_object, active_sheet, host_member, named_member, this, new_object, method, late_member, late_item, same, is_type, library, bound_of, Lvalue, variable, item, element, field, kept_place, object_field, as_new, Args, no_args, by_place, by_copy, by_default, by_list, in_order, Given, none_given, place_given, expr_given, Exprs, no_exprs, also, Prints, no_prints, shown, zone}
+use Rattle.bound_project.specs.Statements.{Tests, no_tests, test_is, test_range, Action, assign, assign_item, set, assign_default, assign_member, set_member, assign_through, assign_element, assign_late, set_late, evaluate, let_property, let_method, set_method, raise_event, print, raise, test, for_to, for_each, select, case_of, with_place, with_value, Statement}
 use Rattle.bound_project.specs.Project.{nowhere}
 
 abbrev mutual
@@ -28,6 +28,8 @@ abbrev mutual
   bare_node this = this
   bare_node (new_object c) = new_object c
   bare_node (method e p args) = method (bare e) p (bare_args args)
+  bare_node (late_member e name by given) = late_member (bare e) name by (bare_given given)
+  bare_node (late_item e es) = late_item (bare e) (bare_exprs es)
   bare_node (same a b) = same (bare a) (bare b)
   bare_node (is_type e of) = is_type (bare e) of
   bare_node (library f text_form es compare base) = library f text_form (bare_exprs es) compare base
@@ -50,6 +52,11 @@ abbrev mutual
   bare_args (by_list es args) = by_list (bare_exprs es) (bare_args args)
   bare_args (in_order is args) = in_order is (bare_args args)
 
+  pub bare_given : Given → Given
+  bare_given none_given = none_given
+  bare_given (place_given x given) = place_given (bare_place x) (bare_given given)
+  bare_given (expr_given e given) = expr_given (bare e) (bare_given given)
+
   pub bare_exprs : Exprs → Exprs
   bare_exprs no_exprs = no_exprs
   bare_exprs (also e es) = also (bare e) (bare_exprs es)
@@ -71,10 +78,15 @@ bare_action (set_member x e) = set_member (bare x) (bare e)
 bare_action (set x e) = set (bare_place x) (bare e)
 bare_action (assign_default x e) = assign_default (bare x) (bare e)
 bare_action (assign_member base name es e) = assign_member (bare base) name (bare_exprs es) (bare e)
+bare_action (assign_through target e) = assign_through (bare target) (bare e)
+bare_action (assign_element x es e) = assign_element (bare_place x) (bare_exprs es) (bare e)
+bare_action (assign_late base name by given e) = assign_late (bare base) name by (bare_given given) (bare e)
+bare_action (set_late base name by given e) = set_late (bare base) name by (bare_given given) (bare e)
 bare_action (evaluate e) = evaluate (bare e)
 bare_action (let_property p args e of) = let_property p (bare_args args) (bare e) of
 bare_action (let_method base p args e of) = let_method (bare base) p (bare_args args) (bare e) of
 bare_action (set_method base p args e of) = set_method (bare base) p (bare_args args) (bare e) of
+bare_action (raise_event event args) = raise_event event (bare_args args)
 bare_action (print ps ends) = print (bare_prints ps) ends
 bare_action (raise args) = raise (bare_args args)
 bare_action (test sense e to other) = test sense (bare e) to other

@@ -151,7 +151,20 @@ abbrev pub bound_module : Space → Module
 bound_module space = record { name = space.name; compare = compare_of space.source; base = base_of space.source }
 
 abbrev pub class_of : Scope → List Class
-class_of s = if s.here.source.is_class then record { name = s.here.name; fields = module_declarations s s.here.entries; initialize = None; terminate = None } ∷ [] else []
+class_of s =
+    if s.here.source.is_class
+    then record {
+      name = s.here.name;
+      fields = module_declarations s s.here.entries;
+      initialize = None;
+      terminate = None;
+      members = [];
+      default = None;
+      events = [];
+      with_events = [];
+      handlers = [];
+    } ∷ []
+    else []
 
 abbrev pub procedures_of : Scope → List Procedure
 procedures_of s = map (bound_procedure s) (numbered 0 s.here.entries)

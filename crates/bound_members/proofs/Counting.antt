@@ -6,7 +6,7 @@ use Rattle.vba_values.specs.Types.{Declared}
 use Rattle.bound_project.specs.declared.node.Node.{Node}
 use Rattle.bound_project.specs.declared.node.NodeKind.{NodeKind}
 use Rattle.bound_project.specs.declared.node.NodeKind.TheVariants as node
-use Rattle.bound_project.specs.Expressions.{expr, not_given, constant, load, load_made, element_value, field_value, unary, binary, call, err_value, default_of, default_if_any, same, is_type, library, bound_of, host_object, active_sheet, host_member, named_member, this, new_object, method, no_args, in_order, Exprs, no_exprs, also, given_count}
+use Rattle.bound_project.specs.Expressions.{expr, not_given, constant, load, load_made, element_value, field_value, unary, binary, call, err_value, default_of, default_if_any, same, is_type, library, bound_of, host_object, active_sheet, host_member, named_member, this, new_object, method, late_member, late_item, no_args, in_order, Exprs, no_exprs, also, given_count}
 use Rattle.bound_project.specs.Expressions as bound
 use Rattle.bound_project.specs.Pieces.{Piece, an_expr, Tables, arguments_off, as_operand, expr_of, exprs_off, name_in, order_in, put_kind}
 use Rattle.bound_project.specs.View.{base_view, declared_view}
@@ -72,6 +72,8 @@ count_more (element_value a b) place of operand st h rest = refl
 count_more this place of operand st h rest = refl
 count_more (new_object a) place of operand st h rest = refl
 count_more (method a b c) place of operand st h rest = refl
+count_more (late_member a b c d) place of operand st h rest = refl
+count_more (late_item a b) place of operand st h rest = refl
 count_more (field_value a b) place of operand st h rest = refl
 count_more (unary a b) place of operand st h rest = refl
 count_more (binary a b c d) place of operand st h rest = refl
@@ -109,6 +111,8 @@ typed_kind (element_value a b) place of operand st h u = refl
 typed_kind this place of operand st h u = refl
 typed_kind (new_object a) place of operand st h u = refl
 typed_kind (method a b c) place of operand st h u = refl
+typed_kind (late_member a b c d) place of operand st h u = refl
+typed_kind (late_item a b) place of operand st h u = refl
 typed_kind (field_value a b) place of operand st h u = refl
 typed_kind (unary a b) place of operand st h u = refl
 typed_kind (binary a b c d) place of operand st h u = refl

@@ -73,6 +73,10 @@ mutual
     new_object : (class : ℕ) → Node
     -- a procedure or a Property Get of a class, called of an object
     method : Expr → (procedure : ℕ) → Args → Node
+    -- a member of an object that is found in the run, by its folded name, and its arguments
+    late_member : Expr → (name : List ℕ) → ByName → Given → Node
+    -- what arguments lead to in a value that is looked at in the run: an element, or an item along default members
+    late_item : Expr → Exprs → Node
     -- Is: whether both are the same object
     same : (left right : Expr) → Node
     -- TypeOf e Is type
@@ -111,6 +115,12 @@ mutual
     by_list : Exprs → Args → Args
     -- arguments that were named: each parameter's, by its number among those that are evaluated
     in_order : List ℕ → Args → Args
+
+  -- arguments of a member that is found in the run: places, which parameters may take themselves, and values
+  pub data Given : Type 0 where
+    none_given : Given
+    place_given : Lvalue → Given → Given
+    expr_given : Expr → Given → Given
 
   pub data Exprs : Type 0 where
     no_exprs : Exprs

@@ -58,12 +58,43 @@ pub record UserType : Type 0 where
   pub name : Spelled
   pub fields : List Declaration
 
--- a class module: its variables, and its Class_Initialize and Class_Terminate where they are written
+-- a member of a class: a variable of its objects, with the class of which an object is made where it is declared As New;
+-- a Sub or Function; a property, by its Get, its Let and its Set where they are written
+pub data Member : Type 0 where
+  is_variable : (field : ℕ) → (makes : Option ℕ) → Member
+  is_procedure : (procedure : ℕ) → Member
+  is_property : (reads lets sets : Option ℕ) → Member
+
+-- a public member, by its folded name
+pub record Named : Type 0 where
+  pub fold : List ℕ
+  pub member : Member
+
+-- an event that a class declares
+pub record DeclaredEvent : Type 0 where
+  pub name : Spelled
+  pub parameters : List Parameter
+
+-- a procedure that handles an event of what a WithEvents variable has: the number of the variable among those of its
+-- class, that of the event among those of what raises it, and that of the procedure. A Worksheet raises Change, 0
+pub record Handler : Type 0 where
+  pub field : ℕ
+  pub event : ℕ
+  pub procedure : ℕ
+
+-- a class module: its variables, its Class_Initialize and Class_Terminate where they are written, its public members, and
+-- its default member where it has one; the events that it declares, the numbers of its WithEvents variables, and its
+-- handlers
 pub record Class : Type 0 where
   pub name : Spelled
   pub fields : List Declaration
   pub initialize : Option ℕ
   pub terminate : Option ℕ
+  pub members : List Named
+  pub default : Option Member
+  pub events : List DeclaredEvent
+  pub with_events : List ℕ
+  pub handlers : List Handler
 
 -- all that a project declares. Classes count from 1, all else from 0
 pub record Declarations : Type 0 where
@@ -94,6 +125,9 @@ nowhere = record { «module» = 0; line = 0; column = 0 }
 abbrev pub no_declaration : Declaration
 no_declaration = record { name = no_name; place = nowhere; of = type.variant; bounds = [] }
 
+abbrev pub no_event : DeclaredEvent
+no_event = record { name = no_name; parameters = [] }
+
 abbrev pub no_procedure : Procedure
 no_procedure = record { name = no_name; kind = is_sub; in_module = 0; place = nowhere; result = no_declaration; locals = []; parameters = [] }
 
@@ -101,7 +135,7 @@ abbrev pub procedure_at : Declarations → ℕ → Procedure
 procedure_at d p = slice_index_or d.procedures p no_procedure
 
 abbrev pub no_class : Class
-no_class = record { name = no_name; fields = []; initialize = None; terminate = None }
+no_class = record { name = no_name; fields = []; initialize = None; terminate = None; members = []; default = None; events = []; with_events = []; handlers = [] }
 
 -- a class by its number; the number 0 is that of Collection, which ends without a word
 abbrev pub class_at : Declarations → ℕ → Class

@@ -6,7 +6,7 @@ use Rattle.vba_base.specs.declared.place.Place.{Place}
 use Rattle.vba_values.specs.declared.types.OpKind.{OpKind}
 use Rattle.vba_values.specs.declared.types.Compare.{Compare}
 use Rattle.vba_values.specs.Types.{Declared}
-use Rattle.bound_project.specs.Expressions.{Variable, Expr, Exprs, Lvalue, Args, Prints}
+use Rattle.bound_project.specs.Expressions.{Variable, ByName, Expr, Exprs, Lvalue, Args, Given, Prints}
 
 -- the tests of a Case: `Is o e`, of which `e` alone is `Is = e`, and `e To e`
 pub data Tests : Type 0 where
@@ -47,6 +47,14 @@ pub data Action : Type 0 where
   assign_member : (base : Expr) → (name : List ℕ) → Exprs → Expr → Action
   -- Set base.name = value, for a member of an object that is found in the run
   set_member : (base value : Expr) → Action
+  -- [Let] target = value where the target gives an object of a class, or what the run says: its default member is written
+  assign_through : (target value : Expr) → Action
+  -- [Let] place(arguments) = value where the run says what is at the place: an element of an array takes the value, and else
+  -- what the arguments lead to has its default member written
+  assign_element : Lvalue → Exprs → (value : Expr) → Action
+  -- [Let] base.name(arguments) = value, and Set of it, for a member that is found in the run
+  assign_late : (base : Expr) → (name : List ℕ) → ByName → Given → (value : Expr) → Action
+  set_late : (base : Expr) → (name : List ℕ) → ByName → Given → (value : Expr) → Action
   -- a call whose value isn't used
   evaluate : Expr → Action
   -- an assignment to a property of a standard module: its Property Let, that one's other arguments, the value and its
@@ -58,6 +66,8 @@ pub data Action : Type 0 where
   -- the same of an object: the property of its class
   let_method : (base : Expr) → (procedure : ℕ) → Args → Expr → Declared → Action
   set_method : (base : Expr) → (procedure : ℕ) → Args → Expr → Declared → Action
+  -- RaiseEvent, by the event's number in the class whose object raises it
+  raise_event : (event : ℕ) → Args → Action
   -- Debug.Print, and whether the line is finished
   print : Prints → (ends : Bool) → Action
   -- Err.Raise and Error: a number, a source and a description

@@ -1,5 +1,5 @@
 -- Serves the code: the plain data that types, variables and declarations stand for.
-use Rattle.std.specs.Prelude.{None, ℤ, pos, Bool, true, false, map, option_map}
+use Rattle.std.specs.Prelude.{None, [], ℤ, pos, Bool, true, false, map, option_map}
 use Rattle.vba_values.specs.Types.{Declared}
 use Rattle.vba_values.specs.Types as type
 use Rattle.vba_values.specs.View.{view as value_view}
@@ -105,7 +105,17 @@ abbrev pub user_type_view : UserType → project.UserType
 user_type_view t = record { name = spelled_view t.name; fields = map declaration_view t.fields.items }
 
 abbrev pub class_view : Class → project.Class
-class_view c = record { name = spelled_view c.name; fields = map declaration_view c.fields.items; initialize = None; terminate = c.terminate }
+class_view c = record {
+  name = spelled_view c.name;
+  fields = map declaration_view c.fields.items;
+  initialize = None;
+  terminate = c.terminate;
+  members = [];
+  default = None;
+  events = [];
+  with_events = [];
+  handlers = [];
+}
 
 abbrev pub declarations_view : Declarations → project.Declarations
 declarations_view d = record {

@@ -1,13 +1,13 @@
 -- What it is that a project is whole: each number in it names what is there, and its constants need no place of their
 -- own. The number behind a procedure's last statement is its end.
-use Rattle.std.specs.Prelude.{◌≡◌, ℕ, suc, ◌+◌, ◌<◌, ◌≤◌, List, [], ◌∷◌, length, Option, Some, None}
+use Rattle.std.specs.Prelude.{◌≡◌, ℕ, suc, ◌+◌, ◌<◌, ◌≤◌, List, [], ◌∷◌, length, Option, Some, None, slice_index_or}
 use Rattle.vba_values.specs.declared.object.ObjRef.TheVariants.{Nothing}
 use Rattle.vba_values.specs.Types.{Declared}
 use Rattle.vba_values.specs.Types as type
 use Rattle.vba_values.specs.Val.{Val, empty, null, missing, boolean, whole, currency, text, object}
-use Rattle.bound_project.specs.Expressions.{Storage, local, shared, own, Variable, Expr, expr, Node, not_given, constant, load, load_made, element_value, field_value, unary, binary, call, err_value, default_of, default_if_any, same, is_type, library, bound_of, host_object, active_sheet, host_member, named_member, this, new_object, method, Lvalue, variable, item, element, field, kept_place, object_field, as_new, Args, no_args, by_place, by_copy, by_default, by_list, in_order, Exprs, no_exprs, also, Prints, no_prints, shown, zone}
-use Rattle.bound_project.specs.Statements.{Handling, passed_on, skipped, handled_at, Resizes, no_resizes, resize, Arrays, no_arrays, an_array, Tests, no_tests, test_is, test_range, Action, assign, assign_item, set, assign_default, assign_member, set_member, evaluate, let_property, set_property, let_method, set_method, print, raise, test, go_to, for_to, next, for_each, next_each, exit_each, select, case_of, redim, erase, with_place, with_value, end_with, go_sub, return_sub, exit_to, on_error, end_handler, clear_err, resume_again, resume_next, resume_at, stop, end_run, Statement}
-use Rattle.bound_project.specs.Project.{Class, Declarations, Body, Project, procedure_at, statements_at}
+use Rattle.bound_project.specs.Expressions.{Storage, local, shared, own, Variable, Expr, expr, Node, not_given, constant, load, load_made, element_value, field_value, unary, binary, call, err_value, default_of, default_if_any, same, is_type, library, bound_of, host_object, active_sheet, host_member, named_member, this, new_object, method, late_member, late_item, Lvalue, variable, item, element, field, kept_place, object_field, as_new, Args, no_args, by_place, by_copy, by_default, by_list, in_order, Given, none_given, place_given, expr_given, Exprs, no_exprs, also, Prints, no_prints, shown, zone}
+use Rattle.bound_project.specs.Statements.{Handling, passed_on, skipped, handled_at, Resizes, no_resizes, resize, Arrays, no_arrays, an_array, Tests, no_tests, test_is, test_range, Action, assign, assign_item, set, assign_default, assign_member, set_member, assign_through, assign_element, assign_late, set_late, evaluate, let_property, set_property, let_method, set_method, raise_event, print, raise, test, go_to, for_to, next, for_each, next_each, exit_each, select, case_of, redim, erase, with_place, with_value, end_with, go_sub, return_sub, exit_to, on_error, end_handler, clear_err, resume_again, resume_next, resume_at, stop, end_run, Statement}
+use Rattle.bound_project.specs.Project.{Handler, Member, is_variable, is_procedure, is_property, Class, Declarations, Body, Project, no_declaration, no_event, procedure_at, class_at, statements_at}
 
 -- each item of a list is so
 abbrev pub All : {A : Type 0} → (A → Type 0) → List A → Type 0
@@ -99,6 +99,8 @@ abbrev mutual
   WholeNode pr p this = Unit {0}
   WholeNode pr p (new_object class) = Unit {0}
   WholeNode pr p (method e q args) = WholeExpr pr p e × (WholeArgs pr p args × HasProcedure pr.declared q (argument_count args))
+  WholeNode pr p (late_member e name by given) = WholeExpr pr p e × WholeGiven pr p given
+  WholeNode pr p (late_item e es) = WholeExpr pr p e × WholeExprs pr p es
 
   pub WholePlace : Project → (procedure : ℕ) → Lvalue → Type 0
   WholePlace pr p (variable x) = HasVariable pr.declared p x
@@ -116,6 +118,11 @@ abbrev mutual
   WholeArgs pr p (by_default v args) = IsConstant v × WholeArgs pr p args
   WholeArgs pr p (by_list es args) = WholeExprs pr p es × WholeArgs pr p args
   WholeArgs pr p (in_order order args) = WholeArgs pr p args × All (λ i. i < argument_count args) order
+
+  pub WholeGiven : Project → (procedure : ℕ) → Given → Type 0
+  WholeGiven pr p none_given = Unit {0}
+  WholeGiven pr p (place_given x given) = WholePlace pr p x × WholeGiven pr p given
+  WholeGiven pr p (expr_given e given) = WholeExpr pr p e × WholeGiven pr p given
 
   pub WholeExprs : Project → (procedure : ℕ) → Exprs → Type 0
   WholeExprs pr p no_exprs = Unit {0}
@@ -153,6 +160,10 @@ WholeAction pr p (set x e) = WholeExpr pr p e × WholePlace pr p x
 WholeAction pr p (assign_default x e) = WholeExpr pr p e × WholeExpr pr p x
 WholeAction pr p (assign_member base name es e) = WholeExpr pr p e × (WholeExpr pr p base × WholeExprs pr p es)
 WholeAction pr p (set_member base e) = WholeExpr pr p e × WholeExpr pr p base
+WholeAction pr p (assign_through target e) = WholeExpr pr p e × WholeExpr pr p target
+WholeAction pr p (assign_element x es e) = WholeExpr pr p e × (WholePlace pr p x × WholeExprs pr p es)
+WholeAction pr p (assign_late base name by given e) = WholeExpr pr p e × (WholeExpr pr p base × WholeGiven pr p given)
+WholeAction pr p (set_late base name by given e) = WholeExpr pr p e × (WholeExpr pr p base × WholeGiven pr p given)
 WholeAction pr p (evaluate e) = WholeExpr pr p e
 WholeAction pr p (let_property q args e of) = WholeExpr pr p e × (WholeArgs pr p args × (HasType pr.declared of × HasProcedure pr.declared q (suc (argument_count args))))
 WholeAction pr p (set_property q args e of) = WholeExpr pr p e × (WholeArgs pr p args × (HasType pr.declared of × HasProcedure pr.declared q (suc (argument_count args))))
@@ -160,6 +171,7 @@ WholeAction pr p (let_method base q args e of) =
     WholeExpr pr p e × (WholeExpr pr p base × (WholeArgs pr p args × (HasType pr.declared of × HasProcedure pr.declared q (suc (argument_count args)))))
 WholeAction pr p (set_method base q args e of) =
     WholeExpr pr p e × (WholeExpr pr p base × (WholeArgs pr p args × (HasType pr.declared of × HasProcedure pr.declared q (suc (argument_count args)))))
+WholeAction pr p (raise_event event args) = WholeArgs pr p args
 WholeAction pr p (print ps ends) = WholePrints pr p ps
 WholeAction pr p (raise args) = WholeArgs pr p args
 WholeAction pr p (test sense e to other) = WholeExpr pr p e × (HasTarget pr p to × HasTarget pr p other)
@@ -198,8 +210,27 @@ abbrev pub WholeBodies : Project → (procedure : ℕ) → List Body → Type 0
 WholeBodies pr p [] = Unit {0}
 WholeBodies pr p (b ∷ bs) = All (WholeStatement pr p) b.statements × WholeBodies pr (suc p) bs
 
+-- a member's variable is one of the class's, and its procedures are there
+abbrev pub WholeMember : Declarations → (fields : ℕ) → Member → Type 0
+WholeMember d n (is_variable i makes) = (i < n) × IfThere (λ c. c ≤ length d.classes) makes
+WholeMember d n (is_procedure p) = p < length d.procedures
+WholeMember d n (is_property reads lets sets) =
+    IfThere (λ p. p < length d.procedures) reads × (IfThere (λ p. p < length d.procedures) lets × IfThere (λ p. p < length d.procedures) sets)
+
+-- a handler names its variable, and takes what its event gives: Change one argument, an event of a class its parameters
+abbrev pub HandlesEvent : Declarations → Declared → Handler → Type 0
+HandlesEvent d type.worksheet h = (h.event ≡ 0) × HasProcedure d h.procedure 1
+HandlesEvent d (type.class c) h = (h.event < length (class_at d c).events) × HasProcedure d h.procedure (length (slice_index_or (class_at d c).events h.event no_event).parameters)
+HandlesEvent d of h = ⊥
+
+abbrev pub WholeHandler : Declarations → Class → Handler → Type 0
+WholeHandler d c h = (h.field < length c.fields) × HandlesEvent d (slice_index_or c.fields h.field no_declaration).of h
+
 abbrev pub WholeClass : Declarations → Class → Type 0
-WholeClass d c = IfThere (λ p. p < length d.procedures) c.initialize × IfThere (λ p. p < length d.procedures) c.terminate
+WholeClass d c =
+    IfThere (λ p. p < length d.procedures) c.initialize × (IfThere (λ p. p < length d.procedures) c.terminate ×
+    (All (λ x. WholeMember d (length c.fields) x.member) c.members × (IfThere (WholeMember d (length c.fields)) c.default ×
+    (All (λ i. i < length c.fields) c.with_events × All (WholeHandler d c) c.handlers))))
 
 -- a project is whole: a body for each procedure, numbers that name what is there, and a procedure to begin with
 pub record IsWhole (pr : Project) : Type 0 where

@@ -94,6 +94,16 @@ listed (instr.CallOf p k) = listed_as 73 p k
 listed (instr.AsNew class) = listed_as 74 class 0
 listed instr.MakeThere = listed_as 75 0 0
 listed instr.StoreMade = listed_as 76 0 0
+listed (instr.FindLate aim name by given) = listed_as 77 (length name) (length given)
+listed (instr.BindValue aim name by given i) = listed_as 78 (length name) i
+listed (instr.BindPlace aim name by given i) = listed_as 79 (length name) i
+listed (instr.CallLate name by given) = listed_as 80 (length name) (length given)
+listed (instr.LetLate name by given) = listed_as 81 (length name) (length given)
+listed (instr.SetLate name by given) = listed_as 82 (length name) (length given)
+listed (instr.ItemAlong k) = listed_as 83 k 0
+listed instr.WriteThrough = listed_as 84 0 0
+listed (instr.LetElement k) = listed_as 85 k 0
+listed (instr.RaiseEvent event k) = listed_as 86 event k
 
 -- two numbers in decimal, with a blank between them
 abbrev pub both : (left right : ℕ) → List ℕ

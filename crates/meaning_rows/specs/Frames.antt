@@ -1,4 +1,4 @@
--- A procedure that calls itself until its argument is a number that is written.
+-- A procedure that calls itself, each time with a number one greater, until that is the last one.
 use Rattle.std.specs.Prelude.{ℕ, pos, List, [], ◌∷◌, codes, true, false, None}
 use Rattle.vba_values.specs.declared.types.OpKind.TheVariants as op
 use Rattle.vba_values.specs.declared.types.Compare.TheVariants.{Binary}

@@ -34,6 +34,7 @@ use Rattle.bound_project.specs.Project.{Declarations}
 use Rattle.vba_meaning.specs.Paths.{Root, in_frame, in_project, in_fields, in_block, in_object, in_item, Step, Path}
 use Rattle.vba_meaning.specs.Memory.{Memory, value, outside, value_at}
 use Rattle.vba_meaning.specs.Effects.{Effect, Fine, Bad-at, on_fine, done, plain, err_of, is_true, range_value, area_in, raised_by, assigned, is_collection}
+use Rattle.vba_meaning.specs.Events.{is_heard, noted}
 use Rattle.vba_meaning.specs.Arrays.{number_in, indexed}
 use Rattle.vba_meaning.specs.Host.{sheet_value, long_value, area_found, whole_sheet, long_of, units_in, text_of, area_by, cell_found, cells_found, spanned, area_of, range_between, range_found, sheet_numbered, sheet_by, sheet_found, first_sheet, cell_events, cells_put, area_written, one_cleared, cleared, member_value, two, takes, fits_in, are_places, can_index, plains, item_by, member_begun, member_there, as_given, member_by, member_called, number_given, text_given, error_given, written_default, object_member, path_to, place_at, item_written, assigned_at, item_assigned, with_mark, mark_set, assigned_through, member_set, through_item, member_assigned, member_not_set}
 use Rattle.vba_meaning.specs.Collections.{CollectionMember, is_item, takes_in_collection, names_in_collection}
@@ -122,10 +123,16 @@ cells_put_law a cs m =
     both (nat_lt cell_limit (written_count (with_area m.book a cs))) (out (outside limit.Cells) (same m))
     (told (cell_events a 0 cs) (fine tt (alike (λ h. h) (λ o. refl))))
 
+noted_grows : (a : Area) (m : Memory) → Grows m [] (noted a m)
+noted_grows a m = by_test (is_heard a m) where
+  by_test : (b : Bool) → Grows m [] (if b then record m { changed = Some a } else m)
+  by_test true = alike (λ h. h) (λ o. refl)
+  by_test false = same m
+
 area_written_law : (a : Area) (v : Val) (m : Memory) → Law m [] (area_written a v m)
 area_written_law a v m =
     both (nat_lt cell_limit (a.rows * a.columns)) (out (outside limit.Cells) (same m))
-    (then_still (plain_law v m) (λ w m1. then_still (answered_law (cells_of w a.rows a.columns) m1) (λ cs m2. cells_put_law a cs m2)))
+    (then_still (plain_law v m) (λ w m1. then_still (then_still (answered_law (cells_of w a.rows a.columns) m1) (λ cs m2. cells_put_law a cs m2)) (λ u m2. fine tt (noted_grows a m2))))
 
 one_cleared_law : (a : Area) (p : Position) (m : Memory) → Law m [] (one_cleared a p m)
 one_cleared_law a p m = both (is_empty (cell_at (content_at m.book a.sheet) p)) (fine tt (same m)) (cells_put_law (area_in a.sheet.0 p.0 p.1 1 1) (cell.Empty ∷ []) m)
@@ -178,7 +185,7 @@ member_value_law d (host.Area s t l r c) n vs m =
     by_number m n (and_then m (answered_law (area_value m.book a) m) (given m (text (address_of a)) (given m (long_value t) (given m (long_value l)
     (and_then m (answered_law (ranged kind.Long (pos (r * c))) m) (given m (object (Host (host.RowsOf r))) (given m (object (Host (host.ColumnsOf c)))
     (and_then m (bare_law (cells_found_bare a vs m)) (and_then m (bare_law (cell_found_bare a vs m)) (and_then m (bare_law (area_by_bare (offset_of a) vs m))
-    (and_then m (bare_law (area_by_bare (resized a) vs m)) (and_then m (empty_behind (cleared_law a (r * c) m)) (given m (sheet_value s) (given m (sheet_value s) (no_more m)))))))))))))))
+    (and_then m (bare_law (area_by_bare (resized a) vs m)) (and_then m (then_still (cleared_law a (r * c) m) (λ u m1. fine empty (noted_grows a m1))) (given m (sheet_value s) (given m (sheet_value s) (no_more m)))))))))))))))
 member_value_law d (host.RowsOf count) n vs m = fine (long_value count) (same m)
 member_value_law d (host.ColumnsOf count) n vs m = fine (long_value count) (same m)
 

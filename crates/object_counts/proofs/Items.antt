@@ -22,7 +22,7 @@ use Rattle.object_counts.proofs.Variables.{plain_law, read_value_holds}
 
 -- ---- which member it is, and where an item is
 
-found_or_law : {A : Type 0} (n : ℕ) (x : Option A) (m : Memory) → Law m [] (found_or n x m)
+pub found_or_law : {A : Type 0} (n : ℕ) (x : Option A) (m : Memory) → Law m [] (found_or n x m)
 found_or_law n None m = bad n (same m)
 found_or_law n (Some v) m = fine v (same m)
 

@@ -9,6 +9,7 @@ use Rattle.vba_values.specs.Val.{Val, empty, object}
 use Rattle.bound_project.specs.Project.{Declarations, procedure_at}
 use Rattle.vba_meaning.specs.Memory.{Slot, value, path, Memory, Object, Frame, first_or, rest, top, frame_left, object_at, entered, calling, own_slots, received}
 use Rattle.vba_meaning.specs.References.{objects_in, objects_in_values, objects_in_slot, objects_in_slots, objects_kept, times, times_in_frames, times_in_objects, looks, hold, taken_off, let_held, held_by, without_values, but_result, emptied, let_frame, as_told, gone, closed}
+use Rattle.vba_meaning.specs.Effects.{renumbered}
 use Rattle.vba_meaning.specs.Objects.{new_instance}
 use Rattle.object_counts.specs.Gains.{entered_gains, made_gains}
 use Rattle.object_counts.specs.Counting.{all_in, front}
@@ -138,6 +139,15 @@ told_grows r m = record { ordered = λ h. h; more = λ h o. omega (arith, as_bef
   as_before o (Some b ∷ bs) zero = refl
   as_before o (None ∷ bs) (suc i) = as_before o bs i
   as_before o (Some b ∷ bs) (suc i) = omega (arith, as_before o bs i)
+
+pub renumbered_objects : (o : ℕ) (bs : List (Option Object)) (n i : ℕ) (number : Option ℕ)
+    → times_in_objects o (slice_set bs n (Some (record (object_in bs n) { set_numbers = renumbered i number (object_in bs n).set_numbers }))) ≡ times_in_objects o bs
+renumbered_objects o [] zero i number = refl
+renumbered_objects o [] (suc n) i number = refl
+renumbered_objects o (None ∷ bs) zero i number = omega arith
+renumbered_objects o (Some b ∷ bs) zero i number = refl
+renumbered_objects o (None ∷ bs) (suc n) i number = renumbered_objects o bs n i number
+renumbered_objects o (Some b ∷ bs) (suc n) i number = omega (arith, renumbered_objects o bs n i number)
 
 pub gone_grows : (r : ℕ) (m : Memory) → Grows m [] (gone r m)
 gone_grows r m = record { ordered = λ h. h; more = λ h o. omega (arith, less o m.objects r, times-append o (objects_in_values (object_at m r).fields) m.waiting) } where

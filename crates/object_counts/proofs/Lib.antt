@@ -8,6 +8,8 @@ pub mod Variables
 pub mod Loops
 pub mod Items
 pub mod Hosts
+pub mod Uses
+pub mod LateUses
 pub mod Moves
 pub mod Steps
 pub mod Whole

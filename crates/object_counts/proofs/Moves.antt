@@ -1,29 +1,36 @@
 -- What a move raises, and what each instruction does.
-use Rattle.std.proofs.Common.{◌≡◌, ℕ, zero, suc, ◌+◌, Bool, true, false, List, [], ◌∷◌, ◌++◌, length, Option, Some, None, refl}
+use Rattle.std.proofs.Common.{◌≡◌, ℕ, zero, suc, ◌+◌, Bool, true, false, List, [], ◌∷◌, ◌++◌, length, map, Option, Some, None, refl}
 use Rattle.std.specs.Prelude.{nat_lt, slice_index, if◌then◌else◌}
 use Rattle.vba_values.specs.Val.{Val, empty, boolean, object}
-use Rattle.vba_values.specs.declared.object.ObjRef.TheVariants.{Host}
+use Rattle.vba_values.specs.declared.object.ObjRef.TheVariants.{Heap, Host}
 use Rattle.error_frames.specs.declared.frame.ResumeKind.TheVariants as kind
+use Rattle.vba_events.specs.declared.linked.Linked.{Linked}
+use Rattle.sheet_host.specs.declared.area.Area.{Area}
 use Rattle.bound_project.specs.Project.{class_at}
 use Rattle.vba_meaning.specs.Paths.{Path, field_path}
-use Rattle.vba_meaning.specs.Memory.{Error, Ending, Ended, Stopped, Slot, value, path, Memory, top, at_statement, path_of, entered, error_here}
+use Rattle.vba_meaning.specs.Memory.{Error, Ending, Ended, Stopped, Slot, value, path, Memory, top, at_statement, path_of, paths_in_slots, without_paths, received, entered, error_here}
 use Rattle.vba_meaning.specs.References.{let_held, held_by, let_frame}
 use Rattle.vba_meaning.specs.Effects.{Event, Raised, Effect, Fine, Bad-at, Out, Tell, unlent, slot_values, packed, reordered, raised_by, err_of, failed_statement}
+use Rattle.vba_meaning.specs.Events.{source_of, sinks, due, lent_again, raise_over, change, sheet_of, target_of, no_change}
 use Rattle.vba_meaning.specs.Objects.{initialize_of, made_at}
 use Rattle.vba_meaning.specs.Host.{is_counted, is_raise}
 use Rattle.vba_meaning.specs.ByName.{in_parameter_order}
+use Rattle.vba_meaning.specs.Defaults.{Next, gives, then_call, is_instance, most_passed, most_calls}
+use Rattle.vba_meaning.specs.LateBound.{lends_place, host_arguments}
 use Rattle.vba_meaning.specs.Meaning.{State, with_memory, turned}
-use Rattle.pcode.specs.Instructions.{Instr, Begin, Push, LoadErr, PathOf, ReadThrough, ElementOf, ElementIn, FieldOf, Dot, Index, PartOf, Operate, OperateAlone, Plain, PlainIfAny, PushHost, FirstSheet, MemberThere, MemberOf, NamedThere, NamedOf, PushThis, New, ObjectThere, FieldIn, AsNew, MakeThere, StoreMade, Same, IsType, Library, BoundAt, Fit, FitObject, Drop, Lend, Pack, Reorder, Lift, Call, CallOf, Store, SetAt, StoreDefault, StoreMember, StoreItem, SetMember, ShowText, Show, Throw, LoopOff, LoopOn, NextRound, EachOff, EachOn, NextItem, Keep, Selected, IfFits, IfBetween, Redim, EraseAt, KeepPath, DropKept, PutReturn, TakeReturn, SetPolicy, HandlerOff, ErrOff, Again, Behind, Resumes, Finish, Branch, Halt, StopHere, Leave, Code, next_statement, entry_of}
-use Rattle.pcode.specs.Machine.{After, Goes-on, Return, Back-to, Back, Caller, Config, Move, Goes, Ends, Sticks, Tells, Turns, at, failing, letting, lets, lets_all, finishes, raised, done_then, then_at, then_push, then_push_path, then_let_go, then_test, then_jump, then_branch, pops, pops_path, take_args, pushed, uses_member, enters, enter_by, calls, initializes, then_statement, Choices, act}
-use Rattle.object_counts.specs.Gains.{gains_behind, entered_gains, member_used_gains}
-use Rattle.object_counts.specs.Counting.{for_value, for_path, for_args, call_gains, initialize_gains, act_gains}
+use Rattle.pcode.specs.Instructions.{Instr, Begin, Push, LoadErr, PathOf, ReadThrough, ElementOf, ElementIn, FieldOf, Dot, Index, PartOf, Operate, OperateAlone, Plain, PlainIfAny, PushHost, FirstSheet, MemberThere, MemberOf, NamedThere, NamedOf, PushThis, New, ObjectThere, FieldIn, AsNew, MakeThere, StoreMade, FindLate, BindValue, BindPlace, CallLate, LetLate, SetLate, ItemAlong, WriteThrough, LetElement, Same, IsType, Library, BoundAt, Fit, FitObject, Drop, Lend, Pack, Reorder, Lift, Call, CallOf, Store, SetAt, StoreDefault, StoreMember, StoreItem, SetMember, RaiseEvent, ShowText, Show, Throw, LoopOff, LoopOn, NextRound, EachOff, EachOn, NextItem, Keep, Selected, IfFits, IfBetween, Redim, EraseAt, KeepPath, DropKept, PutReturn, TakeReturn, SetPolicy, HandlerOff, ErrOff, Again, Behind, Resumes, Finish, Branch, Halt, StopHere, Leave, Code, next_statement, entry_of}
+use Rattle.pcode.specs.Machine.{After, Goes-on, Return, Back-to, Back, Caller, Delivering, Within, Config, Move, Goes, Ends, Sticks, Tells, Turns, at, failing, letting, lets, lets_all, finishes, raised, done_then, then_at, then_push, then_push_path, then_let_go, then_test, then_jump, then_branch, pops, pops_path, take_args, pushed, calls_handler, delivers, tells_change, uses_member, enters, enter_by, calls, initializes, then_statement, then_changes, left_as, follows, base_below, Choices, act}
+use Rattle.object_counts.specs.Gains.{gains_behind, entered_gains}
+use Rattle.object_counts.specs.Counting.{for_value, for_path, for_args, call_gains, initialize_gains, handler_gains, delivery_gains, change_gains, changed_gains, uses_member_gains, next_gains, use_gains, act_gains}
 use Rattle.object_counts.proofs.Looks.{Grows, same, top_same}
 use Rattle.object_counts.proofs.Leaving.{entered_grows, held_waits, frame_waits}
 use Rattle.object_counts.proofs.Chains.{Raises, Law, with_nil, nil_with}
 use Rattle.object_counts.proofs.Looks.{grown}
-use Rattle.object_counts.proofs.Variables.{operated_law, operated_alone_law, set_object_law, fitted_law, plain_law, plain_if_any_law, condition_law, compared_law, typed_as_law, object_there_law, field_in_law, show_value_law, read_path_law, own_object_law, selected_law, keep_law, set_at_law, loop_on_law, next_round_law, loop_off_law, fits_law, fits_between_law, lent_law, unlent_grows, printed_law, gone_sub_law, returned_sub_law, err_off_law, policy_on_law, handler_off_law, resumed_law, stop_here_law, library_law, bound_at_law, made_law, made_for_law, stored_made_law}
+use Rattle.object_counts.proofs.Variables.{alike, operated_law, operated_alone_law, set_object_law, fitted_law, plain_law, plain_if_any_law, condition_law, compared_law, typed_as_law, object_there_law, field_in_law, show_value_law, read_path_law, own_object_law, selected_law, keep_law, set_at_law, loop_on_law, next_round_law, loop_off_law, fits_law, fits_between_law, lent_law, unlent_grows, printed_law, gone_sub_law, returned_sub_law, err_off_law, policy_on_law, handler_off_law, resumed_law, stop_here_law, library_law, bound_at_law, made_law, made_for_law, stored_made_law}
 use Rattle.object_counts.proofs.Loops.{part_of_law, redimmed_law, erased_law, keep_path_law, block_over_law, dot_at_law, each_off_law, each_begun_law, each_next_law}
 use Rattle.object_counts.proofs.Hosts.{first_sheet_law, written_default_law, item_law, member_there_law, named_there_law, member_called_law, object_member_law, error_given_law, place_at_law, assigned_at_law, item_assigned_law, member_assigned_law, member_not_set_law}
+use Rattle.object_counts.proofs.Uses.{counted_operand_law, counted_if_any_law, index_along_law, write_along_law}
+use Rattle.object_counts.proofs.LateUses.{late_there_law, value_bound_law, place_copied_law, late_called_law, let_element_law, late_let_law, late_set_law}
 
 module _ (bound : ℕ) where
   -- wherever the move leads, these references are there once more
@@ -184,18 +191,59 @@ module _ (bound : ℕ) where
     calls_adds : (p : ℕ) (me : Val) (xs : List Slot) (pc : ℕ) (st : List Slot) (bs : List Back) (s : State) → Adds s.memory (call_gains code p me xs s.memory.frames) (calls code p me xs pc st bs s)
     calls_adds p me xs pc st bs s = enter_by_adds true p me xs (Caller pc st ∷ bs) s _ (raises (error_here 28 s.memory) bs s (same s.memory))
 
+    -- ---- events
+
+    lent_grows : (xs : List Slot) (m : Memory) → Grows m [] (lent_again xs m)
+    lent_grows xs m = top_same m (record (top m) { pending = paths_in_slots xs ++ (top m).pending }) (λ h. h) (λ o. refl)
+
+    over_grows : (xs : List Slot) (m : Memory) → Grows m [] (raise_over xs m)
+    over_grows xs m = top_same m (record (top m) { pending = without_paths xs (top m).pending }) (λ h. h) (λ o. refl)
+
+    handler_adds : (o : Option ℕ) (e : ℕ) (xs : List Slot) (l : Linked) (ls : List Linked) (pc : ℕ) (st : List Slot) (bs : List Back) (s : State) {gs : List ℕ} {more : Move} → Adds s.memory gs more
+        → Adds s.memory (handler_gains code xs l.sink o s.memory gs) (calls_handler code e xs l ls o pc st bs s more)
+    handler_adds None e xs l ls pc st bs s h = h
+    handler_adds (Some p) e xs l ls pc st bs s h =
+        let s1 : State = with_memory s (lent_again xs s.memory) in
+        from (lent_grows xs s.memory) (enter_by_adds true p (object (Heap l.sink)) xs (Delivering e xs ls pc st ∷ bs) s1 _ (raises (error_here 28 s1.memory) bs s1 (same s1.memory)))
+
+    pub delivers_adds : (e : ℕ) (xs : List Slot) (ls : List Linked) (pc : ℕ) (st : List Slot) (bs : List Back) (s : State) → Adds s.memory (delivery_gains code e xs ls s.memory) (delivers code e xs ls pc st bs s)
+    delivers_adds e xs [] pc st bs s = goes (at pc st bs (with_memory s (raise_over xs s.memory))) (over_grows xs s.memory)
+    delivers_adds e xs (l ∷ ls) pc st bs s = handler_adds (due code.declared e l s.memory) e xs l ls pc st bs s (delivers_adds e xs ls pc st bs s)
+
+    change_adds : (o : Option Area) (pc : ℕ) (st : List Slot) (bs : List Back) (s : State) → Adds s.memory (change_gains code o s.memory) (tells_change code o pc st bs s)
+    change_adds None pc st bs s = goes (at pc st bs s) (same s.memory)
+    change_adds (Some a) pc st bs s =
+        from (alike (λ h. h) (λ o. refl)) (delivers_adds change (target_of a) (sinks (sheet_of a) s.memory) pc st bs (with_memory s (no_change s.memory)))
+
+    -- cells may be written, and then the handlers of Change are called
+    writes : {A : Type 0} {gs : List ℕ} {e : Effect A} (pc : ℕ) (st : List Slot) (bs : List Back) (s : State) → Law s.memory gs e
+        → Adds s.memory (gs ++ gains_behind e (λ v m1. changed_gains code m1)) (done_then e bs s (then_changes code pc st bs))
+    writes pc st bs s a = does_further (λ v m1. changed_gains code m1) bs s a (λ v s1. change_adds s1.memory.changed pc st bs s1)
+
+    -- ---- uses of objects
+
+    -- a use of an object goes on
+    follows_adds : (b : Bool) (k pc : ℕ) (st : List Slot) (bs : List Back) (n : Next) (s : State) → Adds s.memory (next_gains code k n s.memory) (follows code b k pc st bs n s)
+    follows_adds b k pc st bs (gives v) s = change_adds s.memory.changed pc (left_as b v ∷ st) bs s
+    follows_adds b zero pc st bs (then_call p me xs ts) s = raises (error_here 450 s.memory) bs s (same s.memory)
+    follows_adds b (suc k) pc st bs (then_call p me xs ts) s =
+        enter_by_adds true p me xs (Within b k ts pc st ∷ bs) s _ (raises (error_here 28 s.memory) bs s (same s.memory))
+
+    pub use_adds : {gs : List ℕ} {m : Memory} {e : Effect Next} (b : Bool) (k pc : ℕ) (st : List Slot) (bs : List Back) (s : State) → Law m gs e → Adds m (use_gains code k gs e) (done_then e bs s (follows code b k pc st bs))
+    use_adds b k pc st bs s a = does_further (next_gains code k) bs s a (λ n s1. follows_adds b k pc st bs n s1)
+
     initializes_adds : (o : Option ℕ) (v : Val) (pc : ℕ) (st : List Slot) (bs : List Back) (s : State) → Adds s.memory (initialize_gains code o v s.memory.frames) (initializes code o v pc st bs s)
     initializes_adds None v pc st bs s = goes (at pc (value empty ∷ value v ∷ st) bs s) (same s.memory)
     initializes_adds (Some p) v pc st bs s = calls_adds p v [] pc (value v ∷ st) bs s
 
     member_adds : (name : List ℕ) (base begun : Val) (vs : List Val) (pc : ℕ) (st : List Slot) (bs : List Back) (s : State)
-        → Adds s.memory (member_used_gains name base begun vs s.memory) (uses_member code name base begun vs pc st bs s)
+        → Adds s.memory (uses_member_gains code name base begun vs s.memory) (uses_member code name base begun vs pc st bs s)
     member_adds name base begun vs pc st bs s =
         either (is_raise name base)
         (does bs s (error_given_law vs s.memory) (λ e s1 h. raises e bs s1 h))
         (either (is_counted base)
         (does bs s (object_member_law name vs base s.memory) (λ r s1 h. lets_go pc (value r.0 ∷ st) bs r.1 s1 h))
-        (does bs s (member_called_law code.declared name vs base begun s.memory) (pushes pc st bs)))
+        (does_further (λ v m1. changed_gains code m1) bs s (member_called_law code.declared name vs base begun s.memory) (λ v s1. change_adds s1.memory.changed pc (value v ∷ st) bs s1)))
 
     -- ---- instructions
 
@@ -215,7 +263,8 @@ module _ (bound : ℕ) where
     act_adds by (Some (PartOf i)) pc st bs s = on_value st (λ v st1. does bs s (part_of_law i v s.memory) (pushes (pc + 1) st1 bs))
     act_adds by (Some (Operate o compare l r)) pc st bs s = a_value st (λ w st1. a_value st1 (λ v st2. does bs s (operated_law o compare l r v w s.memory) (pushes (pc + 1) st2 bs)))
     act_adds by (Some (OperateAlone o of)) pc st bs s = a_value st (λ v st1. does bs s (operated_alone_law o of v s.memory) (pushes (pc + 1) st1 bs))
-    act_adds by (Some Plain) pc st bs s = a_value st (λ v st1. does bs s (plain_law v s.memory) (pushes (pc + 1) st1 bs))
+    act_adds by (Some Plain) pc st bs s =
+        on_value st (λ v st1. either (is_counted v) (use_adds false most_calls (pc + 1) st1 bs s (counted_operand_law code.declared v s.memory)) (does bs s (plain_law v s.memory) (pushes (pc + 1) st1 bs)))
     act_adds by (Some (PushHost reference)) pc st bs s = goes (at (pc + 1) (value (object (Host reference)) ∷ st) bs s) (same s.memory)
     act_adds by (Some FirstSheet) pc st bs s = does bs s (first_sheet_law s.memory) (pushes (pc + 1) st bs)
     act_adds by (Some (MemberThere name k)) pc st bs s = a_value st (λ v st1. does bs s (member_there_law code.declared name k v s.memory) (pushes (pc + 1) (value v ∷ st1) bs))
@@ -226,8 +275,34 @@ module _ (bound : ℕ) where
         on_args k st [] (λ xs st1. on_value st1 (λ w st2. on_value st2 (λ v st3. member_adds name v w (in_parameter_order v name how (slot_values xs)) (pc + 1) st3 bs s)))
     act_adds by (Some (StoreMember name k)) pc st bs s =
         on_args k st [] (λ xs st1. on_value st1 (λ x st2. on_value st2 (λ w st3. on_value st3 (λ v st4.
-        does bs s (member_assigned_law code.declared name (slot_values xs) w x v s.memory) (on (pc + 1) st4 bs)))))
-    act_adds by (Some PlainIfAny) pc st bs s = a_value st (λ v st1. does bs s (plain_if_any_law v s.memory) (pushes (pc + 1) st1 bs))
+        writes (pc + 1) st4 bs s (member_assigned_law code.declared name (slot_values xs) w x v s.memory)))))
+    act_adds by (Some PlainIfAny) pc st bs s =
+        on_value st (λ v st1. either (is_counted v) (use_adds false most_calls (pc + 1) st1 bs s (counted_if_any_law code.declared v s.memory)) (does bs s (plain_if_any_law v s.memory) (pushes (pc + 1) st1 bs)))
+    act_adds by (Some (FindLate aim name how gs)) pc st bs s =
+        on_value st (λ v st1. use_adds false most_calls (pc + 1) (value v ∷ st1) bs s (late_there_law code.declared aim name how gs v s.memory))
+    act_adds by (Some (BindValue aim name how gs i)) pc st bs s =
+        on_value st (λ v st1. use_adds false most_calls (pc + 1) st1 bs s (value_bound_law code.declared aim name how gs i (base_below i st1) v s.memory))
+    act_adds by (Some (BindPlace aim name how gs i)) pc st bs s =
+        on_path st (λ q st1.
+        either (lends_place code.declared aim name how gs i (base_below i st1) q s.memory) (does bs s (lent_law q s.memory) (on (pc + 1) (path q ∷ st1) bs))
+        (use_adds true most_calls (pc + 1) st1 bs s (place_copied_law code.declared aim name how gs i (base_below i st1) q s.memory)))
+    act_adds by (Some (CallLate name how gs)) pc st bs s =
+        on_args (length gs) st [] (λ xs st1. on_value st1 (λ w st2. on_value st2 (λ v st3.
+        either (is_instance v s.memory) (use_adds false most_calls (pc + 1) st3 bs s (late_called_law code.declared name how gs v w (map received xs) s.memory))
+        (member_adds name v w (host_arguments v name how (map received xs)) (pc + 1) st3 bs s))))
+    act_adds by (Some (LetLate name how gs)) pc st bs s =
+        on_args (length gs) st [] (λ xs st1. on_value st1 (λ x st2. on_value st2 (λ w st3. on_value st3 (λ v st4.
+        use_adds false most_calls (pc + 1) st4 bs s (late_let_law code.declared name how gs w x (map received xs) v s.memory)))))
+    act_adds by (Some (SetLate name how gs)) pc st bs s =
+        on_args (length gs) st [] (λ xs st1. on_value st1 (λ x st2. on_value st2 (λ w st3. on_value st3 (λ v st4.
+        use_adds false most_calls (pc + 1) st4 bs s (late_set_law code.declared name how gs w (map received xs) v s.memory)))))
+    act_adds by (Some (ItemAlong k)) pc st bs s =
+        on_args k st [] (λ xs st1. on_value st1 (λ v st2. use_adds false most_calls (pc + 1) st2 bs s (index_along_law code.declared most_passed (slot_values xs) v s.memory)))
+    act_adds by (Some WriteThrough) pc st bs s =
+        on_value st (λ w st1. on_value st1 (λ v st2. use_adds false most_calls (pc + 1) st2 bs s (write_along_law code.declared most_passed v w s.memory)))
+    act_adds by (Some (LetElement k)) pc st bs s =
+        on_args k st [] (λ xs st1. on_path st1 (λ q st2. on_value st2 (λ v st3.
+        use_adds false most_calls (pc + 1) st3 bs s (let_element_law code.declared q (slot_values xs) v s.memory))))
     act_adds by (Some (Library f text_form compare base k)) pc st bs s =
         on_args k st [] (λ xs st1. does bs s (library_law code.declared f text_form compare base (slot_values xs) s.memory) (pushes (pc + 1) st1 bs))
     act_adds by (Some (BoundAt upper z)) pc st bs s = a_path st (λ q st1. does bs s (bound_at_law upper z q s.memory) (pushes (pc + 1) st1 bs))
@@ -252,12 +327,13 @@ module _ (bound : ℕ) where
     act_adds by (Some (Lift k)) pc st bs s = the_args k st [] (λ xs st1. a_value st1 (λ v st2. goes (at (pc + 1) (value v ∷ pushed xs st2) bs s) (same s.memory)))
     act_adds by (Some (Call p k)) pc st bs s = on_args k st [] (λ xs st1. calls_adds p empty xs (pc + 1) st1 bs s)
     act_adds by (Some (CallOf p k)) pc st bs s = on_args k st [] (λ xs st1. on_value st1 (λ v st2. calls_adds p v xs (pc + 1) st2 bs s))
-    act_adds by (Some Store) pc st bs s = on_path st (λ q st1. on_value st1 (λ v st2. does bs s (assigned_at_law q v s.memory) (on (pc + 1) st2 bs)))
+    act_adds by (Some Store) pc st bs s = on_path st (λ q st1. on_value st1 (λ v st2. writes (pc + 1) st2 bs s (assigned_at_law q v s.memory)))
     act_adds by (Some SetAt) pc st bs s = on_path st (λ q st1. on_value st1 (λ v st2. does bs s (set_at_law q v s.memory) (on (pc + 1) st2 bs)))
-    act_adds by (Some StoreDefault) pc st bs s = a_value st (λ w st1. a_value st1 (λ v st2. does bs s (written_default_law w v s.memory) (on (pc + 1) st2 bs)))
+    act_adds by (Some StoreDefault) pc st bs s = on_value st (λ w st1. on_value st1 (λ v st2. writes (pc + 1) st2 bs s (written_default_law w v s.memory)))
     act_adds by (Some (StoreItem k)) pc st bs s =
-        on_args k st [] (λ xs st1. on_value st1 (λ w st2. on_value st2 (λ v st3. does bs s (item_assigned_law w (slot_values xs) v s.memory) (on (pc + 1) st3 bs))))
+        on_args k st [] (λ xs st1. on_value st1 (λ w st2. on_value st2 (λ v st3. writes (pc + 1) st3 bs s (item_assigned_law w (slot_values xs) v s.memory))))
     act_adds by (Some SetMember) pc st bs s = a_value st (λ w st1. a_value st1 (λ v st2. does bs s (member_not_set_law w s.memory) (on (pc + 1) st2 bs)))
+    act_adds by (Some (RaiseEvent e k)) pc st bs s = on_args k st [] (λ xs st1. delivers_adds e xs (sinks (source_of (top s.memory).me) s.memory) (pc + 1) st1 bs s)
     act_adds by (Some ShowText) pc st bs s = a_value st (λ v st1. does bs s (show_value_law v s.memory) (pushes (pc + 1) st1 bs))
     act_adds by (Some (Show ends k)) pc st bs s = the_args k st [] (λ xs st1. does bs s (printed_law ends xs s.memory) (on (pc + 1) st1 bs))
     act_adds by (Some (Throw k)) pc st bs s = the_args k st [] (λ xs st1. raises (raised_by xs s.memory) bs s (same s.memory))

@@ -12,7 +12,7 @@ use Rattle.vba_meaning.specs.Effects.{Raised, Term, unlent, taken_by, with_taken
 use Rattle.vba_meaning.specs.Meaning.{State, with_memory, turned, left}
 use Rattle.error_frames.specs.Decision.{after_take}
 use Rattle.pcode.specs.Instructions.{Code, entry_of}
-use Rattle.pcode.specs.Machine.{After, Goes-on, Decide, Return, Back-to, Pass, Close, Mode, At, Failing, Letting, Back, Caller, EndOf, Move, Goes, Ends, Tells, Turns, at, failing, letting, raises_then, Choices, looking, finished_by, terminates_by, ends_by, lets_one_by, closing, returned_by, passed_on, takes, next_by, go_on_by}
+use Rattle.pcode.specs.Machine.{After, Goes-on, Decide, Return, Back-to, Pass, Close, Mode, At, Failing, Letting, Back, Caller, EndOf, Delivering, Within, Move, Goes, Ends, Tells, Turns, at, failing, letting, raises_then, Choices, looking, finished_by, terminates_by, ends_by, lets_one_by, closing, returned_by, passed_on, takes, next_by, go_on_by}
 use Rattle.object_counts.specs.Counts.{count_of}
 use Rattle.object_counts.specs.Counting.{by_counts, lost, terminate_gains, let_one_gains, closing_gains, return_gains, gained}
 use Rattle.object_counts.specs.Balance.{FramesInOrder}
@@ -21,7 +21,8 @@ use Rattle.object_counts.proofs.Blocks.{rest_ordered}
 use Rattle.object_counts.proofs.Leaving.{left_looks, taken_looks, closed_grows, told_grows, gone_grows}
 use Rattle.object_counts.proofs.Chains.{nil_with}
 use Rattle.object_counts.proofs.Variables.{unlent_grows, top_err_grows}
-use Rattle.object_counts.proofs.Moves.{Adds, goes, ends, telling, turning, from, either, both, lets_adds, lets_all_adds, enter_by_adds, act_adds}
+use Rattle.object_counts.proofs.Uses.{tasks_law}
+use Rattle.object_counts.proofs.Moves.{Adds, goes, ends, telling, turning, from, either, both, lets_adds, lets_all_adds, enter_by_adds, delivers_adds, moved_adds, use_adds, act_adds}
 
 -- the memory once a step has given up what it gives up
 abbrev pub rest_of : Mode → Memory → Memory
@@ -86,12 +87,20 @@ module _ (bound : ℕ) (code : Code) (by : Choices) where
   returned_adds [] s = closing_adds (first_values code.declared code.declared.shared) 0 (with_memory s (frame_left s.memory))
   returned_adds (Caller ret st ∷ bs) s =
       goes bound (at ret (value (result s.memory) ∷ st) bs (with_memory s (hold (result s.memory) (frame_left s.memory)))) (hold_grows (result s.memory) (frame_left s.memory))
+  returned_adds (Delivering e xs ls ret st ∷ bs) s =
+      moved_adds bound (hold_grows (result s.memory) (frame_left s.memory)) (delivers_adds bound code e xs ls ret st bs (with_memory s (hold (result s.memory) (frame_left s.memory))))
   returned_adds (EndOf o k after ∷ bs) s = finished_adds o k after bs (with_memory s (frame_left s.memory)) (same (frame_left s.memory))
+  returned_adds (Within b k ts pc st ∷ bs) s =
+      let v : Val = result s.memory in
+      let s1 : State = with_memory s (hold v (frame_left s.memory)) in
+      moved_adds bound (hold_grows v (frame_left s.memory)) (use_adds bound code b k pc st bs s1 (tasks_law code.declared ts v s1.memory))
 
   passed_adds : {m : Memory} {gs : List ℕ} (bs : List Back) (e : Error) (s : State) → Grows m gs s.memory → Adds bound m gs (passed_on bs e s)
   passed_adds [] e s h = ends bound (Faulted e) s h
   passed_adds (Caller ret st ∷ bs) e s h = goes bound (failing e bs s) h
   passed_adds (EndOf o k after ∷ bs) e s h = ends bound (Faulted e) s h
+  passed_adds (Within b k ts pc st ∷ bs) e s h = goes bound (failing e bs s) h
+  passed_adds (Delivering event xs ls ret st ∷ bs) e s h = goes bound (failing e bs s) h
 
   taken_grows : (e : Error) (t : Taken) (m : Memory) → Grows m [] (with_taken e t m)
   taken_grows e t m = top_err_grows e m (record (top m) { errors = after_take (top m).errors (at_number (number_or (top m).statement)) t }) (λ h. h) (λ o. refl)
@@ -148,6 +157,8 @@ module _ (code : Code) (counts : List ℕ) where
   returned_same [] v s h = refl
   returned_same (Caller ret st ∷ bs) v s h = refl
   returned_same (EndOf o k after ∷ bs) v s h = finished_same o k after bs s (h o)
+  returned_same (Within b k ts pc st ∷ bs) v s h = refl
+  returned_same (Delivering e xs ls ret st ∷ bs) v s h = refl
 
   pub step_same : (mode : Mode) (st : List Slot) (bs : List Back) (s : State) → FramesInOrder s.memory.frames → ((o : ℕ) → count_of counts o ≡ looks (rest_of mode s.memory) o)
       → go_on_by (by_counts counts) code mode st bs s ≡ go_on_by looking code mode st bs s

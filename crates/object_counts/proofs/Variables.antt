@@ -1,7 +1,8 @@
 -- What effects on values, variables and loops raise.
 use Rattle.std.proofs.Common.{◌≡◌, ℕ, zero, suc, Bool, true, false, List, [], ◌∷◌, length, Option, Some, None, Result, Ok, Err, ℤ, pos, refl, arith}
-use Rattle.std.specs.Prelude.{◌&&◌, if◌then◌else◌}
+use Rattle.std.specs.Prelude.{◌+◌, ◌-◌, ◌^◌, nat_lt, ◌&&◌, if◌then◌else◌}
 use Rattle.vba_values.specs.declared.fault.Bad.{Bad}
+use Rattle.vba_values.specs.declared.fault.OutKind.TheVariants as limit
 use Rattle.vba_values.specs.declared.object.ObjRef.{ObjRef}
 use Rattle.vba_values.specs.declared.object.ObjRef.TheVariants.{Nothing, Heap, Host}
 use Rattle.vba_values.specs.declared.object.HostRef.TheVariants as host
@@ -24,15 +25,15 @@ use Rattle.error_frames.specs.Resume as resumption
 use Rattle.bound_project.specs.Expressions.{Variable}
 use Rattle.bound_project.specs.Project.{Declarations}
 use Rattle.vba_meaning.specs.Paths.{Root, in_frame, in_project, in_fields, in_block, in_object, in_item, Step, Path}
-use Rattle.vba_meaning.specs.Memory.{Error, stop_said, Slot, Loop, only, Memory, Frame, top, with_top, found, without, value_at, path_of, is_locked, no_error}
+use Rattle.vba_meaning.specs.Memory.{Error, stop_said, outside, object_at, Slot, Loop, only, Memory, Frame, top, with_top, found, without, value_at, path_of, is_locked, no_error}
 use Rattle.vba_meaning.specs.References.{objects_in, looks}
-use Rattle.vba_meaning.specs.Effects.{Effect, Fine, Bad-at, Out, Tell, on_fine, operated, operated_alone, is_collection, takes_object, set_reference, set_object, fitted, area_in, plain_reference, plain, as_told_by, is_true, condition, read_value, read_path, has_parts, replaceable_by, replaceable, assignable, stored, assigned, lent, unlent, shown_text, shown_by, show_value, printed, loop_off, looping, within, counted, loop_on, stepped, next_round, kept_at, keep, selected, fits, fits_between, gone_sub, returned_to, returned_sub, with_err, err_off, policy_on, handler_off, at_number, resumed_by, resumed, stop_here}
+use Rattle.vba_meaning.specs.Effects.{Effect, Fine, Bad-at, Out, Tell, on_fine, operated, operated_alone, is_collection, takes_object, set_reference, set_object, fitted, area_in, plain_reference, plain, as_told_by, is_true, condition, read_value, read_path, has_parts, replaceable_by, replaceable, assignable, is_with_events, with_set_number, set_number_drawn, connected, stored, assigned, lent, unlent, shown_text, shown_by, show_value, printed, loop_off, looping, within, counted, loop_on, stepped, next_round, kept_at, keep, selected, fits, fits_between, gone_sub, returned_to, returned_sub, with_err, err_off, policy_on, handler_off, at_number, resumed_by, resumed, stop_here}
 use Rattle.vba_meaning.specs.Objects.{compared, typed_as, set_at, told_made, made, own_object, object_there, field_in, made_for, stored_made}
 use Rattle.vba_meaning.specs.Library.{library_answer, library_called, bound_in, bound_at, plain_if_any}
 use Rattle.object_counts.specs.Gains.{given_gains, stored_gains, assigned_gains, set_at_gains, counted_gains, stepped_gains, next_round_gains, made_gains, made_for_gains, stored_made_gains}
 use Rattle.object_counts.specs.Balance.{InOrder, FramesInOrder}
 use Rattle.object_counts.proofs.Looks.{Grows, same, in_one, top_same, hold_grows, keeping_grows, IsVariable, replaced_grows}
-use Rattle.object_counts.proofs.Leaving.{made_grows}
+use Rattle.object_counts.proofs.Leaving.{made_grows, renumbered_objects}
 use Rattle.object_counts.proofs.Chains.{Law, fine, bad, out, told, nil_with, then_law, then_still, after_still, answered_law, both, Holds, held_law, then_holds, Finds, GivesFound, then_found}
 
 -- ---- values
@@ -161,8 +162,26 @@ unbounded p m b (Tell es e) h = unbounded p m b e h
 pub assignable_finds : (p : Path) (m : Memory) → Finds m p (assignable p m)
 assignable_finds p m = record { law = unbounded p m p.bounded (replaceable p m) (replaceable_finds p m).law }
 
+-- a set number refers to nothing
+numbered_grows : (n i : ℕ) (number : Option ℕ) (next : ℕ) (m : Memory) → Grows m [] (record (with_set_number n i number m) { next_set = next })
+numbered_grows n i number next m = record { ordered = λ h. h; more = λ h o. omega (arith, renumbered_objects o m.objects n i number) }
+
+set_number_law : (n i : ℕ) (w : Val) (m : Memory) → Law m [] (set_number_drawn n i w m)
+set_number_law n i (object Nothing) m = fine tt (numbered_grows n i None m.next_set m)
+set_number_law n i w m = both (nat_lt m.next_set (2 ^ 64 - 1)) (fine tt (numbered_grows n i (Some m.next_set) (m.next_set + 1) m)) (out (outside limit.Links) (same m))
+
+connected_from : (r : Root) (steps : List Step) (of : Declared) (bounded : Bool) (makes : Option ℕ) (w : Val) (m : Memory)
+    → let p : Path = record { root = r; steps = steps; of = of; bounded = bounded; makes = makes } in Law m [] (connected p w m)
+connected_from (in_fields n i) steps of bounded makes w m = both (is_with_events i (object_at m n).set_numbers) (set_number_law n i w m) (fine tt (same m))
+connected_from (in_frame k x) steps of bounded makes w m = fine tt (same m)
+connected_from (in_project x) steps of bounded makes w m = fine tt (same m)
+connected_from (in_block k i) steps of bounded makes w m = fine tt (same m)
+connected_from (in_object o) steps of bounded makes w m = fine tt (same m)
+connected_from (in_item v) steps of bounded makes w m = fine tt (same m)
+
 pub stored_law : (p : Path) (w : Val) (m : Memory) → Law m (stored_gains p w m) (stored p w m)
-stored_law p w m = then_found (assignable_finds p m) (λ old m1 there. fine tt (replaced_grows m1 p old w there))
+stored_law p w m =
+    then_found (assignable_finds p m) (λ old m1 there. then_still {A = Unit {0}} {f = λ u m2. connected p w m2} (fine tt (replaced_grows m1 p old w there)) (λ u m2. connected_from p.root p.steps p.of p.bounded p.makes w m2))
 
 pub assigned_law : (p : Path) (v : Val) (m : Memory) → Law m (assigned_gains p v m) (assigned p v m)
 assigned_law p v m = after_still (answered_law (coerce_of v p.of) m) (λ w m1. stored_law p w m1)

@@ -1,25 +1,32 @@
 -- The machine that counts: beside the machine's state it stores a reference count for each object, and asks the stored
 -- count whether a reference was the last one, where the machine of the theorems looks over the whole memory. Each step
 -- first lowers the counts of what it gives up, then asks, and then raises the counts of what it has stored or holds.
-use Rattle.std.specs.Prelude.{ℕ, zero, suc, ◌==◌, nat_lt, List, [], ◌∷◌, ◌++◌, length, Option, Some, None, if◌then◌else◌, slice_get}
+use Rattle.std.specs.Prelude.{ℕ, zero, suc, ◌==◌, nat_lt, List, [], ◌∷◌, ◌++◌, length, map, Option, Some, None, if◌then◌else◌, slice_get}
+use Rattle.vba_values.specs.declared.object.ObjId.{ObjId}
 use Rattle.vba_values.specs.declared.object.ObjRef.TheVariants.{Heap}
 use Rattle.vba_values.specs.Val.{Val, empty, object}
+use Rattle.vba_events.specs.declared.linked.Linked.{Linked}
+use Rattle.sheet_host.specs.declared.area.Area.{Area}
 use Rattle.sheet_host.specs.Books.{Sheets}
 use Rattle.bound_project.specs.Project.{class_at, first_values}
 use Rattle.vba_meaning.specs.Paths.{Path}
-use Rattle.vba_meaning.specs.Memory.{Ending, Going, Slot, value, path, Frame, Memory, top, result, object_at}
-use Rattle.vba_meaning.specs.References.{objects_in, objects_in_values, objects_in_slots, objects_kept, kept_value, next_waiting, taken_off}
-use Rattle.vba_meaning.specs.Effects.{Event, slot_values, startup_slots, read_path, selected}
+use Rattle.vba_meaning.specs.Memory.{Ending, Going, Slot, value, path, Frame, Memory, top, frame_left, result, received, object_at}
+use Rattle.vba_meaning.specs.References.{objects_in, objects_in_values, objects_in_slots, objects_kept, kept_value, hold, next_waiting, taken_off}
+use Rattle.vba_meaning.specs.Effects.{Event, Effect, slot_values, startup_slots, read_path, selected}
+use Rattle.vba_meaning.specs.Events.{source_of, sinks, due, lent_again, change, sheet_of, target_of, no_change}
 use Rattle.vba_meaning.specs.Arrays.{part_of, kept_of}
 use Rattle.vba_meaning.specs.Objects.{made, own_object, made_for, initialize_of}
-use Rattle.vba_meaning.specs.Host.{item_by}
+use Rattle.vba_meaning.specs.Host.{is_counted, is_raise, item_by, assigned_at, item_assigned, member_assigned, member_called, written_default}
 use Rattle.vba_meaning.specs.Library.{library_called}
 use Rattle.vba_meaning.specs.ByName.{in_parameter_order}
+use Rattle.vba_meaning.specs.Defaults.{Next, gives, then_call, is_instance, counted_operand, counted_if_any, index_along, write_along, tasks_next, most_passed, most_calls}
+use Rattle.vba_meaning.specs.LateBound.{late_there, value_bound, lends_place, place_copied, late_called, host_arguments, let_element, late_let, late_set}
 use Rattle.vba_meaning.specs.Meaning.{State}
-use Rattle.pcode.specs.Instructions.{Instr, ReadThrough, ElementOf, ElementIn, Index, PartOf, MemberOf, NamedOf, PushThis, New, MakeThere, StoreMade, Library, Call, CallOf, Store, SetAt, StoreMember, StoreItem, LoopOn, NextRound, EachOn, NextItem, Keep, KeepPath, Selected, Redim, EraseAt, Code}
-use Rattle.pcode.specs.Machine.{Return, Pass, Close, Mode, At, Letting, Back, Caller, EndOf, Config, Move, Goes, Ends, Sticks, Tells, Turns, Choices, step_by, first_move}
+use Rattle.pcode.specs.Instructions.{Instr, ReadThrough, ElementOf, ElementIn, Index, PartOf, Plain, PlainIfAny, FindLate, BindValue, BindPlace, CallLate, LetLate, SetLate, ItemAlong, WriteThrough, LetElement, MemberOf, NamedOf, PushThis, New, MakeThere, StoreMade, Library, Call, CallOf, Store, SetAt, StoreDefault, StoreMember, StoreItem, RaiseEvent, LoopOn, NextRound, EachOn, NextItem, Keep, KeepPath, Selected, Redim, EraseAt, Code}
+use Rattle.pcode.specs.Machine.{Return, Pass, Close, Mode, At, Letting, Back, Caller, EndOf, Delivering, Within, Config, Move, Goes, Ends, Sticks, Tells, Turns, Choices, base_below, step_by, first_move}
 use Rattle.object_counts.specs.Counts.{count_of, raise_all, lower_all}
-use Rattle.object_counts.specs.Gains.{gains_behind, given_gains, assigned_at_gains, set_at_gains, counted_gains, next_round_gains, each_begun_gains, each_next_gains, redimmed_gains, erased_gains, member_used_gains, member_assigned_gains, place_at_gains, made_gains, made_for_gains, stored_made_gains, entered_gains}
+use Rattle.object_counts.specs.Gains.{gains_behind, given_gains, assigned_at_gains, set_at_gains, counted_gains, next_round_gains, each_begun_gains, each_next_gains, redimmed_gains, erased_gains, object_member_gains, member_gains, member_assigned_gains, place_at_gains, made_gains, made_for_gains, stored_made_gains, entered_gains}
+use Rattle.object_counts.specs.UseGains.{counted_operand_gains, counted_if_any_gains, index_along_gains, write_along_gains, tasks_gains, late_there_gains, value_bound_gains, place_copied_gains, late_called_gains, let_element_gains, late_let_gains, late_set_gains}
 
 -- the test for the last reference: the stored count is 0
 abbrev pub by_counts : List ℕ → Choices
@@ -72,6 +79,40 @@ abbrev pub initialize_gains : Code → Option ℕ → Val → List Frame → Lis
 initialize_gains code None v frames = []
 initialize_gains code (Some p) v frames = call_gains code p v [] frames
 
+-- the first handler that is due for a link is called with its object as Me
+abbrev pub handler_gains : Code → List Slot → (sink : ObjId) → Option ℕ → Memory → (more : List ℕ) → List ℕ
+handler_gains code xs sink None m more = more
+handler_gains code xs sink (Some p) m more = call_gains code p (object (Heap sink)) xs (lent_again xs m).frames
+
+abbrev pub delivery_gains : Code → (event : ℕ) → List Slot → List Linked → Memory → List ℕ
+delivery_gains code e xs [] m = []
+delivery_gains code e xs (l ∷ ls) m = handler_gains code xs l.sink (due code.declared e l m) m (delivery_gains code e xs ls m)
+
+-- that of Change, where an area was written
+abbrev pub change_gains : Code → Option Area → Memory → List ℕ
+change_gains code None m = []
+change_gains code (Some a) m = delivery_gains code change (target_of a) (sinks (sheet_of a) m) (no_change m)
+
+abbrev pub changed_gains : Code → Memory → List ℕ
+changed_gains code m = change_gains code m.changed m
+
+-- a member is used; Err.Raise holds nothing
+abbrev pub uses_member_gains : Code → (name : List ℕ) → (base begun : Val) → List Val → Memory → List ℕ
+uses_member_gains code name base begun vs m =
+    if is_raise name base then []
+    else if is_counted base then object_member_gains name vs base m
+    else member_gains name vs base begun m ++ gains_behind (member_called code.declared name vs base begun m) (λ v m1. changed_gains code m1)
+
+-- what a use comes to: Change is told where it wrote an area, or a call, where it may still make one
+abbrev pub next_gains : Code → (left : ℕ) → Next → Memory → List ℕ
+next_gains code k (gives v) m = changed_gains code m
+next_gains code zero (then_call p me xs ts) m = []
+next_gains code (suc k) (then_call p me xs ts) m = call_gains code p me xs m.frames
+
+-- a use of an object: what it raises itself, and what it comes to
+abbrev pub use_gains : Code → (left : ℕ) → List ℕ → Effect Next → List ℕ
+use_gains code k gs e = gs ++ gains_behind e (next_gains code k)
+
 -- an instruction, by its operands; of those that don't stand here none raises a count
 abbrev pub act_gains : Code → Option Instr → List Slot → Memory → List ℕ
 act_gains code (Some ReadThrough) st m = for_path st (λ q st1. given_gains (read_path q m))
@@ -80,15 +121,46 @@ act_gains code (Some (ElementIn k)) st m = for_args k st [] (λ xs st1. for_path
 act_gains code (Some (Index k)) st m = for_args k st [] (λ xs st1. for_value st1 (λ v st2. given_gains (item_by v (slot_values xs) m)))
 act_gains code (Some (PartOf i)) st m = for_value st (λ v st1. given_gains (part_of i v m))
 act_gains code (Some (MemberOf name k)) st m =
-    for_args k st [] (λ xs st1. for_value st1 (λ w st2. for_value st2 (λ v st3. member_used_gains name v w (slot_values xs) m)))
+    for_args k st [] (λ xs st1. for_value st1 (λ w st2. for_value st2 (λ v st3. uses_member_gains code name v w (slot_values xs) m)))
 act_gains code (Some (NamedOf name by k)) st m =
-    for_args k st [] (λ xs st1. for_value st1 (λ w st2. for_value st2 (λ v st3. member_used_gains name v w (in_parameter_order v name by (slot_values xs)) m)))
+    for_args k st [] (λ xs st1. for_value st1 (λ w st2. for_value st2 (λ v st3. uses_member_gains code name v w (in_parameter_order v name by (slot_values xs)) m)))
 act_gains code (Some (StoreMember name k)) st m =
-    for_args k st [] (λ xs st1. for_value st1 (λ x st2. for_value st2 (λ w st3. for_value st3 (λ v st4. member_assigned_gains name (slot_values xs) w x m))))
+    for_args k st [] (λ xs st1. for_value st1 (λ x st2. for_value st2 (λ w st3. for_value st3 (λ v st4.
+    member_assigned_gains name (slot_values xs) w x m ++ gains_behind (member_assigned code.declared name (slot_values xs) w x v m) (λ u m1. changed_gains code m1)))))
 act_gains code (Some (StoreItem k)) st m =
-    for_args k st [] (λ xs st1. for_value st1 (λ w st2. for_value st2 (λ v st3. given_gains (item_by w (slot_values xs) m))))
+    for_args k st [] (λ xs st1. for_value st1 (λ w st2. for_value st2 (λ v st3.
+    given_gains (item_by w (slot_values xs) m) ++ gains_behind (item_assigned w (slot_values xs) v m) (λ u m1. changed_gains code m1))))
+act_gains code (Some StoreDefault) st m = for_value st (λ w st1. for_value st1 (λ v st2. gains_behind (written_default w v m) (λ u m1. changed_gains code m1)))
 act_gains code (Some (Library f text_form compare base k)) st m =
     for_args k st [] (λ xs st1. given_gains (library_called code.declared f text_form compare base (slot_values xs) m))
+act_gains code (Some Plain) st m = for_value st (λ v st1. if is_counted v then use_gains code most_calls (counted_operand_gains code.declared v m) (counted_operand code.declared v m) else [])
+act_gains code (Some PlainIfAny) st m = for_value st (λ v st1. if is_counted v then use_gains code most_calls (counted_if_any_gains code.declared v m) (counted_if_any code.declared v m) else [])
+act_gains code (Some (FindLate aim name by gs)) st m =
+    for_value st (λ v st1. use_gains code most_calls (late_there_gains code.declared aim name by gs v m) (late_there code.declared aim name by gs v m))
+act_gains code (Some (BindValue aim name by gs i)) st m =
+    for_value st (λ v st1. use_gains code most_calls (value_bound_gains code.declared aim name by gs i (base_below i st1) v m) (value_bound code.declared aim name by gs i (base_below i st1) v m))
+act_gains code (Some (BindPlace aim name by gs i)) st m =
+    for_path st (λ q st1.
+    if lends_place code.declared aim name by gs i (base_below i st1) q m then []
+    else use_gains code most_calls (place_copied_gains code.declared aim name by gs i (base_below i st1) q m) (place_copied code.declared aim name by gs i (base_below i st1) q m))
+act_gains code (Some (CallLate name by gs)) st m =
+    for_args (length gs) st [] (λ xs st1. for_value st1 (λ w st2. for_value st2 (λ v st3.
+    if is_instance v m then use_gains code most_calls (late_called_gains code.declared name by gs v w (map received xs) m) (late_called code.declared name by gs v w (map received xs) m)
+    else uses_member_gains code name v w (host_arguments v name by (map received xs)) m)))
+act_gains code (Some (LetLate name by gs)) st m =
+    for_args (length gs) st [] (λ xs st1. for_value st1 (λ x st2. for_value st2 (λ w st3. for_value st3 (λ v st4.
+    use_gains code most_calls (late_let_gains code.declared name by gs w x (map received xs) v m) (late_let code.declared name by gs w x (map received xs) v m)))))
+act_gains code (Some (SetLate name by gs)) st m =
+    for_args (length gs) st [] (λ xs st1. for_value st1 (λ x st2. for_value st2 (λ w st3. for_value st3 (λ v st4.
+    use_gains code most_calls (late_set_gains code.declared name by gs w (map received xs) v m) (late_set code.declared name by gs w (map received xs) v m)))))
+act_gains code (Some (ItemAlong k)) st m =
+    for_args k st [] (λ xs st1. for_value st1 (λ v st2.
+    use_gains code most_calls (index_along_gains code.declared most_passed (slot_values xs) v m) (index_along code.declared most_passed (slot_values xs) v m)))
+act_gains code (Some WriteThrough) st m =
+    for_value st (λ w st1. for_value st1 (λ v st2. use_gains code most_calls (write_along_gains code.declared most_passed v w m) (write_along code.declared most_passed v w m)))
+act_gains code (Some (LetElement k)) st m =
+    for_args k st [] (λ xs st1. for_path st1 (λ q st2. for_value st2 (λ v st3.
+    use_gains code most_calls (let_element_gains code.declared q (slot_values xs) v m) (let_element code.declared q (slot_values xs) v m))))
 act_gains code (Some PushThis) st m = given_gains (own_object m)
 act_gains code (Some (Selected i)) st m = given_gains (selected i m)
 act_gains code (Some (Keep i)) st m = for_value st (λ v st1. objects_in v)
@@ -100,7 +172,9 @@ act_gains code (Some MakeThere) st m =
 act_gains code (Some StoreMade) st m = for_value st (λ v st1. for_path st1 (λ q st2. stored_made_gains q v m))
 act_gains code (Some (Call p k)) st m = for_args k st [] (λ xs st1. call_gains code p empty xs m.frames)
 act_gains code (Some (CallOf p k)) st m = for_args k st [] (λ xs st1. for_value st1 (λ v st2. call_gains code p v xs m.frames))
-act_gains code (Some Store) st m = for_path st (λ q st1. for_value st1 (λ v st2. assigned_at_gains q v m))
+act_gains code (Some Store) st m =
+    for_path st (λ q st1. for_value st1 (λ v st2. assigned_at_gains q v m ++ gains_behind (assigned_at q v m) (λ u m1. changed_gains code m1)))
+act_gains code (Some (RaiseEvent e k)) st m = for_args k st [] (λ xs st1. delivery_gains code e xs (sinks (source_of (top m).me) m) m)
 act_gains code (Some SetAt) st m = for_path st (λ q st1. for_value st1 (λ v st2. set_at_gains q v m))
 act_gains code (Some (LoopOn x i compare t u)) st m = for_value st (λ step st1. for_value st1 (λ end st2. for_value st2 (λ start st3. counted_gains x start m)))
 act_gains code (Some (NextRound x i)) st m = next_round_gains x i m
@@ -130,11 +204,15 @@ abbrev pub closing_gains : List Val → ℕ → (shared : List Val) → List ℕ
 closing_gains [] g shared = []
 closing_gains (v ∷ vs) g shared = if nat_lt g (length shared) then objects_in v else []
 
--- the caller's statement holds the result
+-- the caller's statement holds the result; behind a handler the next one is called
 abbrev pub return_gains : Code → List Back → Memory → List ℕ
 return_gains code [] m = closing_gains (first_values code.declared code.declared.shared) 0 m.shared
 return_gains code (Caller ret st ∷ bs) m = objects_in (result m)
 return_gains code (EndOf o k after ∷ bs) m = []
+return_gains code (Within b k ts pc st ∷ bs) m =
+    let m1 : Memory = hold (result m) (frame_left m) in
+    objects_in (result m) ++ use_gains code k (tasks_gains code.declared ts (result m) m1) (tasks_next code.declared ts (result m) m1)
+return_gains code (Delivering e xs ls ret st ∷ bs) m = objects_in (result m) ++ delivery_gains code e xs ls (hold (result m) (frame_left m))
 
 -- a whole step
 abbrev pub gained : Choices → Code → (bound : ℕ) → Mode → List Slot → List Back → State → List ℕ

@@ -19,7 +19,7 @@ use Rattle.vba_meaning.specs.Effects.{Effect, Fine, Bad-at, Out, Tell, answered,
 use Rattle.vba_meaning.specs.Arrays.{numbers, bounds_of, redim_value, erased_value, walkable, walking, item_of}
 use Rattle.vba_meaning.specs.Objects.{new_instance}
 use Rattle.vba_meaning.specs.Collections.{CollectionMember, is_add, is_item, collection_member, item_found, collection_used}
-use Rattle.vba_meaning.specs.Host.{as_given, are_places, is_counted, is_raise, item_by}
+use Rattle.vba_meaning.specs.Host.{as_given, are_places, item_by}
 
 -- what is raised behind an effect, where that came to a value
 abbrev pub gains_behind : {A : Type 0} → Effect A → (A → Memory → List ℕ) → List ℕ
@@ -131,10 +131,6 @@ abbrev pub object_member_gains : (name : List ℕ) → List Val → (base : Val)
 object_member_gains name vs (object (Heap id)) m =
     gains_behind (collection_member id.0 name m) (λ how m1. gains_behind (collection_used id.0 how (as_given vs) m1) (λ r m2. used_gains id.0 how (as_given vs) r m2))
 object_member_gains name vs v m = []
-
--- Err.Raise holds nothing
-abbrev pub member_used_gains : (name : List ℕ) → (base begun : Val) → List Val → Memory → List ℕ
-member_used_gains name base begun vs m = if is_raise name base then [] else if is_counted base then object_member_gains name vs base m else member_gains name vs base begun m
 
 -- a member that is assigned to: the item of a Collection that is found is held
 abbrev pub through_gains : (number : ℕ) → CollectionMember → List Val → Memory → List ℕ

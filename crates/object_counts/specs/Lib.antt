@@ -2,3 +2,4 @@ pub mod Balance
 pub mod Counting
 pub mod Counts
 pub mod Gains
+pub mod UseGains

@@ -5,10 +5,11 @@ use Rattle.std.proofs.Math.Seq.{get_or-append_seam}
 use Rattle.std.proofs.lemmas.Option.{slice_get-get_or}
 use Rattle.vba_values.specs.declared.types.Compare.{Compare}
 use Rattle.vba_values.specs.Types.{Declared}
-use Rattle.bound_project.specs.Statements.{Tests, no_tests, test_is, test_range, Action, assign, assign_item, set, assign_default, assign_member, set_member, evaluate, let_property, set_property, let_method, set_method, print, raise, test, go_to, for_to, next, for_each, next_each, exit_each, select, case_of, redim, erase, with_place, with_value, end_with, go_sub, return_sub, exit_to, on_error, end_handler, clear_err, resume_again, resume_next, resume_at, stop, end_run, Statement}
+use Rattle.bound_project.specs.Statements.{Tests, no_tests, test_is, test_range, Action, assign, assign_item, set, assign_default, assign_member, set_member, assign_through, assign_element, assign_late, set_late, evaluate, let_property, set_property, let_method, set_method, raise_event, print, raise, test, go_to, for_to, next, for_each, next_each, exit_each, select, case_of, redim, erase, with_place, with_value, end_with, go_sub, return_sub, exit_to, on_error, end_handler, clear_err, resume_again, resume_next, resume_at, stop, end_run, Statement}
 use Rattle.bound_project.specs.Project.{Project, Body, statements_or, next_or}
+use Rattle.vba_meaning.specs.LateBound.{assigning, setting, which_given}
 use Rattle.pcode.specs.Instructions.{Instr, Leave, list_or, number_or}
-use Rattle.pcode.specs.Code.{Entry, expr_code, place_code, args_code, list_code, prints_code, resizes_code, erases_code, tests_code, action_code, statement_code}
+use Rattle.pcode.specs.Code.{Entry, expr_code, place_code, args_code, list_code, prints_code, resizes_code, erases_code, given_code, tests_code, action_code, statement_code}
 use Rattle.pcode.specs.Layout.{statement_length, body_length, addresses, entries_of, entry_in, body_code, bodies_code, starts_of, nexts_of, code_of, HasAt, HasStatement, Laid}
 use Rattle.pcode.proofs.Stands.{has_front, has_back}
 
@@ -33,11 +34,18 @@ len_action entry p i k (set x e) = behind (expr_code e) _ _ (behind (place_code 
 len_action entry p i k (assign_default x e) = behind (expr_code e) _ _ (behind (expr_code x) _ _ refl)
 len_action entry p i k (assign_member base name es e) = behind (expr_code e) _ _ (behind (expr_code base) _ _ (ap suc (behind (list_code es) _ _ refl)))
 len_action entry p i k (set_member base e) = behind (expr_code e) _ _ (behind (expr_code base) _ _ refl)
+len_action entry p i k (assign_through x e) = behind (expr_code e) _ _ (behind (expr_code x) _ _ refl)
+len_action entry p i k (assign_element x es e) = behind (expr_code e) _ _ (behind (place_code x) _ _ (behind (list_code es) _ _ refl))
+len_action entry p i k (assign_late base name by given e) =
+    behind (expr_code e) _ _ (behind (expr_code base) _ _ (ap suc (behind (given_code given assigning name by (which_given given) 0) _ _ refl)))
+len_action entry p i k (set_late base name by given e) =
+    behind (expr_code e) _ _ (behind (expr_code base) _ _ (ap suc (behind (given_code given setting name by (which_given given) 0) _ _ refl)))
 len_action entry p i k (evaluate e) = behind (expr_code e) _ _ refl
 len_action entry p i k (let_property q args e of) = behind (expr_code e) _ _ (behind (args_code args) _ _ refl)
 len_action entry p i k (set_property q args e of) = behind (expr_code e) _ _ (behind (args_code args) _ _ refl)
 len_action entry p i k (let_method base q args e of) = behind (expr_code e) _ _ (behind (expr_code base) _ _ (ap suc (behind (args_code args) _ _ refl)))
 len_action entry p i k (set_method base q args e of) = behind (expr_code e) _ _ (behind (expr_code base) _ _ (ap suc (behind (args_code args) _ _ refl)))
+len_action entry p i k (raise_event e args) = behind (args_code args) _ _ refl
 len_action entry p i k (print ps ends) = behind (prints_code ps) _ _ refl
 len_action entry p i k (raise args) = refl
 len_action entry p i k (test sense e to other) = behind (expr_code e) _ _ refl
@@ -70,7 +78,7 @@ len_action entry p i k end_run = refl
 len_same : (entry : Entry) (p i : ℕ) (l : Statement) → length (statement_code entry p i l) ≡ statement_length l
 len_same entry p i l = ap suc (len_action entry p i l.next l.action)
 
-len_body : (entry : Entry) (p i : ℕ) (ls : List Statement) → length (body_code entry p i ls) ≡ body_length ls
+pub len_body : (entry : Entry) (p i : ℕ) (ls : List Statement) → length (body_code entry p i ls) ≡ body_length ls
 len_body entry p i [] = refl
 len_body entry p i (l ∷ ls) = length-append (statement_code entry p i l) (body_code entry p (suc i) ls) ∙ omega (arith, len_same entry p i l, len_body entry p (suc i) ls)
 

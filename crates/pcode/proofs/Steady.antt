@@ -1,29 +1,36 @@
 -- The run of a well-formed code ends, and never lacks an operand or an instruction. A run goes on by turns, which are
 -- bounded; between two turns each step leads nearer to the end of a statement, to fewer waiting references, or to fewer
 -- calls that stand.
-use Rattle.std.proofs.Common.{◌≡◌, ℕ, zero, suc, ◌+◌, ◌<◌, ◌≤◌, Bool, true, false, List, [], ◌∷◌, ◌++◌, length, Option, Some, None, refl, sym, ap, ◌∙◌, subst, arith}
+use Rattle.std.proofs.Common.{◌≡◌, ℕ, zero, suc, ◌+◌, ◌<◌, ◌≤◌, Bool, true, false, List, [], ◌∷◌, length, map, drop, Option, Some, None, inl, inr, refl, sym, ap, ◌∙◌, subst, arith}
 use Rattle.std.specs.Prelude.{slice_get, slice_index, slice_index_or, nat_lt, if◌then◌else◌}
-use Rattle.std.proofs.lemmas.Bool.{ltb-true}
-use Rattle.std.proofs.lemmas.Option.{slice_get_past}
+use Rattle.std.proofs.lemmas.Bool.{cases_lt, ltb-true}
+use Rattle.std.proofs.lemmas.List.{get_or_past}
+use Rattle.std.proofs.lemmas.Option.{slice_get_past, slice_get_within}
 use Rattle.vba_values.specs.declared.object.ObjRef.TheVariants.{Host}
 use Rattle.vba_values.specs.Val.{Val, boolean, empty, missing, object}
 use Rattle.error_frames.specs.declared.frame.Taken.{Taken}
 use Rattle.error_frames.specs.declared.frame.Taken.TheVariants as taken
+use Rattle.vba_events.specs.declared.linked.Linked.{Linked}
+use Rattle.sheet_host.specs.declared.area.Area.{Area}
 use Rattle.sheet_host.specs.Books.{Sheets}
 use Rattle.bound_project.specs.Whole.{All}
 use Rattle.bound_project.specs.Project.{class_at, first_values}
 use Rattle.vba_meaning.specs.Paths.{Path, field_path}
-use Rattle.vba_meaning.specs.Memory.{Error, Ending, Ended, Faulted, Going, Slot, value, path, Object, top, path_of, error_here, frame_left, result, object_at}
+use Rattle.vba_meaning.specs.Memory.{Error, Ending, Ended, Faulted, Going, Slot, value, path, Object, top, path_of, error_here, frame_left, result, received, object_at}
 use Rattle.vba_meaning.specs.References.{objects_in, objects_in_values, hold, held_by, is_last, next_waiting, taken_off, let_frame, as_told, gone, closed}
-use Rattle.vba_meaning.specs.Effects.{Event, Effect, Fine, Bad-at, Out, Tell, lent, slot_values, packed, reordered, printed, loop_off, keep, selected, gone_sub, policy_on, handler_off, err_off, stop_here, taken_by, err_of}
+use Rattle.vba_meaning.specs.Effects.{Event, Effect, Fine, Bad-at, Out, Tell, plain, lent, slot_values, packed, reordered, printed, loop_off, keep, selected, gone_sub, policy_on, handler_off, err_off, stop_here, taken_by, err_of}
+use Rattle.vba_meaning.specs.Events.{source_of, sinks, due, lent_again, raise_over, change, sheet_of, target_of, no_change}
 use Rattle.vba_meaning.specs.Arrays.{each_off, block_over, keep_path}
-use Rattle.vba_meaning.specs.Host.{is_counted, object_member, is_raise, error_given}
+use Rattle.vba_meaning.specs.Host.{is_counted, object_member, is_raise, error_given, assigned_at, item_assigned, member_assigned, member_called, written_default}
 use Rattle.vba_meaning.specs.ByName.{in_parameter_order}
+use Rattle.vba_meaning.specs.Library.{plain_if_any}
+use Rattle.vba_meaning.specs.Defaults.{Next, gives, then_call, is_instance, counted_operand, counted_if_any, index_along, write_along, tasks_next, most_passed, most_calls}
+use Rattle.vba_meaning.specs.LateBound.{late_there, value_bound, lends_place, place_copied, late_called, host_arguments, let_element, late_let, late_set}
 use Rattle.vba_meaning.specs.Meaning.{State, with_memory, turned, left}
 use Rattle.vba_meaning.specs.Objects.{made, own_object, made_for, initialize_of, stored_made, made_at}
-use Rattle.pcode.specs.Instructions.{Instr, Begin, Push, PushHost, LoadErr, PathOf, ReadThrough, ElementOf, ElementIn, FieldOf, Dot, Index, PartOf, Operate, OperateAlone, Plain, PlainIfAny, FirstSheet, MemberThere, MemberOf, NamedThere, NamedOf, PushThis, New, ObjectThere, FieldIn, AsNew, MakeThere, StoreMade, Same, IsType, Library, BoundAt, Fit, FitObject, Drop, Lend, Pack, Reorder, Lift, Call, CallOf, Store, SetAt, StoreDefault, StoreMember, StoreItem, SetMember, ShowText, Show, Throw, LoopOff, LoopOn, NextRound, EachOff, EachOn, NextItem, Keep, Selected, IfFits, IfBetween, Redim, EraseAt, KeepPath, DropKept, PutReturn, TakeReturn, SetPolicy, HandlerOff, ErrOff, Again, Behind, Resumes, Finish, Branch, Halt, StopHere, Leave, Code, entry_of}
-use Rattle.pcode.specs.Machine.{After, Goes-on, Decide, Return, Back-to, Pass, Close, Back, Caller, EndOf, Config, Move, Goes, Ends, Tells, Turns, at, failing, letting, lets_all, finishes, raised, done_then, then_at, then_push, then_let_go, then_branch, pops, pops_path, take_args, pushed, initializes, looking, act, finished_by, terminates_by, ends_by, closing, returned_by, passed_on, next_by, takes, comes_by, step, Fin, Done, Unfinished, Stuck, tells, follow, machine, first_move, run_code}
-use Rattle.pcode.specs.WellFormed.{Kind, a_value, a_path, Way, no_way, brings, value_off, path_off, taken_off as kinds_off, kinds_pushed, kinds_reordered, along, along_rest, along_all, Leads, Sound, SoundFrom, joined, Lands, begins, leaves, WellFormed}
+use Rattle.pcode.specs.Instructions.{Instr, Begin, Push, PushHost, LoadErr, PathOf, ReadThrough, ElementOf, ElementIn, FieldOf, Dot, Index, PartOf, Operate, OperateAlone, Plain, PlainIfAny, FirstSheet, MemberThere, MemberOf, NamedThere, NamedOf, PushThis, New, ObjectThere, FieldIn, AsNew, MakeThere, StoreMade, FindLate, BindValue, BindPlace, CallLate, LetLate, SetLate, ItemAlong, WriteThrough, LetElement, Same, IsType, Library, BoundAt, Fit, FitObject, Drop, Lend, Pack, Reorder, Lift, Call, CallOf, Store, SetAt, StoreDefault, StoreMember, StoreItem, SetMember, RaiseEvent, ShowText, Show, Throw, LoopOff, LoopOn, NextRound, EachOff, EachOn, NextItem, Keep, Selected, IfFits, IfBetween, Redim, EraseAt, KeepPath, DropKept, PutReturn, TakeReturn, SetPolicy, HandlerOff, ErrOff, Again, Behind, Resumes, Finish, Branch, Halt, StopHere, Leave, Code, list_or, entry_of}
+use Rattle.pcode.specs.Machine.{After, Goes-on, Decide, Return, Back-to, Pass, Close, Back, Caller, EndOf, Delivering, Within, Config, Move, Goes, Ends, Tells, Turns, at, failing, letting, lets_all, finishes, raised, done_then, then_at, then_push, then_let_go, then_branch, pops, pops_path, take_args, pushed, left_as, follows, uses, base_below, uses_member, initializes, calls_handler, delivers, tells_change, then_changes, then_changes_push, looking, act, finished_by, terminates_by, ends_by, closing, returned_by, passed_on, next_by, takes, comes_by, step, Fin, Done, Unfinished, Stuck, tells, follow, machine, first_move, run_code}
+use Rattle.pcode.specs.WellFormed.{Kind, a_value, a_path, Way, no_way, brings, value_off, path_off, taken_off as kinds_off, kinds_pushed, kinds_reordered, along, along_rest, along_all, Leads, Sound, statement_count, first_address, WellFormed}
 use Rattle.pcode.specs.Steady.{HasEnded, Steady}
 use Rattle.pcode.proofs.OneEnd.{Final, one_end}
 
@@ -95,20 +102,33 @@ begun : (i : ℕ) (v u : Way) → along (Begin i) v ≡ Some u → Some u ≡ So
 begun i no_way u e = sym e
 begun i (brings ks) u e = absurd cc
 
+-- each address behind the first one is of a procedure
+of_procedure : (t : List (List ℕ)) (end pc : ℕ) → first_address t end ≤ pc → pc < end
+    → (p : ℕ) × (0 < length (list_or (slice_get t p))) × (slice_index (list_or (slice_get t p)) 0 ≤ pc) × (pc < first_address (drop (suc p) t) end)
+of_procedure [] end pc low high = absurd (omega arith)
+of_procedure ([] ∷ t) end pc low high = let r = of_procedure t end pc low high in (suc r.0, r.1, r.2, r.3)
+of_procedure ((e ∷ es) ∷ t) end pc low high =
+    elim (cases_lt pc (first_address t end)) [ inl h ↦ (zero, omega arith, low, h) | inr h ↦ (let r = of_procedure t end pc h high in (suc r.0, r.1, r.2, r.3)) ]
+
 -- the numbers of each instruction but Leave are sound
-sound_within : (code : Code) (p : ℕ) (is rest : List Instr) (pc : ℕ) (i : Instr) → All (Sound code p) is → ((m : ℕ) → slice_get rest m ≡ Some i → (q : ℕ) × Sound code q i) → slice_get (is ++ rest) pc ≡ Some i
-    → (q : ℕ) × Sound code q i
-sound_within code p [] rest pc i h further e = further pc e
-sound_within code p (j ∷ is) rest zero i h further e = (p, subst (Sound code p) (same_instr j i e) h.0)
-sound_within code p (j ∷ is) rest (suc pc) i h further e = sound_within code p is rest pc i h.1 further e
+sound_behind : (code : Code) → WellFormed code → (pc : ℕ) (i : Instr) (ks : List Kind) (u : Way) → slice_get code.instrs pc ≡ Some i → along i (brings ks) ≡ Some u → (q : ℕ) × Sound code q i
+sound_behind code well zero i ks u e a = absurd (let x : along Leave (brings ks) ≡ Some u = subst (λ j. along j (brings ks) ≡ Some u) (sym (same_instr Leave i (sym well.leave ∙ e))) a in cc)
+sound_behind code well (suc pc) i ks u e a =
+    let r = of_procedure code.entries (length code.instrs) (suc pc) (omega (arith, well.first)) (slice_get_within code.instrs (suc pc) i e) in
+    (r.0, well.sound r.0 (suc pc) i (r.1, r.2, r.3) e)
 
-sound_in : (code : Code) (p : ℕ) (iss : List (List Instr)) (pc : ℕ) (i : Instr) → SoundFrom code p iss → slice_get (joined iss) pc ≡ Some i → (q : ℕ) × Sound code q i
-sound_in code p [] pc i h e = absurd cc
-sound_in code p (is ∷ iss) pc i h e = sound_within code p is (joined iss) pc i h.0 (λ m k. sound_in code (suc p) iss m i h.1 k) e
+-- a statement begins at an address, or procedures end there
+data Lands (code : Code) (pc : ℕ) : Type 0 where
+  begins : (i : ℕ) → slice_get code.instrs pc ≡ Some (Begin i) → Lands code pc
+  leaves : slice_get code.instrs pc ≡ Some Leave → Lands code pc
 
-sound_behind : (code : Code) (iss : List (List Instr)) (pc : ℕ) (i : Instr) (ks : List Kind) (u : Way) → SoundFrom code 0 iss → slice_get (Leave ∷ joined iss) pc ≡ Some i → along i (brings ks) ≡ Some u → (q : ℕ) × Sound code q i
-sound_behind code iss zero i ks u h e a = absurd (let x : along Leave (brings ks) ≡ Some u = subst (λ j. along j (brings ks) ≡ Some u) (sym (same_instr Leave i e)) a in cc)
-sound_behind code iss (suc pc) i ks u h e a = sound_in code 0 iss pc i h e
+-- the address of each statement is one, and past the last one it is that of Leave
+entry_lands : (code : Code) → WellFormed code → (p i : ℕ) → Lands code (entry_of code p i)
+entry_lands code well p i =
+    elim (cases_lt i (statement_count code p)) [
+      | inl h ↦ begins i (well.entries p i h).0
+      | inr h ↦ leaves (ap (slice_get code.instrs) (get_or_past (list_or (slice_get code.entries p)) i 0 h) ∙ well.leave)
+    ]
 
 -- ---- kinds of operands
 
@@ -174,6 +194,15 @@ Enough bound n s = bound ≤ s.begun + n
 abbrev Here : Code → ℕ → List Slot → Type 0
 Here code pc st = before code.instrs no_way pc ≡ Some (brings (kinds_of st))
 
+-- the kind of what a use leaves
+abbrev kind_left : Bool → Kind
+kind_left true = a_path
+kind_left false = a_value
+
+left_kind : (b : Bool) (v : Val) → kind_of (left_as b v) ≡ kind_left b
+left_kind true v = refl
+left_kind false v = refl
+
 abbrev GoodAfter : Code → After → Type 0
 GoodAfter code (Goes-on pc) = Lands code pc
 GoodAfter code (Decide e) = Unit {0}
@@ -185,6 +214,8 @@ GoodAfter code (Close vs g) = Unit {0}
 abbrev GoodBack : Code → Back → Type 0
 GoodBack code (Caller ret st) = before code.instrs no_way ret ≡ Some (brings (a_value ∷ kinds_of st))
 GoodBack code (EndOf o k after) = GoodAfter code after
+GoodBack code (Within b k ts pc st) = before code.instrs no_way pc ≡ Some (brings (kind_left b ∷ kinds_of st))
+GoodBack code (Delivering e xs ls ret st) = Here code ret st
 
 -- the machine comes to an end from wherever so many turns are left
 record Known (code : Code) (bound n : ℕ) : Type 0 where
@@ -206,7 +237,7 @@ by_turn code bound (suc d) later m s good h = turning s m (λ lt. h d (later d r
 
 module _ (code : Code) (well : WellFormed code) (bound : ℕ) where
   start_lands : (p : ℕ) → Lands code (slice_index code.starts p)
-  start_lands p = subst (Lands code) (sym (well.starts p)) (well.entries p 0)
+  start_lands p = subst (Lands code) (sym (well.starts p)) (entry_lands code well p 0)
 
   module _ (d : ℕ) (known : Known code bound d) where
     finished_stops : (o k : ℕ) (after : After) (bs : List Back) (s : State) → GoodAfter code after → All (GoodBack code) bs → Enough bound d s → Stops code bound (finished_by looking o k after bs s)
@@ -281,8 +312,8 @@ module _ (code : Code) (well : WellFormed code) (bound : ℕ) where
       finishing to s h good = letting_stops bs (Goes-on to) l.good h (λ s1 g1. starts to s1 h g1) _ _ good
 
       taking : (e : Error) (t : Taken) (s : State) → Enough bound n s → Stops code bound (takes code e t bs s)
-      taking e (taken.Next to) s good = starts _ _ (well.entries (top s.memory).procedure to.0) good
-      taking e (taken.Handler to) s good = starts _ _ (well.entries (top s.memory).procedure to.0) good
+      taking e (taken.Next to) s good = starts _ _ (entry_lands code well (top s.memory).procedure to.0) good
+      taking e (taken.Handler to) s good = starts _ _ (entry_lands code well (top s.memory).procedure to.0) good
       taking e taken.PassOn s good = pass_stops e s good
 
       failing_stops : (e : Error) (s : State) → Enough bound n s → Stops code bound (Goes (failing e bs s))
@@ -313,7 +344,63 @@ module _ (code : Code) (well : WellFormed code) (bound : ℕ) where
       branching false to other s h h' good = finishing other s h' good
 
       leads_there : (p to : ℕ) → Leads code p to → Lands code to
-      leads_there p to h = subst (Lands code) (sym h.2) (well.entries p h.0)
+      leads_there p to h = subst (Lands code) (sym h.2) (entry_lands code well p h.0)
+
+      -- handlers are called, and what comes behind them
+      handler_stops : (o : Option ℕ) (e : ℕ) (xs : List Slot) (x : Linked) (ls : List Linked) (pc : ℕ) (st : List Slot) (s : State) (more : Move) → Here code pc st → Enough bound n s
+          → Stops code bound more → Stops code bound (calls_handler code e xs x ls o pc st bs s more)
+      handler_stops None e xs x ls pc st s more way good h = h
+      handler_stops (Some p) e xs x ls pc st s more way good h =
+          let s1 : State = with_memory s (lent_again xs s.memory) in
+          either (nat_lt (length s1.memory.frames) 2000)
+          (by_turn code bound n later _ _ good (λ d known g. known.start (slice_index code.starts p) (Delivering e xs ls pc st ∷ bs) _ (start_lands p) (way, l.good) g))
+          (raises (error_here 28 s1.memory) bs s1 l.good good)
+
+      delivers_stops : (e : ℕ) (xs : List Slot) (ls : List Linked) (pc : ℕ) (st : List Slot) (s : State) → Here code pc st → Enough bound n s
+          → ((s1 : State) → Enough bound n s1 → Stops code bound (Goes (at pc st bs s1))) → Stops code bound (delivers code e xs ls pc st bs s)
+      delivers_stops e xs [] pc st s way good on = on (with_memory s (raise_over xs s.memory)) good
+      delivers_stops e xs (x ∷ ls) pc st s way good on =
+          handler_stops (due code.declared e x s.memory) e xs x ls pc st s (delivers code e xs ls pc st bs s) way good (delivers_stops e xs ls pc st s way good on)
+
+      change_stops : (o : Option Area) (pc : ℕ) (st : List Slot) (s : State) → Here code pc st → Enough bound n s
+          → ((s1 : State) → Enough bound n s1 → Stops code bound (Goes (at pc st bs s1))) → Stops code bound (tells_change code o pc st bs s)
+      change_stops None pc st s way good on = on s good
+      change_stops (Some a) pc st s way good on = delivers_stops change (target_of a) (sinks (sheet_of a) s.memory) pc st (with_memory s (no_change s.memory)) way good on
+
+      -- cells may be written
+      writes_stop : {A : Type 0} (effect : Effect A) (pc : ℕ) (st : List Slot) (s : State) → Here code pc st → Enough bound n s
+          → ((s1 : State) → Enough bound n s1 → Stops code bound (Goes (at pc st bs s1))) → Stops code bound (done_then effect bs s (then_changes code pc st bs))
+      writes_stop effect pc st s way good on = does effect bs s (then_changes code pc st bs) l.good good (λ x s1 g1. change_stops s1.memory.changed pc st s1 way g1 on)
+
+      -- a use of an object goes on
+      follows_stops : (b : Bool) (k pc : ℕ) (st : List Slot) (x : Next) (s : State) → before code.instrs no_way pc ≡ Some (brings (kind_left b ∷ kinds_of st)) → Enough bound n s
+          → ((v : Val) (s1 : State) → Enough bound n s1 → Stops code bound (Goes (at pc (left_as b v ∷ st) bs s1))) → Stops code bound (follows code b k pc st bs x s)
+      follows_stops b k pc st (gives v) s way good on =
+          change_stops s.memory.changed pc (left_as b v ∷ st) s (way ∙ ap (λ k. Some (brings (k ∷ kinds_of st))) (sym (left_kind b v))) good (on v)
+      follows_stops b zero pc st (then_call p me xs ts) s way good on = raises (error_here 450 s.memory) bs s l.good good
+      follows_stops b (suc k) pc st (then_call p me xs ts) s way good on =
+          either (nat_lt (length s.memory.frames) 2000)
+          (by_turn code bound n later _ _ good (λ d known g. known.start (slice_index code.starts p) (Within b k ts pc st ∷ bs) _ (start_lands p) (way, l.good) g))
+          (raises (error_here 28 s.memory) bs s l.good good)
+
+      -- an instruction that uses one
+      uses_stops : (b : Bool) (e : Effect Next) (pc : ℕ) (st : List Slot) (s : State) (u : Way) → Enough bound n s → before code.instrs no_way pc ≡ Some u → Some (brings (kind_left b ∷ kinds_of st)) ≡ Some u
+          → ((st1 : List Slot) (s1 : State) → Enough bound n s1 → Some (brings (kinds_of st1)) ≡ Some u → Stops code bound (Goes (at pc st1 bs s1))) → Stops code bound (uses code b e pc st bs s)
+      uses_stops b e pc st s u good after h on =
+          does e bs s (follows code b most_calls pc st bs) l.good good (λ x s1 g1.
+          follows_stops b most_calls pc st x s1 (after ∙ sym h) g1 (λ v s2 g2. on (left_as b v ∷ st) s2 g2 (ap (λ k. Some (brings (k ∷ kinds_of st))) (left_kind b v) ∙ h)))
+
+      -- a member of the host or of a Collection
+      member_stops : (name : List ℕ) (v w : Val) (vs : List Val) (pc : ℕ) (st : List Slot) (s : State) (u : Way) → Enough bound n s → before code.instrs no_way pc ≡ Some u → Some (brings (a_value ∷ kinds_of st)) ≡ Some u
+          → ((st1 : List Slot) (s1 : State) → Enough bound n s1 → Some (brings (kinds_of st1)) ≡ Some u → Stops code bound (Goes (at pc st1 bs s1))) → Stops code bound (uses_member code name v w vs pc st bs s)
+      member_stops name v w vs pc st s u good after h on =
+          either (is_raise name v)
+          (does (error_given vs s.memory) bs s (λ error s1. raised error bs s1) l.good good (λ error s1 g1. raises error bs s1 l.good g1))
+          (either (is_counted v)
+          (does (object_member name vs v s.memory) bs s (λ r s1. then_let_go pc (value r.0 ∷ st) bs r.1 s1) l.good good (λ r s1 g1.
+          letting_stops bs (Back-to pc (value r.0 ∷ st)) l.good (after ∙ sym h) (λ s2 g2. on (value r.0 ∷ st) s2 g2 h) r.1 s1 g1))
+          (does (member_called code.declared name vs v w s.memory) bs s (then_changes_push code pc st bs) l.good good (λ x s1 g1.
+          change_stops s1.memory.changed pc (value x ∷ st) s1 (after ∙ sym h) g1 (λ s2 g2. on (value x ∷ st) s2 g2 h))))
 
       -- a new object is made, and its Class_Initialize called
       initial_stops : (o : Option ℕ) (v : Val) (pc : ℕ) (st : List Slot) (s : State) → before code.instrs no_way pc ≡ Some (brings (a_value ∷ a_value ∷ kinds_of st)) → Enough bound n s
@@ -344,8 +431,41 @@ module _ (code : Code) (well : WellFormed code) (bound : ℕ) where
           off_stops k st [] _ _ u e (λ xs st1 e1. value_off_stops st1 _ _ u e1 (λ v st2 e2. does _ bs s _ l.good good (λ w s1 g1. on (value w ∷ st2) s1 g1 e2)))
       acts (PartOf i) pc st s u good after on e q h = value_off_stops st _ _ u e (λ v st1 e1. does _ bs s _ l.good good (λ w s1 g1. on (value w ∷ st1) s1 g1 e1))
       acts (OperateAlone o of) pc st s u good after on e q h = value_off_stops st _ _ u e (λ v st1 e1. does _ bs s _ l.good good (λ w s1 g1. on (value w ∷ st1) s1 g1 e1))
-      acts Plain pc st s u good after on e q h = value_off_stops st _ _ u e (λ v st1 e1. does _ bs s _ l.good good (λ w s1 g1. on (value w ∷ st1) s1 g1 e1))
-      acts PlainIfAny pc st s u good after on e q h = value_off_stops st _ _ u e (λ v st1 e1. does _ bs s _ l.good good (λ w s1 g1. on (value w ∷ st1) s1 g1 e1))
+      acts Plain pc st s u good after on e q h =
+          value_off_stops st _ _ u e (λ v st1 e1.
+          either (is_counted v) (uses_stops false (counted_operand code.declared v s.memory) (pc + 1) st1 s u good after e1 on)
+          (does (plain v s.memory) bs s (then_push (pc + 1) st1 bs) l.good good (λ w s1 g1. on (value w ∷ st1) s1 g1 e1)))
+      acts PlainIfAny pc st s u good after on e q h =
+          value_off_stops st _ _ u e (λ v st1 e1.
+          either (is_counted v) (uses_stops false (counted_if_any code.declared v s.memory) (pc + 1) st1 s u good after e1 on)
+          (does (plain_if_any v s.memory) bs s (then_push (pc + 1) st1 bs) l.good good (λ w s1 g1. on (value w ∷ st1) s1 g1 e1)))
+      acts (FindLate aim name how gs) pc st s u good after on e q h =
+          value_off_stops st _ _ u e (λ v st1 e1. uses_stops false (late_there code.declared aim name how gs v s.memory) (pc + 1) (value v ∷ st1) s u good after e1 on)
+      acts (BindValue aim name how gs i) pc st s u good after on e q h =
+          value_off_stops st _ _ u e (λ v st1 e1. uses_stops false (value_bound code.declared aim name how gs i (base_below i st1) v s.memory) (pc + 1) st1 s u good after e1 on)
+      acts (BindPlace aim name how gs i) pc st s u good after on e q h =
+          path_off_stops st _ _ u e (λ p st1 e1.
+          either (lends_place code.declared aim name how gs i (base_below i st1) p s.memory)
+          (does (lent p s.memory) bs s (then_at (pc + 1) (path p ∷ st1) bs) l.good good (λ x s1 g1. on (path p ∷ st1) s1 g1 e1))
+          (uses_stops true (place_copied code.declared aim name how gs i (base_below i st1) p s.memory) (pc + 1) st1 s u good after e1 on))
+      acts (CallLate name how gs) pc st s u good after on e q h =
+          off_stops (length gs) st [] _ _ u e (λ xs st1 e1. value_off_stops st1 _ _ u e1 (λ w st2 e2. value_off_stops st2 _ _ u e2 (λ v st3 e3.
+          either (is_instance v s.memory) (uses_stops false (late_called code.declared name how gs v w (map received xs) s.memory) (pc + 1) st3 s u good after e3 on)
+          (member_stops name v w (host_arguments v name how (map received xs)) (pc + 1) st3 s u good after e3 on))))
+      acts (LetLate name how gs) pc st s u good after on e q h =
+          off_stops (length gs) st [] _ _ u e (λ xs st1 e1. value_off_stops st1 _ _ u e1 (λ x st2 e2. value_off_stops st2 _ _ u e2 (λ w st3 e3. value_off_stops st3 _ _ u e3 (λ v st4 e4.
+          uses_stops false (late_let code.declared name how gs w x (map received xs) v s.memory) (pc + 1) st4 s u good after e4 on))))
+      acts (SetLate name how gs) pc st s u good after on e q h =
+          off_stops (length gs) st [] _ _ u e (λ xs st1 e1. value_off_stops st1 _ _ u e1 (λ x st2 e2. value_off_stops st2 _ _ u e2 (λ w st3 e3. value_off_stops st3 _ _ u e3 (λ v st4 e4.
+          uses_stops false (late_set code.declared name how gs w (map received xs) v s.memory) (pc + 1) st4 s u good after e4 on))))
+      acts (ItemAlong k) pc st s u good after on e q h =
+          off_stops k st [] _ _ u e (λ xs st1 e1. value_off_stops st1 _ _ u e1 (λ v st2 e2.
+          uses_stops false (index_along code.declared most_passed (slot_values xs) v s.memory) (pc + 1) st2 s u good after e2 on))
+      acts WriteThrough pc st s u good after on e q h =
+          value_off_stops st _ _ u e (λ w st1 e1. value_off_stops st1 _ _ u e1 (λ v st2 e2. uses_stops false (write_along code.declared most_passed v w s.memory) (pc + 1) st2 s u good after e2 on))
+      acts (LetElement k) pc st s u good after on e q h =
+          off_stops k st [] _ _ u e (λ xs st1 e1. path_off_stops st1 _ _ u e1 (λ p st2 e2. value_off_stops st2 _ _ u e2 (λ v st3 e3.
+          uses_stops false (let_element code.declared p (slot_values xs) v s.memory) (pc + 1) st3 s u good after e3 on)))
       acts PushThis pc st s u good after on e q h = does (own_object s.memory) bs s (then_push (pc + 1) st bs) l.good good (λ v s1 g1. on (value v ∷ st) s1 g1 e)
       acts (New c) pc st s u good after on e q h =
           does (made code.declared c s.memory) bs s (λ v s1. initializes code (class_at code.declared c).initialize v (pc + 1) st bs s1) l.good good (λ v s1 g1. initial_stops (class_at code.declared c).initialize v (pc + 1) st s1 (after ∙ sym e) g1 (on (value empty ∷ value v ∷ st) s1 g1 e))
@@ -370,25 +490,16 @@ module _ (code : Code) (well : WellFormed code) (bound : ℕ) where
           value_off_stops st _ _ u e (λ v st1 e1. does _ bs s _ l.good good (λ w s1 g1. on (value w ∷ value v ∷ st1) s1 g1 e1))
       acts (MemberOf name k) pc st s u good after on e q h =
           off_stops k st [] _ _ u e (λ xs st1 e1. value_off_stops st1 _ _ u e1 (λ w st2 e2. value_off_stops st2 _ _ u e2 (λ v st3 e3.
-          either (is_raise name v)
-          (does (error_given (slot_values xs) s.memory) bs s (λ error s1. raised error bs s1) l.good good (λ error s1 g1. raises error bs s1 l.good g1))
-          (either (is_counted v)
-          (does (object_member name (slot_values xs) v s.memory) bs s (λ r s1. then_let_go (pc + 1) (value r.0 ∷ st3) bs r.1 s1) l.good good (λ r s1 g1.
-          letting_stops bs (Back-to (pc + 1) (value r.0 ∷ st3)) l.good (after ∙ sym e3) (λ s2 g2. on (value r.0 ∷ st3) s2 g2 e3) r.1 s1 g1))
-          (does _ bs s _ l.good good (λ x s1 g1. on (value x ∷ st3) s1 g1 e3))))))
+          member_stops name v w (slot_values xs) (pc + 1) st3 s u good after e3 on)))
       acts (NamedThere name by k) pc st s u good after on e q h =
           value_off_stops st _ _ u e (λ v st1 e1. does _ bs s _ l.good good (λ w s1 g1. on (value w ∷ value v ∷ st1) s1 g1 e1))
       acts (NamedOf name by k) pc st s u good after on e q h =
           off_stops k st [] _ _ u e (λ xs st1 e1. value_off_stops st1 _ _ u e1 (λ w st2 e2. value_off_stops st2 _ _ u e2 (λ v st3 e3.
-          either (is_raise name v)
-          (does (error_given (in_parameter_order v name by (slot_values xs)) s.memory) bs s (λ error s1. raised error bs s1) l.good good (λ error s1 g1. raises error bs s1 l.good g1))
-          (either (is_counted v)
-          (does (object_member name (in_parameter_order v name by (slot_values xs)) v s.memory) bs s (λ r s1. then_let_go (pc + 1) (value r.0 ∷ st3) bs r.1 s1) l.good good (λ r s1 g1.
-          letting_stops bs (Back-to (pc + 1) (value r.0 ∷ st3)) l.good (after ∙ sym e3) (λ s2 g2. on (value r.0 ∷ st3) s2 g2 e3) r.1 s1 g1))
-          (does _ bs s _ l.good good (λ x s1 g1. on (value x ∷ st3) s1 g1 e3))))))
+          member_stops name v w (in_parameter_order v name by (slot_values xs)) (pc + 1) st3 s u good after e3 on)))
       acts (StoreMember name k) pc st s u good after on e q h =
           off_stops k st [] _ _ u e (λ xs st1 e1.
-          value_off_stops st1 _ _ u e1 (λ x st2 e2. value_off_stops st2 _ _ u e2 (λ w st3 e3. value_off_stops st3 _ _ u e3 (λ v st4 e4. does _ bs s _ l.good good (λ t s1 g1. on st4 s1 g1 e4)))))
+          value_off_stops st1 _ _ u e1 (λ x st2 e2. value_off_stops st2 _ _ u e2 (λ w st3 e3. value_off_stops st3 _ _ u e3 (λ v st4 e4.
+          writes_stop (member_assigned code.declared name (slot_values xs) w x v s.memory) (pc + 1) st4 s (after ∙ sym e4) good (λ s1 g1. on st4 s1 g1 e4)))))
       acts (Library f text_form compare base k) pc st s u good after on e q h = off_stops k st [] _ _ u e (λ xs st1 e1. does _ bs s _ l.good good (λ v s1 g1. on (value v ∷ st1) s1 g1 e1))
       acts (BoundAt upper z) pc st s u good after on e q h = path_off_stops st _ _ u e (λ q st1 e1. does _ bs s _ l.good good (λ v s1 g1. on (value v ∷ st1) s1 g1 e1))
       acts Drop pc st s u good after on e q h = value_off_stops st _ _ u e (λ v st1 e1. on st1 s good e1)
@@ -408,14 +519,18 @@ module _ (code : Code) (well : WellFormed code) (bound : ℕ) where
           either (nat_lt (length s.memory.frames) 2000)
           (by_turn code bound n later _ _ good (λ d known g. known.start (slice_index code.starts p) (Caller (pc + 1) st2 ∷ bs) _ (start_lands p) (after ∙ sym e2, l.good) g))
           (raises (error_here 28 s.memory) bs s l.good good)))
-      acts Store pc st s u good after on e q h = path_off_stops st _ _ u e (λ q st1 e1. value_off_stops st1 _ _ u e1 (λ v st2 e2. does _ bs s _ l.good good (λ x s1 g1. on st2 s1 g1 e2)))
+      acts Store pc st s u good after on e q h =
+          path_off_stops st _ _ u e (λ q st1 e1. value_off_stops st1 _ _ u e1 (λ v st2 e2. writes_stop (assigned_at q v s.memory) (pc + 1) st2 s (after ∙ sym e2) good (λ s1 g1. on st2 s1 g1 e2)))
       acts SetAt pc st s u good after on e q h = path_off_stops st _ _ u e (λ q st1 e1. value_off_stops st1 _ _ u e1 (λ v st2 e2. does _ bs s _ l.good good (λ x s1 g1. on st2 s1 g1 e2)))
       acts StoreDefault pc st s u good after on e q h =
-          value_off_stops st _ _ u e (λ w st1 e1. value_off_stops st1 _ _ u e1 (λ v st2 e2. does _ bs s _ l.good good (λ x s1 g1. on st2 s1 g1 e2)))
+          value_off_stops st _ _ u e (λ w st1 e1. value_off_stops st1 _ _ u e1 (λ v st2 e2. writes_stop (written_default w v s.memory) (pc + 1) st2 s (after ∙ sym e2) good (λ s1 g1. on st2 s1 g1 e2)))
       acts (StoreItem k) pc st s u good after on e q h =
-          off_stops k st [] _ _ u e (λ xs st1 e1. value_off_stops st1 _ _ u e1 (λ w st2 e2. value_off_stops st2 _ _ u e2 (λ v st3 e3. does _ bs s _ l.good good (λ t s1 g1. on st3 s1 g1 e3))))
+          off_stops k st [] _ _ u e (λ xs st1 e1. value_off_stops st1 _ _ u e1 (λ w st2 e2. value_off_stops st2 _ _ u e2 (λ v st3 e3.
+          writes_stop (item_assigned w (slot_values xs) v s.memory) (pc + 1) st3 s (after ∙ sym e3) good (λ s1 g1. on st3 s1 g1 e3))))
       acts SetMember pc st s u good after on e q h =
           value_off_stops st _ _ u e (λ w st1 e1. value_off_stops st1 _ _ u e1 (λ v st2 e2. does _ bs s _ l.good good (λ t s1 g1. on st2 s1 g1 e2)))
+      acts (RaiseEvent event k) pc st s u good after on e q h =
+          off_stops k st [] _ _ u e (λ xs st1 e1. delivers_stops event xs (sinks (source_of (top s.memory).me) s.memory) (pc + 1) st1 s (after ∙ sym e1) good (λ s1 g1. on st1 s1 g1 e1))
       acts (Show ends k) pc st s u good after on e q h = off_stops k st [] _ _ u e (λ xs st1 e1. does (printed ends xs s.memory) bs s (then_at (pc + 1) st1 bs) l.good good (λ x s1 g1. on st1 s1 g1 e1))
       acts (Throw k) pc st s u good after on e q h = off_stops k st [] _ _ u e (λ xs st1 e1. raises _ bs s l.good good)
       acts (LoopOff i) pc st s u good after on e q h = does (loop_off i s.memory) bs s (then_at (pc + 1) st bs) l.good good (λ x s1 g1. on st s1 g1 e)
@@ -446,10 +561,10 @@ module _ (code : Code) (well : WellFormed code) (bound : ℕ) where
       acts EraseAt pc st s u good after on e q h =
           path_off_stops st _ _ u e (λ p st1 e1. does _ bs s _ l.good good (λ j s1 g1. letting_stops bs (Back-to (pc + 1) st1) l.good (after ∙ sym e1) (λ s2 g2. on st1 s2 g2 e1) j s1 g1))
       acts (KeepPath i) pc st s u good after on e q h = path_off_stops st _ _ u e (λ p st1 e1. does (keep_path i p s.memory) bs s (then_at (pc + 1) st1 bs) l.good good (λ x s1 g1. on st1 s1 g1 e1))
-      acts (TakeReturn p) pc st s u good after on e q h = does _ bs s _ l.good good (λ i s1 g1. finishing (entry_of code p i) s1 (well.entries p i) g1)
-      acts (Again p) pc st s u good after on e q h = does _ bs s _ l.good good (λ i s1 g1. finishing (entry_of code p i) s1 (well.entries p i) g1)
-      acts (Behind p) pc st s u good after on e q h = does _ bs s _ l.good good (λ i s1 g1. finishing (entry_of code p i) s1 (well.entries p i) g1)
-      acts (Resumes p to) pc st s u good after on e q h = does _ bs s _ l.good good (λ i s1 g1. finishing (entry_of code p i) s1 (well.entries p i) g1)
+      acts (TakeReturn p) pc st s u good after on e q h = does _ bs s _ l.good good (λ i s1 g1. finishing (entry_of code p i) s1 (entry_lands code well p i) g1)
+      acts (Again p) pc st s u good after on e q h = does _ bs s _ l.good good (λ i s1 g1. finishing (entry_of code p i) s1 (entry_lands code well p i) g1)
+      acts (Behind p) pc st s u good after on e q h = does _ bs s _ l.good good (λ i s1 g1. finishing (entry_of code p i) s1 (entry_lands code well p i) g1)
+      acts (Resumes p to) pc st s u good after on e q h = does _ bs s _ l.good good (λ i s1 g1. finishing (entry_of code p i) s1 (entry_lands code well p i) g1)
       acts (Finish to) pc st s u good after on e q h = finishing to s (leads_there q to h) good
       acts (Branch sense to other) pc st s u good after on e q h =
           value_off_stops st _ _ u e (λ v st1 e1. does _ bs s _ l.good good (λ b s1 g1. branching b to other s1 (leads_there q to h.0) (leads_there q other h.1) g1))
@@ -466,7 +581,7 @@ module _ (code : Code) (well : WellFormed code) (bound : ℕ) where
           let r = on_from code.instrs no_way (brings (kinds_of st)) no_way pc i.0 well.operands way i.1 in
           let k : suc pc ≡ pc + 1 = omega arith in
           let after = subst (λ m. before code.instrs no_way m ≡ Some r.0) k r.1.1 in
-          let sound = sound_behind code well.pieces pc i.0 (kinds_of st) r.0 well.sound (ap (λ is. slice_get is pc) (sym well.whole) ∙ i.1) r.1.0 in
+          let sound = sound_behind code well pc i.0 (kinds_of st) r.0 i.1 r.1.0 in
           instr_stops i.0 pc st s i.1
           (acts i.0 pc st s r.0 good after (λ st1 s1 g1 e1. inside_stops d (pc + 1) st1 s1 (omega (arith, far)) (after ∙ sym e1) g1) r.1.0 sound.0 sound.1)
 
@@ -493,6 +608,13 @@ module _ (code : Code) (well : WellFormed code) (bound : ℕ) where
           returns = λ v s good. inside_code bs l ret (value v ∷ st) (with_memory s (hold v s.memory)) g.0 good;
           passes = λ e s good. failing_stops bs l e s good;
         }
+    left_well (Delivering e xs ls ret st ∷ bs) g =
+        let l = left_well bs g.1 in
+        record {
+          good = g;
+          returns = λ v s good. delivers_stops bs l e xs ls ret st (with_memory s (hold v s.memory)) g.0 good (λ s1 g1. inside_code bs l ret st s1 g.0 g1);
+          passes = λ error s good. failing_stops bs l error s good;
+        }
     left_well (EndOf o k after ∷ bs) g =
         let l = left_well bs g.1 in
         record {
@@ -500,6 +622,16 @@ module _ (code : Code) (well : WellFormed code) (bound : ℕ) where
           returns = λ v s good. either (is_last s.memory o)
               (let_all bs l (length (objects_in_values (object_at s.memory o).fields) + k) after (with_memory s (gone o s.memory)) g.0 good) (let_all bs l k after s g.0 good);
           passes = λ e s good. over (Faulted e) s;
+        }
+    left_well (Within b k ts pc st ∷ bs) g =
+        let l = left_well bs g.1 in
+        record {
+          good = g;
+          returns = λ v s good. (
+              let s1 : State = with_memory s (hold v s.memory) in
+              does (tasks_next code.declared ts v s1.memory) bs s1 (follows code b k pc st bs) l.good good (λ x s2 g2.
+              follows_stops bs l b k pc st x s2 g.0 g2 (λ w s3 g3. inside_code bs l pc (left_as b w ∷ st) s3 (g.0 ∙ ap (λ x. Some (brings (x ∷ kinds_of st))) (sym (left_kind b w))) g3)));
+          passes = λ e s good. failing_stops bs l e s good;
         }
 
     known_now : Known code bound n

@@ -3,11 +3,12 @@ use Rattle.std.proofs.Common.{◌≡◌, ℕ, suc, ◌+◌, Bool, List, [], ◌�
 use Rattle.std.proofs.lemmas.List.{append-nil}
 use Rattle.vba_values.specs.declared.types.Compare.{Compare}
 use Rattle.vba_values.specs.Types.{Declared}
-use Rattle.bound_project.specs.Expressions.{Expr, expr, Node, not_given, constant, load, load_made, element_value, field_value, unary, binary, call, err_value, default_of, default_if_any, same, is_type, library, bound_of, host_object, active_sheet, host_member, named_member, this, new_object, method, Lvalue, variable, item, element, field, kept_place, object_field, as_new, Args, no_args, by_place, by_copy, by_default, by_list, in_order, Exprs, no_exprs, also, Prints, no_prints, shown, zone}
-use Rattle.bound_project.specs.Statements.{Resizes, no_resizes, resize, Arrays, no_arrays, an_array, Tests, no_tests, test_is, test_range, Action, assign, assign_item, set, assign_default, assign_member, set_member, evaluate, let_property, set_property, let_method, set_method, print, raise, test, go_to, for_to, next, for_each, next_each, exit_each, select, case_of, redim, erase, with_place, with_value, end_with, go_sub, return_sub, exit_to, on_error, end_handler, clear_err, resume_again, resume_next, resume_at, stop, end_run, Statement}
+use Rattle.bound_project.specs.Expressions.{Expr, expr, Node, not_given, constant, load, load_made, element_value, field_value, unary, binary, call, err_value, default_of, default_if_any, same, is_type, library, bound_of, host_object, active_sheet, ByName, host_member, named_member, this, new_object, method, late_member, late_item, Lvalue, variable, item, element, field, kept_place, object_field, as_new, Args, no_args, by_place, by_copy, by_default, by_list, in_order, Given, none_given, place_given, expr_given, Exprs, no_exprs, also, Prints, no_prints, shown, zone}
+use Rattle.bound_project.specs.Statements.{Resizes, no_resizes, resize, Arrays, no_arrays, an_array, Tests, no_tests, test_is, test_range, Action, assign, assign_item, set, assign_default, assign_member, set_member, assign_through, assign_element, assign_late, set_late, evaluate, let_property, set_property, let_method, set_method, raise_event, print, raise, test, go_to, for_to, next, for_each, next_each, exit_each, select, case_of, redim, erase, with_place, with_value, end_with, go_sub, return_sub, exit_to, on_error, end_handler, clear_err, resume_again, resume_next, resume_at, stop, end_run, Statement}
 use Rattle.bound_project.specs.Project.{Project, Body}
+use Rattle.vba_meaning.specs.LateBound.{Use, reading, assigning, setting, which_given}
 use Rattle.pcode.specs.Instructions.{Instr, Plain, Fit, FitObject, Call, CallOf, Drop, Finish}
-use Rattle.pcode.specs.Code.{count, list_count, prints_count, expr_code, node_code, place_code, args_code, list_code, prints_code, resizes_code, erases_code, Entry, tests_code, action_code, statement_code}
+use Rattle.pcode.specs.Code.{count, list_count, prints_count, expr_code, node_code, place_code, args_code, list_code, prints_code, resizes_code, erases_code, given_code, Entry, tests_code, action_code, statement_code}
 use Rattle.pcode.specs.Layout.{body_code, bodies_code, entries_of, entry_in, code_of}
 use Rattle.pcode.specs.WellFormed.{Kind, a_value, a_path, Way, no_way, brings, value_off, taken_off, brings_value, kinds_pushed, kinds_reordered, along_rest, along_all}
 
@@ -67,6 +68,16 @@ prints_kinds no_prints = []
 prints_kinds (shown e ps) = a_value ∷ prints_kinds ps
 prints_kinds (zone ps) = a_value ∷ prints_kinds ps
 
+abbrev given_kinds : Given → List Kind
+given_kinds none_given = []
+given_kinds (place_given x given) = a_path ∷ given_kinds given
+given_kinds (expr_given e given) = a_value ∷ given_kinds given
+
+given_counted : (given : Given) → length (given_kinds given) ≡ length (which_given given)
+given_counted none_given = refl
+given_counted (place_given x given) = ap suc (given_counted given)
+given_counted (expr_given e given) = ap suc (given_counted given)
+
 reordered_count : (order : List ℕ) (xs : List Kind) → length (kinds_reordered order xs) ≡ length order
 reordered_count [] xs = refl
 reordered_count (i ∷ order) xs = ap suc (reordered_count order xs)
@@ -115,6 +126,12 @@ mutual
   node_gives (new_object c) ks = record { by = λ rest. refl }
   node_gives (method e q args) ks =
       then_gives (expr_code e) _ (expr_gives e ks) (record { by = λ rest. (then_gives (args_code args) _ (args_give args (a_value ∷ ks)) (record { by = λ more. counts (args_kinds args) _ _ _ more _ (args_count args) refl })).by rest })
+  node_gives (late_member e name by given) ks =
+      then_gives (expr_code e) _ (expr_gives e ks) (record {
+        by = λ rest. (then_gives (given_code given reading name by (which_given given) 0) _ (given_gives given reading name by (which_given given) 0 (a_value ∷ a_value ∷ ks)) (record { by = λ more. counts (given_kinds given) _ _ _ more _ (given_counted given) refl })).by rest;
+      })
+  node_gives (late_item e es) ks =
+      then_gives (expr_code e) _ (expr_gives e ks) (then_gives (list_code es) _ (list_gives es (a_value ∷ ks)) (record { by = λ rest. counts (list_kinds es) _ _ _ rest _ (lists_count es) refl }))
   node_gives (same a b) ks = then_gives (expr_code a) _ (expr_gives a ks) (then_gives (expr_code b) _ (expr_gives b (a_value ∷ ks)) (record { by = λ rest. refl }))
   node_gives (is_type e of) ks = then_gives (expr_code e) _ (expr_gives e ks) (record { by = λ rest. refl })
   node_gives (library f text_form es compare base) ks = then_gives (list_code es) _ (list_gives es ks) (record { by = λ rest. counts (list_kinds es) _ _ _ rest _ (lists_count es) refl })
@@ -139,6 +156,11 @@ mutual
   args_give (by_list es args) ks =
       then_gives (list_code es) _ (list_gives es ks) (record { by = λ rest. counts (list_kinds es) _ _ _ (args_code args ++ rest) _ (lists_count es) ((args_give args (a_value ∷ ks)).by rest) })
   args_give (in_order order args) ks = then_gives (args_code args) _ (args_give args ks) (record { by = λ rest. counts (args_kinds args) _ _ _ rest _ (args_count args) refl })
+
+  given_gives : (given : Given) (aim : Use) (name : List ℕ) (by : ByName) (gs : List Bool) (i : ℕ) (ks : List Kind) → Gives (given_code given aim name by gs i) ks (kinds_pushed (given_kinds given) ks)
+  given_gives none_given aim name how gs i ks = record { by = λ rest. refl }
+  given_gives (place_given x given) aim name how gs i ks = then_gives (place_code x) _ (place_gives x ks) (record { by = λ rest. (given_gives given aim name how gs (suc i) (a_path ∷ ks)).by rest })
+  given_gives (expr_given e given) aim name how gs i ks = then_gives (expr_code e) _ (expr_gives e ks) (record { by = λ rest. (given_gives given aim name how gs (suc i) (a_value ∷ ks)).by rest })
 
   list_gives : (es : Exprs) (ks : List Kind) → Gives (list_code es) ks (kinds_pushed (list_kinds es) ks)
   list_gives no_exprs ks = record { by = λ rest. refl }
@@ -178,6 +200,20 @@ action_closes entry p i k (assign_member base name es e) =
       by = λ rest. (then_closes (list_code es) _ (list_gives es (a_value ∷ a_value ∷ a_value ∷ [])) (record { by = λ more. counts (list_kinds es) _ _ _ (Finish (entry k) ∷ more) _ (lists_count es) refl })).by rest;
     }))
 action_closes entry p i k (set_member base e) = then_closes (expr_code e) _ (expr_gives e []) (then_closes (expr_code base) _ (expr_gives base (a_value ∷ [])) (record { by = λ rest. refl }))
+action_closes entry p i k (assign_through x e) = then_closes (expr_code e) _ (expr_gives e []) (then_closes (expr_code x) _ (expr_gives x (a_value ∷ [])) (record { by = λ rest. refl }))
+action_closes entry p i k (assign_element x es e) =
+    then_closes (expr_code e) _ (expr_gives e []) (then_closes (place_code x) _ (place_gives x (a_value ∷ [])) (then_closes (list_code es) _ (list_gives es (a_path ∷ a_value ∷ []))
+    (record { by = λ rest. counts (list_kinds es) _ _ _ (Drop ∷ Finish (entry k) ∷ rest) _ (lists_count es) refl })))
+action_closes entry p i k (assign_late base name how given e) =
+    then_closes (expr_code e) _ (expr_gives e []) (then_closes (expr_code base) _ (expr_gives base (a_value ∷ [])) (record {
+      by = λ rest. (then_closes (given_code given assigning name how (which_given given) 0) _ (given_gives given assigning name how (which_given given) 0 (a_value ∷ a_value ∷ a_value ∷ []))
+          (record { by = λ more. counts (given_kinds given) _ _ _ (Drop ∷ Finish (entry k) ∷ more) _ (given_counted given) refl })).by rest;
+    }))
+action_closes entry p i k (set_late base name how given e) =
+    then_closes (expr_code e) _ (expr_gives e []) (then_closes (expr_code base) _ (expr_gives base (a_value ∷ [])) (record {
+      by = λ rest. (then_closes (given_code given setting name how (which_given given) 0) _ (given_gives given setting name how (which_given given) 0 (a_value ∷ a_value ∷ a_value ∷ []))
+          (record { by = λ more. counts (given_kinds given) _ _ _ (Drop ∷ Finish (entry k) ∷ more) _ (given_counted given) refl })).by rest;
+    }))
 action_closes entry p i k (evaluate e) = then_closes (expr_code e) _ (expr_gives e []) (record { by = λ rest. refl })
 action_closes entry p i k (let_property q args e of) =
     then_closes (expr_code e) _ (expr_gives e []) (then_closes (args_code args) _ (args_give args (a_value ∷ []))
@@ -195,6 +231,7 @@ action_closes entry p i k (set_method base q args e of) =
       by = λ more. (then_closes (args_code args) _ (args_give args (a_value ∷ a_value ∷ []))
           (record { by = λ rest. counts (a_value ∷ args_kinds args) _ (a_value ∷ []) _ (FitObject of ∷ CallOf q (suc (count args)) ∷ Drop ∷ Finish (entry k) ∷ rest) _ (ap suc (args_count args)) (ap (λ o. along_rest o (along_all (Drop ∷ Finish (entry k) ∷ rest))) (one_more_off (args_kinds args) (count args) a_value (a_value ∷ []) (λ xs js. value_off js brings_value) (args_count args))) })).by more;
     }))
+action_closes entry p i k (raise_event e args) = then_closes (args_code args) _ (args_give args []) (record { by = λ rest. counts (args_kinds args) _ _ _ (Finish (entry k) ∷ rest) _ (args_count args) refl })
 action_closes entry p i k (print ps ends) = then_closes (prints_code ps) _ (prints_give ps []) (record { by = λ rest. counts (prints_kinds ps) _ _ _ (Finish (entry k) ∷ rest) _ (prints_counted ps) refl })
 action_closes entry p i k (raise args) = then_closes (args_code args) _ (args_give args []) (record { by = λ rest. counts (args_kinds args) _ _ _ rest _ (args_count args) refl })
 action_closes entry p i k (test sense e to other) = then_closes (expr_code e) _ (expr_gives e []) (record { by = λ rest. refl })

@@ -3,10 +3,11 @@ use Rattle.std.specs.Prelude.{ℕ, suc, Bool, true, List, [], ◌∷◌, ◌++�
 use Rattle.vba_values.specs.declared.types.Compare.{Compare}
 use Rattle.vba_values.specs.Types.{Declared}
 use Rattle.vba_values.specs.Val.{missing, empty}
-use Rattle.bound_project.specs.Expressions.{Expr, expr, Node, not_given, constant, load, load_made, element_value, field_value, unary, binary, call, err_value, default_of, default_if_any, same, is_type, library, bound_of, host_object, active_sheet, host_member, named_member, this, new_object, method, Lvalue, variable, item, element, field, kept_place, object_field, as_new, Args, no_args, by_place, by_copy, by_default, by_list, in_order, Exprs, no_exprs, also, given_count, Prints, no_prints, shown, zone, operand_type}
-use Rattle.bound_project.specs.Statements.{Resizes, no_resizes, resize, Arrays, no_arrays, an_array, Tests, no_tests, test_is, test_range, Action, assign, assign_item, set, assign_default, assign_member, set_member, evaluate, let_property, set_property, let_method, set_method, print, raise, test, go_to, for_to, next, for_each, next_each, exit_each, select, case_of, redim, erase, with_place, with_value, end_with, go_sub, return_sub, exit_to, on_error, end_handler, clear_err, resume_again, resume_next, resume_at, stop, end_run, Statement}
+use Rattle.bound_project.specs.Expressions.{Expr, expr, Node, not_given, constant, load, load_made, element_value, field_value, unary, binary, call, err_value, default_of, default_if_any, same, is_type, library, bound_of, host_object, active_sheet, ByName, host_member, named_member, this, new_object, method, late_member, late_item, Lvalue, variable, item, element, field, kept_place, object_field, as_new, Args, no_args, by_place, by_copy, by_default, by_list, in_order, Given, none_given, place_given, expr_given, Exprs, no_exprs, also, given_count, Prints, no_prints, shown, zone, operand_type}
+use Rattle.bound_project.specs.Statements.{Resizes, no_resizes, resize, Arrays, no_arrays, an_array, Tests, no_tests, test_is, test_range, Action, assign, assign_item, set, assign_default, assign_member, set_member, assign_through, assign_element, assign_late, set_late, evaluate, let_property, set_property, let_method, set_method, raise_event, print, raise, test, go_to, for_to, next, for_each, next_each, exit_each, select, case_of, redim, erase, with_place, with_value, end_with, go_sub, return_sub, exit_to, on_error, end_handler, clear_err, resume_again, resume_next, resume_at, stop, end_run, Statement}
 use Rattle.vba_meaning.specs.Effects.{policy_of}
-use Rattle.pcode.specs.Instructions.{Instr, Begin, Push, LoadErr, PathOf, ReadThrough, ElementOf, ElementIn, FieldOf, Dot, Index, PartOf, Operate, OperateAlone, Plain, PlainIfAny, PushHost, FirstSheet, MemberThere, MemberOf, NamedThere, NamedOf, PushThis, New, ObjectThere, FieldIn, AsNew, MakeThere, StoreMade, Same, IsType, Library, BoundAt, Fit, FitObject, Drop, Lend, Pack, Reorder, Lift, Call, CallOf, Store, SetAt, StoreDefault, StoreMember, StoreItem, SetMember, ShowText, Show, Throw, LoopOff, LoopOn, NextRound, EachOff, EachOn, NextItem, Keep, Selected, IfFits, IfBetween, Redim, EraseAt, KeepPath, DropKept, PutReturn, TakeReturn, SetPolicy, HandlerOff, ErrOff, Again, Behind, Resumes, Finish, Branch, Halt, StopHere}
+use Rattle.vba_meaning.specs.LateBound.{Use, reading, assigning, setting, which_given}
+use Rattle.pcode.specs.Instructions.{Instr, Begin, Push, LoadErr, PathOf, ReadThrough, ElementOf, ElementIn, FieldOf, Dot, Index, PartOf, Operate, OperateAlone, Plain, PlainIfAny, PushHost, FirstSheet, MemberThere, MemberOf, NamedThere, NamedOf, PushThis, New, ObjectThere, FieldIn, AsNew, MakeThere, StoreMade, FindLate, BindValue, BindPlace, CallLate, LetLate, SetLate, ItemAlong, WriteThrough, LetElement, Same, IsType, Library, BoundAt, Fit, FitObject, Drop, Lend, Pack, Reorder, Lift, Call, CallOf, Store, SetAt, StoreDefault, StoreMember, StoreItem, SetMember, RaiseEvent, ShowText, Show, Throw, LoopOff, LoopOn, NextRound, EachOff, EachOn, NextItem, Keep, Selected, IfFits, IfBetween, Redim, EraseAt, KeepPath, DropKept, PutReturn, TakeReturn, SetPolicy, HandlerOff, ErrOff, Again, Behind, Resumes, Finish, Branch, Halt, StopHere}
 
 -- how many slots arguments are
 abbrev pub count : Args → ℕ
@@ -50,6 +51,9 @@ abbrev mutual
   node_code this = PushThis ∷ []
   node_code (new_object c) = New c ∷ Drop ∷ []
   node_code (method e p args) = expr_code e ++ ObjectThere ∷ (args_code args ++ CallOf p (count args) ∷ [])
+  node_code (late_member e name by given) =
+      expr_code e ++ FindLate reading name by (which_given given) ∷ (given_code given reading name by (which_given given) 0 ++ CallLate name by (which_given given) ∷ [])
+  node_code (late_item e es) = expr_code e ++ (list_code es ++ ItemAlong (list_count es) ∷ [])
   node_code (same a b) = expr_code a ++ (expr_code b ++ Same ∷ [])
   node_code (is_type e of) = expr_code e ++ IsType of ∷ []
   node_code (library f text_form es compare base) = list_code es ++ Library f text_form compare base (list_count es) ∷ []
@@ -71,6 +75,11 @@ abbrev mutual
   args_code (by_default v args) = Push v ∷ args_code args
   args_code (by_list es args) = list_code es ++ Pack (list_count es) ∷ args_code args
   args_code (in_order order args) = args_code args ++ Reorder order (count args) ∷ []
+
+  pub given_code : Given → Use → (name : List ℕ) → ByName → List Bool → (argument : ℕ) → List Instr
+  given_code none_given aim name by gs i = []
+  given_code (place_given x given) aim name by gs i = place_code x ++ BindPlace aim name by gs i ∷ given_code given aim name by gs (suc i)
+  given_code (expr_given e given) aim name by gs i = expr_code e ++ BindValue aim name by gs i ∷ given_code given aim name by gs (suc i)
 
   pub list_code : Exprs → List Instr
   list_code no_exprs = []
@@ -109,6 +118,14 @@ action_code entry p i k (assign_default x e) = expr_code e ++ (expr_code x ++ (S
 action_code entry p i k (assign_member base name es e) =
     expr_code e ++ (expr_code base ++ MemberThere name (given_count es) ∷ (list_code es ++ (StoreMember name (list_count es) ∷ Finish (entry k) ∷ [])))
 action_code entry p i k (set_member base e) = expr_code e ++ (expr_code base ++ (SetMember ∷ Finish (entry k) ∷ []))
+action_code entry p i k (assign_through x e) = expr_code e ++ (expr_code x ++ (WriteThrough ∷ Drop ∷ Finish (entry k) ∷ []))
+action_code entry p i k (assign_element x es e) = expr_code e ++ (place_code x ++ (list_code es ++ (LetElement (list_count es) ∷ Drop ∷ Finish (entry k) ∷ [])))
+action_code entry p i k (assign_late base name by given e) =
+    expr_code e ++ (expr_code base ++ FindLate assigning name by (which_given given) ∷
+    (given_code given assigning name by (which_given given) 0 ++ (LetLate name by (which_given given) ∷ Drop ∷ Finish (entry k) ∷ [])))
+action_code entry p i k (set_late base name by given e) =
+    expr_code e ++ (expr_code base ++ FindLate setting name by (which_given given) ∷
+    (given_code given setting name by (which_given given) 0 ++ (SetLate name by (which_given given) ∷ Drop ∷ Finish (entry k) ∷ [])))
 action_code entry p i k (evaluate e) = expr_code e ++ (Drop ∷ Finish (entry k) ∷ [])
 action_code entry p i k (let_property q args e of) = expr_code e ++ (args_code args ++ (Lift (count args) ∷ Plain ∷ Fit of ∷ Call q (suc (count args)) ∷ Drop ∷ Finish (entry k) ∷ []))
 action_code entry p i k (set_property q args e of) = expr_code e ++ (args_code args ++ (Lift (count args) ∷ FitObject of ∷ Call q (suc (count args)) ∷ Drop ∷ Finish (entry k) ∷ []))
@@ -116,6 +133,7 @@ action_code entry p i k (let_method base q args e of) =
     expr_code e ++ (expr_code base ++ ObjectThere ∷ (args_code args ++ (Lift (suc (count args)) ∷ Plain ∷ Fit of ∷ CallOf q (suc (count args)) ∷ Drop ∷ Finish (entry k) ∷ [])))
 action_code entry p i k (set_method base q args e of) =
     expr_code e ++ (expr_code base ++ ObjectThere ∷ (args_code args ++ (Lift (suc (count args)) ∷ FitObject of ∷ CallOf q (suc (count args)) ∷ Drop ∷ Finish (entry k) ∷ [])))
+action_code entry p i k (raise_event e args) = args_code args ++ (RaiseEvent e (count args) ∷ Finish (entry k) ∷ [])
 action_code entry p i k (print ps ends) = prints_code ps ++ (Show ends (prints_count ps) ∷ Finish (entry k) ∷ [])
 action_code entry p i k (raise args) = args_code args ++ Throw (count args) ∷ []
 action_code entry p i k (test sense e to other) = expr_code e ++ Branch sense (entry to) (entry other) ∷ []

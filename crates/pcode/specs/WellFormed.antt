@@ -1,10 +1,10 @@
 -- Serves the code: what it is that a code is well-formed. Each instruction finds its operands, on every way to it the
 -- same ones; jumps lead to statements of their procedure, or to its end; and each number names what is there.
-use Rattle.std.specs.Prelude.{◌≡◌, ℕ, zero, suc, ◌<◌, ◌≤◌, List, [], ◌∷◌, ◌++◌, length, Option, Some, None, slice_get, slice_index, slice_index_or}
+use Rattle.std.specs.Prelude.{◌≡◌, ℕ, zero, suc, ◌<◌, ◌≤◌, List, [], ◌∷◌, length, drop, Option, Some, None, slice_get, slice_index, slice_index_or}
 use Rattle.error_frames.specs.declared.frame.Policy.{Policy}
 use Rattle.error_frames.specs.declared.frame.Policy.TheVariants as policy
 use Rattle.bound_project.specs.Whole.{All, IfThere, IsConstant, HasType, HasVariable, HasProcedure, WholeClass}
-use Rattle.pcode.specs.Instructions.{Instr, Begin, Push, PushHost, LoadErr, PathOf, ReadThrough, ElementOf, ElementIn, FieldOf, Dot, Index, PartOf, Operate, OperateAlone, Plain, PlainIfAny, FirstSheet, MemberThere, MemberOf, NamedThere, NamedOf, PushThis, New, ObjectThere, FieldIn, AsNew, MakeThere, StoreMade, Same, IsType, Library, BoundAt, Fit, FitObject, Drop, Lend, Pack, Reorder, Lift, Call, CallOf, Store, SetAt, StoreDefault, StoreMember, StoreItem, SetMember, ShowText, Show, Throw, LoopOff, LoopOn, NextRound, EachOff, EachOn, NextItem, Keep, Selected, IfFits, IfBetween, Redim, EraseAt, KeepPath, DropKept, PutReturn, TakeReturn, SetPolicy, Again, Behind, Resumes, Finish, Branch, Halt, Leave, Code, list_or, entry_of, next_statement}
+use Rattle.pcode.specs.Instructions.{Instr, Begin, Push, PushHost, LoadErr, PathOf, ReadThrough, ElementOf, ElementIn, FieldOf, Dot, Index, PartOf, Operate, OperateAlone, Plain, PlainIfAny, FirstSheet, MemberThere, MemberOf, NamedThere, NamedOf, PushThis, New, ObjectThere, FieldIn, AsNew, MakeThere, StoreMade, FindLate, BindValue, BindPlace, CallLate, LetLate, SetLate, ItemAlong, WriteThrough, LetElement, Same, IsType, Library, BoundAt, Fit, FitObject, Drop, Lend, Pack, Reorder, Lift, Call, CallOf, Store, SetAt, StoreDefault, StoreMember, StoreItem, SetMember, RaiseEvent, ShowText, Show, Throw, LoopOff, LoopOn, NextRound, EachOff, EachOn, NextItem, Keep, Selected, IfFits, IfBetween, Redim, EraseAt, KeepPath, DropKept, PutReturn, TakeReturn, SetPolicy, Again, Behind, Resumes, Finish, Branch, Halt, Leave, Code, list_or, entry_of, next_statement}
 
 -- ---- operands
 
@@ -77,6 +77,15 @@ behind (FieldIn i of bounded) ks = value_off ks brings_path
 behind (AsNew c) ks = path_off ks brings_path
 behind MakeThere ks = path_off ks (λ js. Some (brings (a_value ∷ a_value ∷ a_path ∷ js)))
 behind StoreMade ks = value_off ks (λ js. path_off js brings_path)
+behind (FindLate aim name by gs) ks = value_off ks (λ js. brings_value (a_value ∷ js))
+behind (BindValue aim name by gs i) ks = value_off ks brings_value
+behind (BindPlace aim name by gs i) ks = path_off ks brings_path
+behind (CallLate name by gs) ks = taken_off (length gs) ks [] (λ xs js. value_off js (λ is. value_off is brings_value))
+behind (LetLate name by gs) ks = taken_off (length gs) ks [] (λ xs js. value_off js (λ is. value_off is (λ hs. value_off hs brings_value)))
+behind (SetLate name by gs) ks = taken_off (length gs) ks [] (λ xs js. value_off js (λ is. value_off is (λ hs. value_off hs brings_value)))
+behind (ItemAlong n) ks = taken_off n ks [] (λ xs js. value_off js brings_value)
+behind WriteThrough ks = value_off ks (λ js. value_off js brings_value)
+behind (LetElement n) ks = taken_off n ks [] (λ xs js. path_off js (λ is. value_off is brings_value))
 behind (IsType of) ks = value_off ks brings_value
 behind FirstSheet ks = brings_value ks
 behind (MemberThere name n) ks = value_off ks (λ js. brings_value (a_value ∷ js))
@@ -100,6 +109,7 @@ behind SetAt ks = path_off ks (λ js. value_off js (λ is. Some (brings is)))
 behind StoreDefault ks = value_off ks (λ js. value_off js (λ is. Some (brings is)))
 behind (StoreItem n) ks = taken_off n ks [] (λ xs js. value_off js (λ is. value_off is (λ hs. Some (brings hs))))
 behind SetMember ks = value_off ks (λ js. value_off js (λ is. Some (brings is)))
+behind (RaiseEvent e n) ks = taken_off n ks [] (λ xs js. Some (brings js))
 behind ShowText ks = value_off ks brings_value
 behind (Show ends n) ks = taken_off n ks [] (λ xs js. Some (brings js))
 behind (Throw n) ks = taken_off n ks [] (λ xs js. statement_over js)
@@ -200,30 +210,32 @@ Sound code p (Branch sense to other) = Leads code p to × Leads code p other
 Sound code p Leave = ⊥
 Sound code p other = Unit {0}
 
--- a statement begins at an address, or procedures end there
-pub data Lands (code : Code) (pc : ℕ) : Type 0 where
-  begins : (i : ℕ) → slice_get code.instrs pc ≡ Some (Begin i) → Lands code pc
-  leaves : slice_get code.instrs pc ≡ Some Leave → Lands code pc
+-- where the instructions of procedures begin: where the first statement of the first one that has statements does, or
+-- at the end of the code
+abbrev pub first_address : (entries : List (List ℕ)) → (end : ℕ) → ℕ
+first_address [] end = end
+first_address ([] ∷ t) end = first_address t end
+first_address ((address ∷ es) ∷ t) end = address
 
--- the instructions of procedures, one procedure behind the other
-abbrev pub joined : List (List Instr) → List Instr
-joined [] = []
-joined (is ∷ iss) = is ++ joined iss
+-- an address is of a procedure: the first statement begins there or before it, and that of the next procedure that has
+-- statements behind it; a procedure without statements has no address
+abbrev pub IsOf : Code → (procedure address : ℕ) → Type 0
+IsOf code p pc = IsStatement code p 0 × (entry_of code p 0 ≤ pc) × (pc < first_address (drop (suc p) code.entries) (length code.instrs))
 
-abbrev pub SoundFrom : Code → (procedure : ℕ) → List (List Instr) → Type 0
-SoundFrom code p [] = Unit {0}
-SoundFrom code p (is ∷ iss) = All (Sound code p) is × SoundFrom code (suc p) iss
+-- a statement begins at an address of its procedure
+abbrev pub BeginsAt : Code → (procedure statement address : ℕ) → Type 0
+BeginsAt code p i pc = (slice_get code.instrs pc ≡ Some (Begin i)) × IsOf code p pc
 
 -- a code is well-formed: Leave, at which each procedure ends, then the instructions of one procedure behind the other,
 -- which find their operands and whose numbers name what is there; its tables tell where statements begin
 pub record WellFormed (code : Code) : Type 0 where
-  pub pieces : List (List Instr)
-  pub whole : code.instrs ≡ Leave ∷ joined pieces
-  pub sound : SoundFrom code 0 pieces
+  pub leave : slice_get code.instrs 0 ≡ Some Leave
+  pub first : first_address code.entries (length code.instrs) ≡ 1
   pub operands : along_all code.instrs no_way ≡ Some no_way
-  pub entries : (p i : ℕ) → Lands code (entry_of code p i)
+  pub sound : (p pc : ℕ) (i : Instr) → IsOf code p pc → slice_get code.instrs pc ≡ Some i → Sound code p i
+  pub entries : (p i : ℕ) → IsStatement code p i → BeginsAt code p i (entry_of code p i)
   pub starts : (p : ℕ) → slice_index code.starts p ≡ entry_of code p 0
   pub nexts : (p i : ℕ) → IsStatement code p i → IsTarget code p (next_statement code p i)
-  pub counted : length code.entries ≡ length code.declared.procedures
+  pub counted : (length code.starts ≡ length code.declared.procedures) × (length code.entries ≡ length code.declared.procedures)
   pub ends : All (WholeClass code.declared) code.declared.classes
   pub begin : code.startup < length code.declared.procedures

@@ -8,7 +8,7 @@ ghost use Rattle.vba_meaning.specs.Host.{error_given, item_assigned, member_assi
 ghost use Rattle.run_memory.specs.Acts.{Acts};
 ghost use Rattle.run_memory.specs.View.{memory_view, slot_view};
 ghost use Rattle.pcode.specs.Instructions as plain;
-ghost use Rattle.pcode.specs.Machine.{done_then, raised, then_at, then_push, uses_member};
+ghost use Rattle.pcode.specs.Machine.{done_then, raised, then_push, then_changes, then_changes_push, uses_member};
 ghost use Rattle.pcode.specs.View.{code_view, tables_of};
 ghost use Rattle.pcode_vm.specs.Does.{Acted, Does};
 ghost use Rattle.pcode_vm.specs.View.{backs_view, operands_view, state_view};
@@ -185,7 +185,7 @@ impl Machine {
         requires { pc + 1 < 2 ^ 64 }
         ensures { IfOk result (λ step. Does turns (done_then (member_called (code_view code.now).declared name.now (slot_values (map slot_view slots.now)) (view base.now) (view begun.now) (memory_view self.old.memory))
             (backs_view self.old.backs) (state_view self.old)
-            (then_push (pc + 1) (operands_view self.old.operands) (backs_view self.old.backs))) self.old self.new step) }
+            (then_changes_push (code_view code.now) (pc + 1) (operands_view self.old.operands) (backs_view self.old.backs))) self.old self.new step) }
     {
         let declared = &code.declared;
         let told = &mut self.told;
@@ -264,7 +264,7 @@ impl Machine {
         requires { pc + 1 < 2 ^ 64 }
         ensures { IfOk result (λ step. Does turns (done_then (member_assigned (code_view code.now).declared name.now (slot_values (map slot_view slots.now)) (view base.now) (view begun.now) (view value) (memory_view self.old.memory))
             (backs_view self.old.backs) (state_view self.old)
-            (then_at (pc + 1) (operands_view self.old.operands) (backs_view self.old.backs))) self.old self.new step) }
+            (then_changes (code_view code.now) (pc + 1) (operands_view self.old.operands) (backs_view self.old.backs))) self.old self.new step) }
     {
         let declared = &code.declared;
         let told = &mut self.told;
@@ -309,13 +309,14 @@ impl Machine {
         let Some(value) = self.operands.pop_value() else {
             return Ok(Step::Stuck);
         };
-        self.assign_item(alloc, turns, pc, slots.as_slice(), &base, value)
+        self.assign_item(alloc, code, turns, pc, slots.as_slice(), &base, value)
     }
 
     // The same, with all of them off the operands.
     fn assign_item(
         &mut self,
         alloc: Global,
+        code: &Code,
         turns: u64,
         pc: usize,
         slots: &[Slot],
@@ -325,7 +326,7 @@ impl Machine {
         requires { pc + 1 < 2 ^ 64 }
         ensures { IfOk result (λ step. Does turns (done_then (item_assigned (view base.now) (slot_values (map slot_view slots.now)) (view value) (memory_view self.old.memory))
             (backs_view self.old.backs) (state_view self.old)
-            (then_at (pc + 1) (operands_view self.old.operands) (backs_view self.old.backs))) self.old self.new step) }
+            (then_changes (code_view code.now) (pc + 1) (operands_view self.old.operands) (backs_view self.old.backs))) self.old self.new step) }
     {
         let told = &mut self.told;
         attempt!(
@@ -377,13 +378,14 @@ impl Machine {
         let Some(value) = self.operands.pop_value() else {
             return Ok(Step::Stuck);
         };
-        self.write_default(alloc, turns, pc, &target, value)
+        self.write_default(alloc, code, turns, pc, &target, value)
     }
 
     // The same, with both off the operands.
     fn write_default(
         &mut self,
         alloc: Global,
+        code: &Code,
         turns: u64,
         pc: usize,
         target: &Value,
@@ -392,7 +394,7 @@ impl Machine {
         requires { pc + 1 < 2 ^ 64 }
         ensures { IfOk result (λ step. Does turns (done_then (written_default (view target.now) (view value) (memory_view self.old.memory))
             (backs_view self.old.backs) (state_view self.old)
-            (then_at (pc + 1) (operands_view self.old.operands) (backs_view self.old.backs))) self.old self.new step) }
+            (then_changes (code_view code.now) (pc + 1) (operands_view self.old.operands) (backs_view self.old.backs))) self.old self.new step) }
     {
         let told = &mut self.told;
         attempt!(

@@ -9,6 +9,7 @@ use crate::machine::Machine;
 use crate::step::{Step, Why};
 use bound_project::DeclaredType;
 use pcode::Code;
+use run_host::is_counted;
 use std::alloc::Global;
 use vba_base::{NoMemory, OrMemory};
 use vba_values::{Bad, HostRef, ObjRef, Value};
@@ -32,7 +33,8 @@ impl Machine {
         Ok(Step::On)
     }
 
-    // An object gives way to the value of its default member, where that needs no argument.
+    // An object gives way to the value of its default member, where that needs no argument. A counted object is answered as
+    // want of memory, as above.
     pub fn plain_if_any(
         &mut self,
         alloc: Global,
@@ -46,6 +48,9 @@ impl Machine {
         let Some(value) = self.operands.pop_value() else {
             return Ok(Step::Stuck);
         };
+        if is_counted(&value) {
+            return Err(NoMemory);
+        }
         let value = attempt!(self, alloc, turns, self.memory.plain_if_any(alloc, value));
         self.operands.push_value(value)?;
         self.go_on(pc + 1);

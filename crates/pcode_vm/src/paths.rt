@@ -5,7 +5,7 @@ ghost use Rattle.bound_project.specs.View.{declared_view, variable_view};
 ghost use Rattle.vba_meaning.specs.Host.{assigned_at};
 ghost use Rattle.run_memory.specs.View.{memory_view, path_view};
 ghost use Rattle.pcode.specs.Instructions as plain;
-ghost use Rattle.pcode.specs.Machine.{done_then, then_at};
+ghost use Rattle.pcode.specs.Machine.{done_then, then_changes};
 ghost use Rattle.pcode.specs.View.{code_view};
 ghost use Rattle.pcode_vm.specs.Does.{Acted, Does};
 ghost use Rattle.pcode_vm.specs.View.{backs_view, operands_view, state_view};
@@ -175,13 +175,14 @@ impl Machine {
         let Some(value) = self.operands.pop_value() else {
             return Ok(Step::Stuck);
         };
-        self.assign_at(alloc, turns, pc, &path, value)
+        self.assign_at(alloc, code, turns, pc, &path, value)
     }
 
     // The same, with both off the operands.
     fn assign_at(
         &mut self,
         alloc: Global,
+        code: &Code,
         turns: u64,
         pc: usize,
         path: &Path,
@@ -190,7 +191,7 @@ impl Machine {
         requires { pc + 1 < 2 ^ 64 }
         ensures { IfOk result (λ step. Does turns (done_then (assigned_at (path_view path.now) (view value) (memory_view self.old.memory))
             (backs_view self.old.backs) (state_view self.old)
-            (then_at (pc + 1) (operands_view self.old.operands) (backs_view self.old.backs))) self.old self.new step) }
+            (then_changes (code_view code.now) (pc + 1) (operands_view self.old.operands) (backs_view self.old.backs))) self.old self.new step) }
     {
         let told = &mut self.told;
         attempt!(

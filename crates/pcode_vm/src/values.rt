@@ -10,7 +10,7 @@ use crate::machine::Machine;
 use crate::step::{Step, Why};
 use bound_project::{DeclaredType, ErrMember};
 use pcode::Code;
-use run_host::item_by;
+use run_host::{is_counted, item_by};
 use std::alloc::Global;
 use vba_base::{NoMemory, OrMemory};
 use vba_values::{Bad, Compare, OpKind};
@@ -166,7 +166,8 @@ impl Machine {
         Ok(Step::On)
     }
 
-    // An object gives way to the value of its default member.
+    // An object gives way to the value of its default member. Objects of classes aren't built: a counted object is answered
+    // as want of memory.
     pub fn plain(
         &mut self,
         alloc: Global,
@@ -180,6 +181,9 @@ impl Machine {
         let Some(value) = self.operands.pop_value() else {
             return Ok(Step::Stuck);
         };
+        if is_counted(&value) {
+            return Err(NoMemory);
+        }
         let value = attempt!(self, alloc, turns, self.memory.plain(alloc, value));
         self.operands.push_value(value)?;
         self.go_on(pc + 1);

@@ -11,7 +11,7 @@ use Rattle.sheet_host.specs.declared.area.Area.{Area}
 use Rattle.sheet_host.specs.declared.members.HostMember.{HostMember}
 use Rattle.sheet_host.specs.declared.members.HostMember.TheVariants.{Write, Call}
 use Rattle.sheet_host.specs.AddressText.{area_of_text}
-use Rattle.sheet_host.specs.Writing.{cell_of, cells_of}
+use Rattle.sheet_host.specs.Writing.{cell_of}
 use Rattle.vba_meaning.specs.Memory.{Memory}
 use Rattle.vba_meaning.specs.Effects.{Effect, Fine, Bad-at, on_fine, done, answered, plain, range_value, area_in}
 use Rattle.vba_meaning.specs.Host.{area_found, cells_put, item_by, long_of, sheet_by, spanned, text_of, units_in, written_default}
@@ -60,10 +60,6 @@ abbrev pub way_of : HostRef → HostMember → List Val → Writes
 way_of r (Call n) vs = writes.Nothing
 way_of r (Write n) [] = written_at_once r n
 way_of r how vs = writes.Through
-
--- the cells that a value writes to an area are put there
-abbrev pub value_put : Area → Val → Memory → Effect (Unit {0})
-value_put a w m = on_fine (answered (cells_of w a.rows a.columns) m) (λ cs m1. cells_put a cs m1)
 
 abbrev pub is_array : Val → Bool
 is_array (array bounds of items) = true

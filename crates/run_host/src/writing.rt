@@ -4,9 +4,9 @@ ghost use Rattle.vba_values.specs.View.{view};
 ghost use Rattle.sheet_host.specs.Books.{IsSheetOf};
 ghost use Rattle.sheet_host.specs.Size.{IsAreaInside, IsInside};
 ghost use Rattle.vba_meaning.specs.Effects.{area_in};
-ghost use Rattle.vba_meaning.specs.Host.{area_written, cells_put};
+ghost use Rattle.vba_meaning.specs.Host.{area_written, cells_put, value_put};
 ghost use Rattle.run_memory.specs.View.{memory_view};
-ghost use Rattle.run_host.specs.Members.{is_array, one_put, value_put};
+ghost use Rattle.run_host.specs.Members.{is_array, one_put};
 ghost use Rattle.run_host.specs.Tells.{Tells};
 ghost use Rattle.run_host.specs.View.{told_view};
 
@@ -24,6 +24,7 @@ const CELLS: u64 = 4_000_000;
 /// A value is written to the cells of an area. Outside(Cells) for an area of more than 4000000 cells, before the value is
 /// looked at, and where the book would have more written ones; an object gives way to its default value. An area that
 /// no sheet of the book has, which no run makes, counts as want of memory.
+#[tactic(auto, using(crate::proofs::Unheard::noted_tells))]
 pub fn area_written(
     memory: &mut Memory,
     alloc: Global,

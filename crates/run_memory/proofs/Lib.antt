@@ -16,3 +16,4 @@ pub mod KeptPlaces
 pub mod Bounds
 pub mod Named
 pub mod Received
+pub mod Unconnected

@@ -78,8 +78,9 @@ frames_view stands top callers = if stands then frame_view top ∷ map frame_vie
 
 -- ---- the memory
 
+-- no variable of it is declared WithEvents
 abbrev pub object_view : Object → plain_memory.Object
-object_view b = record { class = b.class; told = b.is_told; fields = map view b.fields.items; keys = [] }
+object_view b = record { class = b.class; told = b.is_told; fields = map view b.fields.items; keys = []; set_numbers = [] }
 
 abbrev pub error_view : RunError → plain_memory.Error
 error_view e = record { number = e.number; source = e.source; description = e.description; procedure = e.procedure; statement = e.statement }
@@ -96,4 +97,6 @@ memory_view m = record {
   events_on = m.events_on;
   updates_screen = m.updates_screen;
   shows_alerts = m.shows_alerts;
+  next_set = 1;
+  changed = None;
 }

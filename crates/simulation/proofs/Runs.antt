@@ -1,117 +1,35 @@
--- The machine follows the project: expressions, statements, procedures, the ends of objects, runs.
-use Rattle.std.proofs.Common.{◌≡◌, ℕ, zero, suc, ◌+◌, ◌≤◌, Bool, true, false, List, [], ◌∷◌, ◌++◌, length, Option, Some, None, refl, sym, ap, ◌∙◌, subst, arith}
-use Rattle.std.specs.Prelude.{slice_get, slice_index, slice_index_or, nat_lt, if◌then◌else◌}
-use Rattle.std.proofs.lemmas.List.{append-nil}
+-- The machine follows the project: expressions and statements.
+use Rattle.std.proofs.Common.{◌≡◌, ℕ, zero, suc, ◌+◌, Bool, true, false, List, [], ◌∷◌, ◌++◌, length, map, Option, Some, None, refl, sym, ap, ◌∙◌, subst, arith}
+use Rattle.std.specs.Prelude.{slice_get, if◌then◌else◌}
 use Rattle.vba_values.specs.declared.object.ObjRef.TheVariants.{Heap, Host}
 use Rattle.vba_values.specs.declared.types.Compare.{Compare}
 use Rattle.vba_values.specs.Types.{Declared}
 use Rattle.vba_values.specs.Val.{Val, boolean, empty, missing, object}
 use Rattle.error_frames.specs.declared.frame.ResumeKind.TheVariants as kind
-use Rattle.error_frames.specs.declared.frame.Taken.{Taken}
-use Rattle.error_frames.specs.declared.frame.Taken.TheVariants as taken
-use Rattle.bound_project.specs.Expressions.{Expr, expr, Node, not_given, constant, load, load_made, element_value, field_value, unary, binary, call, err_value, default_of, default_if_any, same, is_type, library, bound_of, host_object, active_sheet, host_member, named_member, this, new_object, method, Lvalue, variable, item, element, field, kept_place, object_field, as_new, Args, no_args, by_place, by_copy, by_default, by_list, in_order, Exprs, no_exprs, also, given_count, Prints, no_prints, shown, zone, operand_type}
-use Rattle.bound_project.specs.Statements.{Resizes, no_resizes, resize, Arrays, no_arrays, an_array, Tests, no_tests, test_is, test_range, Action, assign, assign_item, set, assign_default, assign_member, set_member, evaluate, let_property, set_property, let_method, set_method, print, raise, test, go_to, for_to, next, for_each, next_each, exit_each, select, case_of, redim, erase, with_place, with_value, end_with, go_sub, return_sub, exit_to, on_error, end_handler, clear_err, resume_again, resume_next, resume_at, stop, end_run, Statement}
-use Rattle.sheet_host.specs.Books.{Sheets}
-use Rattle.bound_project.specs.Project.{Project, class_at, statement_at, next_of, first_values}
+use Rattle.bound_project.specs.Expressions.{Expr, expr, Node, not_given, constant, load, load_made, element_value, field_value, unary, binary, call, err_value, default_of, default_if_any, same, is_type, library, bound_of, host_object, active_sheet, ByName, host_member, named_member, this, new_object, method, late_member, late_item, Lvalue, variable, item, element, field, kept_place, object_field, as_new, Args, no_args, by_place, by_copy, by_default, by_list, in_order, Given, none_given, place_given, expr_given, Exprs, no_exprs, also, given_count, Prints, no_prints, shown, zone, operand_type}
+use Rattle.bound_project.specs.Statements.{Resizes, no_resizes, resize, Arrays, no_arrays, an_array, Tests, no_tests, test_is, test_range, Action, assign, assign_item, set, assign_default, assign_member, set_member, assign_through, assign_element, assign_late, set_late, evaluate, let_property, set_property, let_method, set_method, raise_event, print, raise, test, go_to, for_to, next, for_each, next_each, exit_each, select, case_of, redim, erase, with_place, with_value, end_with, go_sub, return_sub, exit_to, on_error, end_handler, clear_err, resume_again, resume_next, resume_at, stop, end_run}
+use Rattle.vba_events.specs.declared.linked.Linked.{Linked}
+use Rattle.sheet_host.specs.declared.area.Area.{Area}
+use Rattle.bound_project.specs.Project.{Declarations, Project, class_at, next_of}
 use Rattle.vba_meaning.specs.Paths.{Path, field_path}
-use Rattle.vba_meaning.specs.Memory.{Error, Ended, Faulted, Going, opening, Slot, value, path, Memory, Object, top, at_statement, frame_left, path_of, result, entered, error_here, number_or, object_at}
-use Rattle.vba_meaning.specs.References.{objects_in, objects_in_values, is_last, hold, next_waiting, taken_off, let_held, held_by, let_frame, as_told, gone, closed}
-use Rattle.vba_meaning.specs.Effects.{Raised, Term, Effect, operated, operated_alone, fitted, plain, condition, read_path, lent, unlent, slot_values, packed, reordered, startup_slots, show_value, printed, loop_off, loop_on, next_round, keep, selected, fits, fits_between, gone_sub, returned_sub, policy_of, err_off, policy_on, handler_off, failed_statement, resumed, taken_by, with_taken, raised_by, err_of, set_object, stop_here}
+use Rattle.vba_meaning.specs.Memory.{Error, Ended, Slot, value, path, Memory, top, path_of, received, error_here}
+use Rattle.vba_meaning.specs.Effects.{Effect, operated, operated_alone, fitted, plain, condition, read_path, lent, slot_values, packed, reordered, show_value, printed, loop_off, loop_on, next_round, keep, selected, fits, fits_between, gone_sub, returned_sub, policy_of, err_off, policy_on, handler_off, failed_statement, resumed, raised_by, err_of, set_object, stop_here}
+use Rattle.vba_meaning.specs.Events.{source_of, sinks, due, lent_again, raise_over, change, sheet_of, target_of, no_change}
 use Rattle.vba_meaning.specs.Arrays.{part_of, redimmed, erased, keep_path, block_over, dot_at, each_off, each_begun, each_next}
 use Rattle.vba_meaning.specs.Objects.{compared, typed_as, set_at, made, own_object, object_there, field_in, made_for, initialize_of, stored_made, made_at}
-use Rattle.vba_meaning.specs.Host.{first_sheet, item_by, place_at, assigned_at, member_there, member_called, is_counted, object_member, is_raise, error_given, item_assigned, member_not_set, written_default, member_assigned}
+use Rattle.vba_meaning.specs.Host.{first_sheet, item_by, place_at, assigned_at, member_there, member_called, is_counted, object_member, is_raise, error_given, item_assigned, member_not_set, written_default, member_assigned, path_to}
 use Rattle.vba_meaning.specs.ByName.{named_there, in_parameter_order}
 use Rattle.vba_meaning.specs.Library.{library_called, bound_at, plain_if_any}
-use Rattle.vba_meaning.specs.Meaning.{State, Res, Got, Failed, Over, Told, Turn, ◌>>=◌, turn, turned, with_memory, raise_error, perform, Callee, initialized, eval, eval_node, eval_place, evals, eval_list, eval_prints, tested, cases, resizes, erases, exec, Doing, nowhere, enter, called_by, callees, terminate_by, tell, finish, end_of, one, let_go, lets_held, lets_frame, leave, left, pass_on, next_here, decide_by, decide, settle, at_statement_or, level, doing, close, Run, run_of, first_state, meaning, member_used}
-use Rattle.pcode.specs.Instructions.{Instr, Begin, Push, LoadErr, PathOf, ReadThrough, ElementOf, ElementIn, FieldOf, Dot, Index, PartOf, Operate, OperateAlone, Plain, PlainIfAny, PushHost, FirstSheet, MemberThere, MemberOf, NamedThere, NamedOf, PushThis, New, ObjectThere, FieldIn, AsNew, MakeThere, StoreMade, Same, IsType, Library, BoundAt, Fit, FitObject, Drop, Lend, Pack, Reorder, Lift, Call, CallOf, Store, SetAt, StoreDefault, StoreMember, StoreItem, SetMember, ShowText, Show, Throw, LoopOff, LoopOn, NextRound, EachOff, EachOn, NextItem, Keep, Selected, IfFits, IfBetween, Redim, EraseAt, KeepPath, DropKept, PutReturn, TakeReturn, SetPolicy, HandlerOff, ErrOff, Again, Behind, Resumes, Finish, Branch, Halt, StopHere, Leave, Code}
-use Rattle.pcode.specs.Machine.{After, Goes-on, Decide, Return, Back-to, Pass, Close, Back, Caller, EndOf, Move, Goes, Ends, Turns, at, failing, letting, lets_all, finishes, raises_then, raised, done_then, then_at, then_let_go, then_test, then_jump, then_branch, take_args, pushed, enters, enter_by, calls, initializes, then_statement, looking, act, finished_by, terminates_by, ends_by, lets_one_by, closing, returned_by, passed_on, takes, decides, comes_by, Fin, Done, tells, follow, machine, first_move, run_code, uses_member}
-use Rattle.pcode.specs.Code.{count, list_count, prints_count, expr_code, node_code, place_code, args_code, list_code, prints_code, resizes_code, erases_code, Entry, tests_code, action_code}
-use Rattle.pcode.specs.Layout.{HasStatement, Laid}
-use Rattle.pcode.proofs.Stands.{UpTo, up_split, up_to}
-use Rattle.simulation.specs.Meant.{fin_of}
-use Rattle.simulation.proofs.Moves.{Enough, outs, Each, Runs, catches, fails, bind, bind_each, here, over, telling, before, instr, either, in_turn, failed, raises, performs, further, by_turn}
-
--- ---- operands that are taken off the stack
-
-reordered_length : (order : List ℕ) (xs : List Slot) → length (reordered order xs) ≡ length order
-reordered_length [] xs = refl
-reordered_length (i ∷ order) xs = ap suc (reordered_length order xs)
-
-args_taken : (xs : List Slot) (m : ℕ) (st ys : List Slot) (go : List Slot → List Slot → Move) → take_args (length xs + m) (pushed xs st) ys go ≡ take_args m st (xs ++ ys) go
-args_taken [] m st ys go = let e : 0 + m ≡ m = omega arith in ap (λ k. take_args k st ys go) e
-args_taken (x ∷ xs) m st ys go =
-    let e : length (x ∷ xs) + m ≡ length xs + suc m = omega arith in
-    ap (λ k. take_args k (pushed xs (x ∷ st)) ys go) e ∙ args_taken xs (suc m) (x ∷ st) ys go
-
-all_taken : (xs st : List Slot) (go : List Slot → List Slot → Move) → take_args (length xs) (pushed xs st) [] go ≡ go xs st
-all_taken xs st go =
-    let e : length xs ≡ length xs + 0 = omega arith in
-    let nil : xs ++ [] ≡ xs = simp append-nil in
-    ap (λ k. take_args k (pushed xs st) [] go) e ∙ args_taken xs 0 st [] go ∙ ap (λ ys. go ys st) nil
-
--- with one more operand above them
-one_more_taken : (xs st : List Slot) (y : Slot) (go : List Slot → List Slot → Move) → take_args (suc (length xs)) (y ∷ pushed xs st) [] go ≡ go (xs ++ y ∷ []) st
-one_more_taken xs st y go =
-    let e : length xs ≡ length xs + 0 = omega arith in
-    ap (λ k. take_args k (pushed xs st) (y ∷ []) go) e ∙ args_taken xs 0 st (y ∷ []) go
-
--- arguments are as many slots as are counted
-abbrev Counts : ℕ → Res (List Slot) → Type 0
-Counts k r = Each (λ (xs : List Slot). length xs ≡ k) r
-
-skips : {A : Type 0} (k : ℕ) (r : Res A) (f : A → State → Res (List Slot)) → ((v : A) (s : State) → Counts k (f v s)) → Counts k (r >>= f)
-skips k (Got v s) f h = h v s
-skips k (Failed e s) f h = tt
-skips k (Over x s) f h = tt
-skips k (Told es r) f h = skips k r f h
-skips k (Turn s r) f h = skips k r f h
-
-with_one : (x : Slot) (k : ℕ) (r : Res (List Slot)) → Counts k r → Counts (suc k) (r >>= λ xs s. Got (x ∷ xs) s)
-with_one x k (Got xs s) h = ap suc h
-with_one x k (Failed e s) h = tt
-with_one x k (Over y s) h = tt
-with_one x k (Told es r) h = with_one x k r h
-with_one x k (Turn s r) h = with_one x k r h
-
-in_place : (order : List ℕ) (r : Res (List Slot)) → Counts (length order) (r >>= λ xs s. Got (reordered order xs) s)
-in_place order (Got xs s) = reordered_length order xs
-in_place order (Failed e s) = tt
-in_place order (Over y s) = tt
-in_place order (Told es r) = in_place order r
-in_place order (Turn s r) = in_place order r
-
-evals_count : (args : Args) (callee : Callee) (pr : Project) (s : State) → Counts (count args) (evals args callee pr s)
-evals_count no_args callee pr s = refl
-evals_count (by_place x args) callee pr s =
-    let k = suc (count args) in
-    skips k (eval_place x callee pr s) (λ p s1. perform (lent p) s1 >>= λ u s2. evals args callee pr s2 >>= λ xs s3. Got (path p ∷ xs) s3) (λ p s1.
-    skips k (perform (lent p) s1) (λ u s2. evals args callee pr s2 >>= λ xs s3. Got (path p ∷ xs) s3) (λ u s2.
-    with_one (path p) (count args) (evals args callee pr s2) (evals_count args callee pr s2)))
-evals_count (by_copy e of args) callee pr s =
-    let k = suc (count args) in
-    skips k (eval e callee pr s) (λ v s1. perform (fitted of v) s1 >>= λ w s2. evals args callee pr s2 >>= λ xs s3. Got (value w ∷ xs) s3) (λ v s1.
-    skips k (perform (fitted of v) s1) (λ w s2. evals args callee pr s2 >>= λ xs s3. Got (value w ∷ xs) s3) (λ w s2.
-    with_one (value w) (count args) (evals args callee pr s2) (evals_count args callee pr s2)))
-evals_count (by_default v args) callee pr s = with_one (value v) (count args) (evals args callee pr s) (evals_count args callee pr s)
-evals_count (by_list es args) callee pr s =
-    skips (suc (count args)) (eval_list es callee pr s) (λ ys s1. evals args callee pr s1 >>= λ xs s2. Got (value (packed ys) ∷ xs) s2) (λ ys s1.
-    with_one (value (packed ys)) (count args) (evals args callee pr s1) (evals_count args callee pr s1))
-evals_count (in_order order args) callee pr s = in_place order (evals args callee pr s)
-
-list_counts : (es : Exprs) (callee : Callee) (pr : Project) (s : State) → Counts (list_count es) (eval_list es callee pr s)
-list_counts no_exprs callee pr s = refl
-list_counts (also e es) callee pr s =
-    skips (suc (list_count es)) (eval e callee pr s) (λ v s1. eval_list es callee pr s1 >>= λ xs s2. Got (value v ∷ xs) s2) (λ v s1.
-    with_one (value v) (list_count es) (eval_list es callee pr s1) (list_counts es callee pr s1))
-
-prints_counts : (ps : Prints) (callee : Callee) (pr : Project) (s : State) → Counts (prints_count ps) (eval_prints ps callee pr s)
-prints_counts no_prints callee pr s = refl
-prints_counts (shown e ps) callee pr s =
-    let k = suc (prints_count ps) in
-    skips k (eval e callee pr s) (λ v s1. perform (show_value v) s1 >>= λ w s2. eval_prints ps callee pr s2 >>= λ xs s3. Got (value w ∷ xs) s3) (λ v s1.
-    skips k (perform (show_value v) s1) (λ w s2. eval_prints ps callee pr s2 >>= λ xs s3. Got (value w ∷ xs) s3) (λ w s2.
-    with_one (value w) (prints_count ps) (eval_prints ps callee pr s2) (prints_counts ps callee pr s2)))
-prints_counts (zone ps) callee pr s = with_one (value empty) (prints_count ps) (eval_prints ps callee pr s) (prints_counts ps callee pr s)
+use Rattle.vba_meaning.specs.Defaults.{Task, Next, gives, then_call, is_instance, counted_operand, counted_if_any, index_along, write_along, tasks_next, most_passed, most_calls}
+use Rattle.vba_meaning.specs.LateBound.{Use, reading, assigning, setting, which_given, late_there, value_bound, lends_place, place_copied, late_called, host_arguments, let_element, late_let, late_set}
+use Rattle.vba_meaning.specs.Meaning.{State, Res, Got, ◌>>=◌, with_memory, raise_error, perform, Callee, initialized, eval, eval_node, eval_place, evals, eval_list, eval_prints, tested, cases, resizes, erases, exec, handled, delivered, change_told, changes, member_used, goes_on, used, operand_value, operand_if_any, late_used, place_bound, eval_given}
+use Rattle.pcode.specs.Instructions.{Instr, Push, LoadErr, PathOf, ReadThrough, ElementOf, ElementIn, FieldOf, Dot, Index, PartOf, Operate, OperateAlone, Plain, PlainIfAny, PushHost, FirstSheet, MemberThere, MemberOf, NamedThere, NamedOf, PushThis, New, ObjectThere, FieldIn, AsNew, MakeThere, StoreMade, FindLate, BindValue, BindPlace, CallLate, LetLate, SetLate, ItemAlong, WriteThrough, LetElement, Same, IsType, Library, BoundAt, Fit, FitObject, Drop, Lend, Pack, Reorder, Lift, Call, CallOf, Store, SetAt, StoreDefault, StoreMember, StoreItem, SetMember, RaiseEvent, ShowText, Show, Throw, LoopOff, LoopOn, NextRound, EachOff, EachOn, NextItem, Keep, Selected, IfFits, IfBetween, Redim, EraseAt, KeepPath, DropKept, PutReturn, TakeReturn, SetPolicy, HandlerOff, ErrOff, Again, Behind, Resumes, Finish, Branch, Halt, StopHere, Code}
+use Rattle.pcode.specs.Machine.{After, Back-to, Back, Delivering, Within, Move, Goes, at, letting, finishes, raised, done_then, then_at, then_let_go, then_test, then_jump, then_branch, pushed, enter_by, calls, initializes, then_statement, looking, act, comes_by, calls_handler, delivers, tells_change, then_changes, then_changes_push, uses_member, left_as, follows, resumes, uses, gives_way, gives_way_if_any, base_below, binds_place, calls_late}
+use Rattle.pcode.specs.Code.{count, prints_count, expr_code, node_code, place_code, args_code, list_code, prints_code, resizes_code, erases_code, given_code, Entry, tests_code, action_code}
+use Rattle.pcode.specs.Layout.{Laid}
+use Rattle.pcode.proofs.Stands.{UpTo, up_split}
+use Rattle.simulation.proofs.Moves.{Enough, Each, Runs, bind, bind_each, here, over, before, instr, either, failed, raises, performs, further}
+use Rattle.simulation.proofs.Taken.{all_taken, counted_taken, one_more_taken, evals_count, list_counts, prints_counts, given_counts}
 
 -- ---- calls and letting go, as what is known of a smaller depth
 
@@ -121,7 +39,7 @@ Lets code bound n go = (k j : ℕ) (after : After) (bs : List Back) (s : State) 
     → Runs code bound n (Goes (letting (k + j) after bs s)) (λ u s1. Goes (letting j after bs s1)) bad (go k s)
 
 -- all are let go, and what comes then
-all_go : (code : Code) (bound n : ℕ) (go : ℕ → State → Res (Unit {0})) → Lets code bound n go → (k : ℕ) (after : After) (bs : List Back) (s : State) (bad : Error → State → Move) → Enough bound n s
+pub all_go : (code : Code) (bound n : ℕ) (go : ℕ → State → Res (Unit {0})) → Lets code bound n go → (k : ℕ) (after : After) (bs : List Back) (s : State) (bad : Error → State → Move) → Enough bound n s
     → Runs code bound n (Goes (letting k after bs s)) (λ u s1. comes_by looking code after bs s1) bad (go k s)
 all_go code bound n go l k after bs s bad good =
     let e : k + 0 ≡ k = omega arith in
@@ -133,6 +51,11 @@ all_go code bound n go l k after bs s bad good =
 pub record Calls (code : Code) (bound n : ℕ) (callee : Callee) : Type 0 where
   pub call : (p : ℕ) (self : Val) (xs st : List Slot) (pc : ℕ) (bs : List Back) (s : State) → Enough bound n s
       → Runs code bound n (calls code p self xs pc st bs s) (λ v s1. Goes (at pc (value v ∷ st) bs s1)) (failed bs) (callee.call p self xs s)
+  pub within : (p : ℕ) (self : Val) (xs : List Slot) (b : Bool) (k : ℕ) (ts : List Task) (st : List Slot) (pc : ℕ) (bs : List Back) (s : State) → Enough bound n s
+      → Runs code bound n (enter_by code true p self xs (Within b k ts pc st ∷ bs) s (raised (error_here 28 s.memory) bs s)) (λ v s1. resumes code b k ts pc st bs v s1) (failed bs) (callee.call p self xs s)
+  -- a handler is such a call, behind which the raise goes on
+  pub handle : (e p : ℕ) (self : Val) (xs : List Slot) (ls : List Linked) (pc : ℕ) (st : List Slot) (bs : List Back) (s : State) → Enough bound n s
+      → Runs code bound n (enter_by code true p self xs (Delivering e xs ls pc st ∷ bs) s (raised (error_here 28 s.memory) bs s)) (λ v s1. delivers code e xs ls pc st bs s1) (failed bs) (callee.call p self xs s)
   pub go : Lets code bound n callee.go
 
 -- what the machine does after an expression, a place and arguments, by the address behind their code
@@ -141,6 +64,9 @@ on_value st bs pc v s = Goes (at pc (value v ∷ st) bs s)
 
 abbrev pub on_path : List Slot → List Back → ℕ → Path → State → Move
 on_path st bs pc q s = Goes (at pc (path q ∷ st) bs s)
+
+abbrev pub on_left : Bool → List Slot → List Back → ℕ → Val → State → Move
+on_left b st bs pc v s = Goes (at pc (left_as b v ∷ st) bs s)
 
 abbrev pub on_args : List Slot → List Back → ℕ → List Slot → State → Move
 on_args st bs pc xs s = Goes (at pc (pushed xs st) bs s)
@@ -171,6 +97,74 @@ module _ (pr : Project) (code : Code) (bound n : ℕ) (callee : Callee) (known :
   ends_at : {A : Type 0} {m : Move} {bad : Error → State → Move} {r : Res A} (on : ℕ → A → State → Move) {pc to : ℕ} → pc ≡ to → Runs code bound n m (on pc) bad r → Runs code bound n m (on to) bad r
   ends_at {m = m} {bad = bad} {r = r} on h a = subst (λ i. Runs code bound n m (on i) bad r) h a
 
+  -- the handlers of a raise are called
+  handled_runs : (o : Option ℕ) (e : ℕ) (xs : List Slot) (l : Linked) (ls : List Linked) (pc : ℕ) (st : List Slot) (bs : List Back) (s : State) → Enough bound n s
+      → Runs code bound n (calls_handler code e xs l ls o pc st bs s (delivers code e xs ls pc st bs s)) (λ u s1. delivers code e xs ls pc st bs s1) (failed bs) (handled callee xs l.sink o s)
+  handled_runs None e xs l ls pc st bs s good = here {got = λ u s1. delivers code e xs ls pc st bs s1} tt s good
+  handled_runs (Some p) e xs l ls pc st bs s good =
+      let s1 : State = with_memory s (lent_again xs s.memory) in
+      let self : Val = object (Heap l.sink) in
+      bind (callee.call p self xs s1) (known.handle e p self xs ls pc st bs s1 good) (λ v s2 g2. here {got = λ u s3. delivers code e xs ls pc st bs s3} tt s2 g2)
+
+  pub delivered_runs : (e : ℕ) (xs : List Slot) (ls : List Linked) (pc : ℕ) (st : List Slot) (bs : List Back) (s : State) → Enough bound n s
+      → Runs code bound n (delivers code e xs ls pc st bs s) (then_at pc st bs) (failed bs) (delivered ls callee pr e xs s)
+  delivered_runs e xs [] pc st bs s good = here {got = then_at pc st bs} tt (with_memory s (raise_over xs s.memory)) good
+  delivered_runs e xs (l ∷ ls) pc st bs s good =
+      subst (λ d. Runs code bound n (calls_handler code e xs l ls (due d e l s.memory) pc st bs s (delivers code e xs ls pc st bs s)) (then_at pc st bs) (failed bs) (delivered (l ∷ ls) callee pr e xs s)) (sym tables)
+      (bind (handled callee xs l.sink (due pr.declared e l s.memory) s) (handled_runs (due pr.declared e l s.memory) e xs l ls pc st bs s good) (λ u s1 g1. delivered_runs e xs ls pc st bs s1 g1))
+
+  -- where an area was written
+  pub change_runs : (o : Option Area) (pc : ℕ) (st : List Slot) (bs : List Back) (s : State) → Enough bound n s
+      → Runs code bound n (tells_change code o pc st bs s) (then_at pc st bs) (failed bs) (change_told o callee pr s)
+  change_runs None pc st bs s good = here {got = then_at pc st bs} tt s good
+  change_runs (Some a) pc st bs s good = delivered_runs change (target_of a) (sinks (sheet_of a) s.memory) pc st bs (with_memory s (no_change s.memory)) good
+
+  -- a use of an object goes on
+  goes_runs : (b : Bool) (k : ℕ) (x : Next) (pc : ℕ) (st : List Slot) (bs : List Back) (s : State) → Enough bound n s
+      → Runs code bound n (follows code b k pc st bs x s) (on_left b st bs pc) (failed bs) (goes_on k callee pr x s)
+  goes_runs b k (gives v) pc st bs s good =
+      bind (changes callee pr s) (change_runs s.memory.changed pc (left_as b v ∷ st) bs s good) (λ u s1 g1. here {got = on_left b st bs pc} v s1 g1)
+  goes_runs b zero (then_call p self xs ts) pc st bs s good = raises (error_here 450 s.memory) bs s good
+  goes_runs b (suc k) (then_call p self xs ts) pc st bs s good =
+      bind (callee.call p self xs s) (known.within p self xs b k ts st pc bs s good) (λ v s1 g1.
+      subst (λ d. Runs code bound n (done_then (tasks_next d ts v s1.memory) bs s1 (follows code b k pc st bs)) (on_left b st bs pc) (failed bs)
+      (perform (tasks_next pr.declared ts v) s1 >>= λ x s2. goes_on k callee pr x s2)) (sym tables)
+      (bind (perform (tasks_next pr.declared ts v) s1) (performs {got = follows code b k pc st bs} (tasks_next pr.declared ts v) bs s1 g1) (λ x s2 g2. goes_runs b k x pc st bs s2 g2)))
+
+  used_runs : (b : Bool) (f : Memory → Effect Next) (pc : ℕ) (st : List Slot) (bs : List Back) (s : State) → Enough bound n s
+      → Runs code bound n (uses code b (f s.memory) pc st bs s) (on_left b st bs pc) (failed bs) (used callee pr f s)
+  used_runs b f pc st bs s good =
+      bind (perform f s) (performs {got = follows code b most_calls pc st bs} f bs s good) (λ x s1 g1. goes_runs b most_calls x pc st bs s1 g1)
+
+  -- by what the project declares
+  pub uses_run : (b : Bool) (f : Declarations → Memory → Effect Next) (pc : ℕ) (st : List Slot) (bs : List Back) (s : State) → Enough bound n s
+      → Runs code bound n (uses code b (f code.declared s.memory) pc st bs s) (on_left b st bs pc) (failed bs) (used callee pr (f pr.declared) s)
+  uses_run b f pc st bs s good =
+      subst (λ d. Runs code bound n (uses code b (f d s.memory) pc st bs s) (on_left b st bs pc) (failed bs) (used callee pr (f pr.declared) s)) (sym tables) (used_runs b (f pr.declared) pc st bs s good)
+
+  -- an operand
+  pub operand_runs : (v : Val) (pc : ℕ) (st : List Slot) (bs : List Back) (s : State) → Enough bound n s
+      → Runs code bound n (gives_way code v pc st bs s) (on_value st bs pc) (failed bs) (operand_value callee pr v s)
+  operand_runs v pc st bs s good =
+      either (is_counted v) (uses_run false (λ d m. counted_operand d v m) pc st bs s good) (performs {got = on_value st bs pc} (plain v) bs s good)
+
+  if_any_runs : (v : Val) (pc : ℕ) (st : List Slot) (bs : List Back) (s : State) → Enough bound n s
+      → Runs code bound n (gives_way_if_any code v pc st bs s) (on_value st bs pc) (failed bs) (operand_if_any callee pr v s)
+  if_any_runs v pc st bs s good =
+      either (is_counted v) (uses_run false (λ d m. counted_if_any d v m) pc st bs s good) (performs {got = on_value st bs pc} (plain_if_any v) bs s good)
+
+  -- a place is lent, or what is there is copied
+  bound_runs : (aim : Use) (name : List ℕ) (by : ByName) (gs : List Bool) (i : ℕ) (q : Path) (pc : ℕ) (st : List Slot) (bs : List Back) (s : State) → Enough bound n s
+      → Runs code bound n (binds_place code aim name by gs i q pc st bs s) (on_path st bs pc) (failed bs) (place_bound callee pr aim name by gs i (base_below i st) q s)
+  bound_runs aim name by gs i q pc st bs s good =
+      subst (λ d. Runs code bound n
+      (if lends_place d aim name by gs i (base_below i st) q s.memory then done_then (lent q s.memory) bs s (then_at pc (path q ∷ st) bs) else uses code true (place_copied d aim name by gs i (base_below i st) q s.memory) pc st bs s)
+      (on_path st bs pc) (failed bs) (place_bound callee pr aim name by gs i (base_below i st) q s)) (sym tables)
+      (either (lends_place pr.declared aim name by gs i (base_below i st) q s.memory)
+      (bind (perform (lent q) s) (performs {got = then_at pc (path q ∷ st) bs} (lent q) bs s good) (λ u s1 g1. here {got = on_path st bs pc} q s1 g1))
+      (bind (used callee pr (place_copied pr.declared aim name by gs i (base_below i st) q) s) (used_runs true (place_copied pr.declared aim name by gs i (base_below i st) q) pc st bs s good) (λ v s1 g1.
+      here {got = on_path st bs pc} (path_to v) s1 g1)))
+
   -- a member is used, Err raises an error, or an item leaves a Collection
   member_runs : (name : List ℕ) (v w : Val) (vs : List Val) (pc : ℕ) (st : List Slot) (bs : List Back) (s : State) → Enough bound n s
       → Runs code bound n (uses_member code name v w vs pc st bs s) (on_value st bs pc) (failed bs) (member_used callee pr name v w vs s)
@@ -180,8 +174,16 @@ module _ (pr : Project) (code : Code) (bound n : ℕ) (callee : Callee) (known :
       (either (is_counted v)
       (bind (perform (object_member name vs v) s) (performs {got = λ r s1. then_let_go pc (value r.0 ∷ st) bs r.1 s1} (object_member name vs v) bs s good) (λ r s1 g1.
       bind (callee.go r.1 s1) (all_go code bound n callee.go known.go r.1 (Back-to pc (value r.0 ∷ st)) bs s1 (failed bs) g1) (λ u s2 g2. here {got = on_value st bs pc} r.0 s2 g2)))
-      (subst (λ d. Runs code bound n (done_then (member_called d name vs v w s.memory) bs s (on_value st bs pc)) (on_value st bs pc) (failed bs) (perform (member_called pr.declared name vs v w) s)) (sym tables)
-      (performs (member_called pr.declared name vs v w) bs s good)))
+      (subst (λ d. Runs code bound n (done_then (member_called d name vs v w s.memory) bs s (then_changes_push code pc st bs)) (on_value st bs pc) (failed bs)
+      (perform (member_called pr.declared name vs v w) s >>= λ x s1. changes callee pr s1 >>= λ u s2. Got x s2)) (sym tables)
+      (bind (perform (member_called pr.declared name vs v w) s) (performs {got = then_changes_push code pc st bs} (member_called pr.declared name vs v w) bs s good) (λ x s1 g1.
+      bind (changes callee pr s1) (change_runs s1.memory.changed pc (value x ∷ st) bs s1 g1) (λ u s2 g2. here {got = on_value st bs pc} x s2 g2)))))
+
+  late_runs : (name : List ℕ) (by : ByName) (gs : List Bool) (v w : Val) (xs : List Slot) (pc : ℕ) (st : List Slot) (bs : List Back) (s : State) → Enough bound n s
+      → Runs code bound n (calls_late code name by gs v w xs pc st bs s) (on_value st bs pc) (failed bs) (late_used callee pr name by gs v w xs s)
+  late_runs name by gs v w xs pc st bs s good =
+      either (is_instance v s.memory) (uses_run false (λ d m. late_called d name by gs v w (map received xs) m) pc st bs s good)
+      (member_runs name v w (host_arguments v name by (map received xs)) pc st bs s good)
 
   -- a new object's Class_Initialize runs, and what it gives is dropped
   initial_runs : (o : Option ℕ) (v : Val) (pc to : ℕ) (st : List Slot) (bs : List Back) (s : State) → UpTo code.instrs pc (Drop ∷ []) to → Enough bound n s
@@ -241,10 +243,10 @@ module _ (pr : Project) (code : Code) (bound n : ℕ) (callee : Callee) (known :
         (ends_at (on_value st bs) has.1 (here (err_of pr.declared member s.memory.err) s good)))
     node_runs (default_of e) pc to st bs s has good =
         first (on_value st bs) (eval e callee pr s) (expr_code e) _ pc to _ has (λ mid h. expr_runs e pc mid st bs s h good) (λ v s1 g1 i h.
-        instr Plain i (value v ∷ st) bs s1 h.0 (ends_at (on_value st bs) h.1 (performs (plain v) bs s1 g1)))
+        instr Plain i (value v ∷ st) bs s1 h.0 (ends_at (on_value st bs) h.1 (operand_runs v (i + 1) st bs s1 g1)))
     node_runs (default_if_any e) pc to st bs s has good =
         first (on_value st bs) (eval e callee pr s) (expr_code e) _ pc to _ has (λ mid h. expr_runs e pc mid st bs s h good) (λ v s1 g1 i h.
-        instr PlainIfAny i (value v ∷ st) bs s1 h.0 (ends_at (on_value st bs) h.1 (performs (plain_if_any v) bs s1 g1)))
+        instr PlainIfAny i (value v ∷ st) bs s1 h.0 (ends_at (on_value st bs) h.1 (if_any_runs v (i + 1) st bs s1 g1)))
     node_runs (library f text_form es compare base) pc to st bs s has good =
         first_each (on_args st bs) (eval_list es callee pr s) (list_code es) _ pc to _ has (list_counts es callee pr s) (λ mid h. list_runs es pc mid st bs s h good) (λ xs s1 len g1 j h.
         instr (Library f text_form compare base (length xs)) j (pushed xs st) bs s1 (h.0 ∙ ap (λ m. Some (Library f text_form compare base m)) (sym len))
@@ -293,6 +295,22 @@ module _ (pr : Project) (code : Code) (bound n : ℕ) (callee : Callee) (known :
         instr (CallOf p (length xs)) j (pushed xs (value w ∷ st)) bs s3 (h2.0 ∙ ap (λ m. Some (CallOf p m)) (sym len))
         (subst (λ m. Runs code bound n m (on_value st bs to) (failed bs) (callee.call p w xs s3)) (sym (all_taken xs (value w ∷ st) _))
         (ends_at (on_value st bs) h2.1 (known.call p w xs st (j + 1) bs s3 g3)))))))
+    node_runs (late_member e name by given) pc to st bs s has good =
+        let gs = which_given given in
+        first (on_value st bs) (eval e callee pr s) (expr_code e) _ pc to _ has (λ mid h. expr_runs e pc mid st bs s h good) (λ v s1 g1 i h1.
+        instr (FindLate reading name by gs) i (value v ∷ st) bs s1 h1.0
+        (bind (used callee pr (late_there pr.declared reading name by gs v) s1) (uses_run false (λ d m. late_there d reading name by gs v m) (i + 1) (value v ∷ st) bs s1 g1) (λ w s2 g2.
+        first_each (on_args (value w ∷ value v ∷ st) bs) (eval_given given reading name by gs 0 v callee pr s2) (given_code given reading name by gs 0) _ (i + 1) to _ h1.1 (given_counts given reading name by gs 0 v callee pr s2)
+        (λ mid h. given_runs given reading name by gs 0 (i + 1) mid (value w ∷ value v ∷ st) bs s2 h g2) (λ xs s3 len g3 j h2.
+        instr (CallLate name by gs) j (pushed xs (value w ∷ value v ∷ st)) bs s3 h2.0
+        (subst (λ m. Runs code bound n m (on_value st bs to) (failed bs) (late_used callee pr name by gs v w xs s3)) (sym (counted_taken xs (value w ∷ value v ∷ st) (length gs) _ len))
+        (ends_at (on_value st bs) h2.1 (late_runs name by gs v w xs (j + 1) st bs s3 g3)))))))
+    node_runs (late_item e es) pc to st bs s has good =
+        first (on_value st bs) (eval e callee pr s) (expr_code e) _ pc to _ has (λ mid h. expr_runs e pc mid st bs s h good) (λ v s1 g1 i h1.
+        first_each (on_args (value v ∷ st) bs) (eval_list es callee pr s1) (list_code es) _ i to _ h1 (list_counts es callee pr s1) (λ mid h. list_runs es i mid (value v ∷ st) bs s1 h g1) (λ xs s2 len g2 j h2.
+        instr (ItemAlong (length xs)) j (pushed xs (value v ∷ st)) bs s2 (h2.0 ∙ ap (λ m. Some (ItemAlong m)) (sym len))
+        (subst (λ m. Runs code bound n m (on_value st bs to) (failed bs) (used callee pr (index_along pr.declared most_passed (slot_values xs) v) s2)) (sym (all_taken xs (value v ∷ st) _))
+        (ends_at (on_value st bs) h2.1 (uses_run false (λ d m. index_along d most_passed (slot_values xs) v m) (j + 1) st bs s2 g2)))))
     node_runs (same a b) pc to st bs s has good =
         first (on_value st bs) (eval a callee pr s) (expr_code a) _ pc to _ has (λ mid h. expr_runs a pc mid st bs s h good) (λ v s1 g1 i h1.
         first (on_value (value v ∷ st) bs) (eval b callee pr s1) (expr_code b) _ i to _ h1 (λ mid h. expr_runs b i mid (value v ∷ st) bs s1 h g1) (λ w s2 g2 j h2.
@@ -353,6 +371,22 @@ module _ (pr : Project) (code : Code) (bound n : ℕ) (callee : Callee) (known :
         instr (Reorder order (length xs)) i (pushed xs st) bs s1 (h.0 ∙ ap (λ m. Some (Reorder order m)) (sym len))
         (subst (λ m. Runs code bound n m (on_args st bs to) (failed bs) (Got (reordered order xs) s1)) (sym (all_taken xs st _))
         (ends_at (on_args st bs) h.1 (here (reordered order xs) s1 g1))))
+
+    pub given_runs : (given : Given) (aim : Use) (name : List ℕ) (by : ByName) (gs : List Bool) (i pc to : ℕ) (st : List Slot) (bs : List Back) (s : State) → UpTo code.instrs pc (given_code given aim name by gs i) to → Enough bound n s
+        → Runs code bound n (Goes (at pc st bs s)) (on_args st bs to) (failed bs) (eval_given given aim name by gs i (base_below i st) callee pr s)
+    given_runs none_given aim name by gs i pc to st bs s has good = ends_at (on_args st bs) has (here [] s good)
+    given_runs (place_given x given) aim name by gs i pc to st bs s has good =
+        first (on_path st bs) (eval_place x callee pr s) (place_code x) _ pc to _ has (λ mid h. place_runs x pc mid st bs s h good) (λ q s1 g1 j h.
+        instr (BindPlace aim name by gs i) j (path q ∷ st) bs s1 h.0
+        (bind (place_bound callee pr aim name by gs i (base_below i st) q s1) (bound_runs aim name by gs i q (j + 1) st bs s1 g1) (λ p s2 g2.
+        bind (eval_given given aim name by gs (suc i) (base_below i st) callee pr s2) (given_runs given aim name by gs (suc i) (j + 1) to (path p ∷ st) bs s2 h.1 g2) (λ xs s3 g3.
+        here {got = on_args st bs to} (path p ∷ xs) s3 g3))))
+    given_runs (expr_given e given) aim name by gs i pc to st bs s has good =
+        first (on_value st bs) (eval e callee pr s) (expr_code e) _ pc to _ has (λ mid h. expr_runs e pc mid st bs s h good) (λ v s1 g1 j h.
+        instr (BindValue aim name by gs i) j (value v ∷ st) bs s1 h.0
+        (bind (used callee pr (value_bound pr.declared aim name by gs i (base_below i st) v) s1) (uses_run false (λ d m. value_bound d aim name by gs i (base_below i st) v m) (j + 1) st bs s1 g1) (λ w s2 g2.
+        bind (eval_given given aim name by gs (suc i) (base_below i st) callee pr s2) (given_runs given aim name by gs (suc i) (j + 1) to (value w ∷ st) bs s2 h.1 g2) (λ xs s3 g3.
+        here {got = on_args st bs to} (value w ∷ xs) s3 g3))))
 
     pub list_runs : (es : Exprs) (pc to : ℕ) (st : List Slot) (bs : List Back) (s : State) → UpTo code.instrs pc (list_code es) to → Enough bound n s
         → Runs code bound n (Goes (at pc st bs s)) (on_args st bs to) (failed bs) (eval_list es callee pr s)
@@ -419,9 +453,16 @@ module _ (pr : Project) (code : Code) (entry : ℕ → Entry) (laid : Laid pr en
   ends_here to pc bs s h good = instr (Finish (entry p to)) pc [] bs s h (here {got = with_end (entry p) bs} to s good)
 
   -- it is done in one go, and the statement ends
-  used : {A : Type 0} (f : Memory → Effect A) (to pc : ℕ) (bs : List Back) (s : State) → slice_get code.instrs pc ≡ Some (Finish (entry p to)) → Enough bound n s
+  ends_after : {A : Type 0} (f : Memory → Effect A) (to pc : ℕ) (bs : List Back) (s : State) → slice_get code.instrs pc ≡ Some (Finish (entry p to)) → Enough bound n s
       → Runs code bound n (done_then (f s.memory) bs s (then_at pc [] bs)) (with_end (entry p) bs) (failed bs) (perform f s >>= λ u s1. Got to s1)
-  used f to pc bs s h good = bind (perform f s) (performs {got = then_at pc [] bs} f bs s good) (λ u s1 g1. ends_here to pc bs s1 h g1)
+  ends_after f to pc bs s h good = bind (perform f s) (performs {got = then_at pc [] bs} f bs s good) (λ u s1 g1. ends_here to pc bs s1 h g1)
+
+  -- the same where cells may be written: the handlers of Change are called before the statement ends
+  written : {A : Type 0} (f : Memory → Effect A) (to pc : ℕ) (bs : List Back) (s : State) → slice_get code.instrs pc ≡ Some (Finish (entry p to)) → Enough bound n s
+      → Runs code bound n (done_then (f s.memory) bs s (then_changes code pc [] bs)) (with_end (entry p) bs) (failed bs) (perform f s >>= λ u s1. changes callee pr s1 >>= λ w s2. Got to s2)
+  written f to pc bs s h good =
+      bind (perform f s) (performs {got = then_changes code pc [] bs} f bs s good) (λ u s1 g1.
+      bind (changes callee pr s1) (change_runs pr code bound n callee known laid.declared s1.memory.changed pc [] bs s1 g1) (λ w s2 g2. ends_here to pc bs s2 h g2))
 
   taken_way : (b : Bool) (x y : ℕ) (bs : List Back) (s : State) → Enough bound n s
       → Runs code bound n (then_branch (entry p x) (entry p y) bs b s) (with_end (entry p) bs) (failed bs) (Got (if b then x else y) s)
@@ -460,12 +501,12 @@ module _ (pr : Project) (code : Code) (entry : ℕ → Entry) (laid : Laid pr en
   -- the value that a Case tests
   then_tested : {f : Val → State → Res ℕ} (header pc : ℕ) (bs : List Back) (s : State) → slice_get code.instrs pc ≡ Some (Selected header) → slice_get code.instrs (pc + 1) ≡ Some Plain → Enough bound n s
       → ((v : Val) (s1 : State) → Enough bound n s1 → Ends-well (pc + 1 + 1) (value v ∷ []) bs s1 (f v s1))
-      → Ends-well pc [] bs s (tested header s >>= f)
+      → Ends-well pc [] bs s (tested callee pr header s >>= f)
   then_tested header pc bs s h h1 good k =
-      bind (tested header s)
+      bind (tested callee pr header s)
       (instr (Selected header) pc [] bs s h
       (bind (perform (selected header) s) (performs {got = on_value [] bs (pc + 1)} (selected header) bs s good) (λ v s1 g1.
-      instr Plain (pc + 1) (value v ∷ []) bs s1 h1 (performs {got = on_value [] bs (pc + 1 + 1)} (plain v) bs s1 g1))))
+      instr Plain (pc + 1) (value v ∷ []) bs s1 h1 (operand_runs pr code bound n callee known laid.declared v (pc + 1 + 1) [] bs s1 g1))))
       k
 
   cases_runs : (ts : Tests) (header : ℕ) (of : Declared) (compare : Compare) (most none pc to : ℕ) (bs : List Back) (s : State) → UpTo code.instrs pc (tests_code (entry p) ts header of compare most none) to → Enough bound n s
@@ -513,55 +554,96 @@ module _ (pr : Project) (code : Code) (entry : ℕ → Entry) (laid : Laid pr en
       (bind (perform (erased pr.declared q) s1) (performs {got = then_let_go (j + 1) [] bs} (erased pr.declared q) bs s1 g1) (λ k s2 g2.
       bind (callee.go k s2) (let_go_runs k (j + 1) [] bs s2 g2) (λ u s3 g3. erases_run xs (j + 1) to bs s3 h.1 g3)))))
 
+  -- an object is used, what that gives is dropped, and the statement ends
+  then_dropped : (f : Declarations → Memory → Effect Next) (to pc : ℕ) (bs : List Back) (s : State) → slice_get code.instrs pc ≡ Some Drop → slice_get code.instrs (pc + 1) ≡ Some (Finish (entry p to)) → Enough bound n s
+      → Runs code bound n (uses code false (f code.declared s.memory) pc [] bs s) (with_end (entry p) bs) (failed bs) (used callee pr (f pr.declared) s >>= λ u s1. Got to s1)
+  then_dropped f to pc bs s h h1 good =
+      bind (used callee pr (f pr.declared) s) (uses_run pr code bound n callee known laid.declared false f pc [] bs s good) (λ u s1 g1.
+      instr Drop pc (value u ∷ []) bs s1 h (ends_here to (pc + 1) bs s1 h1 g1))
+
   pub action_runs : (a : Action) (i k pc to : ℕ) (bs : List Back) (s : State) → UpTo code.instrs pc (action_code (entry p) p i k a) to → Enough bound n s
       → Ends-well pc [] bs s (exec a callee pr p i k s)
   action_runs (assign x e) i k pc to bs s has good =
       then_value pr code bound n callee known laid.declared e _ pc to [] bs s has good (λ v s1 g1 mid h.
       then_place pr code bound n callee known laid.declared x _ mid to (value v ∷ []) bs s1 h g1 (λ q s2 g2 j h2.
-      instr Store j (path q ∷ value v ∷ []) bs s2 h2.0 (used (assigned_at q v) k (j + 1) bs s2 h2.1.0 g2)))
+      instr Store j (path q ∷ value v ∷ []) bs s2 h2.0 (written (assigned_at q v) k (j + 1) bs s2 h2.1.0 g2)))
   action_runs (assign_item base es e) i k pc to bs s has good =
       then_value pr code bound n callee known laid.declared e _ pc to [] bs s has good (λ v s1 g1 i1 h1.
       then_value pr code bound n callee known laid.declared base _ i1 to (value v ∷ []) bs s1 h1 g1 (λ w s2 g2 i2 h2.
       first_each pr code bound n callee known laid.declared (on_args (value w ∷ value v ∷ []) bs) (eval_list es callee pr s2) (list_code es) _ i2 to _ h2 (list_counts es callee pr s2)
       (λ mid h. list_runs pr code bound n callee known laid.declared es i2 mid (value w ∷ value v ∷ []) bs s2 h g2) (λ xs s3 len g3 j h.
       instr (StoreItem (length xs)) j (pushed xs (value w ∷ value v ∷ [])) bs s3 (h.0 ∙ ap (λ m. Some (StoreItem m)) (sym len))
-      (subst (λ m. Runs code bound n m (with_end (entry p) bs) (failed bs) (perform (item_assigned w (slot_values xs) v) s3 >>= λ u s4. Got k s4)) (sym (all_taken xs (value w ∷ value v ∷ []) _))
-      (used (item_assigned w (slot_values xs) v) k (j + 1) bs s3 h.1.0 g3)))))
+      (subst (λ m. Runs code bound n m (with_end (entry p) bs) (failed bs) (perform (item_assigned w (slot_values xs) v) s3 >>= λ u s4. changes callee pr s4 >>= λ x s5. Got k s5)) (sym (all_taken xs (value w ∷ value v ∷ []) _))
+      (written (item_assigned w (slot_values xs) v) k (j + 1) bs s3 h.1.0 g3)))))
   action_runs (set x e) i k pc to bs s has good =
       then_value pr code bound n callee known laid.declared e _ pc to [] bs s has good (λ v s1 g1 mid h.
       then_place pr code bound n callee known laid.declared x _ mid to (value v ∷ []) bs s1 h g1 (λ q s2 g2 j h2.
-      instr SetAt j (path q ∷ value v ∷ []) bs s2 h2.0 (used (set_at q v) k (j + 1) bs s2 h2.1.0 g2)))
+      instr SetAt j (path q ∷ value v ∷ []) bs s2 h2.0 (ends_after (set_at q v) k (j + 1) bs s2 h2.1.0 g2)))
   action_runs (assign_default x e) i k pc to bs s has good =
       then_value pr code bound n callee known laid.declared e _ pc to [] bs s has good (λ v s1 g1 i1 h1.
       then_value pr code bound n callee known laid.declared x _ i1 to (value v ∷ []) bs s1 h1 g1 (λ w s2 g2 j h.
-      instr StoreDefault j (value w ∷ value v ∷ []) bs s2 h.0 (used (written_default w v) k (j + 1) bs s2 h.1.0 g2)))
+      instr StoreDefault j (value w ∷ value v ∷ []) bs s2 h.0 (written (written_default w v) k (j + 1) bs s2 h.1.0 g2)))
   action_runs (assign_member base name es e) i k pc to bs s has good =
       then_value pr code bound n callee known laid.declared e _ pc to [] bs s has good (λ v s1 g1 i1 h1.
       then_value pr code bound n callee known laid.declared base _ i1 to (value v ∷ []) bs s1 h1 g1 (λ w s2 g2 i2 h2.
       instr (MemberThere name (given_count es)) i2 (value w ∷ value v ∷ []) bs s2 h2.0
       (subst (λ d. Runs code bound n (done_then (member_there d name (given_count es) w s2.memory) bs s2 (on_value (value w ∷ value v ∷ []) bs (i2 + 1))) (with_end (entry p) bs) (failed bs)
-      (perform (member_there pr.declared name (given_count es) w) s2 >>= λ x s3. eval_list es callee pr s3 >>= λ xs s4. perform (member_assigned pr.declared name (slot_values xs) w x v) s4 >>= λ u s5. Got k s5)) (sym laid.declared)
+      (perform (member_there pr.declared name (given_count es) w) s2 >>= λ x s3. eval_list es callee pr s3 >>= λ xs s4. perform (member_assigned pr.declared name (slot_values xs) w x v) s4 >>= λ u s5. changes callee pr s5 >>= λ y s6. Got k s6)) (sym laid.declared)
       (bind (perform (member_there pr.declared name (given_count es) w) s2) (performs {got = on_value (value w ∷ value v ∷ []) bs (i2 + 1)} (member_there pr.declared name (given_count es) w) bs s2 g2) (λ x s3 g3.
       first_each pr code bound n callee known laid.declared (on_args (value x ∷ value w ∷ value v ∷ []) bs) (eval_list es callee pr s3) (list_code es) _ (i2 + 1) to _ h2.1 (list_counts es callee pr s3)
       (λ mid h. list_runs pr code bound n callee known laid.declared es (i2 + 1) mid (value x ∷ value w ∷ value v ∷ []) bs s3 h g3) (λ xs s4 len g4 j h.
       instr (StoreMember name (length xs)) j (pushed xs (value x ∷ value w ∷ value v ∷ [])) bs s4 (h.0 ∙ ap (λ m. Some (StoreMember name m)) (sym len))
-      (subst (λ m. Runs code bound n m (with_end (entry p) bs) (failed bs) (perform (member_assigned pr.declared name (slot_values xs) w x v) s4 >>= λ u s5. Got k s5)) (sym (all_taken xs (value x ∷ value w ∷ value v ∷ []) _))
-      (subst (λ d. Runs code bound n (done_then (member_assigned d name (slot_values xs) w x v s4.memory) bs s4 (then_at (j + 1) [] bs)) (with_end (entry p) bs) (failed bs)
-      (perform (member_assigned pr.declared name (slot_values xs) w x v) s4 >>= λ u s5. Got k s5)) (sym laid.declared)
-      (used (member_assigned pr.declared name (slot_values xs) w x v) k (j + 1) bs s4 h.1.0 g4)))))))))
+      (subst (λ m. Runs code bound n m (with_end (entry p) bs) (failed bs) (perform (member_assigned pr.declared name (slot_values xs) w x v) s4 >>= λ u s5. changes callee pr s5 >>= λ y s6. Got k s6)) (sym (all_taken xs (value x ∷ value w ∷ value v ∷ []) _))
+      (subst (λ d. Runs code bound n (done_then (member_assigned d name (slot_values xs) w x v s4.memory) bs s4 (then_changes code (j + 1) [] bs)) (with_end (entry p) bs) (failed bs)
+      (perform (member_assigned pr.declared name (slot_values xs) w x v) s4 >>= λ u s5. changes callee pr s5 >>= λ y s6. Got k s6)) (sym laid.declared)
+      (written (member_assigned pr.declared name (slot_values xs) w x v) k (j + 1) bs s4 h.1.0 g4)))))))))
   action_runs (set_member base e) i k pc to bs s has good =
       then_value pr code bound n callee known laid.declared e _ pc to [] bs s has good (λ v s1 g1 i1 h1.
       then_value pr code bound n callee known laid.declared base _ i1 to (value v ∷ []) bs s1 h1 g1 (λ w s2 g2 j h.
-      instr SetMember j (value w ∷ value v ∷ []) bs s2 h.0 (used (member_not_set w) k (j + 1) bs s2 h.1.0 g2)))
+      instr SetMember j (value w ∷ value v ∷ []) bs s2 h.0 (ends_after (member_not_set w) k (j + 1) bs s2 h.1.0 g2)))
+  action_runs (assign_through x e) i k pc to bs s has good =
+      then_value pr code bound n callee known laid.declared e _ pc to [] bs s has good (λ v s1 g1 i1 h1.
+      then_value pr code bound n callee known laid.declared x _ i1 to (value v ∷ []) bs s1 h1 g1 (λ w s2 g2 j h.
+      instr WriteThrough j (value w ∷ value v ∷ []) bs s2 h.0 (then_dropped (λ d m. write_along d most_passed v w m) k (j + 1) bs s2 h.1.0 h.1.1.0 g2)))
+  action_runs (assign_element x es e) i k pc to bs s has good =
+      then_value pr code bound n callee known laid.declared e _ pc to [] bs s has good (λ v s1 g1 i1 h1.
+      then_place pr code bound n callee known laid.declared x _ i1 to (value v ∷ []) bs s1 h1 g1 (λ q s2 g2 i2 h2.
+      first_each pr code bound n callee known laid.declared (on_args (path q ∷ value v ∷ []) bs) (eval_list es callee pr s2) (list_code es) _ i2 to _ h2 (list_counts es callee pr s2)
+      (λ mid h. list_runs pr code bound n callee known laid.declared es i2 mid (path q ∷ value v ∷ []) bs s2 h g2) (λ xs s3 len g3 j h.
+      instr (LetElement (length xs)) j (pushed xs (path q ∷ value v ∷ [])) bs s3 (h.0 ∙ ap (λ m. Some (LetElement m)) (sym len))
+      (subst (λ m. Runs code bound n m (with_end (entry p) bs) (failed bs) (used callee pr (let_element pr.declared q (slot_values xs) v) s3 >>= λ u s4. Got k s4)) (sym (all_taken xs (path q ∷ value v ∷ []) _))
+      (then_dropped (λ d m. let_element d q (slot_values xs) v m) k (j + 1) bs s3 h.1.0 h.1.1.0 g3)))))
+  action_runs (assign_late base name by given e) i k pc to bs s has good =
+      let gs = which_given given in
+      then_value pr code bound n callee known laid.declared e _ pc to [] bs s has good (λ v s1 g1 i1 h1.
+      then_value pr code bound n callee known laid.declared base _ i1 to (value v ∷ []) bs s1 h1 g1 (λ w s2 g2 i2 h2.
+      instr (FindLate assigning name by gs) i2 (value w ∷ value v ∷ []) bs s2 h2.0
+      (bind (used callee pr (late_there pr.declared assigning name by gs w) s2) (uses_run pr code bound n callee known laid.declared false (λ d m. late_there d assigning name by gs w m) (i2 + 1) (value w ∷ value v ∷ []) bs s2 g2) (λ x s3 g3.
+      first_each pr code bound n callee known laid.declared (on_args (value x ∷ value w ∷ value v ∷ []) bs) (eval_given given assigning name by gs 0 w callee pr s3) (given_code given assigning name by gs 0) _ (i2 + 1) to _ h2.1 (given_counts given assigning name by gs 0 w callee pr s3)
+      (λ mid h. given_runs pr code bound n callee known laid.declared given assigning name by gs 0 (i2 + 1) mid (value x ∷ value w ∷ value v ∷ []) bs s3 h g3) (λ xs s4 len g4 j h.
+      instr (LetLate name by gs) j (pushed xs (value x ∷ value w ∷ value v ∷ [])) bs s4 h.0
+      (subst (λ m. Runs code bound n m (with_end (entry p) bs) (failed bs) (used callee pr (late_let pr.declared name by gs w x (map received xs) v) s4 >>= λ u s5. Got k s5)) (sym (counted_taken xs (value x ∷ value w ∷ value v ∷ []) (length gs) _ len))
+      (then_dropped (λ d m. late_let d name by gs w x (map received xs) v m) k (j + 1) bs s4 h.1.0 h.1.1.0 g4)))))))
+  action_runs (set_late base name by given e) i k pc to bs s has good =
+      let gs = which_given given in
+      then_value pr code bound n callee known laid.declared e _ pc to [] bs s has good (λ v s1 g1 i1 h1.
+      then_value pr code bound n callee known laid.declared base _ i1 to (value v ∷ []) bs s1 h1 g1 (λ w s2 g2 i2 h2.
+      instr (FindLate setting name by gs) i2 (value w ∷ value v ∷ []) bs s2 h2.0
+      (bind (used callee pr (late_there pr.declared setting name by gs w) s2) (uses_run pr code bound n callee known laid.declared false (λ d m. late_there d setting name by gs w m) (i2 + 1) (value w ∷ value v ∷ []) bs s2 g2) (λ x s3 g3.
+      first_each pr code bound n callee known laid.declared (on_args (value x ∷ value w ∷ value v ∷ []) bs) (eval_given given setting name by gs 0 w callee pr s3) (given_code given setting name by gs 0) _ (i2 + 1) to _ h2.1 (given_counts given setting name by gs 0 w callee pr s3)
+      (λ mid h. given_runs pr code bound n callee known laid.declared given setting name by gs 0 (i2 + 1) mid (value x ∷ value w ∷ value v ∷ []) bs s3 h g3) (λ xs s4 len g4 j h.
+      instr (SetLate name by gs) j (pushed xs (value x ∷ value w ∷ value v ∷ [])) bs s4 h.0
+      (subst (λ m. Runs code bound n m (with_end (entry p) bs) (failed bs) (used callee pr (late_set pr.declared name by gs w (map received xs) v) s4 >>= λ u s5. Got k s5)) (sym (counted_taken xs (value x ∷ value w ∷ value v ∷ []) (length gs) _ len))
+      (then_dropped (λ d m. late_set d name by gs w (map received xs) v m) k (j + 1) bs s4 h.1.0 h.1.1.0 g4)))))))
   action_runs (evaluate e) i k pc to bs s has good =
       then_value pr code bound n callee known laid.declared e _ pc to [] bs s has good (λ v s1 g1 mid h.
       instr Drop mid (value v ∷ []) bs s1 h.0 (ends_here k (mid + 1) bs s1 h.1.0 g1))
   action_runs (let_property q args e of) i k pc to bs s has good =
       then_value pr code bound n callee known laid.declared e _ pc to [] bs s has good (λ v s1 g1 mid h.
       then_args pr code bound n callee known laid.declared args _ Lift mid to (value v ∷ []) bs s1 h g1 (λ xs s2 len g2 j h2.
-      subst (λ m. Runs code bound n m (with_end (entry p) bs) (failed bs) (perform (plain v) s2 >>= λ w s3. perform (fitted of w) s3 >>= λ x s4. callee.call q empty (xs ++ value x ∷ []) s4 >>= λ r s5. Got k s5)) (sym (all_taken xs (value v ∷ []) _))
+      subst (λ m. Runs code bound n m (with_end (entry p) bs) (failed bs) (operand_value callee pr v s2 >>= λ w s3. perform (fitted of w) s3 >>= λ x s4. callee.call q empty (xs ++ value x ∷ []) s4 >>= λ r s5. Got k s5)) (sym (all_taken xs (value v ∷ []) _))
       (instr Plain (j + 1) (value v ∷ pushed xs []) bs s2 h2.0
-      (bind (perform (plain v) s2) (performs {got = on_value (pushed xs []) bs (j + 1 + 1)} (plain v) bs s2 g2) (λ w s3 g3.
+      (bind (operand_value callee pr v s2) (operand_runs pr code bound n callee known laid.declared v (j + 1 + 1) (pushed xs []) bs s2 g2) (λ w s3 g3.
       instr (Fit of) (j + 1 + 1) (value w ∷ pushed xs []) bs s3 h2.1.0
       (bind (perform (fitted of w) s3) (performs {got = on_value (pushed xs []) bs (j + 1 + 1 + 1)} (fitted of w) bs s3 g3) (λ x s4 g4.
       instr (Call q (suc (length xs))) (j + 1 + 1 + 1) (value x ∷ pushed xs []) bs s4 (h2.1.1.0 ∙ ap (λ m. Some (Call q (suc m))) (sym len))
@@ -584,9 +666,9 @@ module _ (pr : Project) (code : Code) (entry : ℕ → Entry) (laid : Laid pr en
       instr ObjectThere i2 (value b ∷ value v ∷ []) bs s2 h2.0
       (bind (perform (object_there b) s2) (performs {got = on_value (value v ∷ []) bs (i2 + 1)} (object_there b) bs s2 g2) (λ w s3 g3.
       then_args pr code bound n callee known laid.declared args _ (λ m. Lift (suc m)) (i2 + 1) to (value w ∷ value v ∷ []) bs s3 h2.1 g3 (λ xs s4 len g4 j h.
-      subst (λ m. Runs code bound n m (with_end (entry p) bs) (failed bs) (perform (plain v) s4 >>= λ x s5. perform (fitted of x) s5 >>= λ y s6. callee.call q w (xs ++ value y ∷ []) s6 >>= λ r s7. Got k s7)) (sym (all_taken (value w ∷ xs) (value v ∷ []) _))
+      subst (λ m. Runs code bound n m (with_end (entry p) bs) (failed bs) (operand_value callee pr v s4 >>= λ x s5. perform (fitted of x) s5 >>= λ y s6. callee.call q w (xs ++ value y ∷ []) s6 >>= λ r s7. Got k s7)) (sym (all_taken (value w ∷ xs) (value v ∷ []) _))
       (instr Plain (j + 1) (value v ∷ pushed xs (value w ∷ [])) bs s4 h.0
-      (bind (perform (plain v) s4) (performs {got = on_value (pushed xs (value w ∷ [])) bs (j + 1 + 1)} (plain v) bs s4 g4) (λ x s5 g5.
+      (bind (operand_value callee pr v s4) (operand_runs pr code bound n callee known laid.declared v (j + 1 + 1) (pushed xs (value w ∷ [])) bs s4 g4) (λ x s5 g5.
       instr (Fit of) (j + 1 + 1) (value x ∷ pushed xs (value w ∷ [])) bs s5 h.1.0
       (bind (perform (fitted of x) s5) (performs {got = on_value (pushed xs (value w ∷ [])) bs (j + 1 + 1 + 1)} (fitted of x) bs s5 g5) (λ y s6 g6.
       instr (CallOf q (suc (length xs))) (j + 1 + 1 + 1) (value y ∷ pushed xs (value w ∷ [])) bs s6 (h.1.1.0 ∙ ap (λ m. Some (CallOf q (suc m))) (sym len))
@@ -606,10 +688,15 @@ module _ (pr : Project) (code : Code) (entry : ℕ → Entry) (laid : Laid pr en
       (subst (λ m. Runs code bound n m (with_end (entry p) bs) (failed bs) (callee.call q w (xs ++ value y ∷ []) s5 >>= λ r s6. Got k s6)) (sym (one_more_taken xs (value w ∷ []) (value y) _))
       (bind (callee.call q w (xs ++ value y ∷ []) s5) (known.call q w (xs ++ value y ∷ []) [] (j + 1 + 1 + 1) bs s5 g5) (λ r s6 g6.
       instr Drop (j + 1 + 1 + 1) (value r ∷ []) bs s6 h.1.1.0 (ends_here k (j + 1 + 1 + 1 + 1) bs s6 h.1.1.1.0 g6))))))))))))
+  action_runs (raise_event e args) i k pc to bs s has good =
+      then_args pr code bound n callee known laid.declared args _ (RaiseEvent e) pc to [] bs s has good (λ xs s1 len g1 mid h.
+      let ls : List Linked = sinks (source_of (top s1.memory).me) s1.memory in
+      subst (λ m. Runs code bound n m (with_end (entry p) bs) (failed bs) (delivered ls callee pr e xs s1 >>= λ u s2. Got k s2)) (sym (all_taken xs [] _))
+      (bind (delivered ls callee pr e xs s1) (delivered_runs pr code bound n callee known laid.declared e xs ls (mid + 1) [] bs s1 g1) (λ u s2 g2. ends_here k (mid + 1) bs s2 h.0 g2)))
   action_runs (print ps ends) i k pc to bs s has good =
       then_prints pr code bound n callee known laid.declared ps _ (Show ends) pc to [] bs s has good (λ xs s1 g1 mid h.
       subst (λ m. Runs code bound n m (with_end (entry p) bs) (failed bs) (perform (printed ends xs) s1 >>= λ u s2. Got k s2)) (sym (all_taken xs [] _))
-      (used (printed ends xs) k (mid + 1) bs s1 h.0 g1))
+      (ends_after (printed ends xs) k (mid + 1) bs s1 h.0 g1))
   action_runs (raise args) i k pc to bs s has good =
       then_args pr code bound n callee known laid.declared args _ Throw pc to [] bs s has good (λ xs s1 len g1 mid h.
       subst (λ m. Runs code bound n m (with_end (entry p) bs) (failed bs) (raise_error (raised_by xs s1.memory) s1)) (sym (all_taken xs [] _))
@@ -636,10 +723,10 @@ module _ (pr : Project) (code : Code) (entry : ℕ → Entry) (laid : Laid pr en
       bind (callee.go l s3) (let_go_runs l (j + 1) [] bs s3 g3) (λ w s4 g4.
       instr (NextItem x i) (j + 1) [] bs s4 h.1.0 (decided (each_next x i) most none (j + 1 + 1) bs s4 h.1.1.0 g4)))))))
   action_runs (next_each x header most) i k pc to bs s has good = instr (NextItem x header) pc [] bs s has.0 (decided (each_next x header) most k (pc + 1) bs s has.1.0 good)
-  action_runs (exit_each header x) i k pc to bs s has good = instr (DropKept header) pc [] bs s has.0 (used (block_over header) x (pc + 1) bs s has.1.0 good)
+  action_runs (exit_each header x) i k pc to bs s has good = instr (DropKept header) pc [] bs s has.0 (ends_after (block_over header) x (pc + 1) bs s has.1.0 good)
   action_runs (select e x) i k pc to bs s has good =
       then_value pr code bound n callee known laid.declared e _ pc to [] bs s has good (λ v s1 g1 mid h.
-      instr (Keep i) mid (value v ∷ []) bs s1 h.0 (used (keep i v) x (mid + 1) bs s1 h.1.0 g1))
+      instr (Keep i) mid (value v ∷ []) bs s1 h.0 (ends_after (keep i v) x (mid + 1) bs s1 h.1.0 g1))
   action_runs (case_of ts header of compare most none) i k pc to bs s has good = cases_runs ts header of compare most none pc to bs s has good
   action_runs (redim preserve rs) i k pc to bs s has good =
       first pr code bound n callee known laid.declared (λ mid. then_at mid [] bs) (resizes preserve rs callee pr s) (resizes_code preserve rs) _ pc to _ has
@@ -649,210 +736,21 @@ module _ (pr : Project) (code : Code) (entry : ℕ → Entry) (laid : Laid pr en
       (λ mid h. erases_run xs pc mid bs s h good) (λ u s1 g1 mid h. ends_here k mid bs s1 h.0 g1)
   action_runs (with_place x) i k pc to bs s has good =
       then_place pr code bound n callee known laid.declared x _ pc to [] bs s has good (λ q s1 g1 mid h.
-      instr (KeepPath i) mid (path q ∷ []) bs s1 h.0 (used (keep_path i q) k (mid + 1) bs s1 h.1.0 g1))
+      instr (KeepPath i) mid (path q ∷ []) bs s1 h.0 (ends_after (keep_path i q) k (mid + 1) bs s1 h.1.0 g1))
   action_runs (with_value e) i k pc to bs s has good =
       then_value pr code bound n callee known laid.declared e _ pc to [] bs s has good (λ v s1 g1 mid h.
-      instr (Keep i) mid (value v ∷ []) bs s1 h.0 (used (keep i v) k (mid + 1) bs s1 h.1.0 g1))
-  action_runs (end_with header) i k pc to bs s has good = instr (DropKept header) pc [] bs s has.0 (used (block_over header) k (pc + 1) bs s has.1.0 good)
-  action_runs (go_sub x) i k pc to bs s has good = instr (PutReturn k) pc [] bs s has.0 (used (gone_sub k) x (pc + 1) bs s has.1.0 good)
+      instr (Keep i) mid (value v ∷ []) bs s1 h.0 (ends_after (keep i v) k (mid + 1) bs s1 h.1.0 g1))
+  action_runs (end_with header) i k pc to bs s has good = instr (DropKept header) pc [] bs s has.0 (ends_after (block_over header) k (pc + 1) bs s has.1.0 good)
+  action_runs (go_sub x) i k pc to bs s has good = instr (PutReturn k) pc [] bs s has.0 (ends_after (gone_sub k) x (pc + 1) bs s has.1.0 good)
   action_runs return_sub i k pc to bs s has good = instr (TakeReturn p) pc [] bs s has.0 (found_statement returned_sub bs s good)
-  action_runs (exit_to x) i k pc to bs s has good = instr ErrOff pc [] bs s has.0 (used err_off x (pc + 1) bs s has.1.0 good)
-  action_runs (on_error h) i k pc to bs s has good = instr (SetPolicy (policy_of h)) pc [] bs s has.0 (used (policy_on (policy_of h)) k (pc + 1) bs s has.1.0 good)
-  action_runs end_handler i k pc to bs s has good = instr HandlerOff pc [] bs s has.0 (used handler_off k (pc + 1) bs s has.1.0 good)
-  action_runs clear_err i k pc to bs s has good = instr ErrOff pc [] bs s has.0 (used err_off k (pc + 1) bs s has.1.0 good)
+  action_runs (exit_to x) i k pc to bs s has good = instr ErrOff pc [] bs s has.0 (ends_after err_off x (pc + 1) bs s has.1.0 good)
+  action_runs (on_error h) i k pc to bs s has good = instr (SetPolicy (policy_of h)) pc [] bs s has.0 (ends_after (policy_on (policy_of h)) k (pc + 1) bs s has.1.0 good)
+  action_runs end_handler i k pc to bs s has good = instr HandlerOff pc [] bs s has.0 (ends_after handler_off k (pc + 1) bs s has.1.0 good)
+  action_runs clear_err i k pc to bs s has good = instr ErrOff pc [] bs s has.0 (ends_after err_off k (pc + 1) bs s has.1.0 good)
   action_runs resume_again i k pc to bs s has good = instr (Again p) pc [] bs s has.0 (found_statement (resumed kind.Again 0) bs s good)
   action_runs resume_next i k pc to bs s has good =
       instr (Behind p) pc [] bs s has.0
       (rw (laid.next p (failed_statement s.memory)) (found_statement (resumed kind.Next (next_of pr p (failed_statement s.memory))) bs s good))
   action_runs (resume_at x) i k pc to bs s has good = instr (Resumes p x) pc [] bs s has.0 (found_statement (resumed (kind.Label (record { 0 = x })) 0) bs s good)
-  action_runs stop i k pc to bs s has good = instr StopHere pc [] bs s has.0 (used stop_here k (pc + 1) bs s has.1.0 good)
+  action_runs stop i k pc to bs s has good = instr StopHere pc [] bs s has.0 (ends_after stop_here k (pc + 1) bs s has.1.0 good)
   action_runs end_run i k pc to bs s has good = instr Halt pc [] bs s has.0 (over Ended s)
-
--- ---- what is known of a smaller depth
-
-pub record Works (code : Code) (entry : ℕ → Entry) (bound n : ℕ) (d : Doing) : Type 0 where
-  pub run : (p i : ℕ) (bs : List Back) (s : State) → Enough bound n s → Runs code bound n (Goes (at (entry p i) [] bs s)) (returned_by looking code bs) (passed_on bs) (d.run p i s)
-  pub go : Lets code bound n d.go
-
-module _ (pr : Project) (code : Code) (entry : ℕ → Entry) (laid : Laid pr entry code) (bound n : ℕ) (d : Doing) (works : Works code entry bound n d) where
-  -- a procedure is entered
-  stands_runs : (c : Bool) (p : ℕ) (self : Val) (xs : List Slot) (bs : List Back) (s : State) → Enough bound n s
-      → Runs code bound n (enters code c p self xs bs s) (returned_by looking code bs) (passed_on bs) (turn (with_memory s (entered pr.declared c p self xs s.memory)) (λ s1. d.run p 0 s1))
-  stands_runs c p self xs bs s good =
-      let s1 : State = with_memory s (entered pr.declared c p self xs s.memory) in
-      subst (λ t. Runs code bound n (let s2 : State = with_memory s (entered t c p self xs s.memory) in Turns s2 (Goes (at (slice_index code.starts p) [] bs (turned s2)))) (returned_by looking code bs) (passed_on bs) (turn s1 (λ s2. d.run p 0 s2))) (sym laid.declared)
-      (rw (laid.start p) (in_turn (λ s2. d.run p 0 s2) s1 (λ lt. works.run p 0 bs (turned s1) (let k : bound ≤ s.begun + n = good in omega arith))))
-
-  enter_runs : (c : Bool) (p : ℕ) (self : Val) (xs : List Slot) (bs : List Back) (s : State) (full : Move) → Enough bound n s
-      → Runs code bound n full (returned_by looking code bs) (passed_on bs) (raise_error (error_here 28 s.memory) s)
-      → Runs code bound n (enter_by code c p self xs bs s full) (returned_by looking code bs) (passed_on bs) (enter pr d c p self xs s)
-  enter_runs c p self xs bs s full good h = either (nat_lt (length s.memory.frames) 2000) (stands_runs c p self xs bs s good) h
-
-  called_runs : (p : ℕ) (self : Val) (xs st : List Slot) (pc : ℕ) (bs : List Back) (s : State) → Enough bound n s
-      → Runs code bound n (calls code p self xs pc st bs s) (on_value st bs pc) (failed bs) (called_by pr d p self xs s)
-  called_runs p self xs st pc bs s good =
-      bind (enter pr d true p self xs s) (enter_runs true p self xs (Caller pc st ∷ bs) s (raised (error_here 28 s.memory) bs s) good (raises {got = returned_by looking code (Caller pc st ∷ bs)} (error_here 28 s.memory) bs s good))
-      (λ v s1 g1. here {got = on_value st bs pc} v (with_memory s1 (hold v s1.memory)) g1)
-
-  calls_of : Calls code bound n (callees pr d)
-  calls_of = record { call = called_runs; go = works.go }
-
-  passes : (e : Error) (bs : List Back) (s : State) → Enough bound n s → Runs code bound n (lets_all (Pass e) bs s) (returned_by looking code bs) (passed_on bs) (pass_on d e s)
-  passes e bs s good =
-      bind (lets_frame d.go s) (all_go code bound n d.go works.go (length (held_by (top s.memory))) (Pass e) bs (with_memory s (let_frame s.memory)) (passed_on bs) good)
-      (λ u s1 g1. fails {bad = passed_on bs} e (with_memory s1 (left s1.memory)) g1)
-
-  taken_runs : (e : Error) (t : Taken) (bs : List Back) (s : State) → Enough bound n s → Runs code bound n (takes code e t bs s) (returned_by looking code bs) (passed_on bs) (decide_by d e t s)
-  taken_runs e (taken.Next to) bs s good =
-      rw (laid.address (top s.memory).procedure to.0) (works.run (top s.memory).procedure to.0 bs (with_memory s (with_taken e (taken.Next to) s.memory)) good)
-  taken_runs e (taken.Handler to) bs s good =
-      rw (laid.address (top s.memory).procedure to.0) (works.run (top s.memory).procedure to.0 bs (with_memory s (with_taken e (taken.Handler to) s.memory)) good)
-  taken_runs e taken.PassOn bs s good = passes e bs s good
-
-  decided_runs : (e : Error) (bs : List Back) (s : State) → Enough bound n s → Runs code bound n (decides code e bs s) (returned_by looking code bs) (passed_on bs) (decide pr d e s)
-  decided_runs e bs s good =
-      rw (laid.next (top s.memory).procedure (number_or (top s.memory).statement)) (taken_runs e (taken_by (next_here pr s.memory) s.memory) bs s good)
-
-  settle_runs : (p : ℕ) (bs : List Back) (m : Move) (r : Res ℕ) → Runs code bound n m (with_end (entry p) bs) (failed bs) r → Runs code bound n m (returned_by looking code bs) (passed_on bs) (settle pr d p r)
-  settle_runs p bs m r a =
-      catches r a
-      (λ to s good.
-      let t : State = with_memory s (unlent s.memory) in
-      bind (lets_held d.go t) (all_go code bound n d.go works.go (length (top t.memory).held) (Goes-on (entry p to)) bs (with_memory t (let_held t.memory)) (passed_on bs) good)
-      (λ u s1 g1. works.run p to bs s1 g1))
-      (λ e s good.
-      let t : State = with_memory s (unlent s.memory) in
-      before (failing e bs s)
-      (bind (lets_held d.go t) (all_go code bound n d.go works.go (length (top t.memory).held) (Decide e) bs (with_memory t (let_held t.memory)) (passed_on bs) good)
-      (λ u s1 g1. decided_runs e bs s1 g1)))
-
-  -- ---- the end of an object
-
-  full_runs : (o k : ℕ) (after : After) (bs : List Back) (s : State) → Enough bound n s
-      → Runs code bound n (raises_then (error_here 28 s.memory) s (λ s1. Ends (Faulted (error_here 28 s.memory)) s1)) (returned_by looking code (EndOf o k after ∷ bs)) (passed_on (EndOf o k after ∷ bs)) (raise_error (error_here 28 s.memory) s)
-  full_runs o k after bs s good =
-      let e : Error = error_here 28 s.memory in
-      in_turn (λ s1. Told (Raised e.number ∷ []) (Failed e s1)) s
-      (λ lt. telling (Raised e.number ∷ []) (fails {bad = passed_on (EndOf o k after ∷ bs)} e (turned s) (let h : bound ≤ s.begun + n = good in omega arith)))
-
-  terminate_runs : (t : Option ℕ) (o k : ℕ) (after : After) (bs : List Back) (s : State) (bad : Error → State → Move) → Enough bound n s
-      → Runs code bound n (terminates_by looking code t o k after bs s) (λ u s1. finished_by looking o k after bs s1) bad (terminate_by pr d t o s)
-  terminate_runs None o k after bs s bad good = here {got = λ u s1. finished_by looking o k after bs s1} tt s good
-  terminate_runs (Some p) o k after bs s bad good =
-      let self : Val = object (Heap (record { 0 = o })) in
-      catches (enter pr d false p self [] s)
-      (enter_runs false p self [] (EndOf o k after ∷ bs) s _ good (full_runs o k after bs s good))
-      (λ v s1 g1. here {got = λ u s1. finished_by looking o k after bs s1} tt s1 g1)
-      (λ e s1 g1. over (Faulted e) s1)
-
-  finish_runs : (o k : ℕ) (after : After) (bs : List Back) (s : State) (bad : Error → State → Move) → Enough bound n s
-      → Runs code bound n (finished_by looking o k after bs s) (λ u s1. Goes (letting k after bs s1)) bad (finish d o s)
-  finish_runs o k after bs s bad good =
-      either (is_last s.memory o) (works.go (length (objects_in_values (object_at s.memory o).fields)) k after bs (with_memory s (gone o s.memory)) bad good)
-      (here {got = λ u s1. Goes (letting k after bs s1)} tt s good)
-
-  told_runs : (b : Object) (o k : ℕ) (after : After) (bs : List Back) (s : State) (bad : Error → State → Move) → Enough bound n s
-      → Runs code bound n (ends_by looking code b o k after bs s) (λ u s1. finished_by looking o k after bs s1) bad (tell pr d b o s)
-  told_runs b o k after bs s bad good =
-      either b.told (here {got = λ u s1. finished_by looking o k after bs s1} tt s good)
-      (telling (Term b.class o ∷ [])
-      (subst (λ t. Runs code bound n (terminates_by looking code (class_at t b.class).terminate o k after bs s) (λ u s1. finished_by looking o k after bs s1) bad (terminate_by pr d (class_at pr.declared b.class).terminate o s)) (sym laid.declared)
-      (terminate_runs (class_at pr.declared b.class).terminate o k after bs s bad good)))
-
-  end_runs : (o k : ℕ) (after : After) (bs : List Back) (s : State) (bad : Error → State → Move) → Enough bound n s
-      → Runs code bound n (ends_by looking code (object_at s.memory o) o k after bs (with_memory s (as_told o s.memory))) (λ u s1. Goes (letting k after bs s1)) bad (end_of pr d o s)
-  end_runs o k after bs s bad good =
-      let t : State = with_memory s (as_told o s.memory) in
-      bind (tell pr d (object_at s.memory o) o t) (told_runs (object_at s.memory o) o k after bs t bad good)
-      (λ u s1 g1. finish_runs o k after bs s1 bad g1)
-
--- ---- one level
-
-module _ (pr : Project) (code : Code) (entry : ℕ → Entry) (laid : Laid pr entry code) (bound n : ℕ) (d : Doing) (deep : (m : ℕ) → n ≡ suc m → Works code entry bound m d) where
-  one_runs : (o k : ℕ) (after : After) (bs : List Back) (s : State) (bad : Error → State → Move) → Enough bound n s
-      → Runs code bound n (lets_one_by looking code o k after bs s) (λ u s1. Goes (letting k after bs s1)) bad (one pr d o s)
-  one_runs o k after bs s bad good =
-      either (is_last s.memory o)
-      (by_turn n (λ t. end_of pr d o t) s good (λ m e g. end_runs pr code entry laid bound m d (deep m e) o k after bs (turned s) bad g))
-      (here {got = λ u s1. Goes (letting k after bs s1)} tt s good)
-
-  lets_runs : Lets code bound n (let_go pr d)
-  lets_runs zero j after bs s bad good =
-      let e : j ≡ 0 + j = omega arith in
-      subst (λ i. Runs code bound n (Goes (letting i after bs s)) (λ u s1. Goes (letting j after bs s1)) bad (Got tt s)) e
-      (here {got = λ u s1. Goes (letting j after bs s1)} tt s good)
-  lets_runs (suc k) j after bs s bad good =
-      let e : suc (k + j) ≡ suc k + j = omega arith in
-      let t : State = with_memory s (taken_off s.memory) in
-      subst (λ i. Runs code bound n (Goes (letting i after bs s)) (λ u s1. Goes (letting j after bs s1)) bad (let_go pr d (suc k) s)) e
-      (before (letting (suc (k + j)) after bs s)
-      (bind (one pr d (next_waiting s.memory.waiting) t) (one_runs (next_waiting s.memory.waiting) (k + j) after bs t bad good)
-      (λ u s1 g1. lets_runs k j after bs s1 bad g1)))
-
-  statement_runs : (p i : ℕ) (o : Option Statement) (bs : List Back) (s : State) → HasStatement code.instrs (entry p) p i o → Enough bound n s
-      → Runs code bound n (Goes (at (entry p i) [] bs s)) (returned_by looking code bs) (passed_on bs)
-      (at_statement_or o (leave (let_go pr d) s) (λ l. turn s (λ s1. settle pr d p (exec l.action (callees pr d) pr p i l.next (with_memory s1 (at_statement s1.memory i))))))
-  statement_runs p i None bs s has good =
-      instr Leave (entry p i) [] bs s has
-      (bind (lets_frame (let_go pr d) s) (all_go code bound n (let_go pr d) lets_runs (length (held_by (top s.memory))) Return bs (with_memory s (let_frame s.memory)) (passed_on bs) good)
-      (λ u s1 g1. here {got = returned_by looking code bs} (result s1.memory) (with_memory s1 (frame_left s1.memory)) g1))
-  statement_runs p i (Some l) bs s has good =
-      instr (Begin i) (entry p i) [] bs s has.0
-      (by_turn n (λ s1. settle pr d p (exec l.action (callees pr d) pr p i l.next (with_memory s1 (at_statement s1.memory i)))) s good (λ m e g.
-      let s1 : State = with_memory (turned s) (at_statement s.memory i) in
-      let body = up_to code.instrs (entry p i + 1) (action_code (entry p) p i l.next l.action) has.1 in
-      settle_runs pr code entry laid bound m d (deep m e) p bs _ (exec l.action (callees pr d) pr p i l.next s1)
-      (action_runs pr code entry laid bound m (callees pr d) (calls_of pr code entry laid bound m d (deep m e)) p l.action i l.next (entry p i + 1) body.0 bs s1 body.1 g)))
-
-  pub level_works : Works code entry bound n (level pr d)
-  level_works = record {
-    run = λ p i bs s good. statement_runs p i (statement_at pr p i) bs s (laid.statement p i) good;
-    go = lets_runs;
-  }
-
--- ---- runs
-
-ended : {A : Type 0} (code : Code) (bound k : ℕ) (r : Res A) → outs code bound (λ v s. Ends Ended s) (λ e s. Ends (Faulted e) s) k r ≡ fin_of (run_of bound r)
-ended code bound k (Got v s) = refl
-ended code bound k (Failed e s) = refl
-ended code bound k (Over x s) = refl
-ended code bound k (Told es r) = ap (tells es) (ended code bound k r)
-ended code bound k (Turn s r) = by_turns (nat_lt s.begun bound) (ended code bound k r) where
-  by_turns : {x : Fin} {y : Run} (b : Bool) → x ≡ fin_of y → (if b then x else Done Going s []) ≡ fin_of (if b then y else record { ending = Going; state = s; events = [] })
-  by_turns true h = h
-  by_turns false h = refl
-
-module _ (pr : Project) (code : Code) (entry : ℕ → Entry) (laid : Laid pr entry code) (bound : ℕ) where
-  pub works : (n : ℕ) → Works code entry bound n (doing pr n)
-  works zero = level_works pr code entry laid bound 0 nowhere (λ m e. absurd cc)
-  works (suc n) = level_works pr code entry laid bound (suc n) (doing pr n) (λ m e. let k : n ≡ m = omega arith in subst (λ i. Works code entry bound i (doing pr n)) k (works n))
-
-  close_runs : (n : ℕ) (vs : List Val) (g : ℕ) (s : State) (bad : Error → State → Move) → Enough bound n s → Runs code bound n (closing vs g s) (λ u s1. Ends Ended s1) bad (close (doing pr n) vs g s)
-  close_runs n [] g s bad good = here {got = λ u s1. Ends Ended s1} tt s good
-  close_runs n (v ∷ vs) g s bad good =
-      let t : State = with_memory s (closed g v s.memory) in
-      let os : List ℕ = objects_in (slice_index_or s.memory.shared g empty) in
-      bind ((doing pr n).go (length os) t)
-      (all_go code bound n (doing pr n).go (works n).go (length os) (Close vs (g + 1)) [] t bad good)
-      (λ u s1 g1. close_runs n vs (g + 1) s1 bad g1)
-
-  last : {A : Type 0} (n : ℕ) (m : Move) (r : Res A) → Runs code bound n m (λ u s1. Ends Ended s1) (λ e s1. Ends (Faulted e) s1) r → (j : ℕ) × (follow bound m (machine code bound j) ≡ fin_of (run_of bound r))
-  last n m r a = let p = a.by 0 in (p.0, p.1 ∙ ended code bound 0 r)
-
-  -- the machine's run is the meaning, for every bound on turns
-  pub simulates : (book : Sheets) → (j : ℕ) × (run_code code book bound j ≡ fin_of (meaning pr book bound))
-  simulates book =
-      let s : State = first_state pr book in
-      let xs : List Slot = startup_slots pr.declared pr.startup in
-      let m : Move = enters code false pr.startup empty xs [] s in
-      let r : Res (Unit {0}) = enter pr (doing pr bound) false pr.startup empty xs s >>= λ v s1. close (doing pr bound) (first_values pr.declared pr.declared.shared) 0 s1 in
-      let runs : Runs code bound bound m (λ u s1. Ends Ended s1) (λ e s1. Ends (Faulted e) s1) r =
-      bind {mid = returned_by looking code []} (enter pr (doing pr bound) false pr.startup empty xs s)
-      (stands_runs pr code entry laid bound bound (doing pr bound) (works bound) false pr.startup empty xs [] s (omega arith))
-      (λ v s1 g1. subst (λ t. Runs code bound bound (closing (first_values t t.shared) 0 s1) (λ u s2. Ends Ended s2) (λ e s2. Ends (Faulted e) s2) (close (doing pr bound) (first_values pr.declared pr.declared.shared) 0 s1)) (sym laid.declared)
-      (close_runs bound (first_values pr.declared pr.declared.shared) 0 s1 (λ e s2. Ends (Faulted e) s2) g1)) in
-      let first : first_move code book ≡ m = first_is in
-      let p = last bound m r runs in
-      (p.0, ap (λ x. follow bound x (machine code bound p.0)) first ∙ p.1) where
-        first_is : first_move code book ≡ enters code false pr.startup empty (startup_slots pr.declared pr.startup) [] (first_state pr book)
-        first_is = ap (λ i. enters code false i empty (startup_slots code.declared i) [] (record { memory = opening code.declared book; begun = 0 })) laid.startup ∙ ap (λ d. enters code false pr.startup empty (startup_slots d pr.startup) [] (record { memory = opening d book; begun = 0 })) laid.declared

@@ -14,7 +14,7 @@ use Rattle.pcode.proofs.OneEnd.{Final, more_steps, one_end, is_final}
 use Rattle.pcode.specs.Layout.{entries_of, entry_in, code_of}
 use Rattle.pcode.proofs.Lays.{laid}
 use Rattle.simulation.specs.Meant.{fin_of, Means, Begins}
-use Rattle.simulation.proofs.Runs.{simulates}
+use Rattle.simulation.proofs.Levels.{simulates}
 
 pub ends : (pr : Project) (book : Sheets) (bound : ℕ) → (j : ℕ) × (run_code (code_of pr) book bound j ≡ fin_of (meaning pr book bound))
 ends pr book bound = simulates pr (code_of pr) (entry_in (entries_of 1 pr.bodies)) (laid pr) bound book

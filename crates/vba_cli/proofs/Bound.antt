@@ -14,7 +14,7 @@ use Rattle.binder.specs.Scopes.{Space, spaces_from}
 use Rattle.binder.specs.Names.{scope_of}
 use Rattle.binder.specs.Violations.{violations, first_broken}
 use Rattle.binder.specs.Options.{or_else}
-use Rattle.binder.specs.Bind.{Answer, refused, answer_by, broken_rule, not_built, project_of, static_rule}
+use Rattle.binder.specs.Bind.{Answer, refused, answer_by, not_built, project_of}
 use Rattle.constant_values.specs.Rounds.{AreNumbered}
 use Rattle.constant_values.proofs.Looked.{spaces_from_numbered}
 use Rattle.declared_names.specs.Outside.{the_outside}
@@ -25,7 +25,7 @@ use Rattle.list_file.specs.Lists.{Start}
 use Rattle.list_file.specs.Plans.{ModuleFile}
 use Rattle.declared_names.specs.View.{source_view}
 use Rattle.declared_names.specs.declared.space.Source as declared_names
-use Rattle.vba_cli.specs.Program.{Kept, begins_at, bound_kept, bound_modules, bound_sources, each, kept_of, main_of, module_of, program_of}
+use Rattle.vba_cli.specs.Program.{Kept, begins_at, bound_kept, bound_modules, bound_sources, broken_rule, each, kept_of, main_of, module_of, program_of, static_rule}
 use Rattle.vba_cli.specs.Programs.{IsProgram, IsUnbroken, first_fold}
 
 -- modules are numbered
@@ -38,7 +38,7 @@ broken_in spaces = first_broken (map (λ space. violations (scope_of the_outside
 
 -- what is asked where names and types are found
 abbrev static_in : Option Start → List Source → List Space → Option Refusal
-static_in start ms spaces = static_rule the_outside spaces (begins_at start ms)
+static_in start ms spaces = static_rule spaces (begins_at start ms)
 
 abbrev left : List Source → Option Place
 left ms = not_built the_outside ms
@@ -53,7 +53,7 @@ modules_broken start ms spaces r e broken =
 
 -- the first rule, where none of names is broken
 rule_by : (start : Option Start) (ms : List Source) (spaces : List Space) (found : Option Refusal) → spaces ≡ spaces_from 0 ms → broken_in spaces ≡ None → static_in start ms spaces ≡ found
-    → broken_rule the_outside ms (begins_at start ms) ≡ found
+    → broken_rule ms (begins_at start ms) ≡ found
 rule_by start ms spaces found e whole there =
     ap (λ v. or_else v (static_in start ms (spaces_from 0 ms))) (subst (λ ss. broken_in ss ≡ None) e whole) ∙ subst (λ ss. static_in start ms ss ≡ found) e there
 

@@ -1,6 +1,7 @@
 -- What the files of modules are: a project that runs, or why they are none. The rules come in phases: those of tokens and
--- directives for all modules, then those of lines and modules for all, then those of names, then the startup and S23.
-use Rattle.std.specs.Prelude.{ℕ, suc, Bool, List, [], ◌∷◌, codes, Option, Some, None, Result, Ok, Err}
+-- directives for all modules, then those of lines and modules for all, then those of names, then the startup, what the
+-- language leaves out and signatures.
+use Rattle.std.specs.Prelude.{ℕ, suc, Bool, List, [], ◌∷◌, codes, Option, Some, None, Result, Ok, Err, nat_lt, if◌then◌else◌}
 use Rattle.vba_base.specs.Decode.{decoded}
 use Rattle.vba_base.specs.declared.place.Refusal.{Refusal}
 use Rattle.vba_lexer.specs.Lexed.{LexedLine, lexed}
@@ -8,8 +9,14 @@ use Rattle.cond_compile.specs.Selection.{selected}
 use Rattle.vba_module.specs.Parts.{parts_of_lines}
 use Rattle.vba_module.specs.Verdict.{trees_of}
 use Rattle.module_parser.specs.Parsed.{verdict, read_lexed}
+use Rattle.refusal_order.specs.Least.{least_of_both}
 use Rattle.binder.specs.Sources.{Source, given_name, name_or}
-use Rattle.binder.specs.Bind.{Answer, Startup, refused, bind_of}
+use Rattle.binder.specs.Options.{or_else}
+use Rattle.binder.specs.Scopes.{Space, spaces_from}
+use Rattle.binder.specs.Violations as names
+use Rattle.binder.specs.LeftOut.{first_left_out}
+use Rattle.binder.specs.Bind.{Answer, Startup, refused, answer_by, not_built, project_of, startup_fault}
+use Rattle.signature_rules.specs.Signatures.{first_signature}
 use Rattle.declared_names.specs.Outside.{the_outside}
 use Rattle.list_file.specs.Lists.{Start}
 use Rattle.list_file.specs.Plans.{ModuleFile}
@@ -67,9 +74,27 @@ abbrev pub begins_at : Option Start → List Source → Startup
 begins_at None ms = main_of ms
 begins_at (Some start) ms = record { module_fold = start.in_module; sub_fold = start.procedure }
 
+-- the first of two refusals, of which each may be missing: by module, and in one module by place and rule
+abbrev pub first_of_two : Option Refusal → Option Refusal → Option Refusal
+first_of_two None r = r
+first_of_two (Some l) None = Some l
+first_of_two (Some l) (Some r) =
+    if nat_lt l.place.«module» r.place.«module» then Some l
+    else if nat_lt r.place.«module» l.place.«module» then Some r
+    else least_of_both (Some l) (Some r)
+
+-- what is asked where names and types are found: the macro to begin with, which is told at the front of the project and
+-- so before all else; then the first of what the language leaves out (S23) and of signatures that differ (S31, S32)
+abbrev pub static_rule : List Space → Startup → Option Refusal
+static_rule spaces st = or_else (startup_fault the_outside spaces st) (first_of_two (first_left_out the_outside spaces) (first_signature the_outside spaces))
+
+-- the first rule that modules break: of names and types in their modules, and then the first of the others
+abbrev pub broken_rule : List Source → Startup → Option Refusal
+broken_rule ms st = or_else (names.verdict the_outside ms) (static_rule (spaces_from 0 ms) st)
+
 -- a project of these modules
 abbrev pub bound_modules : Option Start → List Source → Answer
-bound_modules start ms = bind_of the_outside ms (begins_at start ms)
+bound_modules start ms = answer_by (broken_rule ms (begins_at start ms)) (not_built the_outside ms) (project_of the_outside ms (begins_at start ms))
 
 -- ---- all phases
 

@@ -1,7 +1,8 @@
 //! The project that the files of modules are.
 
 ghost use Rattle.std.specs.Prelude.{◌≡◌, ◌≤◌, [], ◌∷◌, ◌++◌, length, map, option_map, IfOk, List, OnOk, Option};
-ghost use Rattle.binder.specs.Bind.{static_rule, startup_fault as plain_fault};
+ghost use Rattle.binder.specs.Bind.{startup_fault as plain_fault};
+ghost use Rattle.binder.specs.LeftOut.{first_left_out as plain_left_out};
 ghost use Rattle.binder.specs.Sources.{Source as PlainSource};
 ghost use Rattle.binder.specs.Scopes.{spaces_from};
 ghost use Rattle.constant_values.specs.Rounds.{AreNumbered};
@@ -11,7 +12,8 @@ ghost use Rattle.list_file.specs.Sources.{files_view};
 ghost use Rattle.list_file.specs.View.{start_view};
 ghost use Rattle.bind_project.specs.Bound.{IsBound};
 ghost use Rattle.project_tables.specs.Startups.{startup_view};
-ghost use Rattle.vba_cli.specs.Program.{begins_at, bound_modules, program_of};
+ghost use Rattle.signature_rules.specs.Signatures.{first_signature as plain_signature};
+ghost use Rattle.vba_cli.specs.Program.{begins_at, bound_modules, first_of_two, program_of, static_rule};
 ghost use Rattle.vba_cli.specs.Programs.{IsProgram, first_fold, module_view};
 
 use crate::modules::ReadModule;
@@ -20,6 +22,8 @@ use bind_project::{Bound, Startup as BoundStartup, bind, startup_fault};
 use declared_names::{Source, Space, spaces_of};
 use list_file::{ModuleBytes, Startup};
 use name_rules::{first_left_out, verdict};
+use refusal_order::note_both;
+use signature_rules::first_signature;
 use std::alloc::Global;
 use vba_base::{NoMemory, OrMemory, Place, Refusal};
 
@@ -27,7 +31,7 @@ use vba_base::{NoMemory, OrMemory, Place, Refusal};
 /// the startup of their list, or else at Main of the first module. The fault is the first rule that is broken: the
 /// first of the rules of tokens and directives, in the order of the modules, else the first of those of lines and
 /// modules, else the first of those of names; else that the startup isn't there, else the first of what the language
-/// leaves out. No file has more than 67108864 bytes.
+/// leaves out and of signatures that differ. No file has more than 67108864 bytes.
 #[tactic(auto, unfolding(crate::specs::Program::program_of))]
 pub fn program(
     alloc: Global,
@@ -135,18 +139,50 @@ fn judged<'a>(alloc: Global, modules: Modules<'a>) -> Result<Bound, OrMemory<Ref
     }
 }
 
-// What is asked where names and types are found: S33, and then S23.
+// What is asked where names and types are found: S33, and then S23, S31 and S32.
 fn static_fault<'a>(
     alloc: Global,
     spaces: &'a [Space<'a>],
     start: Option<&'a Startup>,
 ) -> Result<Option<Refusal>, NoMemory>
-    ensures { (ms : List PlainSource) → map space_view spaces.now ≡ spaces_from 0 ms → IfOk result (λ fault. fault ≡ static_rule the_outside (map space_view spaces.now) (begins_at (option_map (λ s. start_view s.now) start.entry) ms)) }
+    requires { AreNumbered (map space_view spaces.now) }
+    ensures { (ms : List PlainSource) → map space_view spaces.now ≡ spaces_from 0 ms → IfOk result (λ fault. fault ≡ static_rule (map space_view spaces.now) (begins_at (option_map (λ s. start_view s.now) start.entry) ms)) }
 {
     match fault_at(spaces, start)? {
         Some(refusal) => Ok(Some(refusal)),
-        None => first_left_out(alloc, spaces),
+        None => first_fault(alloc, spaces),
     }
+}
+
+// The first of what the language leaves out (S23) and of signatures that differ (S31, S32).
+fn first_fault<'a>(alloc: Global, spaces: &'a [Space<'a>]) -> Result<Option<Refusal>, NoMemory>
+    requires { AreNumbered (map space_view spaces.now) }
+    ensures { IfOk result (λ fault. fault ≡ first_of_two (plain_left_out the_outside (map space_view spaces.now)) (plain_signature the_outside (map space_view spaces.now))) }
+{
+    let left_out = first_left_out(alloc, &*spaces)?;
+    let signature = first_signature(alloc, &*spaces)?;
+    Ok(first_of_two(left_out, signature))
+}
+
+// The first of two refusals: by module, and in one module by place and rule.
+fn first_of_two(left: Option<Refusal>, right: Option<Refusal>) -> Option<Refusal>
+    ensures { result ≡ first_of_two left right }
+{
+    let Some(one) = left else {
+        return right;
+    };
+    let Some(other) = right else {
+        return Some(one);
+    };
+    if one.place.module < other.place.module {
+        return Some(one);
+    }
+    if other.place.module < one.place.module {
+        return Some(other);
+    }
+    let mut least = Some(one);
+    note_both(&mut least, Some(other));
+    least
 }
 
 // S33: the macro to begin with isn't there.

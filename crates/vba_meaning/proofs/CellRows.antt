@@ -34,28 +34,28 @@ use Rattle.vba_meaning.proofs.Programs.{e, n, words, two, any, v, show, becomes,
 use Rattle.vba_meaning.proofs.HostRows.{book, rows, pair, member, property_of, here, cell_at, range_at, address_of, value_of, becomes_value, half_at}
 
 -- the book with these cells written to its first sheet
-abbrev book_of : Cells → Sheets
+abbrev pub book_of : Cells → Sheets
 book_of written = record { name = codes "S"; content = record { rows = rows; cells = written } } ∷ []
 
 -- a book in which few cells are written is far from holding too many
-at_most : (written : Cells) (a : Area) (k : ℕ) → unwritten written a k ≤ k
+pub at_most : (written : Cells) (a : Area) (k : ℕ) → unwritten written a k ≤ k
 at_most written a zero = omega arith
 at_most written a (suc k) = let h = at_most written a k in let i = one_at_most (is_none (cells.get written (nth_cell a k))) in omega (arith, h, i) where
   one_at_most : (b : Bool) → cond b 1 0 ≤ 1
   one_at_most true = omega arith
   one_at_most false = omega arith
 
-few : (written : Cells) (t l r c : ℕ) (cs : List CellValue) → cells.len written + length cs ≤ 1000 → nat_lt cell_limit (written_count (with_area (book_of written) (area_in 1 t l r c) cs)) ≡ false
+pub few : (written : Cells) (t l r c : ℕ) (cs : List CellValue) → cells.len written + length cs ≤ 1000 → nat_lt cell_limit (written_count (with_area (book_of written) (area_in 1 t l r c) cs)) ≡ false
 few written t l r c cs short = le-ltb cell_limit _ (omega (arith, stored_count written (area_in 1 t l r c) cs, at_most written (area_in 1 t l r c) (length cs), short))
 
-abbrev unwritten_book : Sheets
+abbrev pub unwritten_book : Sheets
 unwritten_book = book_of cells.empty
 
-unwritten_at : (r c : ℕ) → cells.get (cells.empty {X = CellValue} {R = position_cmp}) (r, c) ≡ None
+pub unwritten_at : (r c : ℕ) → cells.get (cells.empty {X = CellValue} {R = position_cmp}) (r, c) ≡ None
 unwritten_at r c = cells.get-empty position_cmp (r, c)
 
 -- up to a thousand cells are written to it
-begun : (t l r c : ℕ) (cs : List CellValue) → length cs ≤ 1000 → nat_lt cell_limit (written_count (with_area unwritten_book (area_in 1 t l r c) cs)) ≡ false
+pub begun : (t l r c : ℕ) (cs : List CellValue) → length cs ≤ 1000 → nat_lt cell_limit (written_count (with_area unwritten_book (area_in 1 t l r c) cs)) ≡ false
 begun t l r c cs short = few cells.empty t l r c cs (omega (arith, cells.len-empty position_cmp CellValue, short))
 
 -- Debug.Print Cells(2, 2) * 2

@@ -1,9 +1,10 @@
 -- What a statement does in one go: each effect changes the memory and gives a value, raises an error, or stops the
 -- run. The tables of values, operators, arrays and error frames say what is computed.
-use Rattle.std.specs.Prelude.{ℕ, zero, ◌+◌, ◌-◌, ◌%◌, ◌==◌, ℤ, pos, ◌-ℤ◌, List, [], ◌∷◌, ◌++◌, length, replicate, codes, map, Bool, true, false, not, ◌&&◌, if◌then◌else◌, Option, Some, None, Result, Ok, Err, slice_index_or, unwrap_or}
+use Rattle.std.specs.Prelude.{ℕ, zero, ◌+◌, ◌-◌, ◌%◌, ◌^◌, nat_lt, ◌||◌, ◌==◌, ℤ, pos, ◌-ℤ◌, List, [], ◌∷◌, ◌++◌, length, replicate, codes, map, Bool, true, false, not, ◌&&◌, if◌then◌else◌, Option, Some, None, Result, Ok, Err, slice_index_or, unwrap_or}
 use Rattle.std.specs.Fmt.{signed_decimal}
 use Rattle.vba_values.specs.declared.fault.Bad.{Bad}
 use Rattle.vba_values.specs.declared.fault.Bad.TheVariants.{Raise, Outside}
+use Rattle.vba_values.specs.declared.fault.OutKind.TheVariants as limit
 use Rattle.vba_values.specs.declared.object.ObjRef.{ObjRef}
 use Rattle.vba_values.specs.declared.object.ObjRef.TheVariants.{Nothing, Heap, Host}
 use Rattle.vba_values.specs.declared.object.HostRef.TheVariants.{ErrObject, Sheet, Sheets, Area}
@@ -30,8 +31,8 @@ use Rattle.error_frames.specs.Resume as resumption
 use Rattle.bound_project.specs.Expressions.{Variable, ErrMember, err_number, err_source, err_description}
 use Rattle.bound_project.specs.Statements.{Handling, passed_on, skipped, handled_at}
 use Rattle.bound_project.specs.Project.{Declarations, Module, Parameter, no_name, procedure_at}
-use Rattle.vba_meaning.specs.Paths.{Root, in_object, in_item, Path}
-use Rattle.vba_meaning.specs.Memory.{Error, Why, stop_said, outside, Slot, value, path, Loop, Kept, only, Memory, top, with_top, found, without, put, value_at, path_of, is_locked, no_error, number_or, object_at}
+use Rattle.vba_meaning.specs.Paths.{Root, in_fields, in_object, in_item, Path}
+use Rattle.vba_meaning.specs.Memory.{Error, Why, stop_said, outside, Slot, value, path, Loop, Kept, only, Memory, top, with_top, found, without, put, value_at, path_of, is_locked, no_error, number_or, object_at, with_object}
 use Rattle.vba_meaning.specs.References.{hold, displaced, replaced, kept_value}
 use Rattle.vba_values.specs.Messages.{message_of}
 
@@ -186,9 +187,38 @@ replaceable p m = at p.root
 abbrev pub assignable : Path → Memory → Effect Val
 assignable p m = on_fine (replaceable p m) (λ old m1. if p.bounded then Bad-at 10 m1 else Fine old m1)
 
+-- ---- WithEvents variables ([MS-VBAL] 5.2.3.1.2)
+
+abbrev pub is_with_events : (field : ℕ) → List (ℕ × Option ℕ) → Bool
+is_with_events i [] = false
+is_with_events i (e ∷ es) = (e.0 == i) || is_with_events i es
+
+-- a variable has another set number, or none
+abbrev pub renumbered : (field : ℕ) → Option ℕ → List (ℕ × Option ℕ) → List (ℕ × Option ℕ)
+renumbered i n [] = []
+renumbered i n (e ∷ es) = (e.0, if e.0 == i then n else e.1) ∷ renumbered i n es
+
+abbrev pub with_set_number : (number field : ℕ) → Option ℕ → Memory → Memory
+with_set_number o i n m = with_object m o (Some (record (object_at m o) { set_numbers = renumbered i n (object_at m o).set_numbers }))
+
+-- a Set to an object draws the next number, one to Nothing leaves the variable without one
+abbrev pub set_number_drawn : (number field : ℕ) → Val → Memory → Effect (Unit {0})
+set_number_drawn o i (object Nothing) m = done (with_set_number o i None m)
+set_number_drawn o i v m =
+    if nat_lt m.next_set (2 ^ 64 - 1) then done (record (with_set_number o i (Some m.next_set) m) { next_set = m.next_set + 1 })
+    else Out (outside limit.Links) m
+
+-- a value was stored at a path: a WithEvents variable is connected to the object, or to nothing
+abbrev pub connected : Path → Val → Memory → Effect (Unit {0})
+connected p v m = at p.root
+  where
+    at : Root → Effect (Unit {0})
+    at (in_fields o i) = if is_with_events i (object_at m o).set_numbers then set_number_drawn o i v m else done m
+    at root = done m
+
 -- a value is stored; what was there gives way
 abbrev pub stored : Path → Val → Memory → Effect (Unit {0})
-stored p v m = on_fine (assignable p m) (λ old m1. done (replaced p v m1))
+stored p v m = on_fine (assignable p m) (λ old m1. connected p v (replaced p v m1))
 
 -- Let: the value becomes one of the type of what it is assigned to ([MS-VBAL] 5.4.3.8)
 abbrev pub assigned : Path → Val → Memory → Effect (Unit {0})

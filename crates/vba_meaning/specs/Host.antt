@@ -31,6 +31,7 @@ use Rattle.bound_project.specs.Project.{Declarations}
 use Rattle.vba_meaning.specs.Paths.{Root, in_object, in_item, Step, Path, object_path, item_path}
 use Rattle.vba_meaning.specs.Memory.{Error, value, Memory, outside, value_at as value_at_path}
 use Rattle.vba_meaning.specs.Effects.{Event, Effect, Fine, Bad-at, Out, Tell, Cell, on_fine, done, answered, plain, err_of, err_off, is_true, range_value, area_in, raised_by, assigned, is_collection}
+use Rattle.vba_meaning.specs.Events.{noted}
 use Rattle.vba_meaning.specs.Arrays.{number_in, indexed, element_at}
 use Rattle.vba_meaning.specs.Collections.{CollectionMember, is_item, takes_in_collection, collection_member, item_found, collection_used}
 
@@ -134,13 +135,18 @@ cells_put a cs m =
     if nat_lt cell_limit (written_count (with_area m.book a cs)) then Out (outside limit.Cells) m
     else Tell (cell_events a 0 cs) (done (record m { book = with_area m.book a cs }))
 
--- too large an area stops the run before the value is looked at; an object gives way to its default value
+-- the cells that a value writes to an area are put there
+abbrev pub value_put : Area → Val → Memory → Effect (Unit {0})
+value_put a w m = on_fine (answered (cells_of w a.rows a.columns) m) (λ cs m1. cells_put a cs m1)
+
+-- too large an area stops the run before the value is looked at; an object gives way to its default value. Where all
+-- cells have theirs, Change is to be told
 abbrev pub area_written : Area → Val → Memory → Effect (Unit {0})
 area_written a v m =
     if nat_lt cell_limit (a.rows * a.columns) then Out (outside limit.Cells) m
-    else on_fine (plain v m) (λ w m1. on_fine (answered (cells_of w a.rows a.columns) m1) (λ cs m2. cells_put a cs m2))
+    else on_fine (plain v m) (λ w m1. on_fine (value_put a w m1) (λ u m2. done (noted a m2)))
 
--- ClearContents: each of so many cells that isn't Empty, one by one
+-- ClearContents: each of so many cells that isn't Empty, one by one. Change is told of the whole area
 abbrev pub one_cleared : Area → Position → Memory → Effect (Unit {0})
 one_cleared a p m =
     if is_empty (value_at (content_at m.book a.sheet) p) then done m else cells_put (area_in a.sheet.0 p.0 p.1 1 1) (cell.Empty ∷ []) m
@@ -184,7 +190,7 @@ member_value d (host.Area s t l r c) n vs m =
     cell_found a vs m ∷
     area_by (offset_of a) vs m ∷
     area_by (resized a) vs m ∷
-    on_fine (cleared a (r * c) m) (λ u m1. Fine empty m1) ∷
+    on_fine (cleared a (r * c) m) (λ u m1. Fine empty (noted a m1)) ∷
     Fine (sheet_value s) m ∷
     Fine (sheet_value s) m ∷ []) n (Bad-at 438 m)
 member_value d (host.RowsOf count) n vs m = Fine (long_value count) m

@@ -2,10 +2,13 @@ pub mod Paths
 pub mod Memory
 pub mod References
 pub mod Effects
+pub mod Events
 pub mod Arrays
 pub mod Objects
 pub mod Collections
+pub mod Defaults
 pub mod Library
 pub mod Host
 pub mod ByName
+pub mod LateBound
 pub mod Meaning

@@ -1,6 +1,7 @@
 -- What a project does. A result is a value with the state that is left, an error on its way, or the end of the run;
 -- before it may stand events, which are told first, and turns, which the bound on turns may refuse.
-use Rattle.std.specs.Prelude.{ℕ, zero, suc, ◌+◌, nat_lt, List, [], ◌∷◌, ◌++◌, length, Bool, true, false, Option, Some, None, if◌then◌else◌, slice_index_or}
+use Rattle.std.specs.Prelude.{ℕ, zero, suc, ◌+◌, nat_lt, List, [], ◌∷◌, ◌++◌, length, map, Bool, true, false, Option, Some, None, if◌then◌else◌, slice_index_or}
+use Rattle.vba_values.specs.declared.object.ObjId.{ObjId}
 use Rattle.vba_values.specs.declared.object.ObjRef.TheVariants.{Heap, Host}
 use Rattle.vba_values.specs.declared.types.Compare.{Compare}
 use Rattle.vba_values.specs.Types.{Declared}
@@ -8,19 +9,24 @@ use Rattle.vba_values.specs.Val.{Val, empty, missing, object}
 use Rattle.error_frames.specs.declared.frame.ResumeKind.TheVariants as kind
 use Rattle.error_frames.specs.declared.frame.Taken.{Taken}
 use Rattle.error_frames.specs.declared.frame.Taken.TheVariants as taken
-use Rattle.bound_project.specs.Expressions.{Expr, expr, Node, not_given, constant, load, load_made, element_value, field_value, unary, binary, call, err_value, default_of, default_if_any, same, is_type, library, bound_of, host_object, active_sheet, host_member, named_member, this, new_object, method, Lvalue, variable, item, element, field, kept_place, object_field, as_new, Args, no_args, by_place, by_copy, by_default, by_list, in_order, Exprs, no_exprs, also, given_count, Prints, no_prints, shown, zone, operand_type}
-use Rattle.bound_project.specs.Statements.{Resizes, no_resizes, resize, Arrays, no_arrays, an_array, Tests, no_tests, test_is, test_range, Action, assign, assign_item, set, assign_default, assign_member, set_member, evaluate, let_property, set_property, let_method, set_method, print, raise, test, go_to, for_to, next, for_each, next_each, exit_each, select, case_of, redim, erase, with_place, with_value, end_with, go_sub, return_sub, exit_to, on_error, end_handler, clear_err, resume_again, resume_next, resume_at, stop, end_run, Statement}
+use Rattle.bound_project.specs.Expressions.{Expr, expr, Node, not_given, constant, load, load_made, element_value, field_value, unary, binary, call, err_value, default_of, default_if_any, same, is_type, library, bound_of, host_object, active_sheet, ByName, host_member, named_member, this, new_object, method, late_member, late_item, Lvalue, variable, item, element, field, kept_place, object_field, as_new, Args, no_args, by_place, by_copy, by_default, by_list, in_order, Given, none_given, place_given, expr_given, Exprs, no_exprs, also, given_count, Prints, no_prints, shown, zone, operand_type}
+use Rattle.bound_project.specs.Statements.{Resizes, no_resizes, resize, Arrays, no_arrays, an_array, Tests, no_tests, test_is, test_range, Action, assign, assign_item, set, assign_default, assign_member, set_member, assign_through, assign_element, assign_late, set_late, evaluate, let_property, set_property, let_method, set_method, raise_event, print, raise, test, go_to, for_to, next, for_each, next_each, exit_each, select, case_of, redim, erase, with_place, with_value, end_with, go_sub, return_sub, exit_to, on_error, end_handler, clear_err, resume_again, resume_next, resume_at, stop, end_run, Statement}
 use Rattle.sheet_host.specs.Books.{Sheets}
+use Rattle.vba_events.specs.declared.linked.Linked.{Linked}
+use Rattle.sheet_host.specs.declared.area.Area.{Area}
 use Rattle.bound_project.specs.Project.{Project, class_at, statement_at, next_of, first_values}
 use Rattle.vba_meaning.specs.Paths.{Path, field_path}
-use Rattle.vba_meaning.specs.Memory.{Error, Ending, Ended, Faulted, Stopped, Going, Slot, value, path, Memory, Object, top, at_statement, frame_left, path_of, result, entered, error_here, number_or, opening, object_at}
+use Rattle.vba_meaning.specs.Memory.{Error, Ending, Ended, Faulted, Stopped, Going, Slot, value, path, Memory, Object, top, at_statement, frame_left, path_of, result, received, entered, error_here, number_or, opening, object_at}
 use Rattle.vba_meaning.specs.References.{objects_in, objects_in_values, is_last, hold, next_waiting, taken_off, let_held, held_by, let_frame, as_told, gone, closed}
 use Rattle.vba_meaning.specs.Effects.{Event, Raised, Term, Effect, Fine, Bad-at, Out, Tell, operated, operated_alone, fitted, plain, condition, read_path, lent, unlent, slot_values, packed, reordered, startup_slots, show_value, printed, loop_off, loop_on, next_round, keep, selected, fits, fits_between, gone_sub, returned_sub, policy_of, err_off, policy_on, handler_off, failed_statement, resumed, taken_by, with_taken, raised_by, err_of, set_object, stop_here}
+use Rattle.vba_meaning.specs.Events.{source_of, sinks, due, lent_again, raise_over, change, sheet_of, target_of, no_change}
 use Rattle.vba_meaning.specs.Arrays.{part_of, redimmed, erased, keep_path, block_over, dot_at, each_off, each_begun, each_next}
 use Rattle.vba_meaning.specs.Objects.{compared, typed_as, set_at, made, own_object, object_there, field_in, made_for, initialize_of, stored_made, made_at}
-use Rattle.vba_meaning.specs.Host.{first_sheet, item_by, member_there, member_called, is_counted, object_member, is_raise, error_given, written_default, place_at, assigned_at, item_assigned, member_assigned, member_not_set}
+use Rattle.vba_meaning.specs.Host.{first_sheet, item_by, member_there, member_called, is_counted, object_member, is_raise, error_given, written_default, place_at, assigned_at, item_assigned, member_assigned, member_not_set, path_to}
 use Rattle.vba_meaning.specs.ByName.{named_there, in_parameter_order}
 use Rattle.vba_meaning.specs.Library.{library_called, bound_at, plain_if_any}
+use Rattle.vba_meaning.specs.Defaults.{Next, gives, then_call, is_instance, counted_operand, counted_if_any, index_along, write_along, tasks_next, most_passed, most_calls}
+use Rattle.vba_meaning.specs.LateBound.{Use, reading, assigning, setting, which_given, late_there, value_bound, lends_place, place_copied, late_called, host_arguments, let_element, late_let, late_set}
 
 -- the memory, and how many turns were begun
 pub record State : Type 0 where
@@ -83,13 +89,64 @@ pub record Callee : Type 0 where
 abbrev pub given : Val → State → Res Val
 given v s = Got v (with_memory s (hold v s.memory))
 
+-- ---- events ([MS-VBAL] 5.4.2.20)
+
+-- a handler is called with the object that has the variable as Me, where one is due
+abbrev pub handled : Callee → List Slot → (sink : ObjId) → Option ℕ → State → Res (Unit {0})
+handled callee xs sink None s = Got tt s
+handled callee xs sink (Some p) s = callee.call p (object (Heap sink)) xs (with_memory s (lent_again xs s.memory)) >>= λ v s1. Got tt s1
+
+-- an event is raised: each of the links that were taken is asked for its handler once those before it have returned, and
+-- all have the same arguments
+abbrev pub delivered : List Linked → Callee → Project → (event : ℕ) → List Slot → State → Res (Unit {0})
+delivered [] callee pr e xs s = Got tt (with_memory s (raise_over xs s.memory))
+delivered (l ∷ ls) callee pr e xs s = handled callee xs l.sink (due pr.declared e l s.memory) s >>= λ u s1. delivered ls callee pr e xs s1
+
+-- an area was written, and the handlers of its sheet's Change are called
+abbrev pub change_told : Option Area → Callee → Project → State → Res (Unit {0})
+change_told None callee pr s = Got tt s
+change_told (Some a) callee pr s = delivered (sinks (sheet_of a) s.memory) callee pr change (target_of a) (with_memory s (no_change s.memory))
+
+abbrev pub changes : Callee → Project → State → Res (Unit {0})
+changes callee pr s = change_told s.memory.changed callee pr s
+
 -- what a member gives, with what was read when its use began; Err.Raise gives nothing but raises an error, and what
 -- leaves a Collection is let go at once
 abbrev pub member_used : Callee → Project → (name : List ℕ) → (base begun : Val) → List Val → State → Res Val
 member_used callee pr name base begun vs s =
     if is_raise name base then (perform (error_given vs) s >>= λ e s1. raise_error e s1)
     else if is_counted base then (perform (object_member name vs base) s >>= λ r s1. callee.go r.1 s1 >>= λ u s2. Got r.0 s2)
-    else perform (member_called pr.declared name vs base begun) s
+    else (perform (member_called pr.declared name vs base begun) s >>= λ v s1. changes callee pr s1 >>= λ u s2. Got v s2)
+
+-- a use of an object goes on: what it comes to is given, once Change is told of an area that was written, or a procedure
+-- is called and the rest is done with its result
+abbrev pub goes_on : (most : ℕ) → Callee → Project → Next → State → Res Val
+goes_on k callee pr (gives v) s = changes callee pr s >>= λ u s1. Got v s1
+goes_on zero callee pr (then_call p self xs ts) s = raise_error (error_here 450 s.memory) s
+goes_on (suc k) callee pr (then_call p self xs ts) s =
+    callee.call p self xs s >>= λ v s1. perform (tasks_next pr.declared ts v) s1 >>= λ n s2. goes_on k callee pr n s2
+
+abbrev pub used : Callee → Project → (Memory → Effect Next) → State → Res Val
+used callee pr f s = perform f s >>= λ n s1. goes_on most_calls callee pr n s1
+
+-- an operand: an object gives way to the value of its default member, which may be a procedure of its class
+abbrev pub operand_value : Callee → Project → Val → State → Res Val
+operand_value callee pr v s = if is_counted v then used callee pr (counted_operand pr.declared v) s else perform (plain v) s
+
+abbrev pub operand_if_any : Callee → Project → Val → State → Res Val
+operand_if_any callee pr v s = if is_counted v then used callee pr (counted_if_any pr.declared v) s else perform (plain_if_any v) s
+
+-- a member that was found in the run is read or called, with what its arguments index where they do
+abbrev pub late_used : Callee → Project → (name : List ℕ) → ByName → List Bool → (base begun : Val) → List Slot → State → Res Val
+late_used callee pr name by gs v w xs s =
+    if is_instance v s.memory then used callee pr (late_called pr.declared name by gs v w (map received xs)) s
+    else member_used callee pr name v w (host_arguments v name by (map received xs)) s
+
+-- a place is lent, or what is there is copied
+abbrev pub place_bound : Callee → Project → Use → (name : List ℕ) → ByName → List Bool → (argument : ℕ) → (base : Val) → Path → State → Res Path
+place_bound callee pr aim name by gs i base q s =
+    if lends_place pr.declared aim name by gs i base q s.memory then (perform (lent q) s >>= λ u s1. Got q s1)
+    else (used callee pr (place_copied pr.declared aim name by gs i base q) s >>= λ v s1. Got (path_to v) s1)
 
 -- a new object is wholly made before it is there: its Class_Initialize has run
 abbrev pub initialized : Callee → Option ℕ → Val → State → Res Val
@@ -116,8 +173,8 @@ abbrev mutual
       eval a callee pr s >>= λ v s1. eval b callee pr s1 >>= λ w s2. perform (operated o compare (operand_type a) (operand_type b) v w) s2
   eval_node (call p args) callee pr s = evals args callee pr s >>= λ xs s1. callee.call p empty xs s1
   eval_node (err_value member) callee pr s = Got (err_of pr.declared member s.memory.err) s
-  eval_node (default_of e) callee pr s = eval e callee pr s >>= λ v s1. perform (plain v) s1
-  eval_node (default_if_any e) callee pr s = eval e callee pr s >>= λ v s1. perform (plain_if_any v) s1
+  eval_node (default_of e) callee pr s = eval e callee pr s >>= λ v s1. operand_value callee pr v s1
+  eval_node (default_if_any e) callee pr s = eval e callee pr s >>= λ v s1. operand_if_any callee pr v s1
   eval_node (host_object reference) callee pr s = Got (object (Host reference)) s
   eval_node active_sheet callee pr s = perform first_sheet s
   -- whether there is such a member is asked before its arguments are evaluated, and what they index is read
@@ -132,6 +189,12 @@ abbrev mutual
   -- that there is an object is asked before the arguments are evaluated
   eval_node (method e p args) callee pr s =
       eval e callee pr s >>= λ v s1. perform (object_there v) s1 >>= λ w s2. evals args callee pr s2 >>= λ xs s3. callee.call p w xs s3
+  -- whether the object has such a member is asked before its arguments are evaluated, and what they index is read
+  eval_node (late_member e name by given) callee pr s =
+      eval e callee pr s >>= λ v s1. used callee pr (late_there pr.declared reading name by (which_given given) v) s1 >>= λ w s2.
+      eval_given given reading name by (which_given given) 0 v callee pr s2 >>= λ xs s3. late_used callee pr name by (which_given given) v w xs s3
+  eval_node (late_item e es) callee pr s =
+      eval e callee pr s >>= λ v s1. eval_list es callee pr s1 >>= λ xs s2. used callee pr (index_along pr.declared most_passed (slot_values xs) v) s2
   eval_node (same a b) callee pr s = eval a callee pr s >>= λ v s1. eval b callee pr s1 >>= λ w s2. perform (compared v w) s2
   eval_node (is_type e of) callee pr s = eval e callee pr s >>= λ v s1. perform (typed_as of v) s1
   eval_node (library f text_form es compare base) callee pr s = eval_list es callee pr s >>= λ xs s1. perform (library_called pr.declared f text_form compare base (slot_values xs)) s1
@@ -159,6 +222,16 @@ abbrev mutual
   evals (by_list es args) callee pr s = eval_list es callee pr s >>= λ ys s1. evals args callee pr s1 >>= λ xs s2. Got (value (packed ys) ∷ xs) s2
   evals (in_order order args) callee pr s = evals args callee pr s >>= λ xs s1. Got (reordered order xs) s1
 
+  -- arguments of a member that was found in the run, from one on, each made what its parameter takes before the next
+  pub eval_given : Given → Use → (name : List ℕ) → ByName → List Bool → (argument : ℕ) → (base : Val) → Callee → Project → State → Res (List Slot)
+  eval_given none_given aim name by gs i base callee pr s = Got [] s
+  eval_given (place_given x given) aim name by gs i base callee pr s =
+      eval_place x callee pr s >>= λ q s1. place_bound callee pr aim name by gs i base q s1 >>= λ p s2.
+      eval_given given aim name by gs (suc i) base callee pr s2 >>= λ xs s3. Got (path p ∷ xs) s3
+  eval_given (expr_given e given) aim name by gs i base callee pr s =
+      eval e callee pr s >>= λ v s1. used callee pr (value_bound pr.declared aim name by gs i base v) s1 >>= λ w s2.
+      eval_given given aim name by gs (suc i) base callee pr s2 >>= λ xs s3. Got (value w ∷ xs) s3
+
   pub eval_list : Exprs → Callee → Project → State → Res (List Slot)
   eval_list no_exprs callee pr s = Got [] s
   eval_list (also e es) callee pr s = eval e callee pr s >>= λ v s1. eval_list es callee pr s1 >>= λ xs s2. Got (value v ∷ xs) s2
@@ -173,16 +246,16 @@ eval_prints (zone ps) callee pr s = eval_prints ps callee pr s >>= λ xs s1. Got
 -- ---- statements ([MS-VBAL] 5.4)
 
 -- the value that a Case tests: an object gives way each time
-abbrev pub tested : ℕ → State → Res Val
-tested header s = perform (selected header) s >>= λ v s1. perform (plain v) s1
+abbrev pub tested : Callee → Project → ℕ → State → Res Val
+tested callee pr header s = perform (selected header) s >>= λ v s1. operand_value callee pr v s1
 
 -- the tests of a Case in order, until one fits
 abbrev pub cases : Tests → Callee → Project → (header : ℕ) → Declared → Compare → (first other : ℕ) → State → Res ℕ
 cases no_tests callee pr header of compare first other s = Got other s
 cases (test_is o e ts) callee pr header of compare first other s =
-    tested header s >>= λ v s1. eval e callee pr s1 >>= λ w s2. perform (fits o compare of (operand_type e) v w) s2 >>= λ b s3. if b then Got first s3 else cases ts callee pr header of compare first other s3
+    tested callee pr header s >>= λ v s1. eval e callee pr s1 >>= λ w s2. perform (fits o compare of (operand_type e) v w) s2 >>= λ b s3. if b then Got first s3 else cases ts callee pr header of compare first other s3
 cases (test_range a b ts) callee pr header of compare first other s =
-    tested header s >>= λ v s1. eval a callee pr s1 >>= λ x s2. eval b callee pr s2 >>= λ y s3.
+    tested callee pr header s >>= λ v s1. eval a callee pr s1 >>= λ x s2. eval b callee pr s2 >>= λ y s3.
     perform (fits_between compare of (operand_type a) (operand_type b) v x y) s3 >>= λ b s4. if b then Got first s4 else cases ts callee pr header of compare first other s4
 
 -- the arrays of a ReDim and of an Erase, one by one: what each replaces is let go before the next
@@ -198,26 +271,38 @@ erases (an_array x xs) callee pr s =
 
 -- a statement's effect and the number of the statement to go on at, for the statement of this number in this procedure
 abbrev pub exec : Action → Callee → Project → (procedure statement following : ℕ) → State → Res ℕ
-exec (assign x e) callee pr p i k s = eval e callee pr s >>= λ v s1. eval_place x callee pr s1 >>= λ q s2. perform (assigned_at q v) s2 >>= λ u s3. Got k s3
+exec (assign x e) callee pr p i k s = eval e callee pr s >>= λ v s1. eval_place x callee pr s1 >>= λ q s2. perform (assigned_at q v) s2 >>= λ u s3. changes callee pr s3 >>= λ w s4. Got k s4
 exec (assign_item base es e) callee pr p i k s =
-    eval e callee pr s >>= λ v s1. eval base callee pr s1 >>= λ w s2. eval_list es callee pr s2 >>= λ xs s3. perform (item_assigned w (slot_values xs) v) s3 >>= λ u s4. Got k s4
+    eval e callee pr s >>= λ v s1. eval base callee pr s1 >>= λ w s2. eval_list es callee pr s2 >>= λ xs s3. perform (item_assigned w (slot_values xs) v) s3 >>= λ u s4. changes callee pr s4 >>= λ x s5. Got k s5
 exec (set x e) callee pr p i k s = eval e callee pr s >>= λ v s1. eval_place x callee pr s1 >>= λ q s2. perform (set_at q v) s2 >>= λ u s3. Got k s3
-exec (assign_default x e) callee pr p i k s = eval e callee pr s >>= λ v s1. eval x callee pr s1 >>= λ w s2. perform (written_default w v) s2 >>= λ u s3. Got k s3
+exec (assign_default x e) callee pr p i k s = eval e callee pr s >>= λ v s1. eval x callee pr s1 >>= λ w s2. perform (written_default w v) s2 >>= λ u s3. changes callee pr s3 >>= λ x s4. Got k s4
 exec (assign_member base name es e) callee pr p i k s =
     eval e callee pr s >>= λ v s1. eval base callee pr s1 >>= λ w s2. perform (member_there pr.declared name (given_count es) w) s2 >>= λ x s3. eval_list es callee pr s3 >>= λ xs s4.
-    perform (member_assigned pr.declared name (slot_values xs) w x v) s4 >>= λ u s5. Got k s5
+    perform (member_assigned pr.declared name (slot_values xs) w x v) s4 >>= λ u s5. changes callee pr s5 >>= λ y s6. Got k s6
 exec (set_member base e) callee pr p i k s = eval e callee pr s >>= λ v s1. eval base callee pr s1 >>= λ w s2. perform (member_not_set w) s2 >>= λ u s3. Got k s3
+exec (assign_through x e) callee pr p i k s =
+    eval e callee pr s >>= λ v s1. eval x callee pr s1 >>= λ w s2. used callee pr (write_along pr.declared most_passed v w) s2 >>= λ u s3. Got k s3
+exec (assign_element x es e) callee pr p i k s =
+    eval e callee pr s >>= λ v s1. eval_place x callee pr s1 >>= λ q s2. eval_list es callee pr s2 >>= λ xs s3. used callee pr (let_element pr.declared q (slot_values xs) v) s3 >>= λ u s4. Got k s4
+exec (assign_late base name by given e) callee pr p i k s =
+    eval e callee pr s >>= λ v s1. eval base callee pr s1 >>= λ w s2. used callee pr (late_there pr.declared assigning name by (which_given given) w) s2 >>= λ x s3.
+    eval_given given assigning name by (which_given given) 0 w callee pr s3 >>= λ xs s4. used callee pr (late_let pr.declared name by (which_given given) w x (map received xs) v) s4 >>= λ u s5. Got k s5
+exec (set_late base name by given e) callee pr p i k s =
+    eval e callee pr s >>= λ v s1. eval base callee pr s1 >>= λ w s2. used callee pr (late_there pr.declared setting name by (which_given given) w) s2 >>= λ x s3.
+    eval_given given setting name by (which_given given) 0 w callee pr s3 >>= λ xs s4. used callee pr (late_set pr.declared name by (which_given given) w (map received xs) v) s4 >>= λ u s5. Got k s5
 exec (evaluate e) callee pr p i k s = eval e callee pr s >>= λ v s1. Got k s1
 exec (let_property q args e of) callee pr p i k s =
-    eval e callee pr s >>= λ v s1. evals args callee pr s1 >>= λ xs s2. perform (plain v) s2 >>= λ w s3. perform (fitted of w) s3 >>= λ x s4. callee.call q empty (xs ++ value x ∷ []) s4 >>= λ r s5. Got k s5
+    eval e callee pr s >>= λ v s1. evals args callee pr s1 >>= λ xs s2. operand_value callee pr v s2 >>= λ w s3. perform (fitted of w) s3 >>= λ x s4. callee.call q empty (xs ++ value x ∷ []) s4 >>= λ r s5. Got k s5
 exec (set_property q args e of) callee pr p i k s =
     eval e callee pr s >>= λ v s1. evals args callee pr s1 >>= λ xs s2. perform (set_object of v) s2 >>= λ x s3. callee.call q empty (xs ++ value x ∷ []) s3 >>= λ r s4. Got k s4
 exec (let_method base q args e of) callee pr p i k s =
     eval e callee pr s >>= λ v s1. eval base callee pr s1 >>= λ b s2. perform (object_there b) s2 >>= λ w s3. evals args callee pr s3 >>= λ xs s4.
-    perform (plain v) s4 >>= λ x s5. perform (fitted of x) s5 >>= λ y s6. callee.call q w (xs ++ value y ∷ []) s6 >>= λ r s7. Got k s7
+    operand_value callee pr v s4 >>= λ x s5. perform (fitted of x) s5 >>= λ y s6. callee.call q w (xs ++ value y ∷ []) s6 >>= λ r s7. Got k s7
 exec (set_method base q args e of) callee pr p i k s =
     eval e callee pr s >>= λ v s1. eval base callee pr s1 >>= λ b s2. perform (object_there b) s2 >>= λ w s3. evals args callee pr s3 >>= λ xs s4.
     perform (set_object of v) s4 >>= λ y s5. callee.call q w (xs ++ value y ∷ []) s5 >>= λ r s6. Got k s6
+exec (raise_event e args) callee pr p i k s =
+    evals args callee pr s >>= λ xs s1. delivered (sinks (source_of (top s1.memory).me) s1.memory) callee pr e xs s1 >>= λ u s2. Got k s2
 exec (print ps ends) callee pr p i k s = eval_prints ps callee pr s >>= λ xs s1. perform (printed ends xs) s1 >>= λ u s2. Got k s2
 exec (raise args) callee pr p i k s = evals args callee pr s >>= λ xs s1. raise_error (raised_by xs s1.memory) s1
 exec (test sense e to other) callee pr p i k s = eval e callee pr s >>= λ v s1. perform (condition sense v) s1 >>= λ b s2. Got (if b then to else other) s2

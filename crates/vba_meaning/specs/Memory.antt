@@ -8,6 +8,7 @@ use Rattle.vba_values.specs.Val.{Val, empty, object}
 use Rattle.arrays_udt.specs.declared.paths.PathStep.{PathStep}
 use Rattle.arrays_udt.specs.Paths.{path_value, with_path}
 use Rattle.error_frames.specs.declared.frame.FrameErrors.{FrameErrors}
+use Rattle.sheet_host.specs.declared.area.Area.{Area}
 use Rattle.sheet_host.specs.Books.{Sheets}
 use Rattle.error_frames.specs.Decision as decision
 use Rattle.bound_project.specs.Expressions.{Storage, local, shared, own, Variable}
@@ -60,12 +61,14 @@ pub data Kept : Type 0 where
   -- what a For Each walks, whether the loop counts as begun, and the number of its next item
   walk : (begun : Bool) → Val → (next : ℕ) → Kept
 
--- a counted object. The fields of a Collection are its items, each of which may have a key
+-- a counted object. The fields of a Collection are its items, each of which may have a key. Each WithEvents variable
+-- stands among the set numbers, by the number of its field, with that of its last Set while it has a source
 pub record Object : Type 0 where
   pub class : ℕ
   pub told : Bool
   pub fields : List Val
   pub keys : List (Option (List ℕ))
+  pub set_numbers : List (ℕ × Option ℕ)
 
 -- a call that stands. One that code called hands its result on; a Class_Terminate that the end of an object called
 -- has none to hand on to
@@ -104,6 +107,10 @@ pub record Memory : Type 0 where
   pub events_on : Bool
   pub updates_screen : Bool
   pub shows_alerts : Bool
+  -- the number of the next Set of a WithEvents variable, and an area that was written of which no handler of Change was
+  -- told yet
+  pub next_set : ℕ
+  pub changed : Option Area
 
 -- ---- frames
 
@@ -177,7 +184,7 @@ value_kept (Some (at_path p)) = None
 value_kept (Some (walk begun v k)) = None
 
 abbrev pub no_object : Object
-no_object = record { class = 0; told = true; fields = []; keys = [] }
+no_object = record { class = 0; told = true; fields = []; keys = []; set_numbers = [] }
 
 abbrev pub object_or : Option Object → Object
 object_or None = no_object
@@ -329,4 +336,6 @@ opening d book = record {
   events_on = true;
   updates_screen = true;
   shows_alerts = true;
+  next_set = 1;
+  changed = None;
 }

@@ -1,5 +1,5 @@
 -- What is done in one go with objects and references to them.
-use Rattle.std.specs.Prelude.{ℕ, zero, suc, [], ◌∷◌, ◌++◌, length, Bool, true, false, Option, Some, None}
+use Rattle.std.specs.Prelude.{ℕ, zero, suc, [], ◌∷◌, ◌++◌, length, map, Bool, true, false, Option, Some, None}
 use Rattle.vba_values.specs.declared.object.ObjRef.TheVariants.{Nothing, Heap}
 use Rattle.vba_values.specs.Types.{Declared}
 use Rattle.vba_values.specs.Val.{Val, empty, boolean, object}
@@ -26,9 +26,9 @@ set_at p v m = on_fine (set_object p.of v m) (λ w m1. stored p w m1)
 
 -- ---- objects of classes
 
--- a new object of a class: its variables have their first values
+-- a new object of a class: its variables have their first values, and none has a source of events
 abbrev pub new_instance : Declarations → (class : ℕ) → Object
-new_instance d c = record { class = c; told = is_collection c; fields = first_values d (class_at d c).fields; keys = [] }
+new_instance d c = record { class = c; told = is_collection c; fields = first_values d (class_at d c).fields; keys = []; set_numbers = map (λ i. (i, None)) (class_at d c).with_events }
   where
     is_collection : ℕ → Bool
     is_collection zero = true

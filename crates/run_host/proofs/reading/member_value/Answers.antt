@@ -1,10 +1,13 @@
-use Rattle.std.proofs.Common.{map}
+use Rattle.std.proofs.Common.{map, subst}
 use Rattle.vba_values.specs.declared.object.HostRef.TheVariants as host
+use Rattle.vba_values.specs.Val.{Val}
 use Rattle.vba_values.specs.View.{view}
+use Rattle.sheet_host.specs.declared.area.Area.{Area}
 use Rattle.bound_project.specs.View.{declarations_view}
-use Rattle.vba_meaning.specs.Effects.{slot_values}
+use Rattle.vba_meaning.specs.Effects.{Effect, slot_values}
 use Rattle.vba_meaning.specs.Host.{member_value}
 use Rattle.run_memory.specs.View.{memory_view, slot_view}
+use Rattle.run_host.specs.Tells.{Tells}
 use Rattle.run_host.specs.View.{told_view}
 use Rattle.run_host.proofs.Telling.{acts_tell}
 use Rattle.run_host.proofs.reading.member_value.Goals as goal
@@ -38,4 +41,9 @@ returns-in-Sheet c =
     (c.of_sheet.ensures (declarations_view c.args.declared.now)))
 
 pub returns-in-Area : goal.returns-in-Area
-returns-in-Area c = rw c.in-Area.is (rw c.area_in-area.ensures at (c.of_area.ensures (declarations_view c.args.declared.now)))
+returns-in-Area c =
+    let member : Area → Effect Val = λ a. member_value (declarations_view c.args.declared.now) (host.Area a.sheet.0 a.top a.left a.rows a.columns) c.args.number
+    (slot_values (map slot_view c.args.slots.now)) (memory_view c.args.memory.now) in
+    rw c.in-Area.is
+    (subst (λ a. Tells view c.of_area.result (told_view c.args.told.now) (told_view c.of_area.new.told) (memory_view c.of_area.new.memory) (member a)) c.area_in-area.ensures
+    (c.of_area.ensures (declarations_view c.args.declared.now)))

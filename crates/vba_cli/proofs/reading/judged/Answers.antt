@@ -2,8 +2,13 @@ use Rattle.std.proofs.Common.{map, sym, ◌∙◌}
 use Rattle.std.specs.Prelude.{option_map}
 use Rattle.declared_names.specs.View.{space_view}
 use Rattle.list_file.specs.View.{start_view}
-use Rattle.vba_cli.proofs.Bound.{modules_bound, modules_faulty}
+use Rattle.vba_cli.proofs.Bound.{modules_bound, modules_broken, modules_faulty}
 use Rattle.vba_cli.proofs.reading.judged.Goals as goal
+
+pub returns-in-Some : goal.returns-in-Some
+returns-in-Some c = λ ms e.
+    modules_broken (option_map (λ s. start_view s.now) c.args.modules.start) ms (map space_view c.args.modules.spaces.now) c.in-Some.refusal e
+    (sym c.in_ok-refusal.ensures ∙ c.in-Some.is)
 
 pub returns-in-Some-2 : goal.returns-in-Some-2
 returns-in-Some-2 c = λ ms e.

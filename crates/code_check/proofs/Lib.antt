@@ -1,0 +1,5 @@
+pub mod Tests
+pub mod Takings
+pub mod Entries
+pub mod Instrs
+pub mod Ways

@@ -1,0 +1,91 @@
+-- Each reference that a run's memory has leads to an object that is there, at each step and at every ending.
+use Rattle.std.proofs.Common.{◌≡◌, ℕ, zero, suc, Bool, true, false, List, [], ◌∷◌, ◌++◌, Option, Some, None, refl, sym, subst, arith}
+use Rattle.std.specs.Prelude.{nat_lt, slice_index, slice_index_or, if◌then◌else◌}
+use Rattle.sheet_host.specs.Books.{Sheets}
+use Rattle.vba_values.specs.Val.{empty}
+use Rattle.bound_project.specs.Project.{Project}
+use Rattle.bound_project.specs.Whole.{IsWhole}
+use Rattle.vba_meaning.specs.Memory.{Going, Memory, Object, opening, entered}
+use Rattle.vba_meaning.specs.Effects.{Event, startup_slots}
+use Rattle.vba_meaning.specs.Meaning.{State, turned, meaning}
+use Rattle.pcode.specs.Instructions.{Code}
+use Rattle.pcode.specs.Layout.{code_of}
+use Rattle.pcode.specs.WellFormed.{WellFormed}
+use Rattle.pcode.proofs.Sounds.{well_formed}
+use Rattle.pcode.specs.Machine.{Config, Move, Goes, Ends, Sticks, Tells, Turns, at, step, first_move}
+use Rattle.object_counts.specs.Counting.{counted_after, Outcome, Running, Finished, Jammed, telling, follow_counted, counting_machine, first_counts, run_counted}
+use Rattle.object_counts.specs.Balance.{Balanced, Leads, BalancedAt}
+use Rattle.object_counts.proofs.Whole.{step_counts, run_counts}
+use Rattle.object_lives.specs.Lives.{IsThere, Alive, AllAlive, AliveAt, HasPlainDefaults}
+use Rattle.object_lives.proofs.Near.{Has, Present, Ready}
+use Rattle.object_lives.proofs.Places.{Kept}
+use Rattle.object_lives.proofs.Moves.{Fares}
+use Rattle.object_lives.proofs.Steps.{step_good}
+use Rattle.object_lives.proofs.Told.{first_fares}
+use Rattle.object_lives.proofs.Plain.{plain_code, plain_defaults}
+use Rattle.object_lives.proofs.Meant.{counts_mean}
+
+is_there : (m : Memory) (o : ℕ) → Present m.objects o → IsThere m o
+is_there m o h = by_object (slice_index_or m.objects o None) refl h where
+  by_object : (x : Option Object) → slice_index_or m.objects o None ≡ x → Has x → IsThere m o
+  by_object None e k = absurd k
+  by_object (Some b) e k = (b, e)
+
+alive_of : (m : Memory) → Ready m → Alive m
+alive_of m r = record { leads = λ o lt. is_there m o (r.live o lt) }
+
+all_alive : {counts : List ℕ} {m : Memory} → Balanced counts m → Ready m → AllAlive counts m
+all_alive {m = m} b r = record { alive = alive_of m r; counted = λ o lt. is_there m o (r.live o (omega (arith, b.right o, lt))) }
+
+told_alive : (es : List Event) (r : Outcome) → AliveAt r → AliveAt (telling es r)
+told_alive es (Running counts c) h = h
+told_alive es (Finished counts e s more) h = h
+told_alive es Jammed h = h
+
+module _ (code : Code) (w : WellFormed code) (d : HasPlainDefaults code.declared) (bound : ℕ) where
+  abbrev Follows : ℕ → Type 0
+  Follows k = (counts : List ℕ) (c : Config) → Balanced counts c.state.memory → Kept c → AliveAt (counting_machine code bound k counts c)
+
+  follow_alive : (k : ℕ) → Follows k → (counts : List ℕ) (bs : List (Option Object)) (es : List Event) (v : Move) → Leads bound (Balanced counts) v → Fares (Unit {0}) bs es v
+      → AliveAt (follow_counted bound counts v (counting_machine code bound k))
+  follow_alive k more counts bs es (Goes c) b h = more counts c b (h.1 tt)
+  follow_alive k more counts bs es (Ends e s) b h = all_alive b (h.1 tt)
+  follow_alive k more counts bs es Sticks b h = tt
+  follow_alive k more counts bs es (Tells hs v) b h = told_alive hs (follow_counted bound counts v (counting_machine code bound k)) (follow_alive k more counts bs (es ++ hs) v b h)
+  follow_alive k more counts bs es (Turns s v) b h = by_turn (nat_lt s.begun bound) refl (λ e. follow_alive k more counts bs es v (b.1 e) h.1) where
+    by_turn : (t : Bool) → nat_lt s.begun bound ≡ t → (nat_lt s.begun bound ≡ true → AliveAt (follow_counted bound counts v (counting_machine code bound k)))
+        → AliveAt (if t then follow_counted bound counts v (counting_machine code bound k) else Finished counts Going s [])
+    by_turn true e goes = goes e
+    by_turn false e goes = all_alive (b.0 e) (h.0.1 tt)
+
+  follows : (k : ℕ) → Follows k
+  follows zero counts c b h = all_alive b h.here.ready
+  follows (suc k) counts c b h =
+      let counted = step_counts code bound counts c b in
+      let after : List ℕ = counted_after code bound counts c in
+      subst (λ v. AliveAt (follow_counted bound after v (counting_machine code bound k))) (sym counted.same)
+      (follow_alive k (follows k) after c.state.memory.objects [] (step code c) counted.balanced
+      (step_good (Unit {0}) code (λ x. plain_defaults code.declared d) (λ x. plain_code code w) c.mode c.stack c.backs c.state (λ x. h.here) (λ x. h.mode)).law)
+
+  -- the macro is called, and the counts are right then
+  first_balanced : (book : Sheets) → Balanced (first_counts code) (entered code.declared false code.startup empty (startup_slots code.declared code.startup) (opening code.declared book))
+  first_balanced book = by_turn (nat_lt 0 bound) (run_counts code bound book 0).balanced where
+    s : State
+    s = record { memory = entered code.declared false code.startup empty (startup_slots code.declared code.startup) (opening code.declared book); begun = 0 }
+
+    by_turn : (t : Bool) → BalancedAt (if t then Running (first_counts code) (at (slice_index code.starts code.startup) [] [] (turned s)) else Finished (first_counts code) Going s []) → Balanced (first_counts code) s.memory
+    by_turn true h = h
+    by_turn false h = h
+
+  pub run_alive : (book : Sheets) (k : ℕ) → AliveAt (run_counted code book bound k)
+  run_alive book k =
+      let b = first_balanced book in
+      follow_alive k (follows k) (first_counts code) (None ∷ []) [] (first_move code book) (λ e. b, λ e. b)
+      (first_fares (Unit {0}) code (λ x. plain_defaults code.declared d) book)
+
+-- and so at the end of what a project means
+pub meant_alive : (pr : Project) (book : Sheets) (turns : ℕ) → IsWhole pr → HasPlainDefaults pr.declared → Alive (meaning pr book turns).state.memory
+meant_alive pr book turns whole d =
+    let e = (counts_mean pr book turns).ends in
+    let end = e.1 in
+    (subst (λ r. AliveAt r) end.ended (run_alive (code_of pr) (well_formed pr whole) d turns book e.0)).alive

@@ -1,0 +1,243 @@
+-- Uses of objects along default members.
+use Rattle.std.proofs.Common.{ℕ, zero, suc, List, [], ◌∷◌, map, Option, Some, None}
+use Rattle.std.specs.Prelude.{◌&&◌, if◌then◌else◌}
+use Rattle.vba_values.specs.Types.{Declared}
+use Rattle.vba_values.specs.Val.{Val, object}
+use Rattle.bound_project.specs.Project.{Declarations, Parameter, Member, is_variable, is_procedure, is_property, procedure_at}
+use Rattle.vba_meaning.specs.Paths.{Path}
+use Rattle.vba_meaning.specs.Memory.{value, Memory, top}
+use Rattle.vba_meaning.specs.Effects.{Effect, Fine, Bad-at, on_fine, slot_left_out}
+use Rattle.vba_meaning.specs.Objects.{initialize_of}
+use Rattle.vba_meaning.specs.Host.{is_counted, item_assigned}
+use Rattle.vba_meaning.specs.Defaults.{Spot, in_variable, by_let, in_range, in_member, Task, as_operand, no_object, give_way, fit_to, index_by, write, let_item, put_in, read_made, Next, gives, then_call, over_with, goes_by, after_use, is_instance, class_of_value, variable_of, parameters_of, must_be_given, any_must, without_last, last_type, is_object_type, can_be_object, is_sub_kind, has_parameters, has_default_alone, read_by, read_made_by, read_variable, read_member, read_default, no_object_here, counted_operand, counted_if_any, operand_of, given_to, slots_from, index_default, index_member, index_once, index_along, takes_itself, nothing_more, put_value, put, takes_value, write_host, write_default, write_member, write_once, write_along, reader_of, let_by_reader, let_setter, let_default, let_member, let_item_of, let_once, let_along, most_passed, task_next, followed, tasks_next, use_then}
+use Rattle.object_lives.proofs.Values.{none_in}
+use Rattle.object_lives.proofs.Held.{SlotIn, Slots, TaskIn, slot_more, slots_append, tasks_append, task_more}
+use Rattle.object_lives.proofs.Near.{Near, Ready}
+use Rattle.object_lives.proofs.Chains.{Any, Given, GivenAll, GivenPath, GivenSlots, GivenSpot, GivenTasks, GivenNext, still, still_all, still_path, still_slots, still_spot, still_tasks, Safe, fine, bad, then_next, then_safe, both}
+use Rattle.object_lives.proofs.Variables.{plain_safe, fitted_safe, read_path_safe, made_for_safe, stored_made_safe, assigned_safe}
+use Rattle.object_lives.proofs.Hosts.{item_safe, item_assigned_safe, written_default_safe, member_assigned_safe}
+
+-- ---- what parameters have to which nothing is given
+
+-- it refers to nothing
+abbrev pub Bare : List Parameter → Type 0
+Bare [] = Unit {0}
+Bare (q ∷ qs) = SlotIn [] (slot_left_out q) × Bare qs
+
+pub left_slots : (hs : List ℕ) (qs : List Parameter) → Bare qs → Slots hs (map slot_left_out qs)
+left_slots hs [] h = tt
+left_slots hs (q ∷ qs) h = (slot_more (none_in hs) (slot_left_out q) h.0, left_slots hs qs h.1)
+
+pub bare_but_last : (qs : List Parameter) → Bare qs → Bare (without_last qs)
+bare_but_last [] h = tt
+bare_but_last (q ∷ []) h = tt
+bare_but_last (q ∷ r ∷ qs) h = (h.0, bare_but_last (r ∷ qs) h.1)
+
+module _ (Sure : Type 0) where
+  abbrev pub Uses : Memory → Effect Next → Type 0
+  Uses m e = Safe Sure GivenNext m e
+
+  -- ---- one after another
+
+  pub over_safe : {m : Memory} {e : Effect Val} → Safe Sure Given m e → Uses m (over_with e)
+  over_safe a = then_next a (λ v m1 n q. fine q)
+
+  pub nothing_safe : {m : Memory} {e : Effect (Unit {0})} → Safe Sure Any m e → Uses m (nothing_more e)
+  nothing_safe a = then_next a (λ v m1 n q. fine (λ s. none_in (top m1).held))
+
+  goes_safe : (t : Task) (f : Val → Memory → Effect Next) (n : Next) (m : Memory) → (Sure → TaskIn (top m).held t) → (Sure → GivenNext m n) → ((v : Val) → (Sure → Given m v) → Uses m (f v m)) → Uses m (goes_by t f n m)
+  goes_safe t f (gives v) m h g k = k v g
+  goes_safe t f (then_call p self xs ts) m h g k = fine (λ s. ((g s).0, (g s).1, tasks_append (top m).held ts (t ∷ []) (g s).2 (h s, tt)))
+
+  pub after_safe : {m : Memory} {e : Effect Next} (t : Task) {f : Val → Memory → Effect Next} → (Sure → Ready m) → Uses m e → (Sure → TaskIn (top m).held t)
+      → ((v : Val) (m1 : Memory) → (Sure → Ready m1) → (Sure → Near m m1) → (Sure → Given m1 v) → Uses m1 (f v m1)) → Uses m (after_use e t f)
+  after_safe t {f = f} r a h k = then_safe r a (λ n m1 r1 n1 q1. goes_safe t f n m1 (λ s. task_more (n1 s).held t (h s)) q1 (λ v g. k v m1 r1 n1 g))
+
+  module _ (d : Declarations) (bare : Sure → (p : ℕ) → Bare (parameters_of d p)) where
+    -- ---- a member is read
+
+    read_by_safe : (p : ℕ) (self : Val) (m : Memory) → (Sure → Given m self) → Uses m (read_by d p self m)
+    read_by_safe p self m h = both (any_must (parameters_of d p)) (bad 449 m) (fine (λ s. (h s, left_slots (top m).held (parameters_of d p) (bare s p), tt)))
+
+    read_made_safe : (q : Path) (v : Val) (o : Option ℕ) (m : Memory) → (Sure → Ready m) → (Sure → GivenPath m q) → (Sure → Given m v) → Uses m (read_made_by q v o m)
+    read_made_safe q v None m r g h = then_safe r (stored_made_safe Sure q v m r h) (λ u m1 r1 n1 q1. over_safe (read_path_safe Sure q m1 r1 (still_path n1 q g)))
+    read_made_safe q v (Some p) m r g h = fine (λ s. (h s, tt, ((g s, h s), tt)))
+
+    pub read_variable_safe : (q : Path) (m : Memory) → (Sure → Ready m) → (Sure → GivenPath m q) → Uses m (read_variable d q m)
+    read_variable_safe q m r g = then_safe r (made_for_safe Sure d q m) (λ v m1 r1 n1 q1. read_made_safe q v (initialize_of d q v) m1 r1 (still_path n1 q g) q1)
+
+    pub read_member_safe : (v : Val) (x : Member) (m : Memory) → (Sure → Ready m) → (Sure → Given m v) → Uses m (read_member d v x m)
+    read_member_safe v (is_variable i makes) m r h = read_variable_safe (variable_of d v i makes m) m r (λ s. tt)
+    read_member_safe v (is_procedure p) m r h = read_by_safe p v m h
+    read_member_safe v (is_property (Some p) lets sets) m r h = read_by_safe p v m h
+    read_member_safe v (is_property None lets sets) m r h = bad 438 m
+
+    read_default_safe : (v : Val) (x : Option Member) (m : Memory) → (Sure → Ready m) → (Sure → Given m v) → Uses m (read_default d v x m)
+    read_default_safe v None m r h = bad 438 m
+    read_default_safe v (Some x) m r h = read_member_safe v x m r h
+
+    -- ---- operands
+
+    no_object_safe : (v : Val) (m : Memory) → (Sure → Given m v) → Uses m (no_object_here v m)
+    no_object_safe (object o) m h = bad 438 m
+    no_object_safe v m h = fine h
+
+    pub counted_operand_safe : (v : Val) (m : Memory) → (Sure → Ready m) → (Sure → Given m v) → Uses m (counted_operand d v m)
+    counted_operand_safe v m r h =
+        both (is_instance v m) (after_safe no_object r (read_default_safe v (class_of_value d v m).default m r h) (λ s. tt) (λ w m1 r1 n1 q1. no_object_safe w m1 q1)) (bad 449 m)
+
+    pub counted_if_any_safe : (v : Val) (m : Memory) → (Sure → Ready m) → (Sure → Given m v) → Uses m (counted_if_any d v m)
+    counted_if_any_safe v m r h =
+        both (is_instance v m && has_default_alone d (class_of_value d v m).default) (read_default_safe v (class_of_value d v m).default m r h) (fine h)
+
+    operand_safe : (v : Val) (m : Memory) → (Sure → Ready m) → (Sure → Given m v) → Uses m (operand_of d v m)
+    operand_safe v m r h = both (is_counted v) (counted_operand_safe v m r h) (over_safe (plain_safe Sure v m h))
+
+    -- ---- arguments that index
+
+    given_to_safe : (of : Declared) (v : Val) (m : Memory) → (Sure → Given m v) → Safe Sure Given m (given_to of v m)
+    given_to_safe of v m h = both (can_be_object of) (fitted_safe Sure of v m h) (then_next (plain_safe Sure v m h) (λ w m1 n1 q1. fitted_safe Sure of w m1 q1))
+
+    pub slots_safe : (qs : List Parameter) (vs : List Val) (m : Memory) → (Sure → Bare qs) → (Sure → GivenAll m vs) → Safe Sure GivenSlots m (slots_from qs vs m)
+    slots_safe [] [] m b h = fine (λ s. tt)
+    slots_safe [] (v ∷ vs) m b h = bad 450 m
+    slots_safe (q ∷ qs) [] m b h =
+        both (must_be_given q) (bad 449 m)
+        (then_next (slots_safe qs [] m (λ s. (b s).1) (λ s. tt)) (λ xs m1 n1 q1. fine (λ s. (slot_more (none_in (top m1).held) (slot_left_out q) (b s).0, q1 s))))
+    slots_safe (q ∷ qs) (v ∷ vs) m b h =
+        then_next (given_to_safe q.of v m (λ s. (h s).0)) (λ w m1 n1 q1.
+        then_next (slots_safe qs vs m1 (λ s. (b s).1) (still_all n1 vs (λ s. (h s).1))) (λ xs m2 n2 q2. fine (λ s. (still n2 w q1 s, q2 s))))
+
+    -- of what passes a default member
+    abbrev Passes : Memory → (Member → Memory → Effect Next) → Type 0
+    Passes m f = (x : Member) → Uses m (f x m)
+
+    taken_or_passed : (p : ℕ) (w : Val) (vs : List Val) (x : Member) (f : Member → Memory → Effect Next) (m : Memory) → (Sure → Given m w) → (Sure → GivenAll m vs) → Passes m f
+        → Uses m (if has_parameters (parameters_of d p) then on_fine (slots_from (parameters_of d p) vs m) (λ xs m1. Fine (then_call p w xs []) m1) else f x m)
+    taken_or_passed p w vs x f m h g k =
+        both (has_parameters (parameters_of d p)) (then_next (slots_safe (parameters_of d p) vs m (λ s. bare s p) g) (λ xs m1 n1 q1. fine (λ s. (still n1 w h s, q1 s, tt)))) (k x)
+
+    index_default_safe : (w : Val) (vs : List Val) (x : Member) (f : Member → Memory → Effect Next) (m : Memory) → (Sure → Given m w) → (Sure → GivenAll m vs) → Passes m f → Uses m (index_default d w vs x f m)
+    index_default_safe w vs (is_variable i makes) f m h g k = k (is_variable i makes)
+    index_default_safe w vs (is_procedure p) f m h g k = taken_or_passed p w vs (is_procedure p) f m h g k
+    index_default_safe w vs (is_property (Some p) lets sets) f m h g k = taken_or_passed p w vs (is_property (Some p) lets sets) f m h g k
+    index_default_safe w vs (is_property None lets sets) f m h g k = k (is_property None lets sets)
+
+    index_member_safe : (w : Val) (vs : List Val) (x : Option Member) (f : Member → Memory → Effect Next) (m : Memory) → (Sure → Given m w) → (Sure → GivenAll m vs) → Passes m f → Uses m (index_member d w vs x f m)
+    index_member_safe w vs None f m h g k = bad 438 m
+    index_member_safe w vs (Some x) f m h g k = index_default_safe w vs x f m h g k
+
+    index_once_safe : (w : Val) (vs : List Val) (f : Member → Memory → Effect Next) (m : Memory) → (Sure → Ready m) → (Sure → Given m w) → (Sure → GivenAll m vs) → Passes m f → Uses m (index_once d w vs f m)
+    index_once_safe w vs f m r h g k = both (is_instance w m) (index_member_safe w vs (class_of_value d w m).default f m h g k) (over_safe (item_safe Sure w vs m r h))
+
+    pub index_along_safe : (k : ℕ) (vs : List Val) (w : Val) (m : Memory) → (Sure → Ready m) → (Sure → Given m w) → (Sure → GivenAll m vs) → Uses m (index_along d k vs w m)
+    index_along_safe zero vs w m r h g = index_once_safe w vs (λ x m1. Bad-at 450 m1) m r h g (λ x. bad 450 m)
+    index_along_safe (suc k) vs w m r h g =
+        index_once_safe w vs (λ x m1. after_use (read_member d w x m1) (index_by k vs) (λ u m2. index_along d k vs u m2)) m r h g (λ x. after_safe (index_by k vs) r (read_member_safe w x m r h) g (λ u m2 r2 n2 q2. index_along_safe k vs u m2 r2 q2 (still_all n2 vs g)))
+
+    -- ---- a value is put where it goes
+
+    put_value_safe : (spot : Spot) (v : Val) (m : Memory) → (Sure → Ready m) → (Sure → Given m v) → (Sure → GivenSpot m spot) → Uses m (put_value d spot v m)
+    put_value_safe (in_variable q) v m r h g = nothing_safe (assigned_safe Sure q v m r h)
+    put_value_safe (by_let p self xs) v m r h g =
+        then_next (fitted_safe Sure (last_type (parameters_of d p)) v m h) (λ w m1 n1 q1.
+        fine (λ s. (still n1 self (λ t. (g t).0) s, slots_append (top m1).held xs (value w ∷ []) (still_slots n1 xs (λ t. (g t).1) s) (q1 s, tt), tt)))
+    put_value_safe (in_range w) v m r h g = nothing_safe (written_default_safe Sure w v m)
+    put_value_safe (in_member name vs base begun) v m r h g = nothing_safe (member_assigned_safe Sure d name vs base begun v m r (λ s. (g s).2))
+
+    pub put_safe : (spot : Spot) (v : Val) (m : Memory) → (Sure → Ready m) → (Sure → Given m v) → (Sure → GivenSpot m spot) → Uses m (put d spot v m)
+    put_safe spot v m r h g =
+        both (takes_itself d spot) (put_value_safe spot v m r h g)
+        (after_safe (put_in spot) r (operand_safe v m r h) g (λ w m1 r1 n1 q1. put_value_safe spot w m1 r1 q1 (still_spot n1 spot g)))
+
+    -- ---- a default member is written
+
+    write_host_safe : (v w : Val) (m : Memory) → (Sure → Ready m) → (Sure → Given m v) → (Sure → Given m w) → Uses m (write_host d v w m)
+    write_host_safe v w m r h g = both (takes_value w) (put_safe (in_range w) v m r h g) (nothing_safe (written_default_safe Sure w v m))
+
+    write_default_safe : (v w : Val) (x : Member) (f : Member → Memory → Effect Next) (m : Memory) → (Sure → Ready m) → (Sure → Given m v) → (Sure → Given m w) → Passes m f → Uses m (write_default d v w x f m)
+    write_default_safe v w (is_variable i makes) f m r h g k =
+        both (is_object_type (variable_of d w i makes m).of) (k (is_variable i makes)) (put_safe (in_variable (variable_of d w i makes m)) v m r h (λ s. tt))
+    write_default_safe v w (is_procedure p) f m r h g k = both (is_sub_kind (procedure_at d p).kind) (bad 438 m) (k (is_procedure p))
+    write_default_safe v w (is_property reads (Some p) sets) f m r h g k =
+        both (any_must (without_last (parameters_of d p))) (bad 449 m)
+        (put_safe (by_let p w (map slot_left_out (without_last (parameters_of d p)))) v m r h (λ s. (g s, left_slots (top m).held (without_last (parameters_of d p)) (bare_but_last (parameters_of d p) (bare s p)))))
+    write_default_safe v w (is_property reads None sets) f m r h g k = k (is_property reads None sets)
+
+    write_member_safe : (v w : Val) (x : Option Member) (f : Member → Memory → Effect Next) (m : Memory) → (Sure → Ready m) → (Sure → Given m v) → (Sure → Given m w) → Passes m f → Uses m (write_member d v w x f m)
+    write_member_safe v w None f m r h g k = bad 438 m
+    write_member_safe v w (Some x) f m r h g k = write_default_safe v w x f m r h g k
+
+    write_once_safe : (v w : Val) (f : Member → Memory → Effect Next) (m : Memory) → (Sure → Ready m) → (Sure → Given m v) → (Sure → Given m w) → Passes m f → Uses m (write_once d v w f m)
+    write_once_safe v w f m r h g k = both (is_instance w m) (write_member_safe v w (class_of_value d w m).default f m r h g k) (write_host_safe v w m r h g)
+
+    pub write_along_safe : (k : ℕ) (v w : Val) (m : Memory) → (Sure → Ready m) → (Sure → Given m v) → (Sure → Given m w) → Uses m (write_along d k v w m)
+    write_along_safe zero v w m r h g = write_once_safe v w (λ x m1. Bad-at 450 m1) m r h g (λ x. bad 450 m)
+    write_along_safe (suc k) v w m r h g =
+        write_once_safe v w (λ x m1. after_use (read_member d w x m1) (write k v) (λ u m2. write_along d k v u m2)) m r h g (λ x. after_safe (write k v) r (read_member_safe w x m r g) h (λ u m2 r2 n2 q2. write_along_safe k v u m2 r2 (still n2 v h) q2))
+
+    -- ---- what arguments lead to takes a value
+
+    let_by_reader_safe : (v : Val) (vs : List Val) (self : Val) (x : Member) (o : Option ℕ) (f : Member → Memory → Effect Next) (m : Memory) → (Sure → Given m v) → (Sure → GivenAll m vs) → (Sure → Given m self) → Passes m f
+        → Uses m (let_by_reader d v vs self x o f m)
+    let_by_reader_safe v vs self x None f m h g i k = k x
+    let_by_reader_safe v vs self x (Some p) f m h g i k =
+        both (has_parameters (parameters_of d p))
+        (then_next (slots_safe (parameters_of d p) vs m (λ s. bare s p) g) (λ xs m1 n1 q1. fine (λ s. (still n1 self i s, q1 s, (still n1 v h s, tt))))) (k x)
+
+    let_default_safe : (v : Val) (vs : List Val) (self : Val) (x : Member) (o : Option ℕ) (f : Member → Memory → Effect Next) (m : Memory) → (Sure → Ready m) → (Sure → Given m v) → (Sure → GivenAll m vs) → (Sure → Given m self) → Passes m f
+        → Uses m (let_default d v vs self x o f m)
+    let_default_safe v vs self x None f m r h g i k = let_by_reader_safe v vs self x (reader_of x) f m h g i k
+    let_default_safe v vs self x (Some p) f m r h g i k =
+        both (has_parameters (without_last (parameters_of d p)))
+        (then_safe r (slots_safe (without_last (parameters_of d p)) vs m (λ s. bare_but_last (parameters_of d p) (bare s p)) g) (λ xs m1 r1 n1 q1.
+        put_safe (by_let p self xs) v m1 r1 (still n1 v h) (λ s. (still n1 self i s, q1 s))))
+        (let_by_reader_safe v vs self x (reader_of x) f m h g i k)
+
+    let_member_safe : (v : Val) (vs : List Val) (self : Val) (x : Option Member) (f : Member → Memory → Effect Next) (m : Memory) → (Sure → Ready m) → (Sure → Given m v) → (Sure → GivenAll m vs) → (Sure → Given m self) → Passes m f
+        → Uses m (let_member d v vs self x f m)
+    let_member_safe v vs self None f m r h g i k = bad 438 m
+    let_member_safe v vs self (Some x) f m r h g i k = let_default_safe v vs self x (let_setter x) f m r h g i k
+
+    other_item : (v : Val) (vs : List Val) (w : Val) (m : Memory) → (Sure → Ready m) → (Sure → Given m w) → Uses m (nothing_more (item_assigned w vs v m))
+    other_item v vs w m r h = nothing_safe (item_assigned_safe Sure w vs v m r h)
+
+    let_item_safe : (v : Val) (vs : List Val) (w : Val) (m : Memory) → (Sure → Ready m) → (Sure → Given m v) → (Sure → Given m w) → Uses m (let_item_of d v vs w m)
+    let_item_safe v vs (object o) m r h i =
+        after_safe (write most_passed v) r (over_safe (item_safe Sure (object o) vs m r i)) h (λ w m1 r1 n1 q1. write_along_safe most_passed v w m1 r1 (still n1 v h) q1)
+    let_item_safe v vs w m r h i = other_item v vs w m r i
+
+    let_once_safe : (v : Val) (vs : List Val) (w : Val) (f : Member → Memory → Effect Next) (m : Memory) → (Sure → Ready m) → (Sure → Given m v) → (Sure → GivenAll m vs) → (Sure → Given m w) → Passes m f → Uses m (let_once d v vs w f m)
+    let_once_safe v vs w f m r h g i k = both (is_instance w m) (let_member_safe v vs w (class_of_value d w m).default f m r h g i k) (let_item_safe v vs w m r h i)
+
+    pub let_along_safe : (k : ℕ) (vs : List Val) (v w : Val) (m : Memory) → (Sure → Ready m) → (Sure → Given m v) → (Sure → GivenAll m vs) → (Sure → Given m w) → Uses m (let_along d k vs v w m)
+    let_along_safe zero vs v w m r h g i = let_once_safe v vs w (λ x m1. Bad-at 450 m1) m r h g i (λ x. bad 450 m)
+    let_along_safe (suc k) vs v w m r h g i =
+        let_once_safe v vs w (λ x m1. after_use (read_member d w x m1) (let_item k vs v) (λ u m2. let_along d k vs v u m2)) m r h g i (λ x. after_safe (let_item k vs v) r (read_member_safe w x m r i) (λ s. (g s, h s)) (λ u m2 r2 n2 q2. let_along_safe k vs v u m2 r2 (still n2 v h) (still_all n2 vs g) q2))
+
+    -- ---- tasks
+
+    task_safe : (t : Task) (v : Val) (m : Memory) → (Sure → Ready m) → (Sure → TaskIn (top m).held t) → (Sure → Given m v) → Uses m (task_next d t v m)
+    task_safe as_operand v m r g h = operand_safe v m r h
+    task_safe no_object v m r g h = no_object_safe v m h
+    task_safe give_way v m r g h = both (is_instance v m) (operand_safe v m r h) (fine h)
+    task_safe (fit_to of) v m r g h = over_safe (fitted_safe Sure of v m h)
+    task_safe (index_by k vs) v m r g h = index_along_safe k vs v m r h g
+    task_safe (write k w) v m r g h = write_along_safe k w v m r g h
+    task_safe (let_item k vs w) v m r g h = let_along_safe k vs w v m r (λ s. (g s).1) (λ s. (g s).0) h
+    task_safe (put_in spot) v m r g h = put_value_safe spot v m r h g
+    task_safe (read_made q w) v m r g h = read_made_safe q w None m r (λ s. (g s).0) (λ s. (g s).1)
+
+    followed_safe : (ts : List Task) (f : Val → Memory → Effect Next) (n : Next) (m : Memory) → (Sure → GivenTasks m ts) → (Sure → GivenNext m n) → ((v : Val) → (Sure → Given m v) → Uses m (f v m)) → Uses m (followed ts f n m)
+    followed_safe ts f (gives v) m h g k = k v g
+    followed_safe ts f (then_call p self xs more) m h g k = fine (λ s. ((g s).0, (g s).1, tasks_append (top m).held more ts (g s).2 (h s)))
+
+    pub tasks_safe : (ts : List Task) (v : Val) (m : Memory) → (Sure → Ready m) → (Sure → GivenTasks m ts) → (Sure → Given m v) → Uses m (tasks_next d ts v m)
+    tasks_safe [] v m r g h = fine h
+    tasks_safe (t ∷ ts) v m r g h =
+        then_safe r (task_safe t v m r (λ s. (g s).0) h) (λ n m1 r1 n1 q1.
+        (let g1 : Sure → GivenTasks m1 ts = still_tasks n1 ts (λ s. (g s).1) in followed_safe ts (λ w m2. tasks_next d ts w m2) n m1 g1 q1 (λ w q. tasks_safe ts w m1 r1 g1 q)))
+
+    pub use_then_safe : (ts : List Task) {m : Memory} {e : Effect Next} → (Sure → Ready m) → (Sure → GivenTasks m ts) → Uses m e → Uses m (use_then d ts e)
+    use_then_safe ts r g a =
+        then_safe r a (λ n m1 r1 n1 q1. (let g1 : Sure → GivenTasks m1 ts = still_tasks n1 ts g in followed_safe ts (λ w m2. tasks_next d ts w m2) n m1 g1 q1 (λ w q. tasks_safe ts w m1 r1 g1 q)))

@@ -1,0 +1,11 @@
+use Rattle.std.proofs.Common.{◌≡◌, drop, map}
+use Rattle.std.specs.List.{list_any}
+use Rattle.declared_names.specs.View.{entry_view, scope_view}
+use Rattle.signature_rules.specs.Signatures.{event_differs}
+use Rattle.signature_rules.specs.View.{signature_view}
+use Rattle.signature_rules.proofs.handlers.events_differ.Given as goal
+
+abbrev pub invariant-loop-entry : goal.invariant-loop-entry
+invariant-loop-entry l =
+    list_any (event_differs (scope_view l.scope) l.handler.name.now l.source (signature_view l.handler.given.now)) (map entry_view (drop l.entry-index l.entries))
+    ≡ list_any (event_differs (scope_view l.scope) l.handler.name.now l.source (signature_view l.handler.given.now)) (map entry_view l.entries)
