@@ -19,18 +19,18 @@ use Rattle.arrays_udt.specs.Paths.{path_value}
 use Rattle.bound_project.specs.Expressions.{Variable}
 use Rattle.bound_project.specs.Project.{Declarations, types_of}
 use Rattle.vba_meaning.specs.Paths.{Root, in_frame, in_project, in_fields, in_block, in_object, in_item, Step, Path, plain_steps}
-use Rattle.vba_meaning.specs.Memory.{Kept, only, at_path, walk, Memory, top, found, put, inner_or_none, value_at, with_value, value_or_empty, value_in_item, path_of, object_at}
+use Rattle.vba_meaning.specs.Memory.{Kept, only, at_path, walk, Memory, rest, top, found, put, inner_or_none, value_at, with_value, value_or_empty, value_in_item, path_of, object_at}
 use Rattle.vba_meaning.specs.References.{objects_in, objects_in_vals, times, waits, kept_value}
 use Rattle.vba_meaning.specs.Effects.{Fine, is_collection, answered, kept_or, kept_at, area_in, range_value}
 use Rattle.vba_meaning.specs.Arrays.{numbers, offset_at, indexed_object, element_in, indexed, part_of, bounds_of, element_type, new_array, resized_array, preserved, redim_value, redimmed, erased_value, erased, keep_path, block_over, place_kept, dot_at, walking, not_walking, each_off, walkable, each_begun, item_stored, next_item, item_of, each_by, each_next}
 use Rattle.object_counts.proofs.Stored.{in_value}
 use Rattle.object_counts.proofs.Looks.{over_grows, still_walking, walking_grows, IsThere, exchanged_grows}
 use Rattle.object_lives.proofs.Values.{In, none_in, in_self, in_back, Refers, filled_in, resized_in, initial_in, item_in}
-use Rattle.object_lives.proofs.Held.{RootIn, root_more}
+use Rattle.object_lives.proofs.Held.{bare_wider, RootIn, root_more}
 use Rattle.object_lives.proofs.Marks.{unmarked}
-use Rattle.object_lives.proofs.Near.{AllThere, none_there, Ready, Later, later_same, BareFound, bare_first, bare_rest, bare_put, bare_without, bare_found, held_there, there_written, bare_written, marked_written, top_written, below_written}
+use Rattle.object_lives.proofs.Near.{AllThere, none_there, Ready, near_ready, Later, later_same, reach, own_floor, like_same, BareFound, bare_first, bare_rest, bare_put, bare_without, bare_found, held_there, there_written, old_written, bare_written, marked_written, top_written, called_written, me_written, below_written}
 use Rattle.object_lives.proofs.Chains.{Any, Given, GivenPath, still, still_path, Safe, fine, fine_in, done_in, bad, out, giving, behind, then_next, then_safe, both, answered_any}
-use Rattle.object_lives.proofs.Variables.{ThereIn, part_within, variable_there, kept_there, top_later, fitted_by, read_value_safe, keeping_later, replaceable_safe, assignable_safe, stored_there_safe}
+use Rattle.object_lives.proofs.Variables.{ThereIn, part_within, variable_there, kept_there, top_later, fitted_by, read_value_safe, keeping_later, replaceable_safe, assignable_safe, stored_there_safe, path_of_in}
 
 -- what is inside of a value that is held
 part_there : (m : Memory) (v : Val) (x : Option Val) (f : Val → Option Val) → ((w : Val) → f v ≡ Some w → (o : ℕ) → 0 < in_value o w → 0 < in_value o v) → f v ≡ x → Ready m → Refers (top m).held v → ThereIn m x
@@ -137,28 +137,31 @@ module _ (Sure : Type 0) where
       (then_next (element_type_safe p.of t m) (λ of m1 n1 e1. fine (λ s. (e1 s, filled_in shape of (initial (types_of d) of) (initial_in (objects_in old) (types_of d) of)))))
 
   -- a value is stored, and what stood there waits
-  exchanged_later : (p : Path) (old w : Val) (m : Memory) → (Sure → IsThere m p old) → (Sure → AllThere m.objects (objects_in w)) → Later Sure m [] (waits (objects_in old) (with_value m p w))
-  exchanged_later p old w m there h = record {
+  exchanged_later : (p : Path) (old w : Val) (m : Memory) → (Sure → GivenPath m p) → (Sure → IsThere m p old) → (Sure → AllThere m.objects (objects_in w)) → Later Sure m [] (waits (objects_in old) (with_value m p w))
+  exchanged_later p old w m i there h = record {
     marks = marked_written m p w;
     near = λ s. record {
       came = objects_in w;
       grows = exchanged_grows m p old w (there s);
       came_there = λ o lt. there_written m p w o (h s o lt);
       there = λ o k. there_written m p w o k;
-      held = record { at = λ o lt. omega (arith, ap (times o) (top_written m p w), lt) };
-      below = below_written m p w;
+      fresh = λ o k n. absurd (n (old_written m p w o k));
+      held = record { at = λ o lt. omega (arith, ap (times o) (top_written m p w (i s)), lt) };
+      called = called_written m p w (i s);
+      me = me_written m p w (i s);
+      below = below_written m p w (i s);
       bare = λ g. bare_written m p w g;
     };
   }
 
-  pub redimmed_safe : (d : Declarations) (preserve : Bool) (t : Option Declared) (p : Path) (vs : List Val) (m : Memory) → (Sure → Ready m) → Safe Sure Any m (redimmed d preserve t p vs m)
-  redimmed_safe d preserve t p vs m r =
+  pub redimmed_safe : (d : Declarations) (preserve : Bool) (t : Option Declared) (p : Path) (vs : List Val) (m : Memory) → (Sure → Ready m) → (Sure → GivenPath m p) → Safe Sure Any m (redimmed d preserve t p vs m)
+  redimmed_safe d preserve t p vs m r i =
       then_safe r (numbers_safe vs m) (λ zs m1 r1 n1 q1.
       then_safe r1 (assignable_safe Sure p m1) (λ old m2 r2 n2 there.
       then_safe r2 (answered_here (shape_of (bounds_of zs)) m2) (λ shape m3 r3 n3 e3.
       then_safe r3 (redim_value_safe d preserve t shape p old m3) (λ v m4 r4 n4 q4.
       (let is : Sure → IsThere m4 p old = λ s. still_there (q4 s).0 (still_there (e3 s) (there s)) in
-      fine_in (exchanged_later p old v m4 is (λ s o lt. variable_there m4 p old (r4 s) (is s).variable (is s).here o ((q4 s).1.at o lt))) (λ s. tt))))))
+      fine_in (exchanged_later p old v m4 (still_path n4 p (still_path n3 p (still_path n2 p (still_path n1 p i)))) is (λ s o lt. variable_there m4 p old (r4 s) (is s).variable (is s).here o ((q4 s).1.at o lt))) (λ s. tt))))))
 
   -- an array without elements, or with new ones
   emptied_in : (d : Declarations) (b : Bool) (bounds : List Bound) (of : Declared) → Refers [] (if b then new_array d bounds of else array [] of no_vals)
@@ -170,23 +173,23 @@ module _ (Sure : Type 0) where
   erased_value_safe d bounded (Some (array bounds of items)) m = fine (λ s. emptied_in d bounded bounds of)
   erased_value_safe d bounded (Some v) m = bad 13 m
 
-  pub erased_safe : (d : Declarations) (p : Path) (m : Memory) → Safe Sure Any m (erased d p m)
-  erased_safe d p m =
+  pub erased_safe : (d : Declarations) (p : Path) (m : Memory) → (Sure → GivenPath m p) → Safe Sure Any m (erased d p m)
+  erased_safe d p m i =
       then_next (erased_value_safe d p.bounded (value_at m p) m) (λ v m1 n1 q1.
       then_next (replaceable_safe Sure p m1) (λ old m2 n2 there.
-      fine_in (exchanged_later p old v m2 there (λ s o lt. absurd (omega (arith, (q1 s).at o lt)))) (λ s. tt)))
+      fine_in (exchanged_later p old v m2 (still_path n2 p (still_path n1 p i)) there (λ s o lt. absurd (omega (arith, (q1 s).at o lt)))) (λ s. tt)))
 
   -- ---- With
 
   kept_from : (i : ℕ) (root : Root) (steps : List Step) (of : Declared) (bounded : Bool) (makes : Option ℕ) (m : Memory)
-      → let p : Path = record { root = root; steps = steps; of = of; bounded = bounded; makes = makes } in (Sure → Ready m) → (Sure → RootIn (top m).held root) → Safe Sure Any m (keep_path i p m)
+      → let p : Path = record { root = root; steps = steps; of = of; bounded = bounded; makes = makes } in (Sure → Ready m) → (Sure → RootIn (reach m) root) → Safe Sure Any m (keep_path i p m)
   kept_from i (in_item v) steps of bounded makes m r h =
       done_in (keeping_later Sure i (only (value_in_item v steps)) m (λ s o lt. held_there (r s) (h s) o (item_inside o v steps lt)) (λ s. tt))
   kept_from i (in_object n) steps of bounded makes m r h = done_in (keeping_later Sure i (at_path _) m (λ s. none_there m.objects) h)
-  kept_from i (in_frame k x) steps of bounded makes m r h = done_in (keeping_later Sure i (at_path _) m (λ s. none_there m.objects) (λ s. tt))
+  kept_from i (in_frame k x) steps of bounded makes m r h = done_in (keeping_later Sure i (at_path _) m (λ s. none_there m.objects) h)
   kept_from i (in_project x) steps of bounded makes m r h = done_in (keeping_later Sure i (at_path _) m (λ s. none_there m.objects) (λ s. tt))
   kept_from i (in_fields n f) steps of bounded makes m r h = done_in (keeping_later Sure i (at_path _) m (λ s. none_there m.objects) (λ s. tt))
-  kept_from i (in_block k j) steps of bounded makes m r h = done_in (keeping_later Sure i (at_path _) m (λ s. none_there m.objects) (λ s. tt))
+  kept_from i (in_block k j) steps of bounded makes m r h = done_in (keeping_later Sure i (at_path _) m (λ s. none_there m.objects) h)
 
   pub keep_path_safe : (i : ℕ) (p : Path) (m : Memory) → (Sure → Ready m) → (Sure → GivenPath m p) → Safe Sure Any m (keep_path i p m)
   keep_path_safe i p m r h = kept_from i p.root p.steps p.of p.bounded p.makes m r h
@@ -199,20 +202,23 @@ module _ (Sure : Type 0) where
       grows = over_grows i m;
       came_there = none_there m.objects;
       there = λ o h. h;
+      fresh = λ o h n. absurd (n h);
       held = in_back (objects_in (kept_at i m)) (top m).held;
-      below = refl;
-      bare = λ g. (let f = bare_first m.frames g in ((f.0, bare_without i (top m).keeps f.1), bare_rest m.frames g));
+      called = refl;
+      me = refl;
+      below = like_same (reach m).floor (rest m.frames);
+      bare = λ g. (let f = bare_first m.frames g in ((f.0, bare_without (reach m).floor i (top m).keeps f.1), bare_rest m.frames g));
     };
   })
 
-  place_kept_safe : (i : ℕ) (x : Option Kept) (m : Memory) → (Sure → BareFound x) → Safe Sure GivenPath m (place_kept i x m)
+  place_kept_safe : (i : ℕ) (x : Option Kept) (m : Memory) → (Sure → BareFound (reach m).floor x) → Safe Sure GivenPath m (place_kept i x m)
   place_kept_safe i None m b = bad 91 m
-  place_kept_safe i (Some (only v)) m b = fine (λ s. tt)
-  place_kept_safe i (Some (at_path p)) m b = fine (λ s. root_more (none_in (top m).held) p.root (b s))
+  place_kept_safe i (Some (only v)) m b = fine (λ s. own_floor m)
+  place_kept_safe i (Some (at_path p)) m b = fine (λ s. root_more (bare_wider (reach m)) p.root (b s))
   place_kept_safe i (Some (walk begun v k)) m b = bad 91 m
 
   pub dot_at_safe : (i : ℕ) (m : Memory) → (Sure → Ready m) → Safe Sure GivenPath m (dot_at i m)
-  dot_at_safe i m r = place_kept_safe i (found (top m).keeps i) m (λ s. bare_found i (top m).keeps (bare_first m.frames (r s).bare).1)
+  dot_at_safe i m r = place_kept_safe i (found (top m).keeps i) m (λ s. bare_found (reach m).floor i (top m).keeps (bare_first m.frames (r s).bare).1)
 
   -- ---- For Each
 
@@ -220,7 +226,7 @@ module _ (Sure : Type 0) where
   walking_on : (i : ℕ) (begun b : Bool) (v : Val) (n k : ℕ) (m : Memory) → found (top m).keeps i ≡ Some (walk b v n) → Later Sure m [] (walking i begun v k m)
   walking_on i begun b v n k m e =
       top_later Sure m (record (top m) { keeps = put i (walk begun v k) (top m).keeps }) [] (still_walking i begun b v n k m e) (λ s. none_there m.objects) (in_self (top m).held)
-      (λ f. (f.0, bare_put i (walk begun v k) (top m).keeps tt f.1))
+      (λ f. (f.0, bare_put (reach m).floor i (walk begun v k) (top m).keeps tt f.1)) refl refl
 
   not_walking_later : (i : ℕ) (x : Option Kept) (m : Memory) → found (top m).keeps i ≡ x → Later Sure m [] (not_walking i x m)
   not_walking_later i None m e = later_same m
@@ -249,25 +255,29 @@ module _ (Sure : Type 0) where
           grows = walking_grows i v m1;
           came_there = held_there (r1 s) (still n1 v h s);
           there = λ o k. k;
+          fresh = λ o k n. absurd (n k);
           held = in_self (top m1).held;
-          below = refl;
-          bare = λ g. (let f = bare_first m1.frames g in ((f.0, bare_put i (walk true v 0) (top m1).keeps tt f.1), bare_rest m1.frames g));
+          called = refl;
+          me = refl;
+          below = like_same (reach m1).floor (rest m1.frames);
+          bare = λ g. (let f = bare_first m1.frames g in ((f.0, bare_put (reach m1).floor i (walk true v 0) (top m1).keeps tt f.1), bare_rest m1.frames g));
         };
       }) (λ s. tt))
 
-  item_stored_safe : (x : Variable) (w : Val) (m : Memory) → (Sure → AllThere m.objects (objects_in w)) → Safe Sure Any m (item_stored x w m)
-  item_stored_safe x w m h =
+  item_stored_safe : (x : Variable) (w : Val) (m : Memory) → (Sure → Ready m) → (Sure → AllThere m.objects (objects_in w)) → Safe Sure Any m (item_stored x w m)
+  item_stored_safe x w m r h =
       then_next {Q = λ m1 u. Refers (objects_in w) u} (fitted_by Sure (path_of m x).of w m (λ u s i. i)) (λ u m1 n1 q1.
-      stored_there_safe Sure (path_of m1 x) u m1 (λ s o lt. (n1 s).there o (h s o ((q1 s).at o lt))))
+      stored_there_safe Sure (path_of m1 x) u m1 (path_of_in Sure m1 x (λ s. near_ready (n1 s) (r s))) (λ s o lt. (n1 s).there o (h s o ((q1 s).at o lt))))
 
-  next_item_safe : (x : Variable) (i : ℕ) (v : Val) (k : ℕ) (y : Option Val) (m : Memory) → found (top m).keeps i ≡ Some (walk true v k) → (Sure → ThereIn m y) → Safe Sure Any m (next_item x i v k y m)
-  next_item_safe x i v k None m e h = then_next {f = λ u m1. Fine false m1} (block_over_safe i m) (λ u m1 n1 q1. fine {v = false} (λ s. tt {0}))
-  next_item_safe x i v k (Some w) m e h =
-      behind (walking_on i true true v k (suc k) m e) (then_next (item_stored_safe x w (walking i true v (suc k) m) h) (λ u m2 n2 q2. fine (λ s. tt)))
+  next_item_safe : (x : Variable) (i : ℕ) (v : Val) (k : ℕ) (y : Option Val) (m : Memory) → found (top m).keeps i ≡ Some (walk true v k) → (Sure → Ready m) → (Sure → ThereIn m y) → Safe Sure Any m (next_item x i v k y m)
+  next_item_safe x i v k None m e r h = then_next {f = λ u m1. Fine false m1} (block_over_safe i m) (λ u m1 n1 q1. fine {v = false} (λ s. tt {0}))
+  next_item_safe x i v k (Some w) m e r h =
+      let l = walking_on i true true v k (suc k) m e in
+      behind l (then_next (item_stored_safe x w (walking i true v (suc k) m) (λ s. near_ready (l.near s) (r s)) h) (λ u m2 n2 q2. fine (λ s. tt)))
 
   each_by_safe : (x : Variable) (i : ℕ) (y : Option Kept) (m : Memory) → found (top m).keeps i ≡ y → (Sure → Ready m) → Safe Sure Any m (each_by x i y m)
   each_by_safe x i (Some (walk true v k)) m e r =
-      next_item_safe x i v k (item_of v k m) m e (λ s. item_there v k m (r s) (subst (λ w. AllThere m.objects (objects_in w)) (ap (λ y. kept_value (kept_or y)) e) (kept_there i m (r s))))
+      next_item_safe x i v k (item_of v k m) m e r (λ s. item_there v k m (r s) (subst (λ w. AllThere m.objects (objects_in w)) (ap (λ y. kept_value (kept_or y)) e) (kept_there i m (r s))))
   each_by_safe x i other m e r = bad 92 m
 
   pub each_next_safe : (x : Variable) (i : ℕ) (m : Memory) → (Sure → Ready m) → Safe Sure Any m (each_next x i m)

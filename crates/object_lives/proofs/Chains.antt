@@ -8,10 +8,10 @@ use Rattle.vba_meaning.specs.Paths.{Path}
 use Rattle.vba_meaning.specs.Memory.{Why, Slot, Memory, top}
 use Rattle.vba_meaning.specs.Effects.{Event, Effect, Fine, Bad-at, Out, Tell, on_fine, answered}
 use Rattle.vba_meaning.specs.Defaults.{Spot, Task, Next}
-use Rattle.object_lives.proofs.Values.{Refers, OkIn}
-use Rattle.object_lives.proofs.Held.{Values, PathIn, SlotIn, Slots, SpotIn, Tasks, NextIn, more, values_more, root_more, slots_more, spot_more, tasks_more}
+use Rattle.object_lives.proofs.Values.{in_then, Refers, OkIn}
+use Rattle.object_lives.proofs.Held.{Values, PathIn, SlotIn, Slots, SpotIn, Tasks, NextIn, values_more, root_more, slots_more, spot_more, tasks_more}
 use Rattle.object_lives.proofs.Marks.{Silent, silent_marks}
-use Rattle.object_lives.proofs.Near.{Near, near_same, near_ready, Ready, Later, later_same, later_then}
+use Rattle.object_lives.proofs.Near.{Near, near_same, near_ready, reach, wider, Ready, Later, later_same, later_then}
 
 -- ---- what an effect gives
 
@@ -25,43 +25,43 @@ abbrev pub GivenAll : Memory → List Val → Type 0
 GivenAll m vs = Values (top m).held vs
 
 abbrev pub GivenPath : Memory → Path → Type 0
-GivenPath m q = PathIn (top m).held q
+GivenPath m q = PathIn (reach m) q
 
 abbrev pub GivenSlot : Memory → Slot → Type 0
-GivenSlot m x = SlotIn (top m).held x
+GivenSlot m x = SlotIn (reach m) x
 
 abbrev pub GivenSlots : Memory → List Slot → Type 0
-GivenSlots m xs = Slots (top m).held xs
+GivenSlots m xs = Slots (reach m) xs
 
 abbrev pub GivenSpot : Memory → Spot → Type 0
-GivenSpot m s = SpotIn (top m).held s
+GivenSpot m s = SpotIn (reach m) s
 
 abbrev pub GivenTasks : Memory → List Task → Type 0
-GivenTasks m ts = Tasks (top m).held ts
+GivenTasks m ts = Tasks (reach m) ts
 
 abbrev pub GivenNext : Memory → Next → Type 0
-GivenNext m n = NextIn (top m).held n
+GivenNext m n = NextIn (reach m) n
 
 -- ---- still held later
 
 module _ {Sure : Type 0} {m m1 : Memory} (n : Sure → Near m m1) where
   pub still : (v : Val) → (Sure → Given m v) → Sure → Given m1 v
-  still v h s = more (n s).held v (h s)
+  still v h s = in_then (h s) (n s).held
 
   pub still_all : (vs : List Val) → (Sure → GivenAll m vs) → Sure → GivenAll m1 vs
   still_all vs h s = values_more (n s).held vs (h s)
 
   pub still_path : (q : Path) → (Sure → GivenPath m q) → Sure → GivenPath m1 q
-  still_path q h s = root_more (n s).held q.root (h s)
+  still_path q h s = root_more (wider (n s)) q.root (h s)
 
   pub still_slots : (xs : List Slot) → (Sure → GivenSlots m xs) → Sure → GivenSlots m1 xs
-  still_slots xs h s = slots_more (n s).held xs (h s)
+  still_slots xs h s = slots_more (wider (n s)) xs (h s)
 
   pub still_spot : (x : Spot) → (Sure → GivenSpot m x) → Sure → GivenSpot m1 x
-  still_spot x h s = spot_more (n s).held x (h s)
+  still_spot x h s = spot_more (wider (n s)) x (h s)
 
   pub still_tasks : (ts : List Task) → (Sure → GivenTasks m ts) → Sure → GivenTasks m1 ts
-  still_tasks ts h s = tasks_more (n s).held ts (h s)
+  still_tasks ts h s = tasks_more (wider (n s)) ts (h s)
 
   pub still_ready : (Sure → Ready m) → Sure → Ready m1
   still_ready r s = near_ready (n s) (r s)

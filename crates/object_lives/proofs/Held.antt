@@ -1,5 +1,5 @@
 -- What operands refer to is held by the statement that evaluates them.
-use Rattle.std.proofs.Common.{◌≡◌, ℕ, zero, suc, List, [], ◌∷◌, ◌++◌}
+use Rattle.std.proofs.Common.{◌≡◌, ℕ, zero, suc, ◌≤◌, List, [], ◌∷◌, ◌++◌, arith}
 use Rattle.std.specs.Prelude.{slice_index_or, take, drop}
 use Rattle.vba_values.specs.Val.{Val, missing}
 use Rattle.vba_meaning.specs.Paths.{Root, in_frame, in_project, in_fields, in_block, in_object, in_item, Path}
@@ -9,6 +9,23 @@ use Rattle.vba_meaning.specs.Effects.{slot_value, slot_values, packed, reordered
 use Rattle.vba_meaning.specs.Defaults.{Spot, in_variable, by_let, in_range, in_member, Task, as_operand, no_object, give_way, fit_to, index_by, write, let_item, put_in, read_made, Next, gives, then_call}
 use Rattle.object_lives.proofs.Values.{In, none_in, in_then, in_both, Refers, vals_in}
 
+-- what a frame refers to and leads to: the objects that it holds, and frames from one on, by their numbers
+pub record Reach : Type 0 where
+  pub held : List ℕ
+  pub floor : ℕ
+
+-- no object
+abbrev pub bare_from : ℕ → Reach
+bare_from l = record { held = []; floor = l }
+
+-- more is held
+pub record Wider (hs ks : Reach) : Type 0 where
+  pub held : In hs.held ks.held
+  pub floor : ks.floor ≤ hs.floor
+
+pub bare_wider : (ks : Reach) → Wider (bare_from ks.floor) ks
+bare_wider ks = record { held = none_in ks.held; floor = omega arith }
+
 -- ---- values, places, arguments
 
 abbrev pub Values : List ℕ → List Val → Type 0
@@ -16,66 +33,65 @@ Values hs [] = Unit {0}
 Values hs (v ∷ vs) = Refers hs v × Values hs vs
 
 -- a path refers to the item of a Collection that it begins with; no other object that an index gave is counted
-abbrev pub RootIn : List ℕ → Root → Type 0
+abbrev pub RootIn : Reach → Root → Type 0
+RootIn hs (in_frame k x) = hs.floor ≤ k
+RootIn hs (in_block k i) = hs.floor ≤ k
 RootIn hs (in_object o) = objects_of_reference o ≡ []
-RootIn hs (in_item v) = Refers hs v
+RootIn hs (in_item v) = Refers hs.held v
 RootIn hs root = Unit {0}
 
-abbrev pub PathIn : List ℕ → Path → Type 0
+abbrev pub PathIn : Reach → Path → Type 0
 PathIn hs q = RootIn hs q.root
 
-abbrev pub SlotIn : List ℕ → Slot → Type 0
-SlotIn hs (value v) = Refers hs v
+abbrev pub SlotIn : Reach → Slot → Type 0
+SlotIn hs (value v) = Refers hs.held v
 SlotIn hs (path q) = PathIn hs q
 
-abbrev pub Slots : List ℕ → List Slot → Type 0
+abbrev pub Slots : Reach → List Slot → Type 0
 Slots hs [] = Unit {0}
 Slots hs (x ∷ xs) = SlotIn hs x × Slots hs xs
 
 -- ---- what is still to be done
 
-abbrev pub SpotIn : List ℕ → Spot → Type 0
+abbrev pub SpotIn : Reach → Spot → Type 0
 SpotIn hs (in_variable q) = PathIn hs q
-SpotIn hs (by_let p self xs) = Refers hs self × Slots hs xs
-SpotIn hs (in_range w) = Refers hs w
-SpotIn hs (in_member name vs base begun) = Values hs vs × Refers hs base × Refers hs begun
+SpotIn hs (by_let p self xs) = Refers hs.held self × Slots hs xs
+SpotIn hs (in_range w) = Refers hs.held w
+SpotIn hs (in_member name vs base begun) = Values hs.held vs × Refers hs.held base × Refers hs.held begun
 
-abbrev pub TaskIn : List ℕ → Task → Type 0
-TaskIn hs (index_by k vs) = Values hs vs
-TaskIn hs (write k v) = Refers hs v
-TaskIn hs (let_item k vs v) = Values hs vs × Refers hs v
+abbrev pub TaskIn : Reach → Task → Type 0
+TaskIn hs (index_by k vs) = Values hs.held vs
+TaskIn hs (write k v) = Refers hs.held v
+TaskIn hs (let_item k vs v) = Values hs.held vs × Refers hs.held v
 TaskIn hs (put_in spot) = SpotIn hs spot
-TaskIn hs (read_made q v) = PathIn hs q × Refers hs v
+TaskIn hs (read_made q v) = PathIn hs q × Refers hs.held v
 TaskIn hs task = Unit {0}
 
-abbrev pub Tasks : List ℕ → List Task → Type 0
+abbrev pub Tasks : Reach → List Task → Type 0
 Tasks hs [] = Unit {0}
 Tasks hs (t ∷ ts) = TaskIn hs t × Tasks hs ts
 
-abbrev pub NextIn : List ℕ → Next → Type 0
-NextIn hs (gives v) = Refers hs v
-NextIn hs (then_call p self xs ts) = Refers hs self × Slots hs xs × Tasks hs ts
+abbrev pub NextIn : Reach → Next → Type 0
+NextIn hs (gives v) = Refers hs.held v
+NextIn hs (then_call p self xs ts) = Refers hs.held self × Slots hs xs × Tasks hs ts
 
 -- ---- where more is held
 
-module _ {hs ks : List ℕ} (i : In hs ks) where
-  pub more : (v : Val) → Refers hs v → Refers ks v
-  more v h = in_then h i
+pub values_more : {hs ks : List ℕ} → In hs ks → (vs : List Val) → Values hs vs → Values ks vs
+values_more i [] h = tt
+values_more i (v ∷ vs) h = (in_then h.0 i, values_more i vs h.1)
 
-  pub values_more : (vs : List Val) → Values hs vs → Values ks vs
-  values_more [] h = tt
-  values_more (v ∷ vs) h = (in_then h.0 i, values_more vs h.1)
-
+module _ {hs ks : Reach} (i : Wider hs ks) where
   pub root_more : (r : Root) → RootIn hs r → RootIn ks r
+  root_more (in_frame k x) h = omega (arith, i.floor, h)
+  root_more (in_block k j) h = omega (arith, i.floor, h)
   root_more (in_object o) h = h
-  root_more (in_item v) h = in_then h i
-  root_more (in_frame k x) h = tt
+  root_more (in_item v) h = in_then h i.held
   root_more (in_project x) h = tt
   root_more (in_fields o f) h = tt
-  root_more (in_block k j) h = tt
 
   pub slot_more : (x : Slot) → SlotIn hs x → SlotIn ks x
-  slot_more (value v) h = in_then h i
+  slot_more (value v) h = in_then h i.held
   slot_more (path q) h = root_more q.root h
 
   pub slots_more : (xs : List Slot) → Slots hs xs → Slots ks xs
@@ -84,16 +100,16 @@ module _ {hs ks : List ℕ} (i : In hs ks) where
 
   pub spot_more : (s : Spot) → SpotIn hs s → SpotIn ks s
   spot_more (in_variable q) h = root_more q.root h
-  spot_more (by_let p self xs) h = (in_then h.0 i, slots_more xs h.1)
-  spot_more (in_range w) h = in_then h i
-  spot_more (in_member name vs base begun) h = (values_more vs h.0, in_then h.1 i, in_then h.2 i)
+  spot_more (by_let p self xs) h = (in_then h.0 i.held, slots_more xs h.1)
+  spot_more (in_range w) h = in_then h i.held
+  spot_more (in_member name vs base begun) h = (values_more i.held vs h.0, in_then h.1 i.held, in_then h.2 i.held)
 
   pub task_more : (t : Task) → TaskIn hs t → TaskIn ks t
-  task_more (index_by k vs) h = values_more vs h
-  task_more (write k v) h = in_then h i
-  task_more (let_item k vs v) h = (values_more vs h.0, in_then h.1 i)
+  task_more (index_by k vs) h = values_more i.held vs h
+  task_more (write k v) h = in_then h i.held
+  task_more (let_item k vs v) h = (values_more i.held vs h.0, in_then h.1 i.held)
   task_more (put_in spot) h = spot_more spot h
-  task_more (read_made q v) h = (root_more q.root h.0, in_then h.1 i)
+  task_more (read_made q v) h = (root_more q.root h.0, in_then h.1 i.held)
   task_more as_operand h = tt
   task_more no_object h = tt
   task_more give_way h = tt
@@ -104,8 +120,8 @@ module _ {hs ks : List ℕ} (i : In hs ks) where
   tasks_more (t ∷ ts) h = (task_more t h.0, tasks_more ts h.1)
 
   pub next_more : (n : Next) → NextIn hs n → NextIn ks n
-  next_more (gives v) h = in_then h i
-  next_more (then_call p self xs ts) h = (in_then h.0 i, slots_more xs h.1, tasks_more ts h.2)
+  next_more (gives v) h = in_then h i.held
+  next_more (then_call p self xs ts) h = (in_then h.0 i.held, slots_more xs h.1, tasks_more ts h.2)
 
 -- ---- lists of them
 
@@ -113,19 +129,19 @@ pub values_in : (hs : List ℕ) (vs : List Val) → Values hs vs → In (objects
 values_in hs [] h = none_in hs
 values_in hs (v ∷ vs) h = in_both (objects_in v) (objects_in_values vs) h.0 (values_in hs vs h.1)
 
-pub value_of_slot : (hs : List ℕ) (x : Slot) → SlotIn hs x → Refers hs (slot_value x)
+pub value_of_slot : (hs : Reach) (x : Slot) → SlotIn hs x → Refers hs.held (slot_value x)
 value_of_slot hs (value v) h = h
-value_of_slot hs (path q) h = none_in hs
+value_of_slot hs (path q) h = none_in hs.held
 
-pub values_of_slots : (hs : List ℕ) (xs : List Slot) → Slots hs xs → Values hs (slot_values xs)
+pub values_of_slots : (hs : Reach) (xs : List Slot) → Slots hs xs → Values hs.held (slot_values xs)
 values_of_slots hs [] h = tt
 values_of_slots hs (x ∷ xs) h = (value_of_slot hs x h.0, values_of_slots hs xs h.1)
 
-pub slots_append : (hs : List ℕ) (xs ys : List Slot) → Slots hs xs → Slots hs ys → Slots hs (xs ++ ys)
+pub slots_append : (hs : Reach) (xs ys : List Slot) → Slots hs xs → Slots hs ys → Slots hs (xs ++ ys)
 slots_append hs [] ys h k = k
 slots_append hs (x ∷ xs) ys h k = (h.0, slots_append hs xs ys h.1 k)
 
-pub tasks_append : (hs : List ℕ) (xs ys : List Task) → Tasks hs xs → Tasks hs ys → Tasks hs (xs ++ ys)
+pub tasks_append : (hs : Reach) (xs ys : List Task) → Tasks hs xs → Tasks hs ys → Tasks hs (xs ++ ys)
 tasks_append hs [] ys h k = k
 tasks_append hs (x ∷ xs) ys h k = (h.0, tasks_append hs xs ys h.1 k)
 
@@ -139,26 +155,26 @@ nth_value hs [] (suc i) d h k = k
 nth_value hs (v ∷ vs) zero d h k = h.0
 nth_value hs (v ∷ vs) (suc i) d h k = nth_value hs vs i d h.1 k
 
-pub nth_slot : (hs : List ℕ) (xs : List Slot) (i : ℕ) (d : Slot) → Slots hs xs → SlotIn hs d → SlotIn hs (slice_index_or xs i d)
+pub nth_slot : (hs : Reach) (xs : List Slot) (i : ℕ) (d : Slot) → Slots hs xs → SlotIn hs d → SlotIn hs (slice_index_or xs i d)
 nth_slot hs [] zero d h k = k
 nth_slot hs [] (suc i) d h k = k
 nth_slot hs (x ∷ xs) zero d h k = h.0
 nth_slot hs (x ∷ xs) (suc i) d h k = nth_slot hs xs i d h.1 k
 
-pub packed_in : (hs : List ℕ) (xs : List Slot) → Slots hs xs → Refers hs (packed xs)
-packed_in hs xs h = vals_in (slot_values xs) (values_in hs (slot_values xs) (values_of_slots hs xs h))
+pub packed_in : (hs : Reach) (xs : List Slot) → Slots hs xs → Refers hs.held (packed xs)
+packed_in hs xs h = vals_in (slot_values xs) (values_in hs.held (slot_values xs) (values_of_slots hs xs h))
 
-pub reordered_in : (hs : List ℕ) (order : List ℕ) (xs : List Slot) → Slots hs xs → Slots hs (reordered order xs)
+pub reordered_in : (hs : Reach) (order : List ℕ) (xs : List Slot) → Slots hs xs → Slots hs (reordered order xs)
 reordered_in hs [] xs h = tt
-reordered_in hs (i ∷ order) xs h = (nth_slot hs xs i (value missing) h (none_in hs), reordered_in hs order xs h)
+reordered_in hs (i ∷ order) xs h = (nth_slot hs xs i (value missing) h (none_in hs.held), reordered_in hs order xs h)
 
-pub slots_taken : (hs : List ℕ) (n : ℕ) (xs : List Slot) → Slots hs xs → Slots hs (take n xs)
+pub slots_taken : (hs : Reach) (n : ℕ) (xs : List Slot) → Slots hs xs → Slots hs (take n xs)
 slots_taken hs zero [] h = tt
 slots_taken hs zero (x ∷ xs) h = tt
 slots_taken hs (suc n) [] h = tt
 slots_taken hs (suc n) (x ∷ xs) h = (h.0, slots_taken hs n xs h.1)
 
-pub slots_dropped : (hs : List ℕ) (n : ℕ) (xs : List Slot) → Slots hs xs → Slots hs (drop n xs)
+pub slots_dropped : (hs : Reach) (n : ℕ) (xs : List Slot) → Slots hs xs → Slots hs (drop n xs)
 slots_dropped hs zero [] h = tt
 slots_dropped hs zero (x ∷ xs) h = h
 slots_dropped hs (suc n) [] h = tt

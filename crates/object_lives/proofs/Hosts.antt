@@ -42,14 +42,14 @@ use Rattle.vba_meaning.specs.Collections.{CollectionMember, is_item, takes_in_co
 use Rattle.vba_meaning.specs.ByName.{parameter_names, parameters_given, first_given, named_begun, named_there}
 use Rattle.object_counts.proofs.Chains.{AllOf, one_of}
 use Rattle.object_counts.proofs.Variables.{alike}
-use Rattle.object_lives.proofs.Values.{none_in, Refers, free_refers, area_value_in, ranged_in}
-use Rattle.object_lives.proofs.Held.{RootIn, Values}
+use Rattle.object_lives.proofs.Values.{none_in, own_time, Refers, free_refers, area_value_in, ranged_in}
+use Rattle.object_lives.proofs.Held.{Reach, RootIn, Values}
 use Rattle.object_lives.proofs.Marks.{Silent}
-use Rattle.object_lives.proofs.Near.{Ready, Later, later_same, held_there}
-use Rattle.object_lives.proofs.Chains.{Any, Given, GivenAll, GivenPath, still, still_all, Safe, fine, fine_in, done_in, bad, out, telling, then_next, then_safe, both, answered_safe, answered_any}
+use Rattle.object_lives.proofs.Near.{Ready, Later, later_same, reach, held_there}
+use Rattle.object_lives.proofs.Chains.{Any, Given, GivenAll, GivenPath, still, still_all, still_path, Safe, fine, fine_in, done_in, bad, out, telling, then_next, then_safe, both, answered_safe, answered_any}
 use Rattle.object_lives.proofs.Variables.{outside_later, plain_safe, plain_any, err_off_safe, assigned_safe}
 use Rattle.object_lives.proofs.Arrays.{indexed_safe, indexed_object_safe, element_in_safe}
-use Rattle.object_lives.proofs.Items.{own_time, GivenFirst, collection_member_safe, item_found_safe, collection_used_safe}
+use Rattle.object_lives.proofs.Items.{GivenFirst, collection_member_safe, item_found_safe, collection_used_safe}
 
 -- arguments that are left out at the end
 as_given_by : (hs : List ℕ) (vs ws : List Val) → as_given vs ≡ ws → Values hs ws → Values hs (as_given (missing ∷ vs))
@@ -62,7 +62,7 @@ as_given_in hs (missing ∷ vs) h = as_given_by hs vs (as_given vs) refl (as_giv
 as_given_in hs (v ∷ vs) h = (h.0, as_given_in hs vs h.1)
 
 -- the path of what an index gave
-pub path_to_in : (hs : List ℕ) (w : Val) → Refers hs w → RootIn hs (path_to w).root
+pub path_to_in : (hs : Reach) (w : Val) → Refers hs.held w → RootIn hs (path_to w).root
 path_to_in hs (object Nothing) h = refl
 path_to_in hs (object (Heap id)) h = h
 path_to_in hs (object (Host x)) h = refl
@@ -307,32 +307,32 @@ module _ (Sure : Type 0) where
   -- ---- places that numbers lead to
 
   place_by : (p : Path) (vs : List Val) (m : Memory) (x : Option Val) → value_at m p ≡ x → (Sure → Ready m) → (Sure → GivenPath m p) → Safe Sure GivenPath m (place_at p vs m)
-  place_by p vs m (Some (object o)) e r h = rw e (then_next (item_of_object o vs m r) (λ w m1 n1 q1. fine (λ s. path_to_in (top m1).held w (q1 s))))
+  place_by p vs m (Some (object o)) e r h = rw e (then_next (item_of_object o vs m r) (λ w m1 n1 q1. fine (λ s. path_to_in (reach m1) w (q1 s))))
   place_by p vs m x e r h = rw e (element_in_safe Sure p (value_at m p) vs m h)
 
   pub place_at_safe : (p : Path) (vs : List Val) (m : Memory) → (Sure → Ready m) → (Sure → GivenPath m p) → Safe Sure GivenPath m (place_at p vs m)
   place_at_safe p vs m r h = place_by p vs m (value_at m p) refl r h
 
   assigned_here : (root : Root) (steps : List Step) (of : Declared) (bounded : Bool) (makes : Option ℕ) (v : Val) (m : Memory)
-      → let p : Path = record { root = root; steps = steps; of = of; bounded = bounded; makes = makes } in (Sure → Ready m) → (Sure → Given m v) → Safe Sure Any m (on_fine (plain v m) (λ w m1. assigned p w m1))
-  assigned_here root steps of bounded makes v m r h =
-      let p : Path = record { root = root; steps = steps; of = of; bounded = bounded; makes = makes } in then_safe r (plain_safe Sure v m h) (λ w m1 r1 n1 q1. assigned_safe Sure p w m1 r1 q1)
+      → let p : Path = record { root = root; steps = steps; of = of; bounded = bounded; makes = makes } in (Sure → Ready m) → (Sure → GivenPath m p) → (Sure → Given m v) → Safe Sure Any m (on_fine (plain v m) (λ w m1. assigned p w m1))
+  assigned_here root steps of bounded makes v m r i h =
+      let p : Path = record { root = root; steps = steps; of = of; bounded = bounded; makes = makes } in then_safe r (plain_safe Sure v m h) (λ w m1 r1 n1 q1. assigned_safe Sure p w m1 r1 (still_path n1 p i) q1)
 
   item_written_safe : (w : Val) (steps : List Step) (v : Val) (m : Memory) → Safe Sure Any m (item_written w steps v m)
   item_written_safe w [] v m = written_default_safe w v m
   item_written_safe w (t ∷ steps) v m = then_next (plain_any Sure v m) (λ x m1 n q. fine (λ s. tt))
 
   assigned_from : (root : Root) (steps : List Step) (of : Declared) (bounded : Bool) (makes : Option ℕ) (v : Val) (m : Memory)
-      → let p : Path = record { root = root; steps = steps; of = of; bounded = bounded; makes = makes } in (Sure → Ready m) → (Sure → Given m v) → Safe Sure Any m (assigned_at p v m)
-  assigned_from (in_object o) steps of bounded makes v m r h = written_default_safe (object o) v m
-  assigned_from (in_item w) steps of bounded makes v m r h = item_written_safe w steps v m
-  assigned_from (in_frame k x) steps of bounded makes v m r h = assigned_here (in_frame k x) steps of bounded makes v m r h
-  assigned_from (in_project x) steps of bounded makes v m r h = assigned_here (in_project x) steps of bounded makes v m r h
-  assigned_from (in_fields n i) steps of bounded makes v m r h = assigned_here (in_fields n i) steps of bounded makes v m r h
-  assigned_from (in_block k i) steps of bounded makes v m r h = assigned_here (in_block k i) steps of bounded makes v m r h
+      → let p : Path = record { root = root; steps = steps; of = of; bounded = bounded; makes = makes } in (Sure → Ready m) → (Sure → GivenPath m p) → (Sure → Given m v) → Safe Sure Any m (assigned_at p v m)
+  assigned_from (in_object o) steps of bounded makes v m r i h = written_default_safe (object o) v m
+  assigned_from (in_item w) steps of bounded makes v m r i h = item_written_safe w steps v m
+  assigned_from (in_frame k x) steps of bounded makes v m r i h = assigned_here (in_frame k x) steps of bounded makes v m r i h
+  assigned_from (in_project x) steps of bounded makes v m r i h = assigned_here (in_project x) steps of bounded makes v m r i h
+  assigned_from (in_fields n f) steps of bounded makes v m r i h = assigned_here (in_fields n f) steps of bounded makes v m r i h
+  assigned_from (in_block k j) steps of bounded makes v m r i h = assigned_here (in_block k j) steps of bounded makes v m r i h
 
-  pub assigned_at_safe : (p : Path) (v : Val) (m : Memory) → (Sure → Ready m) → (Sure → Given m v) → Safe Sure Any m (assigned_at p v m)
-  assigned_at_safe p v m r h = assigned_from p.root p.steps p.of p.bounded p.makes v m r h
+  pub assigned_at_safe : (p : Path) (v : Val) (m : Memory) → (Sure → Ready m) → (Sure → GivenPath m p) → (Sure → Given m v) → Safe Sure Any m (assigned_at p v m)
+  assigned_at_safe p v m r i h = assigned_from p.root p.steps p.of p.bounded p.makes v m r i h
 
   item_given : (base : Val) (vs : List Val) (v : Val) (m : Memory) → (Sure → Ready m) → (Sure → Given m base) → Safe Sure Any m (on_fine (item_by base vs m) (λ w m1. on_fine (plain v m1) (λ x m2. done m2)))
   item_given base vs v m r h = then_next (item_safe base vs m r h) (λ w m1 n1 q1. then_next (plain_any Sure v m1) (λ x m2 n2 q2. fine (λ s. tt)))

@@ -1,14 +1,14 @@
 -- Effects on Collections.
 use Rattle.std.proofs.Common.{◌≡◌, ℕ, zero, suc, ◌+◌, ◌<◌, Bool, true, false, List, [], ◌∷◌, length, Option, Some, None, refl, sym, subst, arith, ℤ, pos, negsuc}
 use Rattle.std.specs.Prelude.{◌==◌, ◌&&◌, nat_lt, slice_get, slice_index_or, slice_set, if◌then◌else◌}
-use Rattle.std.proofs.lemmas.Bool.{eqb-true, eq-eqb}
+use Rattle.std.proofs.lemmas.Bool.{eqb-true}
 use Rattle.vba_base.specs.Fold.{folded}
 use Rattle.vba_values.specs.declared.fault.OutKind.TheVariants as limit
 use Rattle.vba_values.specs.declared.object.ObjRef.TheVariants.{Heap}
 use Rattle.vba_values.specs.Types as type
 use Rattle.vba_values.specs.Val.{Val, empty, missing, text, object}
 use Rattle.vba_values.specs.Coerce.{coerce_of}
-use Rattle.vba_meaning.specs.Memory.{Memory, Object, outside, object_at, top}
+use Rattle.vba_meaning.specs.Memory.{Memory, Object, outside, object_at, rest, top}
 use Rattle.vba_meaning.specs.References.{objects_in, objects_in_values, times, times_in_objects, waits}
 use Rattle.vba_meaning.specs.Effects.{Effect, is_collection}
 use Rattle.vba_meaning.specs.Arrays.{number_in}
@@ -18,7 +18,7 @@ use Rattle.object_counts.proofs.Stored.{object_in}
 use Rattle.object_lives.proofs.Values.{none_in, in_self, Refers}
 use Rattle.object_lives.proofs.Held.{nth_value}
 use Rattle.object_lives.proofs.Marks.{kept_marked}
-use Rattle.object_lives.proofs.Near.{Present, AllThere, Ready, Later, present_set, held_there}
+use Rattle.object_lives.proofs.Near.{Present, AllThere, Ready, Later, reach, like_same, present_set, set_present, held_there}
 use Rattle.object_lives.proofs.Chains.{Any, Given, GivenAll, Safe, fine, fine_in, bad, out, then_next, then_safe, both, answered_any}
 use Rattle.object_lives.proofs.Variables.{plain_any, read_value_safe}
 use Rattle.object_lives.proofs.Arrays.{field_there}
@@ -54,12 +54,6 @@ itself o q lt = by_test (q == o) refl lt where
   by_test : (b : Bool) → (q == o) ≡ b → 0 < (if b then 1 else 0) + 0 → q ≡ o
   by_test true e h = eqb-true q o e
   by_test false e h = absurd (omega (arith, h))
-
-pub own_time : (o : ℕ) → 0 < times o (o ∷ [])
-own_time o = by_test (o == o) (eq-eqb o o refl) where
-  by_test : (b : Bool) → b ≡ true → 0 < (if b then 1 else 0) + 0
-  by_test true e = omega arith
-  by_test false e = absurd cc
 
 pub alone_there : (bs : List (Option Object)) (o : ℕ) → Present bs o → AllThere bs (o ∷ [])
 alone_there bs o h q lt = subst (λ n. Present bs n) (sym (itself o q lt)) h
@@ -109,8 +103,11 @@ module _ (Sure : Type 0) where
           grows = record { ordered = λ g. g; more = λ g k. omega (arith, other_fields k m.objects o b (h s), items_less k i (items_of o m), times-append k (objects_in v) m.waiting) };
           came_there = λ k lt. absurd (omega (arith, lt));
           there = λ k g. present_set m.objects o b k g;
+          fresh = λ k g n. absurd (n (set_present m.objects o b k (h s) g));
           held = in_self (top m).held;
-          below = refl;
+          called = refl;
+          me = refl;
+          below = like_same (reach m).floor (rest m.frames);
           bare = λ g. g;
         };
       }
@@ -133,8 +130,11 @@ module _ (Sure : Type 0) where
           grows = record { ordered = λ f. f; more = λ f k. omega (arith, other_fields k m.objects o b (h s), items_more k i v (items_of o m)) };
           came_there = λ k lt. present_set m.objects o b k (g s k lt);
           there = λ k f. present_set m.objects o b k f;
+          fresh = λ k f n. absurd (n (set_present m.objects o b k (h s) f));
           held = in_self (top m).held;
-          below = refl;
+          called = refl;
+          me = refl;
+          below = like_same (reach m).floor (rest m.frames);
           bare = λ f. f;
         };
       }

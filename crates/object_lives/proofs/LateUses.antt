@@ -13,9 +13,9 @@ use Rattle.vba_meaning.specs.Host.{as_given, member_there, member_assigned}
 use Rattle.vba_meaning.specs.ByName.{named_there, value_given, values_given, names_of_member, in_parameter_order}
 use Rattle.vba_meaning.specs.Defaults.{in_variable, by_let, in_member, as_operand, give_way, fit_to, write, let_item, Next, over_with, after_use, is_instance, class_of_value, parameters_of, without_last, last_type, is_object_type, can_be_object, nothing_more, put, write_along, most_passed}
 use Rattle.vba_meaning.specs.LateBound.{Use, reading, assigning, setting, Way, by_variable, by_call, by_setter, all_taken, given_twice, any_lacks, arguments_fit, argument_of, slot_or_left, slot_of, arranged_from, arranged, member_named, get_for_object, assigned_way, way_of, found_way, way_by_name, taken_by_way, has_names, indexes, what_is_indexed, way_there, host_there, late_there, how_many, tasks_for, parameter_for, keeps_object, argument_tasks, value_bound, place_copied, call_way, late_called, host_arguments, let_element, let_indexed, let_plain, let_way, item_let, host_let, late_let, set_way, late_set}
-use Rattle.object_lives.proofs.Values.{none_in, Refers}
-use Rattle.object_lives.proofs.Held.{Values, PathIn, SlotIn, Slots, Tasks, slot_more, slots_append, nth_slot, packed_in, slots_taken, slots_dropped, values_append, values_taken, values_dropped, values_of_slots}
-use Rattle.object_lives.proofs.Near.{Near, Ready}
+use Rattle.object_lives.proofs.Values.{none_in, in_then, Refers}
+use Rattle.object_lives.proofs.Held.{Reach, bare_from, Values, PathIn, SlotIn, Slots, Tasks, slots_append, nth_slot, packed_in, slots_taken, slots_dropped, values_append, values_taken, values_dropped, values_of_slots}
+use Rattle.object_lives.proofs.Near.{Near, reach, Ready}
 use Rattle.object_lives.proofs.Chains.{Any, Given, GivenAll, GivenPath, GivenSlots, still, still_all, still_slots, Safe, fine, bad, then_next, then_safe, both}
 use Rattle.object_lives.proofs.Variables.{set_object_safe, set_at_safe}
 use Rattle.object_lives.proofs.Arrays.{element_in_safe}
@@ -25,23 +25,23 @@ use Rattle.object_lives.proofs.Uses.{Bare, bare_but_last, Uses, over_safe, nothi
 
 -- ---- arguments in the order of the parameters
 
-or_left : (hs : List ℕ) (q : Parameter) (x : Slot) → SlotIn [] (slot_left_out q) → SlotIn hs x → SlotIn hs (slot_or_left q x)
-or_left hs q (value missing) b h = slot_more (none_in hs) (slot_left_out q) b
+or_left : (hs : Reach) (q : Parameter) (x : Slot) → SlotIn (bare_from 0) (slot_left_out q) → SlotIn hs x → SlotIn hs (slot_or_left q x)
+or_left hs q (value missing) b h = in_then b (none_in hs.held)
 or_left hs q (value v) b h = h
 or_left hs q (path p) b h = h
 
-slot_of_in : (hs : List ℕ) (q : Parameter) (xs : List Slot) (i : Option ℕ) → SlotIn [] (slot_left_out q) → Slots hs xs → SlotIn hs (slot_of q xs i)
-slot_of_in hs q xs None b h = slot_more (none_in hs) (slot_left_out q) b
-slot_of_in hs q xs (Some i) b h = or_left hs q (slice_index_or xs i (value missing)) b (nth_slot hs xs i (value missing) h (none_in hs))
+slot_of_in : (hs : Reach) (q : Parameter) (xs : List Slot) (i : Option ℕ) → SlotIn (bare_from 0) (slot_left_out q) → Slots hs xs → SlotIn hs (slot_of q xs i)
+slot_of_in hs q xs None b h = in_then b (none_in hs.held)
+slot_of_in hs q xs (Some i) b h = or_left hs q (slice_index_or xs i (value missing)) b (nth_slot hs xs i (value missing) h (none_in hs.held))
 
-arranged_from_in : (hs : List ℕ) (by : ByName) (j : ℕ) (qs : List Parameter) (xs : List Slot) → Bare qs → Slots hs xs → Slots hs (arranged_from by j qs xs)
+arranged_from_in : (hs : Reach) (by : ByName) (j : ℕ) (qs : List Parameter) (xs : List Slot) → Bare qs → Slots hs xs → Slots hs (arranged_from by j qs xs)
 arranged_from_in hs by j [] xs b h = tt
 arranged_from_in hs by j (q ∷ qs) xs b h = (by_test q.many, arranged_from_in hs by (suc j) qs xs b.1 h) where
   by_test : (t : Bool) → SlotIn hs (if t then value (packed (drop j (take by.before xs))) else slot_of q xs (argument_of by j q))
   by_test true = packed_in hs (drop j (take by.before xs)) (slots_dropped hs j (take by.before xs) (slots_taken hs by.before xs h))
   by_test false = slot_of_in hs q xs (argument_of by j q) b.0 h
 
-arranged_in : (hs : List ℕ) (qs : List Parameter) (by : ByName) (xs : List Slot) → Bare qs → Slots hs xs → Slots hs (arranged qs by xs)
+arranged_in : (hs : Reach) (qs : List Parameter) (by : ByName) (xs : List Slot) → Bare qs → Slots hs xs → Slots hs (arranged qs by xs)
 arranged_in hs qs by xs b h = arranged_from_in hs by 0 qs xs b h
 
 value_given_in : (hs : List ℕ) (p : ℕ) (qs : List ℕ) (vs : List Val) → Values hs vs → Refers hs (value_given p qs vs)
@@ -60,14 +60,14 @@ pub in_order_in : (hs : List ℕ) (base : Val) (name : List ℕ) (by : ByName) (
 in_order_in hs base name by vs h =
     values_append hs (take by.before vs) _ (values_taken hs by.before vs h) (values_given_in hs by.before (drop by.before (names_of_member base name)) _ (drop by.before vs) (values_dropped hs by.before vs h))
 
-pub host_arguments_in : (hs : List ℕ) (base : Val) (name : List ℕ) (by : ByName) (xs : List Slot) → Slots hs xs → Values hs (host_arguments base name by xs)
+pub host_arguments_in : (hs : Reach) (base : Val) (name : List ℕ) (by : ByName) (xs : List Slot) → Slots hs xs → Values hs.held (host_arguments base name by xs)
 host_arguments_in hs base name by xs h = by_test (has_names by) where
-  by_test : (b : Bool) → Values hs (if b then in_parameter_order base name by (slot_values xs) else slot_values xs)
-  by_test true = in_order_in hs base name by (slot_values xs) (values_of_slots hs xs h)
+  by_test : (b : Bool) → Values hs.held (if b then in_parameter_order base name by (slot_values xs) else slot_values xs)
+  by_test true = in_order_in hs.held base name by (slot_values xs) (values_of_slots hs xs h)
   by_test false = values_of_slots hs xs h
 
 -- what an argument is made before it goes to its parameter refers to nothing
-tasks_for_in : (hs : List ℕ) (q : Option Parameter) → Tasks hs (tasks_for q)
+tasks_for_in : (hs : Reach) (q : Option Parameter) → Tasks hs (tasks_for q)
 tasks_for_in hs None = tt
 tasks_for_in hs (Some q) = by_tests q.many (can_be_object q.of) where
   by_tests : (a b : Bool) → Tasks hs (if a then [] else if b then fit_to q.of ∷ [] else as_operand ∷ fit_to q.of ∷ [])
@@ -75,7 +75,7 @@ tasks_for_in hs (Some q) = by_tests q.many (can_be_object q.of) where
   by_tests false true = (tt, tt)
   by_tests false false = (tt, (tt, tt))
 
-argument_tasks_in : (hs : List ℕ) (d : Declarations) (aim : Use) (name : List ℕ) (by : ByName) (gs : List Bool) (i : ℕ) (base : Val) (m : Memory) → Tasks hs (argument_tasks d aim name by gs i base m)
+argument_tasks_in : (hs : Reach) (d : Declarations) (aim : Use) (name : List ℕ) (by : ByName) (gs : List Bool) (i : ℕ) (base : Val) (m : Memory) → Tasks hs (argument_tasks d aim name by gs i base m)
 argument_tasks_in hs d aim name by gs i base m = by_tests (is_instance base m) (keeps_object name by i) where
   by_tests : (a b : Bool) → Tasks hs (if a then tasks_for (parameter_for d aim name by gs i base m) else if b then [] else give_way ∷ [])
   by_tests true b = tasks_for_in hs (parameter_for d aim name by gs i base m)
@@ -85,30 +85,30 @@ argument_tasks_in hs d aim name by gs i base m = by_tests (is_instance base m) (
 -- ---- what is found by a name
 
 -- a variable of an object is no item of a Collection
-abbrev pub WayIn : List ℕ → Way → Type 0
+abbrev pub WayIn : Reach → Way → Type 0
 WayIn hs (by_variable q) = PathIn hs q
 WayIn hs (by_call p property) = Unit {0}
 WayIn hs (by_setter p) = Unit {0}
 
-abbrev Found : List ℕ → Option Way → Type 0
+abbrev Found : Reach → Option Way → Type 0
 Found hs None = Unit {0}
 Found hs (Some w) = WayIn hs w
 
-if_found : (hs : List ℕ) (b : Bool) (x y : Option Way) → Found hs x → Found hs y → Found hs (if b then x else y)
+if_found : (hs : Reach) (b : Bool) (x y : Option Way) → Found hs x → Found hs y → Found hs (if b then x else y)
 if_found hs true x y h k = h
 if_found hs false x y h k = k
 
-get_found : (hs : List ℕ) (d : Declarations) (p : Option ℕ) → Found hs (get_for_object d p)
+get_found : (hs : Reach) (d : Declarations) (p : Option ℕ) → Found hs (get_for_object d p)
 get_found hs d None = tt
 get_found hs d (Some p) = if_found hs (can_be_object (procedure_at d p).result.of) (Some (by_call p true)) None tt tt
 
-assigned_found : (hs : List ℕ) (d : Declarations) (k : ℕ) (v : Val) (x : Member) (m : Memory) → Found hs (assigned_way d k v x m)
+assigned_found : (hs : Reach) (d : Declarations) (k : ℕ) (v : Val) (x : Member) (m : Memory) → Found hs (assigned_way d k v x m)
 assigned_found hs d k v (is_variable i makes) m = tt
 assigned_found hs d k v (is_procedure p) m = if_found hs _ None (Some (by_call p false)) tt tt
 assigned_found hs d k v (is_property reads (Some p) sets) m = if_found hs _ (get_for_object d reads) (Some (by_setter p)) (get_found hs d reads) tt
 assigned_found hs d k v (is_property reads None sets) m = get_found hs d reads
 
-way_found : (hs : List ℕ) (d : Declarations) (aim : Use) (k : ℕ) (v : Val) (x : Member) (m : Memory) → Found hs (way_of d aim k v x m)
+way_found : (hs : Reach) (d : Declarations) (aim : Use) (k : ℕ) (v : Val) (x : Member) (m : Memory) → Found hs (way_of d aim k v x m)
 way_found hs d reading k v (is_variable i makes) m = tt
 way_found hs d reading k v (is_procedure p) m = tt
 way_found hs d reading k v (is_property (Some p) lets sets) m = tt
@@ -118,15 +118,15 @@ way_found hs d setting k v (is_variable i makes) m = tt
 way_found hs d setting k v (is_property reads lets (Some p)) m = tt
 way_found hs d setting k v x m = tt
 
-found_way_in : (hs : List ℕ) (d : Declarations) (aim : Use) (k : ℕ) (v : Val) (x : Option Member) (m : Memory) → Found hs (found_way d aim k v x m)
+found_way_in : (hs : Reach) (d : Declarations) (aim : Use) (k : ℕ) (v : Val) (x : Option Member) (m : Memory) → Found hs (found_way d aim k v x m)
 found_way_in hs d aim k v None m = tt
 found_way_in hs d aim k v (Some x) m = way_found hs d aim k v x m
 
 module _ (Sure : Type 0) where
   abbrev GivenWay : Memory → Way → Type 0
-  GivenWay m w = WayIn (top m).held w
+  GivenWay m w = WayIn (reach m) w
 
-  way_safe : (n : ℕ) (x : Option Way) (m : Memory) → Found (top m).held x → Safe Sure GivenWay m (found_or n x m)
+  way_safe : (n : ℕ) (x : Option Way) (m : Memory) → Found (reach m) x → Safe Sure GivenWay m (found_or n x m)
   way_safe n None m h = bad n m
   way_safe n (Some w) m h = fine (λ s. h)
 
@@ -134,7 +134,7 @@ module _ (Sure : Type 0) where
     -- what is found by a name, and then
     found_safe : (aim : Use) (name : List ℕ) (gs : List Bool) (v : Val) {f : Way → Memory → Effect Next} (m : Memory) → (Sure → Ready m)
         → ((w : Way) (m1 : Memory) → (Sure → Ready m1) → (Sure → Near m m1) → (Sure → GivenWay m1 w) → Uses Sure m1 (f w m1)) → Uses Sure m (on_fine (found_or 438 (way_by_name d aim name gs v m) m) f)
-    found_safe aim name gs v m r k = then_safe r (way_safe 438 (way_by_name d aim name gs v m) m (found_way_in (top m).held d aim (how_many gs) v (member_named (class_of_value d v m).members name) m)) k
+    found_safe aim name gs v m r k = then_safe r (way_safe 438 (way_by_name d aim name gs v m) m (found_way_in (reach m) d aim (how_many gs) v (member_named (class_of_value d v m).members name) m)) k
 
     -- ---- a use begins
 
@@ -173,24 +173,24 @@ module _ (Sure : Type 0) where
 
     pub value_bound_safe : (aim : Use) (name : List ℕ) (by : ByName) (gs : List Bool) (i : ℕ) (base v : Val) (m : Memory) → (Sure → Ready m) → (Sure → Given m v) → Uses Sure m (value_bound d aim name by gs i base v m)
     value_bound_safe aim name by gs i base missing m r h = fine h
-    value_bound_safe aim name by gs i base v m r h = tasks_safe Sure d bare (argument_tasks d aim name by gs i base m) v m r (λ s. argument_tasks_in (top m).held d aim name by gs i base m) h
+    value_bound_safe aim name by gs i base v m r h = tasks_safe Sure d bare (argument_tasks d aim name by gs i base m) v m r (λ s. argument_tasks_in (reach m) d aim name by gs i base m) h
 
     pub place_copied_safe : (aim : Use) (name : List ℕ) (by : ByName) (gs : List Bool) (i : ℕ) (base : Val) (q : Path) (m : Memory) → (Sure → Ready m) → (Sure → GivenPath m q)
         → Uses Sure m (place_copied d aim name by gs i base q m)
     place_copied_safe aim name by gs i base q m r h =
-        use_then_safe Sure d bare (argument_tasks d aim name by gs i base m) r (λ s. argument_tasks_in (top m).held d aim name by gs i base m) (read_variable_safe Sure d bare q m r h)
+        use_then_safe Sure d bare (argument_tasks d aim name by gs i base m) r (λ s. argument_tasks_in (reach m) d aim name by gs i base m) (read_variable_safe Sure d bare q m r h)
 
     -- ---- a member is read or called
 
     call_way_safe : (by : ByName) (gs : List Bool) (base begun : Val) (xs : List Slot) (w : Way) (m : Memory) → (Sure → Ready m) → (Sure → Given m base) → (Sure → Given m begun) → (Sure → GivenSlots m xs) → (Sure → GivenWay m w)
         → Uses Sure m (call_way d by gs base begun xs w m)
     call_way_safe by gs base begun xs (by_variable q) m r h i g k =
-        both (indexes d by gs (by_variable q)) (index_along_safe Sure d bare most_passed (slot_values xs) begun m r i (λ s. values_of_slots (top m).held xs (g s))) (read_variable_safe Sure d bare q m r k)
+        both (indexes d by gs (by_variable q)) (index_along_safe Sure d bare most_passed (slot_values xs) begun m r i (λ s. values_of_slots (reach m) xs (g s))) (read_variable_safe Sure d bare q m r k)
     call_way_safe by gs base begun xs (by_call p property) m r h i g k =
-        both (indexes d by gs (by_call p property)) (index_along_safe Sure d bare most_passed (slot_values xs) begun m r i (λ s. values_of_slots (top m).held xs (g s)))
-        (fine (λ s. (h s, arranged_in (top m).held (parameters_of d p) by xs (bare s p) (g s), tt)))
+        both (indexes d by gs (by_call p property)) (index_along_safe Sure d bare most_passed (slot_values xs) begun m r i (λ s. values_of_slots (reach m) xs (g s)))
+        (fine (λ s. (h s, arranged_in (reach m) (parameters_of d p) by xs (bare s p) (g s), tt)))
     call_way_safe by gs base begun xs (by_setter p) m r h i g k =
-        both (indexes d by gs (by_setter p)) (index_along_safe Sure d bare most_passed (slot_values xs) begun m r i (λ s. values_of_slots (top m).held xs (g s))) (bad 438 m)
+        both (indexes d by gs (by_setter p)) (index_along_safe Sure d bare most_passed (slot_values xs) begun m r i (λ s. values_of_slots (reach m) xs (g s))) (bad 438 m)
 
     pub late_called_safe : (name : List ℕ) (by : ByName) (gs : List Bool) (base begun : Val) (xs : List Slot) (m : Memory) → (Sure → Ready m) → (Sure → Given m base) → (Sure → Given m begun) → (Sure → GivenSlots m xs)
         → Uses Sure m (late_called d name by gs base begun xs m)
@@ -219,14 +219,14 @@ module _ (Sure : Type 0) where
     let_plain_safe : (by : ByName) (base : Val) (xs : List Slot) (v : Val) (w : Way) (m : Memory) → (Sure → Ready m) → (Sure → Given m base) → (Sure → GivenSlots m xs) → (Sure → Given m v) → (Sure → GivenWay m w)
         → Uses Sure m (let_plain d by base xs v w m)
     let_plain_safe by base xs v (by_variable q) m r i k h g = both (is_object_type q.of) (written_safe v r h (read_variable_safe Sure d bare q m r g)) (put_safe Sure d bare (in_variable q) v m r h g)
-    let_plain_safe by base xs v (by_call p property) m r i k h g = fine (λ s. (i s, arranged_in (top m).held (parameters_of d p) by xs (bare s p) (k s), (h s, tt)))
+    let_plain_safe by base xs v (by_call p property) m r i k h g = fine (λ s. (i s, arranged_in (reach m) (parameters_of d p) by xs (bare s p) (k s), (h s, tt)))
     let_plain_safe by base xs v (by_setter p) m r i k h g =
-        put_safe Sure d bare (by_let p base (arranged (without_last (parameters_of d p)) by xs)) v m r h (λ s. (i s, arranged_in (top m).held (without_last (parameters_of d p)) by xs (bare_but_last (parameters_of d p) (bare s p)) (k s)))
+        put_safe Sure d bare (by_let p base (arranged (without_last (parameters_of d p)) by xs)) v m r h (λ s. (i s, arranged_in (reach m) (without_last (parameters_of d p)) by xs (bare_but_last (parameters_of d p) (bare s p)) (k s)))
 
     let_way_safe : (by : ByName) (gs : List Bool) (base begun : Val) (xs : List Slot) (v : Val) (w : Way) (m : Memory) → (Sure → Ready m) → (Sure → Given m base) → (Sure → Given m begun) → (Sure → GivenSlots m xs) → (Sure → Given m v) → (Sure → GivenWay m w)
         → Uses Sure m (let_way d by gs base begun xs v w m)
     let_way_safe by gs base begun xs v w m r i j k h g =
-        both (indexes d by gs w) (let_indexed_safe begun (slot_values xs) v w m r j (λ s. values_of_slots (top m).held xs (k s)) h g) (let_plain_safe by base xs v w m r i k h g)
+        both (indexes d by gs w) (let_indexed_safe begun (slot_values xs) v w m r j (λ s. values_of_slots (reach m) xs (k s)) h g) (let_plain_safe by base xs v w m r i k h g)
 
     item_let_safe : (o : ℕ) (how : CollectionMember) (vs : List Val) (v : Val) (m : Memory) → (Sure → Ready m) → (Sure → Given m v) → Uses Sure m (item_let d o how vs v m)
     item_let_safe o is_item vs v m r h = written_safe v r h (over_safe Sure (item_found_safe Sure o vs m r))
@@ -248,17 +248,17 @@ module _ (Sure : Type 0) where
     late_let_safe name by gs base begun xs v m r i j k h =
         both (is_instance base m)
         (found_safe assigning name gs base m r (λ w m1 r1 n1 q1. let_way_safe by gs base begun xs v w m1 r1 (still n1 base i) (still n1 begun j) (still_slots n1 xs k) (still n1 v h) q1))
-        (host_let_safe name (host_arguments base name by xs) base begun v m r (λ s. host_arguments_in (top m).held base name by xs (k s)) i j h)
+        (host_let_safe name (host_arguments base name by xs) base begun v m r (λ s. host_arguments_in (reach m) base name by xs (k s)) i j h)
 
     -- ---- a member is set
 
     set_way_safe : (by : ByName) (gs : List Bool) (base : Val) (xs : List Slot) (v : Val) (w : Way) (m : Memory) → (Sure → Ready m) → (Sure → Given m base) → (Sure → GivenSlots m xs) → (Sure → Given m v) → (Sure → GivenWay m w)
         → Uses Sure m (set_way d by gs base xs v w m)
     set_way_safe by gs base xs v (by_variable q) m r i k h g =
-        both (indexes d by gs (by_variable q)) (then_safe r (place_at_safe Sure q (slot_values xs) m r g) (λ p m1 r1 n1 q1. nothing_safe Sure (set_at_safe Sure p v m1 r1 (still n1 v h)))) (nothing_safe Sure (set_at_safe Sure q v m r h))
+        both (indexes d by gs (by_variable q)) (then_safe r (place_at_safe Sure q (slot_values xs) m r g) (λ p m1 r1 n1 q1. nothing_safe Sure (set_at_safe Sure p v m1 r1 q1 (still n1 v h)))) (nothing_safe Sure (set_at_safe Sure q v m r g h))
     set_way_safe by gs base xs v (by_setter p) m r i k h g =
         then_next (set_object_safe Sure (last_type (parameters_of d p)) v m h) (λ w m1 n1 q1.
-        fine (λ s. (still n1 base i s, slots_append (top m1).held (arranged (without_last (parameters_of d p)) by xs) (value w ∷ []) (arranged_in (top m1).held (without_last (parameters_of d p)) by xs (bare_but_last (parameters_of d p) (bare s p)) (still_slots n1 xs k s)) (q1 s, tt), tt)))
+        fine (λ s. (still n1 base i s, slots_append (reach m1) (arranged (without_last (parameters_of d p)) by xs) (value w ∷ []) (arranged_in (reach m1) (without_last (parameters_of d p)) by xs (bare_but_last (parameters_of d p) (bare s p)) (still_slots n1 xs k s)) (q1 s, tt), tt)))
     set_way_safe by gs base xs v (by_call p property) m r i k h g = bad 438 m
 
     pub late_set_safe : (name : List ℕ) (by : ByName) (gs : List Bool) (base : Val) (xs : List Slot) (v : Val) (m : Memory) → (Sure → Ready m) → (Sure → Given m base) → (Sure → GivenSlots m xs) → (Sure → Given m v)

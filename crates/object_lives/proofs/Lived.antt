@@ -1,6 +1,8 @@
--- Each reference that a run's memory has leads to an object that is there, at each step and at every ending.
-use Rattle.std.proofs.Common.{◌≡◌, ℕ, zero, suc, Bool, true, false, List, [], ◌∷◌, ◌++◌, Option, Some, None, refl, sym, subst, arith}
-use Rattle.std.specs.Prelude.{nat_lt, slice_index, slice_index_or, if◌then◌else◌}
+-- Each reference that a run's memory has leads to an object that is there, at each step and at every ending, and an object
+-- that is there is referred to.
+use Rattle.std.proofs.Common.{◌≡◌, ℕ, zero, suc, Bool, true, false, List, [], ◌∷◌, ◌++◌, Option, Some, None, refl, sym, ◌∙◌, subst, arith}
+use Rattle.std.specs.Prelude.{◌==◌, nat_lt, slice_index, slice_index_or, if◌then◌else◌}
+use Rattle.std.proofs.lemmas.Bool.{eqb-true, eq-eqb}
 use Rattle.sheet_host.specs.Books.{Sheets}
 use Rattle.vba_values.specs.Val.{empty}
 use Rattle.bound_project.specs.Project.{Project}
@@ -13,12 +15,14 @@ use Rattle.pcode.specs.Layout.{code_of}
 use Rattle.pcode.specs.WellFormed.{WellFormed}
 use Rattle.pcode.proofs.Sounds.{well_formed}
 use Rattle.pcode.specs.Machine.{Config, Move, Goes, Ends, Sticks, Tells, Turns, at, step, first_move}
+use Rattle.object_counts.specs.Counts.{count_of}
 use Rattle.object_counts.specs.Counting.{counted_after, Outcome, Running, Finished, Jammed, telling, follow_counted, counting_machine, first_counts, run_counted}
 use Rattle.object_counts.specs.Balance.{Balanced, Leads, BalancedAt}
 use Rattle.object_counts.proofs.Whole.{step_counts, run_counts}
+use Rattle.object_lives.specs.Referred.{AllReferred, AllButOneReferred, ReferredAt}
 use Rattle.object_lives.specs.Lives.{IsThere, Alive, AllAlive, AliveAt, HasPlainDefaults}
 use Rattle.object_lives.proofs.Near.{Has, Present, Ready}
-use Rattle.object_lives.proofs.Places.{Kept}
+use Rattle.object_lives.proofs.Places.{Tight, Over, Kept}
 use Rattle.object_lives.proofs.Moves.{Fares}
 use Rattle.object_lives.proofs.Steps.{step_good}
 use Rattle.object_lives.proofs.Told.{first_fares}
@@ -37,35 +41,53 @@ alive_of m r = record { leads = λ o lt. is_there m o (r.live o lt) }
 all_alive : {counts : List ℕ} {m : Memory} → Balanced counts m → Ready m → AllAlive counts m
 all_alive {m = m} b r = record { alive = alive_of m r; counted = λ o lt. is_there m o (r.live o (omega (arith, b.right o, lt))) }
 
-told_alive : (es : List Event) (r : Outcome) → AliveAt r → AliveAt (telling es r)
-told_alive es (Running counts c) h = h
-told_alive es (Finished counts e s more) h = h
-told_alive es Jammed h = h
+-- the object of a number that is there is so in the list of objects
+there_present : (m : Memory) (o : ℕ) → IsThere m o → Present m.objects o
+there_present m o h = subst (λ x. Has x) (sym h.1) tt
+
+all_referred : {counts : List ℕ} {m : Memory} → Balanced counts m → Tight m → AllReferred counts m
+all_referred {m = m} b t = record { ended = λ o z h. absurd (omega (arith, b.right o, z, t.referred o (there_present m o h))) }
+
+one_ends : {counts : List ℕ} {m : Memory} → Balanced counts m → Over m → AllButOneReferred counts m
+one_ends {counts = counts} {m = m} b v = record { ending = v.lost; ended = λ o z h. by_test o z h (o == v.lost) refl } where
+  by_test : (o : ℕ) → count_of counts o ≡ 0 → IsThere m o → (t : Bool) → (o == v.lost) ≡ t → o ≡ v.lost
+  by_test o z h true e = eqb-true o v.lost e
+  by_test o z h false e =
+      absurd (omega (arith, b.right o, z, v.nearly.others o (there_present m o h) (λ same. absurd (let no : true ≡ false = sym (eq-eqb o v.lost same) ∙ e in cc))))
+
+-- both at once
+abbrev Kept-at : Outcome → Type 0
+Kept-at r = AliveAt r × ReferredAt r
+
+told_kept : (es : List Event) (r : Outcome) → Kept-at r → Kept-at (telling es r)
+told_kept es (Running counts c) h = h
+told_kept es (Finished counts e s more) h = h
+told_kept es Jammed h = h
 
 module _ (code : Code) (w : WellFormed code) (d : HasPlainDefaults code.declared) (bound : ℕ) where
   abbrev Follows : ℕ → Type 0
-  Follows k = (counts : List ℕ) (c : Config) → Balanced counts c.state.memory → Kept c → AliveAt (counting_machine code bound k counts c)
+  Follows k = (counts : List ℕ) (c : Config) → Balanced counts c.state.memory → Kept c → Kept-at (counting_machine code bound k counts c)
 
-  follow_alive : (k : ℕ) → Follows k → (counts : List ℕ) (bs : List (Option Object)) (es : List Event) (v : Move) → Leads bound (Balanced counts) v → Fares (Unit {0}) bs es v
-      → AliveAt (follow_counted bound counts v (counting_machine code bound k))
-  follow_alive k more counts bs es (Goes c) b h = more counts c b (h.1 tt)
-  follow_alive k more counts bs es (Ends e s) b h = all_alive b (h.1 tt)
-  follow_alive k more counts bs es Sticks b h = tt
-  follow_alive k more counts bs es (Tells hs v) b h = told_alive hs (follow_counted bound counts v (counting_machine code bound k)) (follow_alive k more counts bs (es ++ hs) v b h)
-  follow_alive k more counts bs es (Turns s v) b h = by_turn (nat_lt s.begun bound) refl (λ e. follow_alive k more counts bs es v (b.1 e) h.1) where
-    by_turn : (t : Bool) → nat_lt s.begun bound ≡ t → (nat_lt s.begun bound ≡ true → AliveAt (follow_counted bound counts v (counting_machine code bound k)))
-        → AliveAt (if t then follow_counted bound counts v (counting_machine code bound k) else Finished counts Going s [])
+  follow_kept : (k : ℕ) → Follows k → (counts : List ℕ) (bs : List (Option Object)) (es : List Event) (v : Move) → Leads bound (Balanced counts) v → Fares (Unit {0}) bs es v
+      → Kept-at (follow_counted bound counts v (counting_machine code bound k))
+  follow_kept k more counts bs es (Goes c) b h = more counts c b (h.1 tt)
+  follow_kept k more counts bs es (Ends e s) b h = (all_alive b (h.1 tt).ready, one_ends b (h.1 tt))
+  follow_kept k more counts bs es Sticks b h = (tt, tt)
+  follow_kept k more counts bs es (Tells hs v) b h = told_kept hs (follow_counted bound counts v (counting_machine code bound k)) (follow_kept k more counts bs (es ++ hs) v b h)
+  follow_kept k more counts bs es (Turns s v) b h = by_turn (nat_lt s.begun bound) refl (λ e. follow_kept k more counts bs es v (b.1 e) h.1) where
+    by_turn : (t : Bool) → nat_lt s.begun bound ≡ t → (nat_lt s.begun bound ≡ true → Kept-at (follow_counted bound counts v (counting_machine code bound k)))
+        → Kept-at (if t then follow_counted bound counts v (counting_machine code bound k) else Finished counts Going s [])
     by_turn true e goes = goes e
-    by_turn false e goes = all_alive (b.0 e) (h.0.1 tt)
+    by_turn false e goes = (all_alive (b.0 e) (h.0.1 tt).ready, one_ends (b.0 e) (h.0.1 tt))
 
   follows : (k : ℕ) → Follows k
-  follows zero counts c b h = all_alive b h.here.ready
+  follows zero counts c b h = (all_alive b h.ready, all_referred b h.tight)
   follows (suc k) counts c b h =
       let counted = step_counts code bound counts c b in
       let after : List ℕ = counted_after code bound counts c in
-      subst (λ v. AliveAt (follow_counted bound after v (counting_machine code bound k))) (sym counted.same)
-      (follow_alive k (follows k) after c.state.memory.objects [] (step code c) counted.balanced
-      (step_good (Unit {0}) code (λ x. plain_defaults code.declared d) (λ x. plain_code code w) c.mode c.stack c.backs c.state (λ x. h.here) (λ x. h.mode)).law)
+      subst (λ v. Kept-at (follow_counted bound after v (counting_machine code bound k))) (sym counted.same)
+      (follow_kept k (follows k) after c.state.memory.objects [] (step code c) counted.balanced
+      (step_good (Unit {0}) code (λ x. plain_defaults code.declared d) (λ x. plain_code code w) c (λ x. h)).law)
 
   -- the macro is called, and the counts are right then
   first_balanced : (book : Sheets) → Balanced (first_counts code) (entered code.declared false code.startup empty (startup_slots code.declared code.startup) (opening code.declared book))
@@ -77,11 +99,17 @@ module _ (code : Code) (w : WellFormed code) (d : HasPlainDefaults code.declared
     by_turn true h = h
     by_turn false h = h
 
-  pub run_alive : (book : Sheets) (k : ℕ) → AliveAt (run_counted code book bound k)
-  run_alive book k =
+  run_kept : (book : Sheets) (k : ℕ) → Kept-at (run_counted code book bound k)
+  run_kept book k =
       let b = first_balanced book in
-      follow_alive k (follows k) (first_counts code) (None ∷ []) [] (first_move code book) (λ e. b, λ e. b)
+      follow_kept k (follows k) (first_counts code) (None ∷ []) [] (first_move code book) (λ e. b, λ e. b)
       (first_fares (Unit {0}) code (λ x. plain_defaults code.declared d) book)
+
+  pub run_alive : (book : Sheets) (k : ℕ) → AliveAt (run_counted code book bound k)
+  run_alive book k = (run_kept book k).0
+
+  pub run_referred : (book : Sheets) (k : ℕ) → ReferredAt (run_counted code book bound k)
+  run_referred book k = (run_kept book k).1
 
 -- and so at the end of what a project means
 pub meant_alive : (pr : Project) (book : Sheets) (turns : ℕ) → IsWhole pr → HasPlainDefaults pr.declared → Alive (meaning pr book turns).state.memory

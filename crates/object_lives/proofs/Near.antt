@@ -1,17 +1,18 @@
 -- A later memory of a run: which objects it has, and that what referred to them still does.
 use Rattle.std.proofs.Common.{◌≡◌, ℕ, zero, suc, ◌<◌, ◌≤◌, Bool, true, false, List, [], ◌∷◌, ◌++◌, length, Option, Some, None, refl, sym, ap, ◌∙◌, subst, arith}
-use Rattle.std.specs.Prelude.{◌==◌, nat_lt, slice_index_or, slice_set, if◌then◌else◌}
+use Rattle.std.specs.Prelude.{◌==◌, nat_lt, slice_get, slice_index_or, slice_set, if◌then◌else◌}
 use Rattle.std.proofs.lemmas.List.{get_or-set_other}
+use Rattle.std.proofs.lemmas.Bool.{eqb-true}
 use Rattle.vba_values.specs.Val.{Val}
 use Rattle.vba_meaning.specs.Paths.{Root, in_frame, in_project, in_fields, in_block, in_object, in_item, Path}
-use Rattle.vba_meaning.specs.Memory.{Slot, value, path, Kept, only, at_path, walk, Memory, Object, Frame, first_or, rest, top, with_slot, with_kept, put, without, found, with_root, written, with_value, root_value, with_field, object_at}
+use Rattle.vba_meaning.specs.Memory.{Slot, value, path, Kept, only, at_path, walk, Memory, Object, Frame, first_or, rest, top, with_slot, with_kept, put, without, found, with_root, written, with_value, root_value, with_field, object_at, object_or}
 use Rattle.vba_meaning.specs.References.{times, times_in_frames, looks}
 use Rattle.vba_meaning.specs.Effects.{Event}
 use Rattle.object_counts.specs.Balance.{FramesInOrder}
 use Rattle.object_counts.proofs.Indexed.{times-append}
 use Rattle.object_counts.proofs.Looks.{Grows, same, grown, in_one}
 use Rattle.object_lives.proofs.Values.{In, either_of, in_self, in_then}
-use Rattle.object_lives.proofs.Held.{PathIn}
+use Rattle.object_lives.proofs.Held.{Reach, bare_from, Wider, RootIn, PathIn}
 use Rattle.object_lives.proofs.Marks.{Marked, unmarked, marked_then, kept_marked}
 
 -- ---- objects that are there
@@ -51,40 +52,111 @@ pub present_last : (bs : List (Option Object)) (b : Object) → Present (bs ++ S
 present_last [] b = tt
 present_last (c ∷ bs) b = present_last bs b
 
+-- each number is that of an object that is there, or it isn't
+pub decided : {X : Type 0} (bs : List (Option Object)) (o : ℕ) → (Present bs o → X) → ((Present bs o → ⊥) → X) → X
+decided {X = X} bs o f g = by_object (slice_index_or bs o None) f g where
+  by_object : (x : Option Object) → (Has x → X) → ((Has x → ⊥) → X) → X
+  by_object None f g = g (λ h. h)
+  by_object (Some b) f g = f tt
+
+-- another object takes the place of one that is there
+pub set_present : (bs : List (Option Object)) (p : ℕ) (b : Object) (o : ℕ) → Present bs p → Present (slice_set bs p (Some b)) o → Present bs o
+set_present [] zero b o h k = absurd h
+set_present [] (suc p) b o h k = absurd h
+set_present (c ∷ bs) zero b zero h k = h
+set_present (c ∷ bs) zero b (suc o) h k = k
+set_present (c ∷ bs) (suc p) b zero h k = k
+set_present (c ∷ bs) (suc p) b (suc o) h k = set_present bs p b o h k
+
+pub more_present : (bs : List (Option Object)) (b : Object) (o : ℕ) → Present (bs ++ Some b ∷ []) o → (Present bs o → ⊥) → o ≡ length bs
+more_present [] b zero k n = refl
+more_present [] b (suc o) k n = absurd k
+more_present (c ∷ bs) b zero k n = absurd (n k)
+more_present (c ∷ bs) b (suc o) k n = ap suc (more_present bs b o k n)
+
 -- ---- frames
 
--- what the frames hold
-abbrev pub helds : List Frame → List (List ℕ)
-helds [] = []
-helds (f ∷ fs) = f.held ∷ helds fs
+-- which of the frames were called by code
+abbrev pub calleds : List Frame → List Bool
+calleds [] = []
+calleds (f ∷ fs) = f.called ∷ calleds fs
 
-abbrev pub first : List (List ℕ) → List ℕ
-first [] = []
+-- the calls of the first frame stand on that of a Class_Terminate or of the macro; its number
+abbrev pub floor_of : List Bool → ℕ
+floor_of [] = 0
+floor_of (true ∷ bs) = floor_of bs
+floor_of (false ∷ bs) = length bs
+
+floor_within : (bs : List Bool) → floor_of bs ≤ length bs
+floor_within [] = omega arith
+floor_within (true ∷ bs) = omega (arith, floor_within bs)
+floor_within (false ∷ bs) = omega arith
+
+pub floor_first : (b : Bool) (bs : List Bool) → floor_of (b ∷ bs) ≤ length bs
+floor_first true bs = floor_within bs
+floor_first false bs = omega arith
+
+pub each_called : (fs : List Frame) → length (calleds fs) ≡ length fs
+each_called [] = refl
+each_called (f ∷ fs) = ap suc (each_called fs)
+
+-- what the first frame refers to and leads to
+abbrev pub reach_of : List Frame → Reach
+reach_of fs = record { held = (first_or fs).held; floor = floor_of ((first_or fs).called ∷ calleds (rest fs)) }
+
+abbrev pub reach : Memory → Reach
+reach m = reach_of m.frames
+
+-- a path of the running frame may lead to itself
+pub own_floor : (m : Memory) → (reach m).floor ≤ length (rest m.frames)
+own_floor m = omega (arith, floor_first (top m).called (calleds (rest m.frames)), each_called (rest m.frames))
+
+-- each of the frames
+abbrev pub reaches : List Frame → List Reach
+reaches [] = []
+reaches (f ∷ fs) = record { held = f.held; floor = floor_of (f.called ∷ calleds fs) } ∷ reaches fs
+
+abbrev pub first : List Reach → Reach
+first [] = bare_from 0
 first (h ∷ hs) = h
 
--- the paths that frames have refer to nothing themselves
-abbrev pub BareSlots : List Slot → Type 0
-BareSlots [] = Unit {0}
-BareSlots (value v ∷ xs) = BareSlots xs
-BareSlots (path q ∷ xs) = PathIn [] q × BareSlots xs
+pub first_held : (fs : List Frame) → first (reaches fs) ≡ reach_of fs
+first_held [] = refl
+first_held (f ∷ fs) = refl
 
-abbrev pub BareKept : Kept → Type 0
-BareKept (only v) = Unit {0}
-BareKept (at_path q) = PathIn [] q
-BareKept (walk begun v k) = Unit {0}
+pub floor_frames : (fs : List Frame) → floor_of (calleds fs) ≡ (reach_of fs).floor
+floor_frames [] = refl
+floor_frames (f ∷ fs) = refl
 
-abbrev pub BareKeeps : List (ℕ × Kept) → Type 0
-BareKeeps [] = Unit {0}
-BareKeeps (e ∷ es) = BareKept e.1 × BareKeeps es
+pub rest_helds : (fs : List Frame) → reaches (rest fs) ≡ rest (reaches fs)
+rest_helds [] = refl
+rest_helds (f ∷ fs) = refl
 
-abbrev pub BareFrame : Frame → Type 0
-BareFrame f = BareSlots f.slots × BareKeeps f.keeps
+-- ---- paths of frames
+
+-- the paths that frames have refer to nothing themselves, and lead to no frame under their floor
+abbrev pub BareSlots : ℕ → List Slot → Type 0
+BareSlots l [] = Unit {0}
+BareSlots l (value v ∷ xs) = BareSlots l xs
+BareSlots l (path q ∷ xs) = PathIn (bare_from l) q × BareSlots l xs
+
+abbrev pub BareKept : ℕ → Kept → Type 0
+BareKept l (only v) = Unit {0}
+BareKept l (at_path q) = PathIn (bare_from l) q
+BareKept l (walk begun v k) = Unit {0}
+
+abbrev pub BareKeeps : ℕ → List (ℕ × Kept) → Type 0
+BareKeeps l [] = Unit {0}
+BareKeeps l (e ∷ es) = BareKept l e.1 × BareKeeps l es
+
+abbrev pub BareFrame : ℕ → Frame → Type 0
+BareFrame l f = BareSlots l f.slots × BareKeeps l f.keeps
 
 abbrev pub BareFrames : List Frame → Type 0
 BareFrames [] = Unit {0}
-BareFrames (f ∷ fs) = BareFrame f × BareFrames fs
+BareFrames (f ∷ fs) = BareFrame (floor_of (f.called ∷ calleds fs)) f × BareFrames fs
 
-pub bare_first : (fs : List Frame) → BareFrames fs → BareFrame (first_or fs)
+pub bare_first : (fs : List Frame) → BareFrames fs → BareFrame (reach_of fs).floor (first_or fs)
 bare_first [] h = (tt, tt)
 bare_first (f ∷ fs) h = h.0
 
@@ -92,75 +164,142 @@ pub bare_rest : (fs : List Frame) → BareFrames fs → BareFrames (rest fs)
 bare_rest [] h = tt
 bare_rest (f ∷ fs) h = h.1
 
-pub bare_put : (i : ℕ) (k : Kept) (es : List (ℕ × Kept)) → BareKept k → BareKeeps es → BareKeeps (put i k es)
-bare_put i k [] h g = (h, tt)
-bare_put i k (e ∷ es) h g = by_tests (e.0 == i) (nat_lt i e.0) (bare_put i k es h g.1) where
-  by_tests : (b c : Bool) → BareKeeps (put i k es) → BareKeeps (if b then (i, k) ∷ es else if c then (i, k) ∷ e ∷ es else e ∷ put i k es)
+pub bare_put : (l i : ℕ) (k : Kept) (es : List (ℕ × Kept)) → BareKept l k → BareKeeps l es → BareKeeps l (put i k es)
+bare_put l i k [] h g = (h, tt)
+bare_put l i k (e ∷ es) h g = by_tests (e.0 == i) (nat_lt i e.0) (bare_put l i k es h g.1) where
+  by_tests : (b c : Bool) → BareKeeps l (put i k es) → BareKeeps l (if b then (i, k) ∷ es else if c then (i, k) ∷ e ∷ es else e ∷ put i k es)
   by_tests true c more = (h, g.1)
   by_tests false true more = (h, g)
   by_tests false false more = (g.0, more)
 
-pub bare_without : (i : ℕ) (es : List (ℕ × Kept)) → BareKeeps es → BareKeeps (without es i)
-bare_without i [] g = tt
-bare_without i (e ∷ es) g = by_test (e.0 == i) (bare_without i es g.1) where
-  by_test : (b : Bool) → BareKeeps (without es i) → BareKeeps (if b then without es i else e ∷ without es i)
+pub bare_without : (l i : ℕ) (es : List (ℕ × Kept)) → BareKeeps l es → BareKeeps l (without es i)
+bare_without l i [] g = tt
+bare_without l i (e ∷ es) g = by_test (e.0 == i) (bare_without l i es g.1) where
+  by_test : (b : Bool) → BareKeeps l (without es i) → BareKeeps l (if b then without es i else e ∷ without es i)
   by_test true more = more
   by_test false more = (g.0, more)
 
-abbrev pub BareFound : Option Kept → Type 0
-BareFound None = Unit {0}
-BareFound (Some k) = BareKept k
+abbrev pub BareFound : ℕ → Option Kept → Type 0
+BareFound l None = Unit {0}
+BareFound l (Some k) = BareKept l k
 
-pub bare_found : (i : ℕ) (es : List (ℕ × Kept)) → BareKeeps es → BareFound (found es i)
-bare_found i [] g = tt
-bare_found i (e ∷ es) g = by_test (e.0 == i) (bare_found i es g.1) where
-  by_test : (b : Bool) → BareFound (found es i) → BareFound (if b then Some e.1 else found es i)
+pub bare_found : (l i : ℕ) (es : List (ℕ × Kept)) → BareKeeps l es → BareFound l (found es i)
+bare_found l i [] g = tt
+bare_found l i (e ∷ es) g = by_test (e.0 == i) (bare_found l i es g.1) where
+  by_test : (b : Bool) → BareFound l (found es i) → BareFound l (if b then Some e.1 else found es i)
   by_test true more = g.0
   by_test false more = more
 
-bare_set : (xs : List Slot) (i : ℕ) (w : Val) → BareSlots xs → BareSlots (slice_set xs i (value w))
-bare_set [] zero w h = h
-bare_set [] (suc i) w h = h
-bare_set (value v ∷ xs) zero w h = h
-bare_set (path q ∷ xs) zero w h = h.1
-bare_set (value v ∷ xs) (suc i) w h = bare_set xs i w h
-bare_set (path q ∷ xs) (suc i) w h = (h.0, bare_set xs i w h.1)
+bare_set : (l : ℕ) (xs : List Slot) (i : ℕ) (w : Val) → BareSlots l xs → BareSlots l (slice_set xs i (value w))
+bare_set l [] zero w h = h
+bare_set l [] (suc i) w h = h
+bare_set l (value v ∷ xs) zero w h = h
+bare_set l (path q ∷ xs) zero w h = h.1
+bare_set l (value v ∷ xs) (suc i) w h = bare_set l xs i w h
+bare_set l (path q ∷ xs) (suc i) w h = (h.0, bare_set l xs i w h.1)
+
+-- ---- frames that are as they were
+
+-- the same calls stand and hold the same, and those under a number are the same
+abbrev pub Like : ℕ → List Frame → List Frame → Type 0
+Like l [] [] = Unit {0}
+Like l [] (g ∷ gs) = ⊥
+Like l (f ∷ fs) [] = ⊥
+Like l (f ∷ fs) (g ∷ gs) = (f.called ≡ g.called) × (f.me ≡ g.me) × (f.held ≡ g.held) × (length fs < l → f ≡ g) × Like l fs gs
+
+pub like_same : (l : ℕ) (fs : List Frame) → Like l fs fs
+like_same l [] = tt
+like_same l (f ∷ fs) = (refl, refl, refl, λ lt. refl, like_same l fs)
+
+like_length : (l : ℕ) (fs gs : List Frame) → Like l fs gs → length gs ≡ length fs
+like_length l [] [] h = refl
+like_length l [] (g ∷ gs) h = absurd h
+like_length l (f ∷ fs) [] h = absurd h
+like_length l (f ∷ fs) (g ∷ gs) h = ap suc (like_length l fs gs h.4)
+
+like_then : (l : ℕ) (fs gs hs : List Frame) → Like l fs gs → Like l gs hs → Like l fs hs
+like_then l [] [] [] a b = tt
+like_then l [] [] (k ∷ hs) a b = absurd b
+like_then l [] (g ∷ gs) hs a b = absurd a
+like_then l (f ∷ fs) [] hs a b = absurd a
+like_then l (f ∷ fs) (g ∷ gs) [] a b = absurd b
+like_then l (f ∷ fs) (g ∷ gs) (k ∷ hs) a b =
+    (a.0 ∙ b.0, a.1 ∙ b.1, a.2 ∙ b.2, λ lt. a.3 lt ∙ b.3 (omega (arith, like_length l fs gs a.4, lt)), like_then l fs gs hs a.4 b.4)
+
+pub like_calleds : (l : ℕ) (fs gs : List Frame) → Like l fs gs → calleds gs ≡ calleds fs
+like_calleds l [] [] h = refl
+like_calleds l [] (g ∷ gs) h = absurd h
+like_calleds l (f ∷ fs) [] h = absurd h
+like_calleds l (f ∷ fs) (g ∷ gs) h = ap (λ b. b ∷ calleds gs) (sym h.0) ∙ ap (λ bs. f.called ∷ bs) (like_calleds l fs gs h.4)
+
+abbrev reach_on : List ℕ → List Bool → List Reach → List Reach
+reach_on os bs rs = record { held = os; floor = floor_of bs } ∷ rs
+
+pub like_reaches : (l : ℕ) (fs gs : List Frame) → Like l fs gs → reaches gs ≡ reaches fs
+like_reaches l [] [] h = refl
+like_reaches l [] (g ∷ gs) h = absurd h
+like_reaches l (f ∷ fs) [] h = absurd h
+like_reaches l (f ∷ fs) (g ∷ gs) h =
+    ap (λ os. reach_on os (calleds (g ∷ gs)) (reaches gs)) (sym h.2) ∙ ap (λ bs. reach_on f.held bs (reaches gs)) (like_calleds l (f ∷ fs) (g ∷ gs) h) ∙ ap (λ rs. reach_on f.held (calleds (f ∷ fs)) rs) (like_reaches l fs gs h.4)
+
+-- all of them stand under the number
+pub like_under : (l : ℕ) (fs gs : List Frame) → length fs ≤ l → Like l fs gs → gs ≡ fs
+like_under l [] [] le h = refl
+like_under l [] (g ∷ gs) le h = absurd h
+like_under l (f ∷ fs) [] le h = absurd h
+like_under l (f ∷ fs) (g ∷ gs) le h = ap (λ k. k ∷ gs) (sym (h.3 (omega (arith, le)))) ∙ ap (λ ks. f ∷ ks) (like_under l fs gs (omega (arith, le)) h.4)
+
+like_rest : (l : ℕ) (fs gs : List Frame) → Like l fs gs → Like l (rest fs) (rest gs)
+like_rest l [] [] h = tt
+like_rest l [] (g ∷ gs) h = absurd h
+like_rest l (f ∷ fs) [] h = absurd h
+like_rest l (f ∷ fs) (g ∷ gs) h = h.4
+
+like_called : (l : ℕ) (fs gs : List Frame) → Like l fs gs → (first_or fs).called ≡ (first_or gs).called
+like_called l [] [] h = refl
+like_called l [] (g ∷ gs) h = absurd h
+like_called l (f ∷ fs) [] h = absurd h
+like_called l (f ∷ fs) (g ∷ gs) h = h.0
+
+like_me : (l : ℕ) (fs gs : List Frame) → Like l fs gs → (first_or fs).me ≡ (first_or gs).me
+like_me l [] [] h = refl
+like_me l [] (g ∷ gs) h = absurd h
+like_me l (f ∷ fs) [] h = absurd h
+like_me l (f ∷ fs) (g ∷ gs) h = h.1
+
+like_held : (l : ℕ) (fs gs : List Frame) → Like l fs gs → (first_or fs).held ≡ (first_or gs).held
+like_held l [] [] h = refl
+like_held l [] (g ∷ gs) h = absurd h
+like_held l (f ∷ fs) [] h = absurd h
+like_held l (f ∷ fs) (g ∷ gs) h = h.2
+
+like_slot : (l : ℕ) (fs : List Frame) (k x : ℕ) (w : Slot) → l ≤ k → Like l fs (with_slot fs k x w)
+like_slot l [] k x w le = tt
+like_slot l (f ∷ fs) k x w le = by_test (length fs == k) refl (like_slot l fs k x w le) where
+  by_test : (b : Bool) → (length fs == k) ≡ b → Like l fs (with_slot fs k x w) → Like l (f ∷ fs) (if b then record f { slots = slice_set f.slots x w } ∷ fs else f ∷ with_slot fs k x w)
+  by_test true e more = (refl, refl, refl, λ lt. absurd (omega (arith, eqb-true (length fs) k e, le, lt)), like_same l fs)
+  by_test false e more = (refl, refl, refl, λ lt. refl, more)
+
+like_kept : (l : ℕ) (fs : List Frame) (k i : ℕ) (w : Kept) → l ≤ k → Like l fs (with_kept fs k i w)
+like_kept l [] k i w le = tt
+like_kept l (f ∷ fs) k i w le = by_test (length fs == k) refl (like_kept l fs k i w le) where
+  by_test : (b : Bool) → (length fs == k) ≡ b → Like l fs (with_kept fs k i w) → Like l (f ∷ fs) (if b then record f { keeps = put i w f.keeps } ∷ fs else f ∷ with_kept fs k i w)
+  by_test true e more = (refl, refl, refl, λ lt. absurd (omega (arith, eqb-true (length fs) k e, le, lt)), like_same l fs)
+  by_test false e more = (refl, refl, refl, λ lt. refl, more)
 
 bare_slot_set : (fs : List Frame) (k x : ℕ) (w : Val) → BareFrames fs → BareFrames (with_slot fs k x (value w))
 bare_slot_set [] k x w h = tt
 bare_slot_set (f ∷ fs) k x w h = by_test (length fs == k) (bare_slot_set fs k x w h.1) where
   by_test : (b : Bool) → BareFrames (with_slot fs k x (value w)) → BareFrames (if b then record f { slots = slice_set f.slots x (value w) } ∷ fs else f ∷ with_slot fs k x (value w))
-  by_test true more = ((bare_set f.slots x w h.0.0, h.0.1), h.1)
-  by_test false more = (h.0, more)
+  by_test true more = ((bare_set (floor_of (f.called ∷ calleds fs)) f.slots x w h.0.0, h.0.1), h.1)
+  by_test false more = (subst (λ bs. BareFrame (floor_of (f.called ∷ bs)) f) (sym (like_calleds 0 fs (with_slot fs k x (value w)) (like_slot 0 fs k x (value w) (omega arith)))) h.0, more)
 
 bare_kept_set : (fs : List Frame) (k i : ℕ) (w : Val) → BareFrames fs → BareFrames (with_kept fs k i (only w))
 bare_kept_set [] k i w h = tt
 bare_kept_set (f ∷ fs) k i w h = by_test (length fs == k) (bare_kept_set fs k i w h.1) where
   by_test : (b : Bool) → BareFrames (with_kept fs k i (only w)) → BareFrames (if b then record f { keeps = put i (only w) f.keeps } ∷ fs else f ∷ with_kept fs k i (only w))
-  by_test true more = ((h.0.0, bare_put i (only w) f.keeps tt h.0.1), h.1)
-  by_test false more = (h.0, more)
-
-helds_slot : (fs : List Frame) (k x : ℕ) (w : Slot) → helds (with_slot fs k x w) ≡ helds fs
-helds_slot [] k x w = refl
-helds_slot (f ∷ fs) k x w = by_test (length fs == k) (helds_slot fs k x w) where
-  by_test : (b : Bool) → helds (with_slot fs k x w) ≡ helds fs → helds (if b then record f { slots = slice_set f.slots x w } ∷ fs else f ∷ with_slot fs k x w) ≡ f.held ∷ helds fs
-  by_test true e = refl
-  by_test false e = ap (λ hs. f.held ∷ hs) e
-
-helds_kept : (fs : List Frame) (k i : ℕ) (w : Kept) → helds (with_kept fs k i w) ≡ helds fs
-helds_kept [] k i w = refl
-helds_kept (f ∷ fs) k i w = by_test (length fs == k) (helds_kept fs k i w) where
-  by_test : (b : Bool) → helds (with_kept fs k i w) ≡ helds fs → helds (if b then record f { keeps = put i w f.keeps } ∷ fs else f ∷ with_kept fs k i w) ≡ f.held ∷ helds fs
-  by_test true e = refl
-  by_test false e = ap (λ hs. f.held ∷ hs) e
-
-pub first_held : (fs : List Frame) → first (helds fs) ≡ (first_or fs).held
-first_held [] = refl
-first_held (f ∷ fs) = refl
-
-pub rest_helds : (fs : List Frame) → helds (rest fs) ≡ rest (helds fs)
-rest_helds [] = refl
-rest_helds (f ∷ fs) = refl
+  by_test true more = ((h.0.0, bare_put (floor_of (f.called ∷ calleds fs)) i (only w) f.keeps tt h.0.1), h.1)
+  by_test false more = (subst (λ bs. BareFrame (floor_of (f.called ∷ bs)) f) (sym (like_calleds 0 fs (with_kept fs k i (only w)) (like_kept 0 fs k i (only w) (omega arith)))) h.0, more)
 
 pub top_live : (o : ℕ) (m : Memory) → in_one o (top m) ≤ looks m o
 top_live o m = omega (arith, by_frames m.frames) where
@@ -176,28 +315,55 @@ pub record Ready (m : Memory) : Type 0 where
   pub ordered : FramesInOrder m.frames
   pub bare : BareFrames m.frames
 
--- it became another one: all objects that were there still are, these references came, the running frame holds what it
--- held, and the others hold the same
+-- it became another one: all objects that were there still are, and a new one is held; these references came, the running
+-- frame holds what it held, the calls are the same, and no frame changed to which none of its paths leads
 pub record Near (m m1 : Memory) : Type 0 where
   pub came : List ℕ
   pub grows : Grows m came m1
   pub came_there : AllThere m1.objects came
   pub there : (o : ℕ) → Present m.objects o → Present m1.objects o
+  pub fresh : (o : ℕ) → Present m1.objects o → (Present m.objects o → ⊥) → 0 < times o (top m1).held
   pub held : In (top m).held (top m1).held
-  pub below : helds (rest m1.frames) ≡ helds (rest m.frames)
+  pub called : (top m).called ≡ (top m1).called
+  pub me : (top m).me ≡ (top m1).me
+  pub below : Like (reach m).floor (rest m.frames) (rest m1.frames)
   pub bare : BareFrames m.frames → BareFrames m1.frames
 
 pub near_same : (m : Memory) → Near m m
-near_same m = record { came = []; grows = same m; came_there = none_there m.objects; there = λ o h. h; held = in_self (top m).held; below = refl; bare = λ h. h }
+near_same m = record {
+  came = [];
+  grows = same m;
+  came_there = none_there m.objects;
+  there = λ o h. h;
+  fresh = λ o h n. absurd (n h);
+  held = in_self (top m).held;
+  called = refl;
+  me = refl;
+  below = like_same (reach m).floor (rest m.frames);
+  bare = λ h. h;
+}
+
+pub near_floor : {m m1 : Memory} → Near m m1 → (reach m1).floor ≡ (reach m).floor
+near_floor {m = m} {m1 = m1} n =
+    ap (λ b. floor_of (b ∷ calleds (rest m1.frames))) (sym n.called) ∙ ap (λ bs. floor_of ((top m).called ∷ bs)) (like_calleds (reach m).floor (rest m.frames) (rest m1.frames) n.below)
+
+pub wider : {m m1 : Memory} → Near m m1 → Wider (reach m) (reach m1)
+wider n = record { held = n.held; floor = omega (arith, near_floor n) }
+
+pub near_reaches : {m m1 : Memory} → Near m m1 → reaches (rest m1.frames) ≡ reaches (rest m.frames)
+near_reaches {m = m} {m1 = m1} n = like_reaches (reach m).floor (rest m.frames) (rest m1.frames) n.below
 
 pub near_then : {m m1 m2 : Memory} → Near m m1 → Near m1 m2 → Near m m2
-near_then {m2 = m2} a b = record {
+near_then {m = m} {m1 = m1} {m2 = m2} a b = record {
   came = a.came ++ b.came;
   grows = grown a.grows b.grows;
   came_there = λ o lt. either_of (times o a.came) (times o b.came) (omega (arith, times-append o a.came b.came, lt)) (λ h. b.there o (a.came_there o h)) (λ h. b.came_there o h);
   there = λ o h. b.there o (a.there o h);
+  fresh = λ o h n. decided m1.objects o (λ k. b.held.at o (a.fresh o k n)) (λ k. b.fresh o h k);
   held = in_then a.held b.held;
-  below = b.below ∙ a.below;
+  called = a.called ∙ b.called;
+  me = a.me ∙ b.me;
+  below = like_then (reach m).floor (rest m.frames) (rest m1.frames) (rest m2.frames) a.below (subst (λ l. Like l (rest m1.frames) (rest m2.frames)) (near_floor a) b.below);
   bare = λ h. b.bare (a.bare h);
 }
 
@@ -225,14 +391,6 @@ later_then a b = record { marks = marked_then a.marks b.marks; near = λ s. near
 
 -- ---- a place is written
 
-helds_root : (m : Memory) (r : Root) (w : Val) → helds (with_root m r w).frames ≡ helds m.frames
-helds_root m (in_frame k x) w = helds_slot m.frames k x (value w)
-helds_root m (in_project x) w = refl
-helds_root m (in_fields o i) w = refl
-helds_root m (in_block k i) w = helds_kept m.frames k i (only w)
-helds_root m (in_object o) w = refl
-helds_root m (in_item v) w = refl
-
 there_root : (m : Memory) (r : Root) (w : Val) (o : ℕ) → Present m.objects o → Present (with_root m r w).objects o
 there_root m (in_frame k x) w o h = h
 there_root m (in_project x) w o h = h
@@ -240,6 +398,27 @@ there_root m (in_fields n i) w o h = present_set m.objects n (with_field (object
 there_root m (in_block k i) w o h = h
 there_root m (in_object n) w o h = h
 there_root m (in_item v) w o h = h
+
+has_fields : (x : Option Object) (i : ℕ) (old : Val) → slice_get (object_or x).fields i ≡ Some old → Has x
+has_fields None zero old e = absurd cc
+has_fields None (suc i) old e = absurd cc
+has_fields (Some b) i old e = tt
+
+old_root : (m : Memory) (r : Root) (w old : Val) (o : ℕ) → root_value m r ≡ Some old → Present (with_root m r w).objects o → Present m.objects o
+old_root m (in_frame k x) w old o e h = h
+old_root m (in_project x) w old o e h = h
+old_root m (in_fields n i) w old o e h = set_present m.objects n (with_field (object_at m n) i w) o (has_fields (slice_index_or m.objects n None) i old e) h
+old_root m (in_block k i) w old o e h = h
+old_root m (in_object n) w old o e h = h
+old_root m (in_item v) w old o e h = h
+
+like_root : (hs : Reach) (m : Memory) (r : Root) (w : Val) → RootIn hs r → Like hs.floor m.frames (with_root m r w).frames
+like_root hs m (in_frame k x) w h = like_slot hs.floor m.frames k x (value w) h
+like_root hs m (in_project x) w h = like_same hs.floor m.frames
+like_root hs m (in_fields n i) w h = like_same hs.floor m.frames
+like_root hs m (in_block k i) w h = like_kept hs.floor m.frames k i (only w) h
+like_root hs m (in_object n) w h = like_same hs.floor m.frames
+like_root hs m (in_item v) w h = like_same hs.floor m.frames
 
 bare_root : (m : Memory) (r : Root) (w : Val) → BareFrames m.frames → BareFrames (with_root m r w).frames
 bare_root m (in_frame k x) w h = bare_slot_set m.frames k x w h
@@ -257,17 +436,25 @@ marked_root m (in_block k i) w = unmarked m.objects
 marked_root m (in_object n) w = unmarked m.objects
 marked_root m (in_item v) w = unmarked m.objects
 
-pub helds_written : (m : Memory) (p : Path) (w : Val) → helds (with_value m p w).frames ≡ helds m.frames
-helds_written m p w = by_root (root_value m p.root) where
-  by_root : (x : Option Val) → helds (written m p x w).frames ≡ helds m.frames
-  by_root None = refl
-  by_root (Some old) = helds_root m p.root _
-
 pub there_written : (m : Memory) (p : Path) (w : Val) (o : ℕ) → Present m.objects o → Present (with_value m p w).objects o
 there_written m p w o h = by_root (root_value m p.root) where
   by_root : (x : Option Val) → Present (written m p x w).objects o
   by_root None = h
   by_root (Some old) = there_root m p.root _ o h
+
+-- no object comes back
+pub old_written : (m : Memory) (p : Path) (w : Val) (o : ℕ) → Present (with_value m p w).objects o → Present m.objects o
+old_written m p w o h = by_root (root_value m p.root) refl h where
+  by_root : (x : Option Val) → root_value m p.root ≡ x → Present (written m p x w).objects o → Present m.objects o
+  by_root None e k = k
+  by_root (Some old) e k = old_root m p.root _ old o e k
+
+-- the frames are as they were, but one to which the path may lead
+like_written : (hs : Reach) (m : Memory) (p : Path) (w : Val) → PathIn hs p → Like hs.floor m.frames (with_value m p w).frames
+like_written hs m p w h = by_root (root_value m p.root) where
+  by_root : (x : Option Val) → Like hs.floor m.frames (written m p x w).frames
+  by_root None = like_same hs.floor m.frames
+  by_root (Some old) = like_root hs m p.root _ h
 
 pub bare_written : (m : Memory) (p : Path) (w : Val) → BareFrames m.frames → BareFrames (with_value m p w).frames
 bare_written m p w h = by_root (root_value m p.root) where
@@ -281,9 +468,16 @@ marked_written m p w = by_root (root_value m p.root) where
   by_root None = unmarked m.objects
   by_root (Some old) = marked_root m p.root _
 
--- the running frame of a memory with another value at a place holds what it held
-pub top_written : (m : Memory) (p : Path) (w : Val) → (top (with_value m p w)).held ≡ (top m).held
-top_written m p w = sym (first_held (with_value m p w).frames) ∙ ap first (helds_written m p w) ∙ first_held m.frames
+-- the running frame of a memory with another value at a place holds what it held, and the others do
+module _ (m : Memory) (p : Path) (w : Val) (h : PathIn (reach m) p) where
+  pub top_written : (top (with_value m p w)).held ≡ (top m).held
+  top_written = sym (like_held (reach m).floor m.frames (with_value m p w).frames (like_written (reach m) m p w h))
 
-pub below_written : (m : Memory) (p : Path) (w : Val) → helds (rest (with_value m p w).frames) ≡ helds (rest m.frames)
-below_written m p w = rest_helds (with_value m p w).frames ∙ ap rest (helds_written m p w) ∙ sym (rest_helds m.frames)
+  pub called_written : (top m).called ≡ (top (with_value m p w)).called
+  called_written = like_called (reach m).floor m.frames (with_value m p w).frames (like_written (reach m) m p w h)
+
+  pub me_written : (top m).me ≡ (top (with_value m p w)).me
+  me_written = like_me (reach m).floor m.frames (with_value m p w).frames (like_written (reach m) m p w h)
+
+  pub below_written : Like (reach m).floor (rest m.frames) (rest (with_value m p w).frames)
+  below_written = like_rest (reach m).floor m.frames (with_value m p w).frames (like_written (reach m) m p w h)

@@ -12,7 +12,7 @@ use Rattle.pcode.specs.Instructions.{Push, Leave, Code, list_or}
 use Rattle.pcode.specs.WellFormed.{first_address, WellFormed}
 use Rattle.object_lives.specs.Lives.{HasPlainDefaults}
 use Rattle.object_lives.proofs.Values.{none_in, Refers}
-use Rattle.object_lives.proofs.Held.{SlotIn}
+use Rattle.object_lives.proofs.Held.{bare_from, SlotIn}
 use Rattle.object_lives.proofs.Uses.{Bare}
 
 -- a constant refers to nothing
@@ -56,7 +56,7 @@ plain_code code w (suc pc) v e =
 
 -- ---- what parameters have to which nothing is given
 
-default_in : (q : Parameter) → IfThere IsConstant q.default → SlotIn [] (slot_left_out q)
+default_in : (q : Parameter) → IfThere IsConstant q.default → SlotIn (bare_from 0) (slot_left_out q)
 default_in q h = by_parts q.many q.default h where
   by_parts : (many : Bool) (default : Option Val) → IfThere IsConstant default → Refers [] (if many then packed [] else unwrap_or default missing)
   by_parts true default k = none_in []

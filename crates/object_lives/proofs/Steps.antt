@@ -1,34 +1,37 @@
 -- Each step marks objects by what it tells, and keeps what is known of references.
-use Rattle.std.proofs.Common.{◌≡◌, ℕ, zero, suc, ◌+◌, ◌<◌, Bool, true, false, List, [], ◌∷◌, ◌++◌, length, Option, Some, None, refl, sym, ap, subst, arith}
-use Rattle.std.specs.Prelude.{nat_lt, slice_get, slice_index_or, if◌then◌else◌}
-use Rattle.std.proofs.lemmas.Bool.{eqb-true}
+use Rattle.std.proofs.Common.{◌≡◌, ℕ, zero, suc, ◌+◌, ◌<◌, Bool, true, false, List, [], ◌∷◌, ◌++◌, length, Option, Some, None, refl, sym, ap, ◌∙◌, subst, arith}
+use Rattle.std.specs.Prelude.{◌==◌, nat_lt, slice_get, slice_index_or, slice_set, if◌then◌else◌}
+use Rattle.std.proofs.lemmas.Bool.{eqb-true, eq-eqb}
+use Rattle.std.proofs.lemmas.List.{get_or-set_other}
 use Rattle.vba_values.specs.declared.object.ObjRef.TheVariants.{Heap}
 use Rattle.vba_values.specs.Val.{Val, empty, object}
 use Rattle.error_frames.specs.declared.frame.Taken.{Taken}
 use Rattle.error_frames.specs.declared.frame.Taken.TheVariants as taken
 use Rattle.error_frames.specs.Decision.{after_take}
 use Rattle.bound_project.specs.Project.{class_at, first_values}
-use Rattle.vba_meaning.specs.Memory.{Error, Ended, Faulted, Slot, value, path, value_in, value_or_empty, Memory, Object, rest, top, frame_left, result, error_here, object_at, number_or}
-use Rattle.vba_meaning.specs.References.{objects_in, objects_in_values, objects_in_slots, times, looks, is_last, hold, next_waiting, taken_off, as_told, gone, closed}
+use Rattle.vba_meaning.specs.Memory.{Error, Ended, Faulted, Slot, value, path, value_in, value_or_empty, Memory, Frame, Object, rest, top, frame_left, result, error_here, object_at, number_or}
+use Rattle.vba_meaning.specs.References.{objects_in, objects_in_values, objects_in_slots, objects_kept, times, looks, is_last, hold, next_waiting, taken_off, as_told, gone, closed}
 use Rattle.vba_meaning.specs.Effects.{Raised, Term, unlent, taken_by, with_taken, at_number}
 use Rattle.vba_meaning.specs.Defaults.{parameters_of}
 use Rattle.vba_meaning.specs.Meaning.{State, with_memory, turned, left}
 use Rattle.pcode.specs.Instructions.{Push, Code, entry_of}
-use Rattle.pcode.specs.Machine.{After, Goes-on, Decide, Return, Back-to, Pass, Close, Mode, At, Failing, Letting, Back, Caller, EndOf, Delivering, Within, Goes, Ends, Tells, failing, letting, looking, finished_by, terminates_by, lets_one_by, closing, returned_by, passed_on, takes, next_by, go_on_by}
+use Rattle.pcode.specs.Machine.{After, Goes-on, Decide, Return, Back-to, Pass, Close, Mode, At, Failing, Letting, Back, Caller, EndOf, Delivering, Within, Goes, Ends, Tells, Turns, failing, letting, looking, finished_by, terminates_by, ends_by, lets_one_by, step, Config, closing, returned_by, passed_on, takes, next_by, go_on_by}
 use Rattle.object_counts.proofs.Indexed.{times-append}
+use Rattle.object_counts.specs.Counting.{all_in, front}
 use Rattle.object_counts.proofs.Stored.{object_in}
+use Rattle.object_counts.proofs.Looks.{in_one, hold_grows}
 use Rattle.object_counts.proofs.Blocks.{rest_ordered}
 use Rattle.object_counts.proofs.Leaving.{left_looks, taken_looks, closed_grows, told_grows, gone_grows}
 use Rattle.object_lives.proofs.Values.{in_back, Refers}
-use Rattle.object_lives.proofs.Held.{Slots}
+use Rattle.object_lives.proofs.Held.{bare_from, Slots, slots_more}
 use Rattle.object_lives.proofs.Marks.{unmarked, told_marked, ending_marked, gone_marked}
-use Rattle.object_lives.proofs.Near.{Present, AllThere, none_there, present_set, present_gone, bare_rest, first_held, rest_helds, top_live, near_ready, Ready, Later}
+use Rattle.object_lives.proofs.Near.{Has, Present, AllThere, none_there, present_set, present_gone, calleds, reach, bare_rest, top_live, wider, near_ready, Ready, Later}
 use Rattle.object_lives.proofs.Chains.{still_slots, still_tasks}
 use Rattle.object_lives.proofs.Variables.{hold_later, unlent_later, errors_later, first_free}
 use Rattle.object_lives.proofs.Items.{alone_there}
 use Rattle.object_lives.proofs.Uses.{Bare, tasks_safe}
-use Rattle.object_lives.proofs.Places.{AfterIn, ModeIn, BackIn, Backs, Here, near_here, pushed_on, without_operands, with_operands, called_from}
-use Rattle.object_lives.proofs.Moves.{Good, from, goes, ends, turning, tells_silent, tells_marked, either, lets_good, lets_all_good, on, enters_good, delivers_good, use_good, act_good}
+use Rattle.object_lives.proofs.Places.{result_in, kept_back, Spent, CallBy, Calls, Rest, alone, over_others, calls_top, Tight, Nearly, Over, over_ready, Here, Standing, Kept, near_here, pushed_on}
+use Rattle.object_lives.proofs.Moves.{Good, from, goes, ends, turning, tells_silent, tells_marked, either, lets_good, lets_all_good, on, calling_none, enters_good, delivers_good, use_good, act_good}
 
 -- ---- memories that a step leads to
 
@@ -72,6 +75,9 @@ closed_ready g v m e r = record {
   nothing q true = ap (times q) e
   nothing q false = refl
 
+closed_tight : (g : ℕ) (v : Val) (m : Memory) → Ready m → Tight m → Tight (closed g v m)
+closed_tight g v m r t = record { referred = λ q h. omega (arith, (closed_grows g v m).more r.ordered q, t.referred q h) }
+
 result_there : (m : Memory) → Ready m → AllThere m.objects (objects_in (result m))
 result_there m r o lt = r.live o (omega (arith, top_live o m, first_slot (top m).slots lt)) where
   first_slot : (xs : List Slot) → 0 < times o (objects_in (value_or_empty (value_in (slice_get xs 0)))) → 0 < times o (objects_in_slots xs)
@@ -79,108 +85,228 @@ result_there m r o lt = r.live o (omega (arith, top_live o m, first_slot (top m)
   first_slot (value v ∷ xs) h = omega (arith, times-append o (objects_in v) (objects_in_slots xs), h)
   first_slot (path q ∷ xs) h = absurd (omega (arith, h))
 
--- the frame below runs again
-below_here : (m : Memory) (b : Back) (st : List Slot) (bs : List Back) → (BackIn (top (frame_left m)).held b → Slots (top (frame_left m)).held st) → Here m [] (b ∷ bs) → Here (frame_left m) st bs
-below_here m b st bs k h = record {
-  ready = left_ready m h.ready;
-  stack = k (subst (λ hs. BackIn hs b) (first_held (rest m.frames)) h.backs.0);
-  backs = subst (λ hss. Backs hss bs) (sym (rest_helds (rest m.frames))) h.backs.1;
-}
-
-back_below : (m : Memory) (b : Back) (bs : List Back) → Here m [] (b ∷ bs) → BackIn (top (frame_left m)).held b
-back_below m b bs h = subst (λ hs. BackIn hs b) (first_held (rest m.frames)) h.backs.0
-
 first_nil : (xs ys : List ℕ) → xs ++ ys ≡ [] → (xs ≡ []) × (ys ≡ [])
 first_nil [] ys e = (refl, e)
 first_nil (x ∷ xs) ys e = absurd cc
 
+-- ---- objects that have a reference
+
+gone_present : (bs : List (Option Object)) (p q : ℕ) → Present (slice_set bs p None) q → Present bs q
+gone_present [] zero q h = h
+gone_present [] (suc p) q h = h
+gone_present (c ∷ bs) zero zero h = absurd h
+gone_present (c ∷ bs) zero (suc q) h = h
+gone_present (c ∷ bs) (suc p) zero h = h
+gone_present (c ∷ bs) (suc p) (suc q) h = gone_present bs p q h
+
+gone_apart : (bs : List (Option Object)) (p q : ℕ) → Present (slice_set bs p None) q → q ≡ p → ⊥
+gone_apart [] zero zero h e = h
+gone_apart [] zero (suc q) h e = h
+gone_apart [] (suc p) zero h e = h
+gone_apart [] (suc p) (suc q) h e = h
+gone_apart (c ∷ bs) zero zero h e = h
+gone_apart (c ∷ bs) zero (suc q) h e = absurd cc
+gone_apart (c ∷ bs) (suc p) zero h e = absurd cc
+gone_apart (c ∷ bs) (suc p) (suc q) h e = gone_apart bs p q h (omega (arith, e))
+
+other_present : (bs : List (Option Object)) (p q : ℕ) (x : Option Object) → (q ≡ p → ⊥) → Present (slice_set bs p x) q → Present bs q
+other_present bs p q x apart h = subst (λ y. Has y) (get_or-set_other bs p q x None apart) h
+
+apart_time : (o q : ℕ) → (q ≡ o → ⊥) → times q (o ∷ []) ≡ 0
+apart_time o q apart = by_test (q == o) refl where
+  by_test : (b : Bool) → (q == o) ≡ b → (if b then 1 else 0) + 0 ≡ 0
+  by_test true e = absurd (apart (eqb-true q o e))
+  by_test false e = refl
+
+-- the waiting reference that is let go may have been the last one
+taken_nearly : (m : Memory) → Tight m → Nearly (next_waiting m.waiting) (taken_off m)
+taken_nearly m t = record { others = λ q h apart. omega (arith, taken_looks q m, by_list m.waiting q apart, t.referred q h) } where
+  by_list : (os : List ℕ) (q : ℕ) → (q ≡ next_waiting os → ⊥) → times q (front os) ≡ 0
+  by_list [] q apart = refl
+  by_list (o ∷ os) q apart = apart_time o q apart
+
+told_nearly : (o : ℕ) (m : Memory) → Ready m → Nearly o m → Nearly o (as_told o m)
+told_nearly o m r n = record { others = λ q h apart. omega (arith, (told_grows o m).more r.ordered q, n.others q (other_present m.objects o q _ apart h) apart) }
+
+gone_tight : (o : ℕ) (m : Memory) → Ready m → Nearly o m → Tight (gone o m)
+gone_tight o m r n = record {
+  referred = λ q h. omega (arith, (gone_grows o m).more r.ordered q, n.others q (gone_present m.objects o q h) (gone_apart m.objects o q h));
+}
+
+still_tight : (o : ℕ) (m : Memory) → is_last m o ≡ false → Nearly o m → Tight m
+still_tight o m e n = record { referred = λ q h. by_test q h (q == o) refl } where
+  some : (k : ℕ) → (k == 0) ≡ false → 0 < k
+  some zero e = absurd cc
+  some (suc k) e = omega arith
+
+  by_test : (q : ℕ) → Present m.objects q → (b : Bool) → (q == o) ≡ b → 0 < looks m q
+  by_test q h true f = subst (λ k. 0 < looks m k) (sym (eqb-true q o f)) (some (looks m o) e)
+  by_test q h false f = n.others q h (λ same. absurd (let no : true ≡ false = sym (eq-eqb q o same) ∙ f in cc))
+
+-- of what stood in a frame its result is handed on, or the object of a Class_Terminate was referred to once more
+all_one : (o : ℕ) (f : Frame) → times o (all_in f) ≡ in_one o f
+all_one o f =
+    omega (arith, times-append o (objects_in_slots f.slots) (objects_kept f.keeps ++ (objects_in f.me ++ f.held)), times-append o (objects_kept f.keeps) (objects_in f.me ++ f.held), times-append o (objects_in f.me) f.held)
+
+left_kept : (o : ℕ) (m : Memory) → Spent (top m) → looks (frame_left m) o + times o (kept_back (top m)) ≡ looks m o
+left_kept o m sp = omega (arith, left_looks o m, all_one o (top m), sp.left o)
+
+kept_called : (f : Frame) → f.called ≡ true → kept_back f ≡ objects_in (result_in f)
+kept_called f e = ap (λ b. if b then objects_in (result_in f) else objects_in f.me) e
+
+kept_me : (f : Frame) → f.called ≡ false → kept_back f ≡ objects_in f.me
+kept_me f e = ap (λ b. if b then objects_in (result_in f) else objects_in f.me) e
+
+-- the frame of a Class_Terminate goes
+ended_nearly : (o : ℕ) (m : Memory) → Tight m → Spent (top m) → (top m).called ≡ false → (top m).me ≡ object (Heap (record { 0 = o })) → Nearly o (frame_left m)
+ended_nearly o m t sp c e = record {
+  others = λ q h apart. omega (arith, left_kept q m sp, ap (times q) (kept_me (top m) c), ap (λ v. times q (objects_in v)) e, apart_time o q apart, t.referred q h);
+}
+
+-- the macro's frame goes
+macro_tight : (m : Memory) → Tight m → Spent (top m) → (top m).called ≡ false → objects_in (top m).me ≡ [] → Tight (frame_left m)
+macro_tight m t sp c e = record { referred = λ q h. omega (arith, left_kept q m sp, ap (times q) (kept_me (top m) c), ap (times q) e, t.referred q h) }
+
+-- a call hands its result on
+handed_tight : (m : Memory) → Ready m → Tight m → Spent (top m) → (top m).called ≡ true → Tight (hold (result m) (frame_left m))
+handed_tight m r t sp c =
+    let g = hold_grows (result m) (frame_left m) in
+    record { referred = λ q h. omega (arith, g.more (left_ready m r).ordered q, left_kept q m sp, ap (times q) (kept_called (top m) c), t.referred q h) }
+
+-- what is held besides lets no object be lost
+held_nearly : (o : ℕ) (v : Val) (m : Memory) → Ready m → Nearly o m → Nearly o (hold v m)
+held_nearly o v m r n = let g = hold_grows v m in record { others = λ q h apart. omega (arith, g.more r.ordered q, n.others q h apart) }
+
+held_tight : (v : Val) (m : Memory) → Ready m → Tight m → Tight (hold v m)
+held_tight v m r t = let g = hold_grows v m in record { referred = λ q h. omega (arith, g.more r.ordered q, t.referred q h) }
+
 module _ (Sure : Type 0) (code : Code) (bare : Sure → (p : ℕ) → Bare (parameters_of code.declared p)) where
   -- ---- letting go
 
-  finished_good : (o k : ℕ) (after : After) (bs : List Back) (s : State) → (Sure → Here s.memory [] bs) → (Sure → AfterIn (top s.memory).held after) → Good Sure s.memory (finished_by looking o k after bs s)
-  finished_good o k after bs s h a = by_test (is_last s.memory o) refl where
+  -- an object may have lost its last reference
+  pub record Losing (o : ℕ) (after : After) (bs : List Back) (m : Memory) : Type 0 where
+    pub ready : Ready m
+    pub nearly : Nearly o m
+    pub rest : Rest after m.frames bs
+
+  lost_over : {o : ℕ} {after : After} {bs : List Back} {m : Memory} → Losing o after bs m → Over m
+  lost_over {o = o} h = record { ready = h.ready; lost = o; nearly = h.nearly }
+
+  finished_good : (o k : ℕ) (after : After) (bs : List Back) (s : State) → (Sure → Losing o after bs s.memory) → Good Sure s.memory (finished_by looking o k after bs s)
+  finished_good o k after bs s h = by_test (is_last s.memory o) refl where
     by_test : (b : Bool) → is_last s.memory o ≡ b
         → Good Sure s.memory (if b then Goes (letting (length (objects_in_values (object_at s.memory o).fields) + k) after bs (with_memory s (gone o s.memory))) else Goes (letting k after bs s))
     by_test true e =
         goes Sure s.memory (letting _ after bs (with_memory s (gone o s.memory))) (gone_marked s.memory.objects o)
-        (λ x. record { here = record { ready = gone_ready o s.memory (eqb-true (looks s.memory o) 0 e) (h x).ready; stack = tt; backs = (h x).backs }; mode = a x })
-    by_test false e = goes Sure s.memory (letting k after bs s) (unmarked s.memory.objects) (λ x. record { here = h x; mode = a x })
+        (λ x. record { ready = gone_ready o s.memory (eqb-true (looks s.memory o) 0 e) (h x).ready; tight = gone_tight o s.memory (h x).ready (h x).nearly; standing = (h x).rest })
+    by_test false e = goes Sure s.memory (letting k after bs s) (unmarked s.memory.objects) (λ x. record { ready = (h x).ready; tight = still_tight o s.memory e (h x).nearly; standing = (h x).rest })
 
-  terminates_good : (t : Option ℕ) (o k : ℕ) (after : After) (bs : List Back) (s : State) → (Sure → Here s.memory [] bs) → (Sure → AfterIn (top s.memory).held after) → Present s.memory.objects o
-      → Good Sure s.memory (terminates_by looking code t o k after bs s)
-  terminates_good None o k after bs s h a p = finished_good o k after bs s h a
-  terminates_good (Some q) o k after bs s h a p =
+  -- it is referred to by the frame of its Class_Terminate
+  me_refers : (o : ℕ) (m : Memory) → Nearly o m → (q : ℕ) → Present m.objects q → 0 < looks m q + times q (o ∷ [])
+  me_refers o m n q h = by_test (q == o) refl where
+    by_test : (b : Bool) → (q == o) ≡ b → 0 < looks m q + ((if b then 1 else 0) + 0)
+    by_test true e = omega arith
+    by_test false e = omega (arith, n.others q h (λ same. absurd (let no : true ≡ false = sym (eq-eqb q o same) ∙ e in cc)))
+
+  terminates_good : (t : Option ℕ) (o k : ℕ) (after : After) (bs : List Back) (s : State) → (Sure → Losing o after bs s.memory) → Present s.memory.objects o → Good Sure s.memory (terminates_by looking code t o k after bs s)
+  terminates_good None o k after bs s h p = finished_good o k after bs s h
+  terminates_good (Some q) o k after bs s h p =
       let e : Error = error_here 28 s.memory in
       either Sure (nat_lt (length s.memory.frames) 2000)
-      (enters_good Sure code bare false q (object (Heap (record { 0 = o }))) [] (EndOf o k after ∷ bs) s (λ x. []) (λ x. (h x).ready) (λ x. alone_there s.memory.objects o p) (λ x. none_there s.memory.objects) (λ x. tt)
-      (λ x. called_from (EndOf o k after) (h x) (a x)))
-      (turning Sure s.memory s (unmarked s.memory.objects) (λ x. (h x).ready)
-      (tells_silent Sure s.memory (Raised e.number ∷ []) (record { no_end = λ f n. refl; none_made = λ f n. refl }) (ends Sure s.memory (Faulted e) (turned s) (unmarked s.memory.objects) (λ x. (h x).ready))))
+      (enters_good Sure code bare false q (object (Heap (record { 0 = o }))) [] (EndOf o k after ∷ bs) s (λ x. bare_from (length (calleds s.memory.frames))) (λ x. (h x).ready) (λ x. alone_there s.memory.objects o p) (λ x. none_there s.memory.objects) (λ x. tt) (λ x. refl)
+      (λ x. me_refers o s.memory (h x).nearly) (λ x. (refl, refl, subst (λ fs. Rest after fs bs) (sym (calling_none s.memory.frames)) (h x).rest)))
+      (turning Sure s.memory s (unmarked s.memory.objects) (λ x. lost_over (h x))
+      (tells_silent Sure s.memory (Raised e.number ∷ []) (record { no_end = λ f n. refl; none_made = λ f n. refl }) (ends Sure s.memory (Faulted e) (turned s) (unmarked s.memory.objects) (λ x. lost_over (h x)))))
 
-  told_here : (o : ℕ) (m : Memory) (bs : List Back) → Here m [] bs → Here (as_told o m) [] bs
-  told_here o m bs h = record { ready = told_ready o m h.ready; stack = tt; backs = h.backs }
+  told_losing : (o : ℕ) (after : After) (bs : List Back) (m : Memory) → Losing o after bs m → Losing o after bs (as_told o m)
+  told_losing o after bs m h = record { ready = told_ready o m h.ready; nearly = told_nearly o m h.ready h.nearly; rest = h.rest }
 
-  one_good : (o k : ℕ) (after : After) (bs : List Back) (s : State) → (Sure → Here s.memory [] bs) → (Sure → AfterIn (top s.memory).held after) → Good Sure s.memory (lets_one_by looking code o k after bs s)
-  one_good o k after bs s h a =
-      either Sure (is_last s.memory o)
-      (turning Sure s.memory s (unmarked s.memory.objects) (λ x. (h x).ready) (by_mark (object_at s.memory o).told refl))
-      (goes Sure s.memory (letting k after bs s) (unmarked s.memory.objects) (λ x. record { here = h x; mode = a x }))
-    where
-      b : Object
-      b = object_at s.memory o
+  one_good : (o k : ℕ) (after : After) (bs : List Back) (s : State) → (Sure → Losing o after bs s.memory) → Good Sure s.memory (lets_one_by looking code o k after bs s)
+  one_good o k after bs s h = by_test (is_last s.memory o) refl where
+    b : Object
+    b = object_at s.memory o
 
-      t : State
-      t = with_memory (turned s) (as_told o s.memory)
+    t : State
+    t = with_memory (turned s) (as_told o s.memory)
 
-      by_mark : (told : Bool) → b.told ≡ told
-          → Good Sure s.memory (if told then finished_by looking o k after bs t else Tells (Term b.class o ∷ []) (terminates_by looking code (class_at code.declared b.class).terminate o k after bs t))
-      by_mark true e = from Sure (told_marked s.memory.objects o (record b { told = true }) refl) (finished_good o k after bs t (λ x. told_here o s.memory bs (h x)) a)
-      by_mark false e =
-          tells_marked Sure (Term b.class o ∷ []) (ending_marked s.memory.objects o (record b { told = true }) refl e)
-          (terminates_good (class_at code.declared b.class).terminate o k after bs t (λ x. told_here o s.memory bs (h x)) a (present_set s.memory.objects o _ o (told_there s.memory.objects o e)))
+    by_mark : (told : Bool) → b.told ≡ told
+        → Good Sure s.memory (if told then finished_by looking o k after bs t else Tells (Term b.class o ∷ []) (terminates_by looking code (class_at code.declared b.class).terminate o k after bs t))
+    by_mark true e = from Sure (told_marked s.memory.objects o (record b { told = true }) refl) (finished_good o k after bs t (λ x. told_losing o after bs s.memory (h x)))
+    by_mark false e =
+        tells_marked Sure (Term b.class o ∷ []) (ending_marked s.memory.objects o (record b { told = true }) refl e)
+        (terminates_good (class_at code.declared b.class).terminate o k after bs t (λ x. told_losing o after bs s.memory (h x)) (present_set s.memory.objects o _ o (told_there s.memory.objects o e)))
+
+    by_test : (last : Bool) → is_last s.memory o ≡ last → Good Sure s.memory (if last then Turns s (ends_by looking code b o k after bs t) else Goes (letting k after bs s))
+    by_test true e = turning Sure s.memory s (unmarked s.memory.objects) (λ x. lost_over (h x)) (by_mark b.told refl)
+    by_test false e = goes Sure s.memory (letting k after bs s) (unmarked s.memory.objects) (λ x. record { ready = (h x).ready; tight = still_tight o s.memory e (h x).nearly; standing = (h x).rest })
 
   -- ---- frames that are left
 
-  closing_good : (vs : List Val) (g : ℕ) (s : State) → (Sure → Ready s.memory) → (Sure → objects_in_values vs ≡ []) → Good Sure s.memory (closing vs g s)
-  closing_good [] g s r e = ends Sure s.memory Ended s (unmarked s.memory.objects) r
-  closing_good (v ∷ vs) g s r e =
+  closing_good : (vs : List Val) (g : ℕ) (s : State) → (Sure → Ready s.memory) → (Sure → Tight s.memory) → (Sure → s.memory.frames ≡ []) → (Sure → objects_in_values vs ≡ []) → Good Sure s.memory (closing vs g s)
+  closing_good [] g s r t n e = ends Sure s.memory Ended s (unmarked s.memory.objects) (λ x. over_ready (r x) (t x))
+  closing_good (v ∷ vs) g s r t n e =
       goes Sure s.memory (letting (length (objects_in (slice_index_or s.memory.shared g empty))) (Close vs (g + 1)) [] (with_memory s (closed g v s.memory))) (unmarked s.memory.objects)
-      (λ x. (let z = first_nil (objects_in v) (objects_in_values vs) (e x) in record { here = record { ready = closed_ready g v s.memory z.0 (r x); stack = tt; backs = tt }; mode = z.1 }))
+      (λ x. (let z = first_nil (objects_in v) (objects_in_values vs) (e x) in
+      record { ready = closed_ready g v s.memory z.0 (r x); tight = closed_tight g v s.memory (r x) (t x); standing = (n x, refl, z.1) }))
 
   -- the caller's statement holds the result
   holding : (s : State) → (Sure → Ready s.memory) → Later Sure (frame_left s.memory) [] (hold (result s.memory) (frame_left s.memory))
   holding s r = hold_later Sure (result s.memory) (frame_left s.memory) (λ x. result_there s.memory (r x))
 
-  returned_good : (bs : List Back) (s : State) → (Sure → Here s.memory [] bs) → Good Sure s.memory (returned_by looking code bs (result s.memory) (with_memory s (frame_left s.memory)))
+  -- a frame that nothing is left in
+  pub record Leaving (bs : List Back) (m : Memory) : Type 0 where
+    pub ready : Ready m
+    pub tight : Tight m
+    pub spent : Spent (top m)
+    pub calls : Calls m.frames bs
+
+  -- the frame below runs again, and has the operands that it had
+  below_here : (s : State) (st : List Slot) (bs : List Back) {c : List Back} → (Sure → Leaving c s.memory) → (Sure → (top s.memory).called ≡ true) → (Sure → Slots (reach (frame_left s.memory)) st) → (Sure → Calls (rest s.memory.frames) bs)
+      → Sure → Here (hold (result s.memory) (frame_left s.memory)) st bs
+  below_here s st bs h e i k x =
+      let n = (holding s (λ y. (h y).ready)).near x in
+      let m1 : Memory = frame_left s.memory in
+      record {
+        ready = near_ready n (left_ready s.memory (h x).ready);
+        tight = handed_tight s.memory (h x).ready (h x).tight (h x).spent (e x);
+        stack = slots_more (wider n) st (i x);
+        calls = calls_top m1 (record (top m1) { held = (top m1).held ++ objects_in (result s.memory) }) bs refl (λ f. refl) (k x);
+      }
+
+  returned_good : (bs : List Back) (s : State) → (Sure → Leaving bs s.memory) → Good Sure s.memory (returned_by looking code bs (result s.memory) (with_memory s (frame_left s.memory)))
   returned_good [] s h =
       from Sure (unmarked s.memory.objects)
-      (closing_good (first_values code.declared code.declared.shared) 0 (with_memory s (frame_left s.memory)) (λ x. left_ready s.memory (h x).ready) (λ x. first_free code.declared code.declared.shared))
+      (closing_good (first_values code.declared code.declared.shared) 0 (with_memory s (frame_left s.memory)) (λ x. left_ready s.memory (h x).ready)
+      (λ x. (let a = alone s.memory.frames (h x).calls in macro_tight s.memory (h x).tight (h x).spent a.0 a.1)) (λ x. (alone s.memory.frames (h x).calls).2) (λ x. first_free code.declared code.declared.shared))
   returned_good (Caller ret st ∷ bs) s h =
       let n = holding s (λ x. (h x).ready) in
+      let b : (x : Sure) → CallBy (top s.memory) (rest s.memory.frames) bs (Caller ret st) (Calls (rest s.memory.frames) bs) = λ x. over_others s.memory.frames (Caller ret st) bs (h x).calls in
       from Sure n.marks
       (on Sure ret (value (result s.memory) ∷ st) bs (with_memory s (hold (result s.memory) (frame_left s.memory)))
-      (λ x. pushed_on (in_back (top (frame_left s.memory)).held (objects_in (result s.memory))) (near_here (n.near x) (below_here s.memory (Caller ret st) st bs (λ k. k) (h x)))))
+      (λ x. pushed_on (in_back (top (frame_left s.memory)).held (objects_in (result s.memory))) (below_here s st bs h (λ y. (b y).0) (λ y. (b y).1) (λ y. (b y).2) x)))
   returned_good (EndOf o k after ∷ bs) s h =
       from Sure (unmarked s.memory.objects)
-      (finished_good o k after bs (with_memory s (frame_left s.memory)) (λ x. below_here s.memory (EndOf o k after) [] bs (λ i. tt) (h x)) (λ x. back_below s.memory (EndOf o k after) bs (h x)))
-  returned_good (Within b k ts pc st ∷ bs) s h =
+      (finished_good o k after bs (with_memory s (frame_left s.memory)) (λ x. (let b = over_others s.memory.frames (EndOf o k after) bs (h x).calls in
+      record { ready = left_ready s.memory (h x).ready; nearly = ended_nearly o s.memory (h x).tight (h x).spent b.0 b.1; rest = b.2 })))
+  returned_good (Within t k ts pc st ∷ bs) s h =
       let v : Val = result s.memory in
       let n = holding s (λ x. (h x).ready) in
       let s1 : State = with_memory s (hold v (frame_left s.memory)) in
-      let h1 : Sure → Here s1.memory st bs = λ x. near_here (n.near x) (below_here s.memory (Within b k ts pc st) st bs (λ i. i.1) (h x)) in
+      let b : (x : Sure) → CallBy (top s.memory) (rest s.memory.frames) bs (Within t k ts pc st) (Calls (rest s.memory.frames) bs) = λ x. over_others s.memory.frames (Within t k ts pc st) bs (h x).calls in
+      let h1 : Sure → Here s1.memory st bs = below_here s st bs h (λ y. (b y).0) (λ y. (b y).1.1) (λ y. (b y).2) in
       from Sure n.marks
-      (use_good Sure code bare b k pc st bs s1 h1
-      (tasks_safe Sure code.declared bare ts v s1.memory (λ x. (h1 x).ready) (still_tasks n.near ts (λ x. (back_below s.memory (Within b k ts pc st) bs (h x)).0)) (λ x. in_back (top (frame_left s.memory)).held (objects_in v))))
+      (use_good Sure code bare t k pc st bs s1 h1
+      (tasks_safe Sure code.declared bare ts v s1.memory (λ x. (h1 x).ready) (still_tasks n.near ts (λ x. (b x).1.0)) (λ x. in_back (top (frame_left s.memory)).held (objects_in v))))
   returned_good (Delivering e xs ls ret st ∷ bs) s h =
       let v : Val = result s.memory in
       let n = holding s (λ x. (h x).ready) in
       let s1 : State = with_memory s (hold v (frame_left s.memory)) in
+      let b : (x : Sure) → CallBy (top s.memory) (rest s.memory.frames) bs (Delivering e xs ls ret st) (Calls (rest s.memory.frames) bs) = λ x. over_others s.memory.frames (Delivering e xs ls ret st) bs (h x).calls in
       from Sure n.marks
-      (delivers_good Sure code bare e xs ls ret st bs s1 (λ x. near_here (n.near x) (below_here s.memory (Delivering e xs ls ret st) st bs (λ i. i.1) (h x)))
-      (still_slots n.near xs (λ x. (back_below s.memory (Delivering e xs ls ret st) bs (h x)).0)))
+      (delivers_good Sure code bare e xs ls ret st bs s1 (below_here s st bs h (λ y. (b y).0) (λ y. (b y).1.1) (λ y. (b y).2)) (still_slots n.near xs (λ x. (b x).1.0)))
 
   -- an error has left the frame
-  passed_good : (bs : List Back) (e : Error) (s : State) → (Sure → Here s.memory [] bs) → Good Sure s.memory (passed_on bs e (with_memory s (left s.memory)))
+  passed_good : (bs : List Back) (e : Error) (s : State) → (Sure → Leaving bs s.memory) → Good Sure s.memory (passed_on bs e (with_memory s (left s.memory)))
   passed_good bs e s h = from Sure n.marks (by_back bs h) where
     n : Later Sure (frame_left s.memory) [] (left s.memory)
     n = holding s (λ x. (h x).ready)
@@ -188,18 +314,26 @@ module _ (Sure : Type 0) (code : Code) (bare : Sure → (p : ℕ) → Bare (para
     s1 : State
     s1 = with_memory s (left s.memory)
 
-    goes_up : (b : Back) (cs : List Back) → (Sure → Here s.memory [] (b ∷ cs)) → Good Sure s1.memory (Goes (failing e cs s1))
-    goes_up b cs k = goes Sure s1.memory (failing e cs s1) (unmarked s1.memory.objects) (λ x. record { here = near_here (n.near x) (below_here s.memory b [] cs (λ i. tt) (k x)); mode = tt })
+    goes_up : (cs : List Back) {c : List Back} → (Sure → Leaving c s.memory) → (Sure → (top s.memory).called ≡ true) → (Sure → Calls (rest s.memory.frames) cs) → Good Sure s1.memory (Goes (failing e cs s1))
+    goes_up cs k t i =
+        let h1 : Sure → Here s1.memory [] cs = below_here s [] cs k t (λ x. tt) i in
+        goes Sure s1.memory (failing e cs s1) (unmarked s1.memory.objects) (λ x. record { ready = (h1 x).ready; tight = (h1 x).tight; standing = (h1 x).calls })
 
-    over : (cs : List Back) → (Sure → Here s.memory [] cs) → Good Sure s1.memory (Ends (Faulted e) s1)
-    over cs k = ends Sure s1.memory (Faulted e) s1 (unmarked s1.memory.objects) (λ x. near_ready (n.near x) (left_ready s.memory (k x).ready))
+    over : (Sure → Over s1.memory) → Good Sure s1.memory (Ends (Faulted e) s1)
+    over k = ends Sure s1.memory (Faulted e) s1 (unmarked s1.memory.objects) k
 
-    by_back : (cs : List Back) → (Sure → Here s.memory [] cs) → Good Sure s1.memory (passed_on cs e s1)
-    by_back [] k = over [] k
-    by_back (Caller ret st ∷ cs) k = goes_up (Caller ret st) cs k
-    by_back (EndOf o j after ∷ cs) k = over (EndOf o j after ∷ cs) k
-    by_back (Within b j ts pc st ∷ cs) k = goes_up (Within b j ts pc st) cs k
-    by_back (Delivering event xs ls ret st ∷ cs) k = goes_up (Delivering event xs ls ret st) cs k
+    by_back : (cs : List Back) → (Sure → Leaving cs s.memory) → Good Sure s1.memory (passed_on cs e s1)
+    by_back [] k = over (λ x. (let a = alone s.memory.frames (k x).calls in
+        over_ready (near_ready (n.near x) (left_ready s.memory (k x).ready)) (held_tight (result s.memory) (frame_left s.memory) (left_ready s.memory (k x).ready) (macro_tight s.memory (k x).tight (k x).spent a.0 a.1))))
+    by_back (EndOf o j after ∷ cs) k = over (λ x. (let b = over_others s.memory.frames (EndOf o j after) cs (k x).calls in record {
+      ready = near_ready (n.near x) (left_ready s.memory (k x).ready);
+      lost = o;
+      nearly = held_nearly o (result s.memory) (frame_left s.memory) (left_ready s.memory (k x).ready) (ended_nearly o s.memory (k x).tight (k x).spent b.0 b.1);
+    }))
+    by_back (Caller ret st ∷ cs) k = goes_up cs k (λ x. (over_others s.memory.frames (Caller ret st) cs (k x).calls).0) (λ x. (over_others s.memory.frames (Caller ret st) cs (k x).calls).2)
+    by_back (Within b j ts pc st ∷ cs) k = goes_up cs k (λ x. (over_others s.memory.frames (Within b j ts pc st) cs (k x).calls).0) (λ x. (over_others s.memory.frames (Within b j ts pc st) cs (k x).calls).2)
+    by_back (Delivering event xs ls ret st ∷ cs) k =
+        goes_up cs k (λ x. (over_others s.memory.frames (Delivering event xs ls ret st) cs (k x).calls).0) (λ x. (over_others s.memory.frames (Delivering event xs ls ret st) cs (k x).calls).2)
 
   -- the frame takes the error, or is left
   taken_later : (e : Error) (t : Taken) (m : Memory) → Later Sure m [] (with_taken e t m)
@@ -212,21 +346,28 @@ module _ (Sure : Type 0) (code : Code) (bare : Sure → (p : ℕ) → Bare (para
   takes_good e (taken.Handler to) bs s h =
       let n = taken_later e (taken.Handler to) s.memory in
       from Sure n.marks (on Sure (entry_of code (top s.memory).procedure to.0) [] bs (with_memory s (with_taken e (taken.Handler to) s.memory)) (λ x. near_here (n.near x) (h x)))
-  takes_good e taken.PassOn bs s h = lets_all_good Sure (Pass e) [] bs s h (λ x. tt)
+  takes_good e taken.PassOn bs s h = lets_all_good Sure (Pass e) [] bs s h (λ m c l. (c, l, tt))
 
   -- ---- steps
 
   module _ (plain : Sure → (pc : ℕ) (v : Val) → slice_get code.instrs pc ≡ Some (Push v) → Refers [] v) where
-    pub step_good : (mode : Mode) (st : List Slot) (bs : List Back) (s : State) → (Sure → Here s.memory st bs) → (Sure → ModeIn (top s.memory).held mode) → Good Sure s.memory (go_on_by looking code mode st bs s)
-    step_good (At pc) st bs s h a = act_good Sure code bare plain (slice_get code.instrs pc) pc st bs s refl h
-    step_good (Failing e) st bs s h a =
-        let n = unlent_later Sure s.memory in from Sure n.marks (lets_good Sure (Decide e) st bs (with_memory s (unlent s.memory)) (λ x. near_here (n.near x) (h x)) (λ x. tt))
-    step_good (Letting (suc k) after) st bs s h a =
+    standing_here : {m : Memory} (st : List Slot) (bs : List Back) → Ready m → Tight m → Slots (reach m) st → Calls m.frames bs → Here m st bs
+    standing_here st bs r t i c = record { ready = r; tight = t; stack = i; calls = c }
+
+    step_good_by : (mode : Mode) (st : List Slot) (bs : List Back) (s : State) → (Sure → Ready s.memory) → (Sure → Tight s.memory) → (Sure → Standing mode s.memory.frames st bs) → Good Sure s.memory (go_on_by looking code mode st bs s)
+    step_good_by (At pc) st bs s r t a = act_good Sure code bare plain (slice_get code.instrs pc) pc st bs s refl (λ x. standing_here st bs (r x) (t x) (a x).0 (a x).1)
+    step_good_by (Failing e) st bs s r t a =
+        let n = unlent_later Sure s.memory in
+        from Sure n.marks (lets_good Sure (Decide e) [] bs (with_memory s (unlent s.memory)) (λ x. near_here (n.near x) (standing_here [] bs (r x) (t x) tt (a x))) (λ m c. c))
+    step_good_by (Letting (suc k) after) st bs s r t a =
         from Sure (unmarked s.memory.objects)
-        (one_good (next_waiting s.memory.waiting) k after bs (with_memory s (taken_off s.memory)) (λ x. record { ready = taken_ready s.memory (h x).ready; stack = tt; backs = (h x).backs }) a)
-    step_good (Letting zero (Goes-on pc)) st bs s h a = on Sure pc [] bs s (λ x. without_operands (h x))
-    step_good (Letting zero (Decide e)) st bs s h a = takes_good e (taken_by (next_by code s.memory) s.memory) bs s (λ x. without_operands (h x))
-    step_good (Letting zero (Back-to pc kept)) st bs s h a = on Sure pc kept bs s (λ x. with_operands kept (a x) (h x))
-    step_good (Letting zero Return) st bs s h a = returned_good bs s (λ x. without_operands (h x))
-    step_good (Letting zero (Pass e)) st bs s h a = passed_good bs e s (λ x. without_operands (h x))
-    step_good (Letting zero (Close vs g)) st bs s h a = closing_good vs g s (λ x. (h x).ready) a
+        (one_good (next_waiting s.memory.waiting) k after bs (with_memory s (taken_off s.memory)) (λ x. record { ready = taken_ready s.memory (r x); nearly = taken_nearly s.memory (t x); rest = a x }))
+    step_good_by (Letting zero (Goes-on pc)) st bs s r t a = on Sure pc [] bs s (λ x. standing_here [] bs (r x) (t x) tt (a x))
+    step_good_by (Letting zero (Decide e)) st bs s r t a = takes_good e (taken_by (next_by code s.memory) s.memory) bs s (λ x. standing_here [] bs (r x) (t x) tt (a x))
+    step_good_by (Letting zero (Back-to pc kept)) st bs s r t a = on Sure pc kept bs s (λ x. standing_here kept bs (r x) (t x) (a x).2 (a x).0)
+    step_good_by (Letting zero Return) st bs s r t a = returned_good bs s (λ x. record { ready = r x; tight = t x; spent = (a x).1; calls = (a x).0 })
+    step_good_by (Letting zero (Pass e)) st bs s r t a = passed_good bs e s (λ x. record { ready = r x; tight = t x; spent = (a x).1; calls = (a x).0 })
+    step_good_by (Letting zero (Close vs g)) st bs s r t a = closing_good vs g s r t (λ x. (a x).0) (λ x. (a x).2)
+
+    pub step_good : (c : Config) → (Sure → Kept c) → Good Sure c.state.memory (step code c)
+    step_good c h = step_good_by c.mode c.stack c.backs c.state (λ x. (h x).ready) (λ x. (h x).tight) (λ x. (h x).standing)

@@ -17,10 +17,11 @@ use Rattle.simulation.proofs.Whole.{ends}
 use Rattle.object_lives.specs.Once.{times_made, any_class, ToldOnce}
 use Rattle.object_lives.proofs.Values.{Refers}
 use Rattle.object_lives.proofs.Marks.{ready, not_below, Marked, marked_then}
-use Rattle.object_lives.proofs.Near.{Ready, none_there}
+use Rattle.object_lives.proofs.Held.{bare_from}
+use Rattle.object_lives.proofs.Near.{Present, Ready, none_there}
 use Rattle.object_lives.proofs.Variables.{first_free}
 use Rattle.object_lives.proofs.Uses.{Bare, left_slots}
-use Rattle.object_lives.proofs.Places.{Kept}
+use Rattle.object_lives.proofs.Places.{Over, Kept}
 use Rattle.object_lives.proofs.Moves.{Fares, enters_good}
 use Rattle.object_lives.proofs.Steps.{step_good}
 
@@ -28,17 +29,21 @@ use Rattle.object_lives.proofs.Steps.{step_good}
 opening_ready : (code : Code) (book : Sheets) → Ready (opening code.declared book)
 opening_ready code book = record { live = λ o lt. absurd (omega (arith, ap (times o) (first_free code.declared code.declared.shared), lt)); ordered = tt; bare = tt }
 
+none_present : {X : Type 0} (o : ℕ) → Present (None ∷ []) o → X
+none_present zero h = absurd h
+none_present (suc o) h = absurd h
+
 -- the macro is called
 pub first_fares : (Sure : Type 0) (code : Code) (bare : Sure → (p : ℕ) → Bare (parameters_of code.declared p)) (book : Sheets) → Fares Sure (None ∷ []) [] (first_move code book)
 first_fares Sure code bare book =
     let s : State = record { memory = opening code.declared book; begun = 0 } in
-    (enters_good Sure code bare false code.startup empty (startup_slots code.declared code.startup) [] s (λ x. []) (λ x. opening_ready code book) (λ x. none_there (None ∷ [])) (λ x. none_there (None ∷ []))
-    (λ x. left_slots [] (procedure_at code.declared code.startup).parameters (bare x code.startup)) (λ x. tt)).law
+    (enters_good Sure code bare false code.startup empty (startup_slots code.declared code.startup) [] s (λ x. bare_from 0) (λ x. opening_ready code book) (λ x. none_there (None ∷ [])) (λ x. none_there (None ∷ []))
+    (λ x. left_slots (bare_from 0) (procedure_at code.declared code.startup).parameters (bare x code.startup)) (λ x. refl) (λ x o h. none_present o h) (λ x. (refl, refl, refl))).law
 
 module _ (Sure : Type 0) (code : Code) (bare : Sure → (p : ℕ) → Bare (parameters_of code.declared p)) (plain : Sure → (pc : ℕ) (v : Val) → slice_get code.instrs pc ≡ Some (Push v) → Refers [] v) (bound : ℕ) where
   -- where a run has ended, behind these events
   abbrev pub EndGood : List (Option Object) → List Event → Fin → Type 0
-  EndGood bs es (Done e s hs) = Marked bs (es ++ hs) s.memory.objects × (Sure → Ready s.memory)
+  EndGood bs es (Done e s hs) = Marked bs (es ++ hs) s.memory.objects × (Sure → Over s.memory)
   EndGood bs es Unfinished = Unit {0}
   EndGood bs es Stuck = Unit {0}
 
@@ -70,7 +75,7 @@ module _ (Sure : Type 0) (code : Code) (bare : Sure → (p : ℕ) → Bare (para
   machine_good : (k : ℕ) (c : Config) → (Sure → Kept c) → EndGood c.state.memory.objects [] (machine code bound k c)
   machine_good zero c h = tt
   machine_good (suc k) c h =
-      follow_good k (machine_good k) c.state.memory.objects [] (step code c) (step_good Sure code bare plain c.mode c.stack c.backs c.state (λ x. (h x).here) (λ x. (h x).mode)).law
+      follow_good k (machine_good k) c.state.memory.objects [] (step code c) (step_good Sure code bare plain c h).law
 
   pub run_good : (book : Sheets) (k : ℕ) → EndGood (None ∷ []) [] (run_code code book bound k)
   run_good book k = follow_good k (machine_good k) (None ∷ []) [] (first_move code book) (first_fares Sure code bare book)

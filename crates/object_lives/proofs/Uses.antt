@@ -10,9 +10,9 @@ use Rattle.vba_meaning.specs.Effects.{Effect, Fine, Bad-at, on_fine, slot_left_o
 use Rattle.vba_meaning.specs.Objects.{initialize_of}
 use Rattle.vba_meaning.specs.Host.{is_counted, item_assigned}
 use Rattle.vba_meaning.specs.Defaults.{Spot, in_variable, by_let, in_range, in_member, Task, as_operand, no_object, give_way, fit_to, index_by, write, let_item, put_in, read_made, Next, gives, then_call, over_with, goes_by, after_use, is_instance, class_of_value, variable_of, parameters_of, must_be_given, any_must, without_last, last_type, is_object_type, can_be_object, is_sub_kind, has_parameters, has_default_alone, read_by, read_made_by, read_variable, read_member, read_default, no_object_here, counted_operand, counted_if_any, operand_of, given_to, slots_from, index_default, index_member, index_once, index_along, takes_itself, nothing_more, put_value, put, takes_value, write_host, write_default, write_member, write_once, write_along, reader_of, let_by_reader, let_setter, let_default, let_member, let_item_of, let_once, let_along, most_passed, task_next, followed, tasks_next, use_then}
-use Rattle.object_lives.proofs.Values.{none_in}
-use Rattle.object_lives.proofs.Held.{SlotIn, Slots, TaskIn, slot_more, slots_append, tasks_append, task_more}
-use Rattle.object_lives.proofs.Near.{Near, Ready}
+use Rattle.object_lives.proofs.Values.{none_in, in_then}
+use Rattle.object_lives.proofs.Held.{Reach, bare_from, SlotIn, Slots, TaskIn, slots_append, tasks_append, task_more}
+use Rattle.object_lives.proofs.Near.{Near, reach, wider, Ready}
 use Rattle.object_lives.proofs.Chains.{Any, Given, GivenAll, GivenPath, GivenSlots, GivenSpot, GivenTasks, GivenNext, still, still_all, still_path, still_slots, still_spot, still_tasks, Safe, fine, bad, then_next, then_safe, both}
 use Rattle.object_lives.proofs.Variables.{plain_safe, fitted_safe, read_path_safe, made_for_safe, stored_made_safe, assigned_safe}
 use Rattle.object_lives.proofs.Hosts.{item_safe, item_assigned_safe, written_default_safe, member_assigned_safe}
@@ -22,11 +22,11 @@ use Rattle.object_lives.proofs.Hosts.{item_safe, item_assigned_safe, written_def
 -- it refers to nothing
 abbrev pub Bare : List Parameter → Type 0
 Bare [] = Unit {0}
-Bare (q ∷ qs) = SlotIn [] (slot_left_out q) × Bare qs
+Bare (q ∷ qs) = SlotIn (bare_from 0) (slot_left_out q) × Bare qs
 
-pub left_slots : (hs : List ℕ) (qs : List Parameter) → Bare qs → Slots hs (map slot_left_out qs)
+pub left_slots : (hs : Reach) (qs : List Parameter) → Bare qs → Slots hs (map slot_left_out qs)
 left_slots hs [] h = tt
-left_slots hs (q ∷ qs) h = (slot_more (none_in hs) (slot_left_out q) h.0, left_slots hs qs h.1)
+left_slots hs (q ∷ qs) h = (in_then h.0 (none_in hs.held), left_slots hs qs h.1)
 
 pub bare_but_last : (qs : List Parameter) → Bare qs → Bare (without_last qs)
 bare_but_last [] h = tt
@@ -45,22 +45,22 @@ module _ (Sure : Type 0) where
   pub nothing_safe : {m : Memory} {e : Effect (Unit {0})} → Safe Sure Any m e → Uses m (nothing_more e)
   nothing_safe a = then_next a (λ v m1 n q. fine (λ s. none_in (top m1).held))
 
-  goes_safe : (t : Task) (f : Val → Memory → Effect Next) (n : Next) (m : Memory) → (Sure → TaskIn (top m).held t) → (Sure → GivenNext m n) → ((v : Val) → (Sure → Given m v) → Uses m (f v m)) → Uses m (goes_by t f n m)
+  goes_safe : (t : Task) (f : Val → Memory → Effect Next) (n : Next) (m : Memory) → (Sure → TaskIn (reach m) t) → (Sure → GivenNext m n) → ((v : Val) → (Sure → Given m v) → Uses m (f v m)) → Uses m (goes_by t f n m)
   goes_safe t f (gives v) m h g k = k v g
-  goes_safe t f (then_call p self xs ts) m h g k = fine (λ s. ((g s).0, (g s).1, tasks_append (top m).held ts (t ∷ []) (g s).2 (h s, tt)))
+  goes_safe t f (then_call p self xs ts) m h g k = fine (λ s. ((g s).0, (g s).1, tasks_append (reach m) ts (t ∷ []) (g s).2 (h s, tt)))
 
-  pub after_safe : {m : Memory} {e : Effect Next} (t : Task) {f : Val → Memory → Effect Next} → (Sure → Ready m) → Uses m e → (Sure → TaskIn (top m).held t)
+  pub after_safe : {m : Memory} {e : Effect Next} (t : Task) {f : Val → Memory → Effect Next} → (Sure → Ready m) → Uses m e → (Sure → TaskIn (reach m) t)
       → ((v : Val) (m1 : Memory) → (Sure → Ready m1) → (Sure → Near m m1) → (Sure → Given m1 v) → Uses m1 (f v m1)) → Uses m (after_use e t f)
-  after_safe t {f = f} r a h k = then_safe r a (λ n m1 r1 n1 q1. goes_safe t f n m1 (λ s. task_more (n1 s).held t (h s)) q1 (λ v g. k v m1 r1 n1 g))
+  after_safe t {f = f} r a h k = then_safe r a (λ n m1 r1 n1 q1. goes_safe t f n m1 (λ s. task_more (wider (n1 s)) t (h s)) q1 (λ v g. k v m1 r1 n1 g))
 
   module _ (d : Declarations) (bare : Sure → (p : ℕ) → Bare (parameters_of d p)) where
     -- ---- a member is read
 
     read_by_safe : (p : ℕ) (self : Val) (m : Memory) → (Sure → Given m self) → Uses m (read_by d p self m)
-    read_by_safe p self m h = both (any_must (parameters_of d p)) (bad 449 m) (fine (λ s. (h s, left_slots (top m).held (parameters_of d p) (bare s p), tt)))
+    read_by_safe p self m h = both (any_must (parameters_of d p)) (bad 449 m) (fine (λ s. (h s, left_slots (reach m) (parameters_of d p) (bare s p), tt)))
 
     read_made_safe : (q : Path) (v : Val) (o : Option ℕ) (m : Memory) → (Sure → Ready m) → (Sure → GivenPath m q) → (Sure → Given m v) → Uses m (read_made_by q v o m)
-    read_made_safe q v None m r g h = then_safe r (stored_made_safe Sure q v m r h) (λ u m1 r1 n1 q1. over_safe (read_path_safe Sure q m1 r1 (still_path n1 q g)))
+    read_made_safe q v None m r g h = then_safe r (stored_made_safe Sure q v m r g h) (λ u m1 r1 n1 q1. over_safe (read_path_safe Sure q m1 r1 (still_path n1 q g)))
     read_made_safe q v (Some p) m r g h = fine (λ s. (h s, tt, ((g s, h s), tt)))
 
     pub read_variable_safe : (q : Path) (m : Memory) → (Sure → Ready m) → (Sure → GivenPath m q) → Uses m (read_variable d q m)
@@ -103,7 +103,7 @@ module _ (Sure : Type 0) where
     slots_safe [] (v ∷ vs) m b h = bad 450 m
     slots_safe (q ∷ qs) [] m b h =
         both (must_be_given q) (bad 449 m)
-        (then_next (slots_safe qs [] m (λ s. (b s).1) (λ s. tt)) (λ xs m1 n1 q1. fine (λ s. (slot_more (none_in (top m1).held) (slot_left_out q) (b s).0, q1 s))))
+        (then_next (slots_safe qs [] m (λ s. (b s).1) (λ s. tt)) (λ xs m1 n1 q1. fine (λ s. (in_then (b s).0 (none_in (top m1).held), q1 s))))
     slots_safe (q ∷ qs) (v ∷ vs) m b h =
         then_next (given_to_safe q.of v m (λ s. (h s).0)) (λ w m1 n1 q1.
         then_next (slots_safe qs vs m1 (λ s. (b s).1) (still_all n1 vs (λ s. (h s).1))) (λ xs m2 n2 q2. fine (λ s. (still n2 w q1 s, q2 s))))
@@ -138,10 +138,10 @@ module _ (Sure : Type 0) where
     -- ---- a value is put where it goes
 
     put_value_safe : (spot : Spot) (v : Val) (m : Memory) → (Sure → Ready m) → (Sure → Given m v) → (Sure → GivenSpot m spot) → Uses m (put_value d spot v m)
-    put_value_safe (in_variable q) v m r h g = nothing_safe (assigned_safe Sure q v m r h)
+    put_value_safe (in_variable q) v m r h g = nothing_safe (assigned_safe Sure q v m r g h)
     put_value_safe (by_let p self xs) v m r h g =
         then_next (fitted_safe Sure (last_type (parameters_of d p)) v m h) (λ w m1 n1 q1.
-        fine (λ s. (still n1 self (λ t. (g t).0) s, slots_append (top m1).held xs (value w ∷ []) (still_slots n1 xs (λ t. (g t).1) s) (q1 s, tt), tt)))
+        fine (λ s. (still n1 self (λ t. (g t).0) s, slots_append (reach m1) xs (value w ∷ []) (still_slots n1 xs (λ t. (g t).1) s) (q1 s, tt), tt)))
     put_value_safe (in_range w) v m r h g = nothing_safe (written_default_safe Sure w v m)
     put_value_safe (in_member name vs base begun) v m r h g = nothing_safe (member_assigned_safe Sure d name vs base begun v m r (λ s. (g s).2))
 
@@ -161,7 +161,7 @@ module _ (Sure : Type 0) where
     write_default_safe v w (is_procedure p) f m r h g k = both (is_sub_kind (procedure_at d p).kind) (bad 438 m) (k (is_procedure p))
     write_default_safe v w (is_property reads (Some p) sets) f m r h g k =
         both (any_must (without_last (parameters_of d p))) (bad 449 m)
-        (put_safe (by_let p w (map slot_left_out (without_last (parameters_of d p)))) v m r h (λ s. (g s, left_slots (top m).held (without_last (parameters_of d p)) (bare_but_last (parameters_of d p) (bare s p)))))
+        (put_safe (by_let p w (map slot_left_out (without_last (parameters_of d p)))) v m r h (λ s. (g s, left_slots (reach m) (without_last (parameters_of d p)) (bare_but_last (parameters_of d p) (bare s p)))))
     write_default_safe v w (is_property reads None sets) f m r h g k = k (is_property reads None sets)
 
     write_member_safe : (v w : Val) (x : Option Member) (f : Member → Memory → Effect Next) (m : Memory) → (Sure → Ready m) → (Sure → Given m v) → (Sure → Given m w) → Passes m f → Uses m (write_member d v w x f m)
@@ -217,7 +217,7 @@ module _ (Sure : Type 0) where
 
     -- ---- tasks
 
-    task_safe : (t : Task) (v : Val) (m : Memory) → (Sure → Ready m) → (Sure → TaskIn (top m).held t) → (Sure → Given m v) → Uses m (task_next d t v m)
+    task_safe : (t : Task) (v : Val) (m : Memory) → (Sure → Ready m) → (Sure → TaskIn (reach m) t) → (Sure → Given m v) → Uses m (task_next d t v m)
     task_safe as_operand v m r g h = operand_safe v m r h
     task_safe no_object v m r g h = no_object_safe v m h
     task_safe give_way v m r g h = both (is_instance v m) (operand_safe v m r h) (fine h)
@@ -230,7 +230,7 @@ module _ (Sure : Type 0) where
 
     followed_safe : (ts : List Task) (f : Val → Memory → Effect Next) (n : Next) (m : Memory) → (Sure → GivenTasks m ts) → (Sure → GivenNext m n) → ((v : Val) → (Sure → Given m v) → Uses m (f v m)) → Uses m (followed ts f n m)
     followed_safe ts f (gives v) m h g k = k v g
-    followed_safe ts f (then_call p self xs more) m h g k = fine (λ s. ((g s).0, (g s).1, tasks_append (top m).held more ts (g s).2 (h s)))
+    followed_safe ts f (then_call p self xs more) m h g k = fine (λ s. ((g s).0, (g s).1, tasks_append (reach m) more ts (g s).2 (h s)))
 
     pub tasks_safe : (ts : List Task) (v : Val) (m : Memory) → (Sure → Ready m) → (Sure → GivenTasks m ts) → (Sure → Given m v) → Uses m (tasks_next d ts v m)
     tasks_safe [] v m r g h = fine h

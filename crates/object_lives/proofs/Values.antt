@@ -4,6 +4,7 @@ use Rattle.std.proofs.Common.{◌≡◌, ℕ, zero, suc, ◌+◌, ◌<◌, Bool,
 use Rattle.std.specs.Prelude.{◌*◌, ◌*ℤ◌, neg_ℤ, if◌then◌else◌, ◌&&◌, ◌||◌, nat_lt, ◌==◌}
 use Rattle.std.specs.List.{range_with_len}
 use Rattle.std.specs.Ordering.{int_eq}
+use Rattle.std.proofs.lemmas.Bool.{eq-eqb}
 use Rattle.std.specs.declared.cmp.Ordering.{Ordering}
 use Rattle.vba_base.specs.Answer.{◌>>=◌}
 use Rattle.currency.specs.NumberText.{Numeral, read}
@@ -75,6 +76,12 @@ front_of xs ys h = record { at = λ o lt. h.at o (omega (arith, times-append o x
 
 pub back_of : {zs : List ℕ} (xs ys : List ℕ) → In (xs ++ ys) zs → In ys zs
 back_of xs ys h = record { at = λ o lt. h.at o (omega (arith, times-append o xs ys, lt)) }
+
+pub own_time : (o : ℕ) → 0 < times o (o ∷ [])
+own_time o = by_test (o == o) (eq-eqb o o refl) where
+  by_test : (b : Bool) → b ≡ true → 0 < (if b then 1 else 0) + 0
+  by_test true e = omega arith
+  by_test false e = absurd cc
 
 -- ---- answers
 

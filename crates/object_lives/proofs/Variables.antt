@@ -1,6 +1,6 @@
 -- Effects on values, variables and loops.
 use Rattle.std.proofs.Common.{◌≡◌, ℕ, zero, suc, ◌+◌, ◌<◌, ◌≤◌, Bool, true, false, List, [], ◌∷◌, ◌++◌, length, Option, Some, None, Result, Ok, Err, ℤ, pos, refl, sym, ap, ◌∙◌, subst, arith}
-use Rattle.std.specs.Prelude.{◌==◌, ◌-◌, ◌^◌, nat_lt, ◌&&◌, if◌then◌else◌, slice_get}
+use Rattle.std.specs.Prelude.{◌==◌, ◌-◌, ◌^◌, nat_lt, ◌&&◌, if◌then◌else◌, slice_get, slice_index_or}
 use Rattle.std.proofs.lemmas.Bool.{eqb-true}
 use Rattle.vba_values.specs.declared.fault.Bad.{Bad}
 use Rattle.vba_values.specs.declared.fault.Bad.TheVariants.{Raise, Outside}
@@ -32,9 +32,9 @@ use Rattle.error_frames.specs.Resume as resumption
 use Rattle.bound_project.specs.Expressions.{Storage, local, shared, own, Variable}
 use Rattle.bound_project.specs.Project.{Declarations, Declaration, class_at, types_of, field_of, first_values}
 use Rattle.vba_meaning.specs.Paths.{Root, in_frame, in_project, in_fields, in_block, in_object, in_item, Step, Path, plain_steps}
-use Rattle.vba_meaning.specs.Memory.{Error, stop_said, outside, Slot, value, path, Loop, Kept, only, Memory, Frame, first_or, rest, top, with_top, found, without, object_at, value_at, with_value, value_or_empty, path_or, path_of, is_locked, no_error}
+use Rattle.vba_meaning.specs.Memory.{Error, stop_said, outside, Slot, value, path, Loop, Kept, only, Memory, Frame, first_or, rest, top, with_top, found, without, object_at, object_or, Object, value_at, with_value, value_or_empty, path_or, path_of, is_locked, no_error}
 use Rattle.vba_meaning.specs.References.{objects_in, objects_in_values, times, hold, displaced, replaced, kept_value}
-use Rattle.vba_meaning.specs.Effects.{Printed, Fine, on_fine, answered, operated, operated_alone, is_collection, takes_object, set_reference, set_object, fitted, area_in, plain_reference, plain, as_told_by, is_true, condition, read_value, read_path, has_parts, replaceable_by, replaceable, assignable, is_with_events, renumbered, with_set_number, set_number_drawn, connected, stored, assigned, lent, unlent, shown_text, shown_by, show_value, printed, loop_off, looping, within, counted, loop_on, stepped, next_round, kept_at, keep, selected, fits, fits_between, gone_sub, returned_to, returned_sub, with_err, err_off, policy_on, handler_off, at_number, resumed_by, resumed, stop_here}
+use Rattle.vba_meaning.specs.Effects.{Printed, Fine, on_fine, done, answered, operated, operated_alone, is_collection, takes_object, set_reference, set_object, fitted, area_in, plain_reference, plain, as_told_by, is_true, condition, read_value, read_path, has_parts, replaceable_by, replaceable, assignable, is_with_events, renumbered, with_set_number, set_number_drawn, connected, stored, assigned, lent, unlent, shown_text, shown_by, show_value, printed, loop_off, looping, within, counted, loop_on, stepped, next_round, kept_at, keep, selected, fits, fits_between, gone_sub, returned_to, returned_sub, with_err, err_off, policy_on, handler_off, at_number, resumed_by, resumed, stop_here}
 use Rattle.vba_meaning.specs.Arrays.{keeping}
 use Rattle.vba_meaning.specs.Objects.{compared, typed_as, set_at, new_instance, made, own_object, object_there, field_in, made_for, stored_made}
 use Rattle.vba_meaning.specs.Library.{library_answer, library_called, bound_in, bound_at, plain_if_any}
@@ -45,12 +45,12 @@ use Rattle.object_counts.proofs.Stored.{in_value, path_set}
 use Rattle.object_counts.proofs.Looks.{Grows, in_one, IsVariable, IsThere, hold_grows, keeping_grows, over_grows, top_same, replaced_grows, written_looks}
 use Rattle.object_counts.proofs.Leaving.{made_grows, renumbered_objects}
 use Rattle.object_counts.proofs.Variables.{alike, top_err_grows}
-use Rattle.object_lives.proofs.Values.{In, none_in, in_self, in_front, in_back, in_then, Refers, OkIn, coerced_in, operated_in, operated_alone_in, area_value_in, field_initial_free}
+use Rattle.object_lives.proofs.Values.{In, none_in, in_self, in_front, in_back, in_then, own_time, Refers, OkIn, coerced_in, operated_in, operated_alone_in, area_value_in, field_initial_free}
 use Rattle.object_lives.proofs.LibraryValues.{library_in, bound_value_in}
-use Rattle.object_lives.proofs.Held.{Values, RootIn, PathIn, root_more, values_in}
+use Rattle.object_lives.proofs.Held.{Reach, bare_wider, Values, RootIn, PathIn, root_more, values_in}
 use Rattle.object_lives.proofs.Marks.{Marked, unmarked, kept_marked, made_events, made_marked}
-use Rattle.object_lives.proofs.Near.{Present, AllThere, Ready, Later, helds, BareSlots, BareKept, BareFrame, BareFrames, bare_first, bare_rest, bare_put, present_set, present_more, present_last, held_there, top_live, there_written, bare_written, marked_written, top_written, below_written}
-use Rattle.object_lives.proofs.Chains.{Any, Given, GivenAll, GivenPath, Safe, fine, fine_in, done_in, bad, out, behind, telling, then_next, then_safe, both, answered_safe, answered_any}
+use Rattle.object_lives.proofs.Near.{Has, Present, AllThere, Ready, Later, calleds, floor_of, reach, own_floor, Like, like_same, BareSlots, BareKept, BareFrame, BareFrames, bare_first, bare_rest, bare_put, present_set, set_present, present_more, more_present, present_last, held_there, top_live, there_written, old_written, bare_written, marked_written, top_written, called_written, me_written, below_written}
+use Rattle.object_lives.proofs.Chains.{Any, Given, GivenAll, GivenPath, still_path, Safe, fine, fine_in, done_in, bad, out, behind, telling, then_next, then_safe, both, answered_safe, answered_any}
 
 -- ---- what stands in a memory is there
 
@@ -66,7 +66,7 @@ pub variable_there : (m : Memory) (p : Path) (v : Val) → Ready m → IsVariabl
 variable_there m p v r is e o lt = r.live o (omega (arith, written_looks o m p v empty r.ordered (record { variable = is; here = e }), lt))
 
 there_from : (root : Root) (steps : List Step) (of : Declared) (bounded : Bool) (makes : Option ℕ) (m : Memory) (v : Val)
-    → let p : Path = record { root = root; steps = steps; of = of; bounded = bounded; makes = makes } in Ready m → RootIn (top m).held root → value_at m p ≡ Some v → AllThere m.objects (objects_in v)
+    → let p : Path = record { root = root; steps = steps; of = of; bounded = bounded; makes = makes } in Ready m → RootIn (reach m) root → value_at m p ≡ Some v → AllThere m.objects (objects_in v)
 there_from (in_frame k x) steps of bounded makes m v r h e = variable_there m (record { root = in_frame k x; steps = steps; of = of; bounded = bounded; makes = makes }) v r (tt {0}) e
 there_from (in_project x) steps of bounded makes m v r h e = variable_there m (record { root = in_project x; steps = steps; of = of; bounded = bounded; makes = makes }) v r (tt {0}) e
 there_from (in_fields n i) steps of bounded makes m v r h e = variable_there m (record { root = in_fields n i; steps = steps; of = of; bounded = bounded; makes = makes }) v r (tt {0}) e
@@ -74,7 +74,7 @@ there_from (in_block k i) steps of bounded makes m v r h e = variable_there m (r
 there_from (in_object n) steps of bounded makes m v r h e = λ o lt. absurd (omega (arith, part_within o (object n) (plain_steps steps) v e, ap (times o) h, lt))
 there_from (in_item w) steps of bounded makes m v r h e = λ o lt. held_there r h o (omega (arith, part_within o w (plain_steps steps) v e, lt))
 
-pub value_there : (m : Memory) (p : Path) (x : Option Val) → value_at m p ≡ x → Ready m → PathIn (top m).held p → ThereIn m x
+pub value_there : (m : Memory) (p : Path) (x : Option Val) → value_at m p ≡ x → Ready m → PathIn (reach m) p → ThereIn m x
 value_there m p None e r h = tt
 value_there m p (Some v) e r h = there_from p.root p.steps p.of p.bounded p.makes m v r h e
 
@@ -91,24 +91,34 @@ pub first_free : (d : Declarations) (xs : List Declaration) → objects_in_value
 first_free d [] = refl
 first_free d (x ∷ xs) = ap (λ os. os ++ objects_in_values (first_values d xs)) (field_initial_free (types_of d) (field_of x)) ∙ first_free d xs
 
+-- an object has variables whose Sets are numbered
+has_numbers : (x : Option Object) (i : ℕ) → is_with_events i (object_or x).set_numbers ≡ true → Has x
+has_numbers None i e = absurd cc
+has_numbers (Some b) i e = tt
+
 module _ (Sure : Type 0) where
   -- ---- changes of the running frame
 
-  pub top_later : (m : Memory) (f : Frame) (came : List ℕ) → Grows m came (with_top m f) → (Sure → AllThere m.objects came) → In (top m).held f.held → (BareFrame (top m) → BareFrame f) → Later Sure m [] (with_top m f)
-  top_later m f came g h i b = record {
+  top_bare : (m : Memory) (f : Frame) → (top m).called ≡ f.called → BareFrame (reach m).floor f → BareFrames m.frames → BareFrames (with_top m f).frames
+  top_bare m f c b r = (subst (λ t. BareFrame (floor_of (t ∷ calleds (rest m.frames))) f) c b, bare_rest m.frames r)
+
+  pub top_later : (m : Memory) (f : Frame) (came : List ℕ) → Grows m came (with_top m f) → (Sure → AllThere m.objects came) → In (top m).held f.held → (BareFrame (reach m).floor (top m) → BareFrame (reach m).floor f) → (top m).called ≡ f.called → (top m).me ≡ f.me
+      → Later Sure m [] (with_top m f)
+  top_later m f came g h i b c me = record {
     marks = unmarked m.objects;
-    near = λ s. record { came = came; grows = g; came_there = h s; there = λ o p. p; held = i; below = refl; bare = λ k. (b (bare_first m.frames k), bare_rest m.frames k) };
+    near = λ s. record { came = came; grows = g; came_there = h s; there = λ o p. p; fresh = λ o p n. absurd (n p); held = i; called = c; me = me; below = like_same (reach m).floor (rest m.frames); bare = λ k. top_bare m f c (b (bare_first m.frames k)) k };
   }
 
   -- where looking sees no difference
-  pub unseen : (m : Memory) (f : Frame) → (InOrder (top m).keeps → InOrder f.keeps) → ((o : ℕ) → in_one o f ≡ in_one o (top m)) → In (top m).held f.held → (BareFrame (top m) → BareFrame f) → Later Sure m [] (with_top m f)
-  unseen m f k e i b = record {
+  pub unseen : (m : Memory) (f : Frame) → (InOrder (top m).keeps → InOrder f.keeps) → ((o : ℕ) → in_one o f ≡ in_one o (top m)) → In (top m).held f.held → (BareFrame (reach m).floor (top m) → BareFrame (reach m).floor f) → (top m).called ≡ f.called → (top m).me ≡ f.me
+      → Later Sure m [] (with_top m f)
+  unseen m f k e i b c me = record {
     marks = unmarked m.objects;
-    near = λ s. record { came = []; grows = top_same m f k e; came_there = λ o lt. absurd (omega (arith, lt)); there = λ o p. p; held = i; below = refl; bare = λ k. (b (bare_first m.frames k), bare_rest m.frames k) };
+    near = λ s. record { came = []; grows = top_same m f k e; came_there = λ o lt. absurd (omega (arith, lt)); there = λ o p. p; fresh = λ o p n. absurd (n p); held = i; called = c; me = me; below = like_same (reach m).floor (rest m.frames); bare = λ r. top_bare m f c (b (bare_first m.frames r)) r };
   }
 
   pub hold_later : (v : Val) (m : Memory) → (Sure → AllThere m.objects (objects_in v)) → Later Sure m [] (hold v m)
-  hold_later v m h = top_later m (record (top m) { held = (top m).held ++ objects_in v }) (objects_in v) (hold_grows v m) h (in_front (top m).held (objects_in v)) (λ b. b)
+  hold_later v m h = top_later m (record (top m) { held = (top m).held ++ objects_in v }) (objects_in v) (hold_grows v m) h (in_front (top m).held (objects_in v)) (λ b. b) refl refl
 
   -- ---- values
 
@@ -223,7 +233,7 @@ module _ (Sure : Type 0) where
   selected_safe i m r = fine_in (hold_later (kept_at i m) m (λ s. kept_there i m (r s))) (λ s. in_back (top m).held (objects_in (kept_at i m)))
 
   -- a block keeps something, and what it kept before is held
-  pub keeping_later : (i : ℕ) (k : Kept) (m : Memory) → (Sure → AllThere m.objects (objects_in (kept_value k))) → (Sure → BareKept k) → Later Sure m [] (keeping i k m)
+  pub keeping_later : (i : ℕ) (k : Kept) (m : Memory) → (Sure → AllThere m.objects (objects_in (kept_value k))) → (Sure → BareKept (reach m).floor k) → Later Sure m [] (keeping i k m)
   keeping_later i k m h b = record {
     marks = unmarked m.objects;
     near = λ s. record {
@@ -231,9 +241,12 @@ module _ (Sure : Type 0) where
       grows = keeping_grows i k m;
       came_there = h s;
       there = λ o p. p;
+      fresh = λ o p n. absurd (n p);
       held = in_back (objects_in (kept_at i m)) (top m).held;
-      below = refl;
-      bare = λ g. (let f = bare_first m.frames g in ((f.0, bare_put i k (top m).keeps (b s) f.1), bare_rest m.frames g));
+      called = refl;
+      me = refl;
+      below = like_same (reach m).floor (rest m.frames);
+      bare = λ g. (let f = bare_first m.frames g in ((f.0, bare_put (reach m).floor i k (top m).keeps (b s) f.1), bare_rest m.frames g));
     };
   }
 
@@ -267,8 +280,8 @@ module _ (Sure : Type 0) where
   assignable_safe p m = then_next (replaceable_safe p m) (λ old m1 n there. both p.bounded (bad 10 m1) (fine there))
 
   -- a value is stored, and what stood there is held
-  pub replaced_later : (m : Memory) (p : Path) (old w : Val) → (Sure → IsThere m p old) → (Sure → AllThere m.objects (objects_in w)) → Later Sure m [] (replaced p w m)
-  replaced_later m p old w there h =
+  pub replaced_later : (m : Memory) (p : Path) (old w : Val) → (Sure → GivenPath m p) → (Sure → IsThere m p old) → (Sure → AllThere m.objects (objects_in w)) → Later Sure m [] (replaced p w m)
+  replaced_later m p old w i there h =
       let gone = value_or_empty (value_at m p) in
       let m1 : Memory = with_value m p w in
       record {
@@ -278,14 +291,17 @@ module _ (Sure : Type 0) where
           grows = replaced_grows m p old w (there s);
           came_there = λ o lt. there_written m p w o (h s o lt);
           there = λ o k. there_written m p w o k;
-          held = record { at = λ o lt. omega (arith, times-append o (objects_in gone) (top m1).held, ap (times o) (top_written m p w), lt) };
-          below = below_written m p w;
+          fresh = λ o k n. absurd (n (old_written m p w o k));
+          held = record { at = λ o lt. omega (arith, times-append o (objects_in gone) (top m1).held, ap (times o) (top_written m p w (i s)), lt) };
+          called = called_written m p w (i s);
+          me = me_written m p w (i s);
+          below = below_written m p w (i s);
           bare = λ g. (let b = bare_written m p w g in (bare_first m1.frames b, bare_rest m1.frames b));
         };
       }
 
-  numbered_later : (n i : ℕ) (number : Option ℕ) (next : ℕ) (m : Memory) → Later Sure m [] (record (with_set_number n i number m) { next_set = next })
-  numbered_later n i number next m =
+  numbered_later : (n i : ℕ) (number : Option ℕ) (next : ℕ) (m : Memory) → Present m.objects n → Later Sure m [] (record (with_set_number n i number m) { next_set = next })
+  numbered_later n i number next m is =
       let b = record (object_at m n) { set_numbers = renumbered i number (object_at m n).set_numbers } in
       record {
         marks = kept_marked m.objects n b refl refl;
@@ -294,19 +310,26 @@ module _ (Sure : Type 0) where
           grows = record { ordered = λ h. h; more = λ h o. omega (arith, renumbered_objects o m.objects n i number) };
           came_there = λ o lt. absurd (omega (arith, lt));
           there = λ o h. present_set m.objects n b o h;
+          fresh = λ o h k. absurd (k (set_present m.objects n b o is h));
           held = in_self (top m).held;
-          below = refl;
+          called = refl;
+          me = refl;
+          below = like_same (reach m).floor (rest m.frames);
           bare = λ h. h;
         };
       }
 
-  set_number_safe : (n i : ℕ) (w : Val) (m : Memory) → Safe Sure Any m (set_number_drawn n i w m)
-  set_number_safe n i (object Nothing) m = done_in (numbered_later n i None m.next_set m)
-  set_number_safe n i w m = both (nat_lt m.next_set (2 ^ 64 - 1)) (done_in (numbered_later n i (Some m.next_set) (m.next_set + 1) m)) (out (outside limit.Links) m)
+  set_number_safe : (n i : ℕ) (w : Val) (m : Memory) → Present m.objects n → Safe Sure Any m (set_number_drawn n i w m)
+  set_number_safe n i (object Nothing) m is = done_in (numbered_later n i None m.next_set m is)
+  set_number_safe n i w m is = both (nat_lt m.next_set (2 ^ 64 - 1)) (done_in (numbered_later n i (Some m.next_set) (m.next_set + 1) m is)) (out (outside limit.Links) m)
+
+  numbered_safe : (n i : ℕ) (w : Val) (m : Memory) (b : Bool) → is_with_events i (object_at m n).set_numbers ≡ b → Safe Sure Any m (if b then set_number_drawn n i w m else done m)
+  numbered_safe n i w m true e = set_number_safe n i w m (has_numbers (slice_index_or m.objects n None) i e)
+  numbered_safe n i w m false e = fine (λ s. tt)
 
   connected_from : (root : Root) (steps : List Step) (of : Declared) (bounded : Bool) (makes : Option ℕ) (w : Val) (m : Memory)
       → let p : Path = record { root = root; steps = steps; of = of; bounded = bounded; makes = makes } in Safe Sure Any m (connected p w m)
-  connected_from (in_fields n i) steps of bounded makes w m = both (is_with_events i (object_at m n).set_numbers) (set_number_safe n i w m) (fine (λ s. tt))
+  connected_from (in_fields n i) steps of bounded makes w m = numbered_safe n i w m (is_with_events i (object_at m n).set_numbers) refl
   connected_from (in_frame k x) steps of bounded makes w m = fine (λ s. tt)
   connected_from (in_project x) steps of bounded makes w m = fine (λ s. tt)
   connected_from (in_block k i) steps of bounded makes w m = fine (λ s. tt)
@@ -314,31 +337,31 @@ module _ (Sure : Type 0) where
   connected_from (in_item v) steps of bounded makes w m = fine (λ s. tt)
 
   -- what is there can be stored
-  pub stored_there_safe : (p : Path) (w : Val) (m : Memory) → (Sure → AllThere m.objects (objects_in w)) → Safe Sure Any m (stored p w m)
-  stored_there_safe p w m h =
+  pub stored_there_safe : (p : Path) (w : Val) (m : Memory) → (Sure → GivenPath m p) → (Sure → AllThere m.objects (objects_in w)) → Safe Sure Any m (stored p w m)
+  stored_there_safe p w m i h =
       then_next (assignable_safe p m) (λ old m1 n there.
-      behind (replaced_later m1 p old w there (λ s o lt. (n s).there o (h s o lt))) (connected_from p.root p.steps p.of p.bounded p.makes w (replaced p w m1)))
+      behind (replaced_later m1 p old w (still_path n p i) there (λ s o lt. (n s).there o (h s o lt))) (connected_from p.root p.steps p.of p.bounded p.makes w (replaced p w m1)))
 
-  pub stored_safe : (p : Path) (w : Val) (m : Memory) → (Sure → Ready m) → (Sure → Given m w) → Safe Sure Any m (stored p w m)
-  stored_safe p w m r h = stored_there_safe p w m (λ s. held_there (r s) (h s))
+  pub stored_safe : (p : Path) (w : Val) (m : Memory) → (Sure → Ready m) → (Sure → GivenPath m p) → (Sure → Given m w) → Safe Sure Any m (stored p w m)
+  stored_safe p w m r i h = stored_there_safe p w m i (λ s. held_there (r s) (h s))
 
-  pub assigned_safe : (p : Path) (v : Val) (m : Memory) → (Sure → Ready m) → (Sure → Given m v) → Safe Sure Any m (assigned p v m)
-  assigned_safe p v m r h = then_safe r (coerced_safe p.of v m h) (λ w m1 r1 n q. stored_safe p w m1 r1 q)
+  pub assigned_safe : (p : Path) (v : Val) (m : Memory) → (Sure → Ready m) → (Sure → GivenPath m p) → (Sure → Given m v) → Safe Sure Any m (assigned p v m)
+  assigned_safe p v m r i h = then_safe r (coerced_safe p.of v m h) (λ w m1 r1 n q. stored_safe p w m1 r1 (still_path n p i) q)
 
-  pub set_at_safe : (p : Path) (v : Val) (m : Memory) → (Sure → Ready m) → (Sure → Given m v) → Safe Sure Any m (set_at p v m)
-  set_at_safe p v m r h = then_safe r (set_object_safe p.of v m h) (λ w m1 r1 n q. stored_safe p w m1 r1 q)
+  pub set_at_safe : (p : Path) (v : Val) (m : Memory) → (Sure → Ready m) → (Sure → GivenPath m p) → (Sure → Given m v) → Safe Sure Any m (set_at p v m)
+  set_at_safe p v m r i h = then_safe r (set_object_safe p.of v m h) (λ w m1 r1 n q. stored_safe p w m1 r1 (still_path n p i) q)
 
   -- ---- For
 
-  slot_path : (hs : List ℕ) (xs : List Slot) (i : ℕ) (q : Path) → BareSlots xs → PathIn hs q → PathIn hs (path_or (slice_get xs i) q)
+  slot_path : (hs : Reach) (xs : List Slot) (i : ℕ) (q : Path) → BareSlots hs.floor xs → PathIn hs q → PathIn hs (path_or (slice_get xs i) q)
   slot_path hs [] i q h k = k
   slot_path hs (value v ∷ xs) zero q h k = k
-  slot_path hs (path p ∷ xs) zero q h k = root_more (none_in hs) p.root h.0
+  slot_path hs (path p ∷ xs) zero q h k = root_more (bare_wider hs) p.root h.0
   slot_path hs (value v ∷ xs) (suc i) q h k = slot_path hs xs i q h k
   slot_path hs (path p ∷ xs) (suc i) q h k = slot_path hs xs i q h.1 k
 
   path_from : (m : Memory) (storage : Storage) (of : Declared) (bounded : Bool) → (Sure → Ready m) → Sure → GivenPath m (path_of m (record { storage = storage; of = of; bounded = bounded }))
-  path_from m (local i) of bounded r s = slot_path (top m).held (top m).slots i _ (bare_first m.frames (r s).bare).0 tt
+  path_from m (local i) of bounded r s = slot_path (reach m) (top m).slots i _ (bare_first m.frames (r s).bare).0 (own_floor m)
   path_from m (shared i) of bounded r s = tt
   path_from m (own i) of bounded r s = tt
 
@@ -356,11 +379,11 @@ module _ (Sure : Type 0) where
 
   counted_safe : (x : Variable) (v : Val) (l : Loop) (m : Memory) → (Sure → Ready m) → (Sure → Given m v) → Safe Sure Any m (counted x v l m)
   counted_safe x v l m r h =
-      then_safe r (assigned_safe (path_of m x) v m r h) (λ u m1 r1 n q.
+      then_safe r (assigned_safe (path_of m x) v m r (path_of_in m x r) h) (λ u m1 r1 n q.
       then_safe r1 (read_path_safe (path_of m1 x) m1 r1 (path_of_in m1 x r1)) (λ w m2 r2 n2 q2. within_safe x.of w l m2))
 
   looping_later : (i : ℕ) (l : Loop) (m : Memory) → Later Sure m [] (looping i l m)
-  looping_later i l m = unseen m (record (top m) { loops = (i, l) ∷ (top m).loops }) (λ h. h) (λ o. refl) (in_self (top m).held) (λ b. b)
+  looping_later i l m = unseen m (record (top m) { loops = (i, l) ∷ (top m).loops }) (λ h. h) (λ o. refl) (in_self (top m).held) (λ b. b) refl refl
 
   pub loop_on_safe : (x : Variable) (i : ℕ) (compare : Compare) (t u : Declared) (start end by : Val) (m : Memory) → (Sure → Ready m) → (Sure → Given m start) → Safe Sure Any m (loop_on x i compare t u start end by m)
   loop_on_safe x i compare t u start end by m r h =
@@ -378,7 +401,7 @@ module _ (Sure : Type 0) where
   next_round_safe x i m r = stepped_safe (found (top m).loops i) x m r
 
   pub loop_off_safe : (i : ℕ) (m : Memory) → Safe Sure Any m (loop_off i m)
-  loop_off_safe i m = done_in (unseen m (record (top m) { loops = without (top m).loops i }) (λ h. h) (λ o. refl) (in_self (top m).held) (λ b. b))
+  loop_off_safe i m = done_in (unseen m (record (top m) { loops = without (top m).loops i }) (λ h. h) (λ o. refl) (in_self (top m).held) (λ b. b) refl refl)
 
   -- ---- Case
 
@@ -392,10 +415,10 @@ module _ (Sure : Type 0) where
   -- ---- calls, printing, GoSub, errors
 
   pub lent_safe : (p : Path) (m : Memory) → Safe Sure Any m (lent p m)
-  lent_safe p m = done_in (unseen m (record (top m) { pending = p ∷ (top m).pending }) (λ h. h) (λ o. refl) (in_self (top m).held) (λ b. b))
+  lent_safe p m = done_in (unseen m (record (top m) { pending = p ∷ (top m).pending }) (λ h. h) (λ o. refl) (in_self (top m).held) (λ b. b) refl refl)
 
   pub unlent_later : (m : Memory) → Later Sure m [] (unlent m)
-  unlent_later m = unseen m (record (top m) { pending = [] }) (λ h. h) (λ o. refl) (in_self (top m).held) (λ b. b)
+  unlent_later m = unseen m (record (top m) { pending = [] }) (λ h. h) (λ o. refl) (in_self (top m).held) (λ b. b) refl refl
 
   -- what is outside of frames and objects
   pub outside_later : {m m1 : Memory} → Grows m [] m1 → m1.objects ≡ m.objects → m1.frames ≡ m.frames → Later Sure m [] m1
@@ -406,8 +429,11 @@ module _ (Sure : Type 0) where
       grows = g;
       came_there = λ o lt. absurd (omega (arith, lt));
       there = λ o h. subst (λ bs. Present bs o) (sym e) h;
+      fresh = λ o h n. absurd (n (subst (λ bs. Present bs o) e h));
       held = subst (λ fs. In (top m).held (first_or fs).held) (sym f) (in_self (top m).held);
-      below = ap (λ fs. helds (rest fs)) f;
+      called = ap (λ fs. (first_or fs).called) (sym f);
+      me = ap (λ fs. (first_or fs).me) (sym f);
+      below = subst (λ fs. Like (reach m).floor (rest m.frames) (rest fs)) (sym f) (like_same (reach m).floor (rest m.frames));
       bare = λ h. subst (λ fs. BareFrames fs) (sym f) h;
     };
   }
@@ -416,11 +442,11 @@ module _ (Sure : Type 0) where
   printed_safe ends xs m = telling (Printed _ ends ∷ []) (record { no_end = λ f o. refl; none_made = λ f o. refl }) (done_in (outside_later (alike (λ h. h) (λ o. refl)) refl refl))
 
   pub gone_sub_safe : (i : ℕ) (m : Memory) → Safe Sure Any m (gone_sub i m)
-  gone_sub_safe i m = done_in (unseen m (record (top m) { returns = i ∷ (top m).returns }) (λ h. h) (λ o. refl) (in_self (top m).held) (λ b. b))
+  gone_sub_safe i m = done_in (unseen m (record (top m) { returns = i ∷ (top m).returns }) (λ h. h) (λ o. refl) (in_self (top m).held) (λ b. b) refl refl)
 
   returned_to_safe : (is : List ℕ) (m : Memory) → Safe Sure Any m (returned_to is m)
   returned_to_safe [] m = bad 3 m
-  returned_to_safe (i ∷ is) m = fine_in (unseen m (record (top m) { returns = is }) (λ h. h) (λ o. refl) (in_self (top m).held) (λ b. b)) (λ s. tt)
+  returned_to_safe (i ∷ is) m = fine_in (unseen m (record (top m) { returns = is }) (λ h. h) (λ o. refl) (in_self (top m).held) (λ b. b) refl refl) (λ s. tt)
 
   pub returned_sub_safe : (m : Memory) → Safe Sure Any m (returned_sub m)
   returned_sub_safe m = returned_to_safe (top m).returns m
@@ -434,8 +460,11 @@ module _ (Sure : Type 0) where
       grows = top_err_grows e m (record (top m) { errors = b }) (λ h. h) (λ o. refl);
       came_there = λ o lt. absurd (omega (arith, lt));
       there = λ o h. h;
+      fresh = λ o h n. absurd (n h);
       held = in_self (top m).held;
-      below = refl;
+      called = refl;
+      me = refl;
+      below = like_same (reach m).floor (rest m.frames);
       bare = λ h. (bare_first m.frames h, bare_rest m.frames h);
     };
   }
@@ -499,8 +528,12 @@ module _ (Sure : Type 0) where
       grows = made_grows d c m;
       came_there = made_there d c m;
       there = λ o h. present_more m.objects (new_instance d c) o h;
+      fresh = λ o h n. subst (λ k. 0 < times k ((top m).held ++ length m.objects ∷ [])) (sym (more_present m.objects (new_instance d c) o h n))
+          (omega (arith, times-append (length m.objects) (top m).held (length m.objects ∷ []), own_time (length m.objects)));
       held = in_front (top m).held (length m.objects ∷ []);
-      below = refl;
+      called = refl;
+      me = refl;
+      below = like_same (reach m).floor (rest m.frames);
       bare = λ g. (bare_first m.frames g, bare_rest m.frames g);
     };
   }
@@ -518,6 +551,6 @@ module _ (Sure : Type 0) where
   pub made_for_safe : (d : Declarations) (q : Path) (m : Memory) → Safe Sure Given m (made_for d q m)
   made_for_safe d q m = made_from d q.root q.steps q.of q.bounded q.makes m (value_at m q) refl
 
-  pub stored_made_safe : (q : Path) (v : Val) (m : Memory) → (Sure → Ready m) → (Sure → Given m v) → Safe Sure Any m (stored_made q v m)
-  stored_made_safe q empty m r h = fine (λ s. tt)
-  stored_made_safe q v m r h = stored_safe q v m r h
+  pub stored_made_safe : (q : Path) (v : Val) (m : Memory) → (Sure → Ready m) → (Sure → GivenPath m q) → (Sure → Given m v) → Safe Sure Any m (stored_made q v m)
+  stored_made_safe q empty m r i h = fine (λ s. tt)
+  stored_made_safe q v m r i h = stored_safe q v m r i h

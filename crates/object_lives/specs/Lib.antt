@@ -1,3 +1,4 @@
 pub mod Lives
 pub mod Meant
 pub mod Once
+pub mod Referred

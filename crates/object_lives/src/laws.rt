@@ -10,6 +10,7 @@ ghost use Rattle.object_counts.specs.Counting.{run_counted};
 ghost use Rattle.object_lives.specs.Lives.{Alive, AliveAt, HasPlainDefaults};
 ghost use Rattle.object_lives.specs.Meant.{CountsMean};
 ghost use Rattle.object_lives.specs.Once.{ToldOnce};
+ghost use Rattle.object_lives.specs.Referred.{ReferredAt};
 
 /// For each project, book and bound on turns the run of its code by the machine that stores counts ends with the ending,
 /// the last state and the events that the project means, and each stored count is right there.
@@ -30,4 +31,9 @@ pub fn references_lead_to_objects()
 /// So it does in the state with which a run ends that a whole project means.
 pub fn meant_references_lead_to_objects()
     ensures { (pr : Project) (book : Sheets) (turns : ℕ) → IsWhole pr → HasPlainDefaults pr.declared → Alive (meaning pr book turns).state.memory }
+{}
+
+/// At each step of a well-formed code an object whose stored count is 0 has ended; at an ending one may be about to.
+pub fn objects_without_references_have_ended()
+    ensures { (code : Code) (book : Sheets) (turns : ℕ) (steps : ℕ) → WellFormed code → HasPlainDefaults code.declared → ReferredAt (run_counted code book turns steps) }
 {}

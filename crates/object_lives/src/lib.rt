@@ -4,5 +4,6 @@
 mod laws;
 
 pub use laws::{
-    counted_runs_are_meant, meant_references_lead_to_objects, once_law, references_lead_to_objects,
+    counted_runs_are_meant, meant_references_lead_to_objects,
+    objects_without_references_have_ended, once_law, references_lead_to_objects,
 };
