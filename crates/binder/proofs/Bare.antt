@@ -1,7 +1,7 @@
 -- Statements without their places, to compare them.
-use Rattle.std.specs.Prelude.{List, [], ◌∷◌}
-use Rattle.bound_project.specs.Expressions.{Expr, expr, Node, not_given, constant, load, load_made, element_value, field_value, unary, binary, call, err_value, default_of, default_if_any, host_object, active_sheet, host_member, named_member, this, new_object, method, late_member, late_item, same, is_type, library, bound_of, Lvalue, variable, item, element, field, kept_place, object_field, as_new, Args, no_args, by_place, by_copy, by_default, by_list, in_order, Given, none_given, place_given, expr_given, Exprs, no_exprs, also, Prints, no_prints, shown, zone}
-use Rattle.bound_project.specs.Statements.{Tests, no_tests, test_is, test_range, Action, assign, assign_item, set, assign_default, assign_member, set_member, assign_through, assign_element, assign_late, set_late, evaluate, let_property, let_method, set_method, raise_event, print, raise, test, for_to, for_each, select, case_of, with_place, with_value, Statement}
+use Rattle.std.specs.Prelude.{List, [], ◌∷◌, option_map}
+use Rattle.bound_project.specs.Expressions.{Expr, expr, Node, not_given, constant, load, load_made, element_value, field_value, unary, binary, call, err_value, default_of, default_if_any, enumerated, host_object, active_sheet, host_member, named_member, this, new_object, method, late_member, late_item, same, is_type, library, bound_of, Lvalue, variable, item, element, field, kept_place, object_field, as_new, element_along, late_field, value_place, Args, no_args, by_place, by_copy, by_default, by_list, in_order, Given, none_given, place_given, expr_given, Exprs, no_exprs, also, Prints, no_prints, shown, zone}
+use Rattle.bound_project.specs.Statements.{Tests, no_tests, test_is, test_range, Action, assign, assign_item, set, assign_default, assign_member, set_member, assign_through, assign_element, set_element, assign_late, set_late, evaluate, let_property, let_method, set_method, raise_event, print, raise, test, for_to, for_each, select, case_of, with_place, with_value, Statement}
 use Rattle.bound_project.specs.Project.{nowhere}
 
 abbrev mutual
@@ -21,6 +21,7 @@ abbrev mutual
   bare_node (err_value m) = err_value m
   bare_node (default_of e) = default_of (bare e)
   bare_node (default_if_any e) = default_if_any (bare e)
+  bare_node (enumerated e) = enumerated (bare e)
   bare_node (host_object o) = host_object o
   bare_node active_sheet = active_sheet
   bare_node (host_member e name es) = host_member (bare e) name (bare_exprs es)
@@ -43,6 +44,9 @@ abbrev mutual
   bare_place (kept_place i) = kept_place i
   bare_place (object_field e i of bounded) = object_field (bare e) i of bounded
   bare_place (as_new c x) = as_new c (bare_place x)
+  bare_place (late_field e name) = late_field (bare e) name
+  bare_place (value_place e) = value_place (bare e)
+  bare_place (element_along x es) = element_along (bare_place x) (bare_exprs es)
 
   pub bare_args : Args → Args
   bare_args no_args = no_args
@@ -68,8 +72,8 @@ bare_prints (zone ps) = zone (bare_prints ps)
 
 abbrev pub bare_tests : Tests → Tests
 bare_tests no_tests = no_tests
-bare_tests (test_is o e ts) = test_is o (bare e) (bare_tests ts)
-bare_tests (test_range a b ts) = test_range (bare a) (bare b) (bare_tests ts)
+bare_tests (test_is o at e ts) = test_is o nowhere (bare e) (bare_tests ts)
+bare_tests (test_range a b a_at b_at ts) = test_range (bare a) (bare b) nowhere nowhere (bare_tests ts)
 
 abbrev pub bare_action : Action → Action
 bare_action (assign x e) = assign (bare_place x) (bare e)
@@ -80,6 +84,7 @@ bare_action (assign_default x e) = assign_default (bare x) (bare e)
 bare_action (assign_member base name es e) = assign_member (bare base) name (bare_exprs es) (bare e)
 bare_action (assign_through target e) = assign_through (bare target) (bare e)
 bare_action (assign_element x es e) = assign_element (bare_place x) (bare_exprs es) (bare e)
+bare_action (set_element x es e) = set_element (bare_place x) (bare_exprs es) (bare e)
 bare_action (assign_late base name by given e) = assign_late (bare base) name by (bare_given given) (bare e)
 bare_action (set_late base name by given e) = set_late (bare base) name by (bare_given given) (bare e)
 bare_action (evaluate e) = evaluate (bare e)
@@ -90,7 +95,7 @@ bare_action (raise_event event args) = raise_event event (bare_args args)
 bare_action (print ps ends) = print (bare_prints ps) ends
 bare_action (raise args) = raise (bare_args args)
 bare_action (test sense e to other) = test sense (bare e) to other
-bare_action (for_to x compare a b c first behind) = for_to x compare (bare a) (bare b) (bare c) first behind
+bare_action (for_to x compare a b c last_at step_at first behind) = for_to x compare (bare a) (bare b) (bare c) nowhere (option_map (λ at. nowhere) step_at) first behind
 bare_action (for_each x e first behind) = for_each x (bare e) first behind
 bare_action (select e first) = select (bare e) first
 bare_action (case_of ts header of compare first other) = case_of (bare_tests ts) header of compare first other

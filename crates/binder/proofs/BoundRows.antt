@@ -1,5 +1,5 @@
 -- Worked rows: the statements that procedures are bound to, without their places; and where binding stops.
-use Rattle.std.specs.Prelude.{◌≡◌, ℕ, pos, true, false, List, [], ◌∷◌, refl, codes}
+use Rattle.std.specs.Prelude.{◌≡◌, ℕ, pos, true, false, List, [], ◌∷◌, None, refl, codes}
 use Rattle.std.specs.Fmt.{digits}
 use Rattle.caseless.proofs.Computing.{caseless}
 use Rattle.vba_base.specs.Fold.{folded}
@@ -50,7 +50,7 @@ jumping k a = record { action = a; place = nowhere; next = k }
 
 -- a loop
 bytes : bound_to (codes "Sub Main()\nDim b As Byte\nFor b = 254 To 255\nDebug.Print b\nNext b\nEnd Sub")
-    ≡ (jumping 1 (for_to (at type.byte 1) Binary (n 254) (n 255) (n 1) 1 3) ∷ jumping 2 (show (v (at type.byte 1))) ∷ jumping 3 (next (at type.byte 1) 0 1) ∷ []) ∷ []
+    ≡ (jumping 1 (for_to (at type.byte 1) Binary (n 254) (n 255) (n 1) nowhere None 1 3) ∷ jumping 2 (show (v (at type.byte 1))) ∷ jumping 3 (next (at type.byte 1) 0 1) ∷ []) ∷ []
 unfolding bound_to folded caseless digits
 bytes = refl
 
@@ -64,8 +64,8 @@ again = refl
 -- Select Case
 chosen : bound_to (codes "Sub Main()\nSelect Case 7\nCase 1 To 3, Is > 8\nDebug.Print 1\nCase 5, 7\nDebug.Print 2\nCase Else\nDebug.Print 3\nEnd Select\nEnd Sub")
     ≡ (jumping 6 (select (n 7) 1)
-    ∷ jumping 2 (case_of (test_range (n 1) (n 3) (test_is op.Gt (n 8) no_tests)) 0 type.integer Binary 2 3) ∷ jumping 6 (show (n 1))
-    ∷ jumping 4 (case_of (test_is op.Eq (n 5) (test_is op.Eq (n 7) no_tests)) 0 type.integer Binary 4 5) ∷ jumping 6 (show (n 2))
+    ∷ jumping 2 (case_of (test_range (n 1) (n 3) nowhere nowhere (test_is op.Gt nowhere (n 8) no_tests)) 0 type.integer Binary 2 3) ∷ jumping 6 (show (n 1))
+    ∷ jumping 4 (case_of (test_is op.Eq nowhere (n 5) (test_is op.Eq nowhere (n 7) no_tests)) 0 type.integer Binary 4 5) ∷ jumping 6 (show (n 2))
     ∷ jumping 6 (show (n 3)) ∷ []) ∷ []
 unfolding bound_to folded caseless digits
 chosen = refl

@@ -160,6 +160,7 @@ class_of s =
       terminate = None;
       members = [];
       default = None;
+      enumerator = None;
       events = [];
       with_events = [];
       handlers = [];

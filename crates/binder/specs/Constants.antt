@@ -81,6 +81,8 @@ literal_meant literal_value.Empty = empty
 
 -- the operators of the tables; `/` and `^` would give a Double
 abbrev pub operator_kind : BinaryOperator → Option OpKind
+operator_kind operator.Power = Some op.Power
+operator_kind operator.Divide = Some op.Divide
 operator_kind operator.Multiply = Some op.Mul
 operator_kind operator.IntegerDivide = Some op.IntDiv
 operator_kind operator.Modulo = Some op.Mod

@@ -27,9 +27,25 @@ use Rattle.binder.specs.Declarations.{Written, What, a_variable, a_constant, a_m
 use Rattle.binder.specs.Scopes.{Space, Scope, plainly, called, Meant, of_procedure, of_module, of_host, of_library, Qualifier, declares, behind, qualifier_of, is_named, first_at, seen_from, has_dollar}
 use Rattle.binder.specs.Names.{scope_in}
 use Rattle.binder.specs.Types.{is_object, type_meant, meant_type}
-use Rattle.binder.specs.Constants.{is_variant, literal_meant, value_type, operator_kind, unary_kind, compare_in, meant_by, names_in, home, place_of_expression}
+use Rattle.binder.specs.Constants.{is_variant, literal_meant, value_type, operator_kind, unary_kind, compare_in, meant_by, names_in, home}
 use Rattle.binder.specs.Storage.{parameter_type, result_type, parameters_of, own_declaration, declared_variable, user_types, module_storage, own_storage, procedure_number, gives_value}
 use Rattle.binder.specs.Terms.{Within, Env, HostMember, Term, a_place, a_value, a_routine, a_function, a_host_member, err_object, err_raise, err_clear, error_word, no_term, expression_of, value_with, Given, listed_values, bound_arguments, has_names}
+
+-- ---- places
+
+-- where an expression is told: at its operator where it is one's, in parentheses too, and else at its first token
+abbrev pub place_told : Expr → Place
+place_told (literal l) = l.token.place
+place_told (me token) = token.place
+place_told (name x) = x.token.place
+place_told (with_member dot x) = dot.place
+place_told (member base dot x) = place_told base
+place_told (index base left args right) = place_told base
+place_told (parenthesised left e right) = place_told e
+place_told (new new_word t) = new_word.place
+place_told (type_of type_of_word e is_word t) = type_of_word.place
+place_told (unary operator token e) = token.place
+place_told (binary l operator token r) = token.place
 
 -- ---- calls
 
@@ -556,35 +572,35 @@ abbrev mutual
   term_of env (me token) = no_term
   term_of env (name x) = meant_term env x (declares plainly env.scope x)
   term_of env (with_member dot x) = kept_member env dot.place env.within x
-  term_of env (member base dot x) = behind_term env (qualifier_of env.scope base) x (member_of env (place_of_expression base) (term_of env base) x)
+  term_of env (member base dot x) = behind_term env (qualifier_of env.scope base) x (member_of env (place_told base) (term_of env base) x)
   term_of env (index base left args right) =
-      indexed env (place_of_expression base) (item_of (place_of_expression base) (callee env base (term_of env base))) (givens env args)
-  term_of env (parenthesised left e right) = as_value env (term_of env e) (place_of_expression e)
+      indexed env (place_told base) (item_of (place_told base) (callee env base (term_of env base))) (givens env args)
+  term_of env (parenthesised left e right) = as_value env (term_of env e) (place_told e)
   term_of env (new new_word t) = no_term
-  term_of env (type_of type_of_word e is_word t) = typed_term (given_as env (term_of env e) (place_of_expression e)) (meant_type (type_meant env.scope t))
-  term_of env (unary o token e) = unary_term (unary_kind o) (operand_of env (term_of env e) (place_of_expression e))
+  term_of env (type_of type_of_word e is_word t) = typed_term (given_as env (term_of env e) (place_told e)) (meant_type (type_meant env.scope t))
+  term_of env (unary o token e) = unary_term (unary_kind o) (operand_of env (term_of env e) (place_told e))
   term_of env (binary l operator.Is token r) =
-      same_term (reference_of env (term_of env l) (place_of_expression l)) (reference_of env (term_of env r) (place_of_expression r))
+      same_term (reference_of env (term_of env l) (place_told l)) (reference_of env (term_of env r) (place_told r))
   term_of env (binary l o token r) =
-      binary_term env (operator_kind o) (operand_of env (term_of env l) (place_of_expression l)) (operand_of env (term_of env r) (place_of_expression r))
+      binary_term env (operator_kind o) (operand_of env (term_of env l) (place_told l)) (operand_of env (term_of env r) (place_told r))
 
   -- arguments
   pub givens : Env → Args → List Given
   givens env no_args = []
   givens env (missing before comma) = givens env before ++ record { name = None; term = None; place = nowhere } ∷ []
-  givens env (plain before comma e) = givens env before ++ record { name = None; term = Some (term_of env e); place = place_of_expression e } ∷ []
-  givens env (tree.named before comma x mark e) = givens env before ++ record { name = Some x.name; term = Some (term_of env e); place = place_of_expression e } ∷ []
+  givens env (plain before comma e) = givens env before ++ record { name = None; term = Some (term_of env e); place = place_told e } ∷ []
+  givens env (tree.named before comma x mark e) = givens env before ++ record { name = Some x.name; term = Some (term_of env e); place = place_told e } ∷ []
 
 -- an expression as a value, and as an operand
 abbrev pub bound_value : Env → Expr → Option bound.Expr
-bound_value env e = value_of env (term_of env e) (place_of_expression e)
+bound_value env e = value_of env (term_of env e) (place_told e)
 
 -- the same as a reference, and as it is
 abbrev pub bound_reference : Env → Expr → Option bound.Expr
-bound_reference env e = reference_of env (term_of env e) (place_of_expression e)
+bound_reference env e = reference_of env (term_of env e) (place_told e)
 
 abbrev pub bound_as_given : Env → Expr → Option bound.Expr
-bound_as_given env e = given_as env (term_of env e) (place_of_expression e)
+bound_as_given env e = given_as env (term_of env e) (place_told e)
 
 abbrev pub bound_operand : Env → Expr → Option bound.Expr
-bound_operand env e = operand_of env (term_of env e) (place_of_expression e)
+bound_operand env e = operand_of env (term_of env e) (place_told e)

@@ -42,7 +42,7 @@ use Rattle.binder.specs.Constants.{known_length}
 use Rattle.binder.specs.Numbering.{count, count_list, simple_count, part_count, here, an_arm, behind_block, behind_kind, Opened, Standing, sought_behind}
 use Rattle.binder.specs.Violations.{same_label_name}
 use Rattle.binder.specs.Terms.{Within, Env, HostMember, Term, a_place, a_value, a_routine, a_host_member, err_raise, err_clear, error_word, expression_of, Given, bound_arguments, has_names}
-use Rattle.binder.specs.ExpressionsBound.{writer, bare_call, parameters_in, given_as, argument_of, has_object, mark_members, item_of, host_arguments, takes_arguments, indexed, callee, term_of, givens, bound_reference, bound_as_given, bound_operand}
+use Rattle.binder.specs.ExpressionsBound.{writer, bare_call, parameters_in, given_as, argument_of, has_object, mark_members, item_of, host_arguments, takes_arguments, indexed, callee, term_of, givens, bound_reference, bound_as_given, bound_operand, place_told}
 
 -- ---- the procedure round a statement
 
@@ -123,7 +123,7 @@ called_term env place t [] = option_map to.evaluate (given_as env t place)
 called_term env place t gs = option_map to.evaluate (given_as env (indexed env place (item_of place t) gs) place)
 
 abbrev pub called_with : Env → Expr → List Given → Option Action
-called_with env e gs = called_term env (place_of_expression e) (callee env e (term_of env e)) gs
+called_with env e gs = called_term env (place_told e) (callee env e (term_of env e)) gs
 
 -- Call place: the last brackets have the arguments
 abbrev pub called_place : Env → Expr → Option Action
@@ -199,14 +199,14 @@ takes_value env t = false
 
 -- what an assignment with brackets at the end of its target is to, before their arguments
 abbrev pub target_before : Env → Expr → Term
-target_before env base = item_of (place_of_expression base) (callee env base (term_of env base))
+target_before env base = item_of (place_told base) (callee env base (term_of env base))
 
 abbrev pub assigned_to : Env → Expr → bound.Expr → Option Action
 assigned_to env (index base left args right) v =
     let t = target_before env base in
-    if takes_value env t then assigned env (place_of_expression base) v (givens env args) t
-    else assigned env (place_of_expression base) v [] (indexed env (place_of_expression base) t (givens env args))
-assigned_to env e v = assigned env (place_of_expression e) v [] (term_of env e)
+    if takes_value env t then assigned env (place_told base) v (givens env args) t
+    else assigned env (place_told base) v [] (indexed env (place_told base) t (givens env args))
+assigned_to env e v = assigned env (place_told e) v [] (term_of env e)
 
 -- a Variant of which numbers mean an item
 abbrev pub is_variant_place : Term → Bool
@@ -235,8 +235,8 @@ abbrev pub set_target : Env → Expr → Term
 set_target env (index base left args right) = at (target_before env base)
   where
     at : Term → Term
-    at (a_host_member e m) = if is_some m.greatest then indexed env (place_of_expression base) (a_host_member e m) (givens env args) else a_host_member e m
-    at t = indexed env (place_of_expression base) t (givens env args)
+    at (a_host_member e m) = if is_some m.greatest then indexed env (place_told base) (a_host_member e m) (givens env args) else a_host_member e m
+    at t = indexed env (place_told base) t (givens env args)
 set_target env e = term_of env e
 
 -- ReDim: the base of the module where no low bound is written
@@ -335,9 +335,13 @@ abbrev pub step_value : Env → Place → Option StepClause → Option bound.Exp
 step_value env place None = Some (integer place 1)
 step_value env place (Some s) = bound_operand env s.value
 
-abbrev pub for_action : Option Variable → Env → Option bound.Expr → Option bound.Expr → Option bound.Expr → (first behind : ℕ) → Option Action
-for_action counter env start last step first behind =
-    option_and_then (λ x. from_three (λ a b c. to.for_to x (compare_in env.scope) a b c first behind) start last step) counter
+abbrev pub for_action : Option Variable → Env → Option bound.Expr → Option bound.Expr → Option bound.Expr → (last_at : Place) → (step_at : Option Place) → (first behind : ℕ) → Option Action
+for_action counter env start last step last_at step_at first behind =
+    option_and_then (λ x. from_three (λ a b c. to.for_to x (compare_in env.scope) a b c last_at step_at first behind) start last step) counter
+
+-- the first token of a step
+abbrev pub step_place : Option StepClause → Option Place
+step_place step = option_map (λ (s : StepClause). place_of_expression s.value) step
 
 -- the line that opened the innermost block
 abbrev pub line_of : Part → Option BlockLine
@@ -368,9 +372,10 @@ loop_action env (Some c) on behind = option_map (λ e. to.test (is_while c.word)
 
 abbrev pub case_tests : Env → List CaseTest → Option Tests
 case_tests env [] = Some no_tests
-case_tests env (value e ∷ ts) = from_two (test_is op.Eq) (bound_operand env e) (case_tests env ts)
-case_tests env (CaseTest.range low to_word high ∷ ts) = from_three test_range (bound_operand env low) (bound_operand env high) (case_tests env ts)
-case_tests env (comparison is_word o token e ∷ ts) = from_three test_is (operator_kind o) (bound_operand env e) (case_tests env ts)
+case_tests env (value e ∷ ts) = from_two (test_is op.Eq (place_of_expression e)) (bound_operand env e) (case_tests env ts)
+case_tests env (CaseTest.range low to_word high ∷ ts) =
+    from_three (λ a b us. test_range a b (place_of_expression low) (place_of_expression high) us) (bound_operand env low) (bound_operand env high) (case_tests env ts)
+case_tests env (comparison is_word o token e ∷ ts) = from_three (λ k x us. test_is k token.place x us) (operator_kind o) (bound_operand env e) (case_tests env ts)
 
 -- the value of the Select Case that stands open, as an operand
 abbrev pub selected : Around → List Opened → Option bound.Expr
@@ -412,7 +417,8 @@ block_action a s line = at line
     at (case_line case_word tests) =
         from_two (λ v ts. to.case_of ts (header_of s.around) (bound.operand_type v) (compare_in env.scope) first next_arm) (selected a s.around) (case_tests env (all_of tests))
     at (for_line for_word x equal start to_word limit step) =
-        for_action (loop_variable env x) env (bound_operand env start) (bound_operand env limit) (step_value env (place_of s.part) step) first behind
+        for_action (loop_variable env x) env (bound_operand env start) (bound_operand env limit) (step_value env (place_of s.part) step)
+        (place_of_expression limit) (step_place step) first behind
     at (for_each for_word each_word x in_word group) =
         option_and_then (λ v. option_map (λ e. to.for_each v e first behind) (bound_as_given env group)) (loop_variable env x)
     at (next_line next_word x) = next_action env s.around
@@ -420,7 +426,7 @@ block_action a s line = at line
     at (loop_line loop_word c) = loop_action env c (header_of s.around) first
     at (while_line while_word e) = option_map (λ c. to.test true c first behind) (bound_operand env e)
     at (wend wend_word) = Some (to.go_to (header_of s.around))
-    at (with_line with_word e) = with_action (term_of env e) env (place_of_expression e)
+    at (with_line with_word e) = with_action (term_of env e) env (place_told e)
     at (end_with end_word with_word) = Some (to.end_with (header_of s.around))
     at line = None
 

@@ -5,9 +5,6 @@ use Rattle.std.proofs.lemmas.List.{map-append}
 use Rattle.vba_base.specs.declared.place.Place.{Place}
 use Rattle.vba_lexer.specs.declared.token.Token.{Token}
 use Rattle.bound_project.specs.Project as project
-use Rattle.vba_words.specs.declared.mark.Mark.TheVariants as mark
-use Rattle.vba_words.specs.Spelling.{marked}
-use Rattle.vba_expression.specs.Spelling.{spell_args}
 use Rattle.vba_expression.specs.Tree.{Expr, index, Args}
 use Rattle.vba_expression.specs.Nodes as nodes
 use Rattle.vba_expression.specs.Nodes.{behind_node, behind_nodes, last_arguments, last_tree, tree_in}
@@ -27,13 +24,12 @@ use Rattle.bound_project.proofs.Lists.{args_are}
 use Rattle.bound_project.specs.Pieces.{Piece, Tables, an_argument, an_expr}
 use Rattle.bound_project.specs.Drafts.{Drafted, ActionNamed}
 use Rattle.binder.specs.Types.{is_object}
-use Rattle.binder.specs.Constants.{place_of_expression}
 use Rattle.binder.specs.Declarations.{Written}
 use Rattle.binder.specs.Scopes.{Space}
 use Rattle.binder.specs.Storage.{procedure_number}
 use Rattle.binder.specs.Terms.{Env, Given, a_routine}
 use Rattle.binder.specs.Terms as plain
-use Rattle.binder.specs.ExpressionsBound.{argument_of, callee, item_of, givens, indexed, object_member, parameters_in, term_of}
+use Rattle.binder.specs.ExpressionsBound.{argument_of, callee, item_of, givens, indexed, object_member, parameters_in, term_of, place_told}
 use Rattle.binder.specs.StatementsBound.{assigned, assigned_to, is_given_with, is_variant_place, takes_value, target_before, value_for}
 use Rattle.declared_names.specs.View.{space_view, written_view}
 use Rattle.bound_actions.specs.declared.trees.Split.{Split}
@@ -54,7 +50,6 @@ use Rattle.bound_actions.specs.Heights.{AddsOne}
 use Rattle.bound_actions.specs.Targets.{AssignsIndexed, is_variant_term}
 use Rattle.bound_terms.specs.Callee.{CalleeIs, IsWriter, NoWriter, WriterOf, property_in}
 use Rattle.bound_terms.specs.Items.{takes_item}
-use Rattle.module_parts.proofs.Firsts.{expression_front}
 use Rattle.bound_calls.proofs.Growing.{grown_twice}
 use Rattle.bound_calls.proofs.Arguing.{left_long}
 use Rattle.bound_calls.proofs.CallSteps.{parameters_long}
@@ -146,7 +141,7 @@ lets_given env w procedure parameters front last ns d e kind is number_is found 
 
 -- ---- assignments
 
-pub bare_assigned : (env : Env) (place : Expr) (value : bound.Expr) → IsBare place → assigned_to env place value ≡ assigned env (place_of_expression place) value [] (term_of env place)
+pub bare_assigned : (env : Env) (place : Expr) (value : bound.Expr) → IsBare place → assigned_to env place value ≡ assigned env (place_told place) value [] (term_of env place)
 bare_assigned env (index base left args right) value h = absurd h
 bare_assigned env e value h = refl
 
@@ -188,7 +183,7 @@ assigns_bare env place x w d f e kind bare l is h =
       named = h.named;
       takes = bare_given env place bare ∙ has_writer env w (term_of env place) f.pieces d.pieces is.writer s;
       stands = λ value alone.
-          let m = h.stands (term_of env place) (place_of_expression place) value f.pieces d.pieces s (s.none_pushed ∙ alone) in
+          let m = h.stands (term_of env place) (place_told place) value f.pieces d.pieces s (s.none_pushed ∙ alone) in
           record { made = m.made; is = bare_assigned env place value bare ∙ m.is; fits = m.fits };
     }
 
@@ -212,10 +207,10 @@ split_given : (env : Env) (base : Expr) (left right : Token) (args : Args) → t
 split_given env base left right args h = ap (λ (b : Bool). b || is_variant_place (target_before env base)) h
 
 split_assigned : (env : Env) (base : Expr) (left right : Token) (args : Args) (value : bound.Expr) → takes_value env (target_before env base) ≡ true
-    → assigned_to env (index base left args right) value ≡ assigned env (place_of_expression base) value (givens env args) (target_before env base)
+    → assigned_to env (index base left args right) value ≡ assigned env (place_told base) value (givens env args) (target_before env base)
 split_assigned env base left right args value h =
     let t = target_before env base in
-    ap (λ (b : Bool). if b then assigned env (place_of_expression base) value (givens env args) t else assigned env (place_of_expression base) value [] (indexed env (place_of_expression base) t (givens env args))) h
+    ap (λ (b : Bool). if b then assigned env (place_told base) value (givens env args) t else assigned env (place_told base) value [] (indexed env (place_told base) t (givens env args))) h
 
 pub assigns_split : (env : Env) (split : Split) (all : List ExpressionNode) (x : Tree) (y : Term) (w : Writer) (d f g e : Drafted) (kind : ActionKind) → SplitAt split all → LeavesAlone env split.target.now d f x → CalleeIs env x f g y
     → WriterOf env.scope y w → LetsOn env w.property split.arguments.now g e kind → AssignsTo env (tree_in all) d e kind true
@@ -227,17 +222,17 @@ assigns_split env split all x y w d f g e kind at l c is h =
     let P : Expr → Type 0 = λ t. AssignsTo env t d e kind true in
     let z = callee env base (term_of env base) in
     let s = property_stands env g.tables y w.property z f.pieces d.pieces is.is (c.stands base f.pieces d.pieces l.leaves.stands) in
-    let same : target_before env base ≡ z = item_itself (place_of_expression base) z (space_view w.property.space.now) s.number (written_view w.property.written) s.is in
+    let same : target_before env base ≡ z = item_itself (place_told base) z (space_view w.property.space.now) s.number (written_view w.property.written) s.is in
     let taken : takes_value env (target_before env base) ≡ true = ap (λ q. takes_value env q) same ∙ has_writer env w z f.pieces d.pieces is.writer s in
     subst P (sym (index_is split all at l.alone h.framed)) (record {
       grown = grown_twice d f e l.leaves.grown (grown_twice f g e c.grown m.grown);
       named = m.named;
       takes = split_given env base at.left at.right args taken;
       stands = λ value alone.
-          let done = m.stands z (place_of_expression base) value f.pieces d.pieces s (c.pieces ∙ s.none_pushed ∙ alone) in
+          let done = m.stands z (place_told base) value f.pieces d.pieces s (c.pieces ∙ s.none_pushed ∙ alone) in
           record {
             made = done.made;
-            is = split_assigned env base at.left at.right args value taken ∙ ap (λ q. assigned env (place_of_expression base) value (givens env args) q) same ∙ done.is;
+            is = split_assigned env base at.left at.right args value taken ∙ ap (λ q. assigned env (place_told base) value (givens env args) q) same ∙ done.is;
             fits = done.fits;
           };
     })
@@ -319,7 +314,7 @@ assigns_indexed env split all x more y d f g h e kind at one l c none item r a =
     let P : Expr → Type 0 = λ (t : Expr). AssignsTo env t d e kind (is_variant_term y) in
     let L : Expr → Type 0 = λ (t : Expr). Leaves env t d h more in
     let leaves : Leaves env tree d h more = subst L at_index.1 whole in
-    let u = untaken env g.tables (place_of_expression base) y z f.pieces d.pieces item none (c.stands base f.pieces d.pieces l.leaves.stands) in
+    let u = untaken env g.tables (place_told base) y z f.pieces d.pieces item none (c.stands base f.pieces d.pieces l.leaves.stands) in
     let t = target_before env base in
     let gs = givens env args in
     let takes : takes_value env t ≡ false = ap (λ (q : plain.Term). takes_value env q) u.same ∙ u.takes in
@@ -328,11 +323,10 @@ assigns_indexed env split all x more y d f g h e kind at one l c none item r a =
       named = a.named;
       takes = ap (λ (b : Bool). b || is_variant_place t) takes ∙ ap is_variant_place u.same ∙ u.variant;
       stands = λ value alone.
-          let p = place_of_expression base in
+          let p = place_told base in
           let A : List Piece → Type 0 = λ (ps : List Piece). TermStands env h.tables more.term (term_of env tree) h.pieces ps in
-          let front : place_of_expression tree ≡ p = expression_front base (marked at.left mark.LeftParenthesis ∷ (spell_args args ++ marked at.right mark.RightParenthesis ∷ [])) in
           let B : Place → Type 0 = λ (q : Place). ActionIs kind (assigned env q value [] (term_of env tree)) e.tables e.pieces in
-          let m = subst B (leaves.stands.place_is ∙ front) (a.stands env (term_of env tree) value (subst A alone leaves.stands.term_is)) in
+          let m = subst B leaves.stands.place_is (a.stands env (term_of env tree) value (subst A alone leaves.stands.term_is)) in
           record {
             made = m.made;
             is = ap (λ (b : Bool). if b then assigned env p value gs t else assigned env p value [] (indexed env p t gs)) takes ∙ m.is;

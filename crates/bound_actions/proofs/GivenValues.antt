@@ -11,10 +11,10 @@ use Rattle.bound_project.specs.Pieces.{Piece, Tables}
 use Rattle.bound_project.specs.View.{declared_view}
 use Rattle.binder.specs.Options.{or_else}
 use Rattle.binder.specs.Types.{is_object}
-use Rattle.binder.specs.Constants.{is_variant, place_of_expression}
+use Rattle.binder.specs.Constants.{is_variant}
 use Rattle.binder.specs.Terms.{Env, a_place, a_value, a_routine, a_function, a_host_member, err_object, err_raise, err_clear, error_word, no_term, expression_of, typed_value}
 use Rattle.binder.specs.Terms as plain
-use Rattle.binder.specs.ExpressionsBound.{bound_as_given, bound_operand, default_value, given_as, may_be_object as may_be_object_at, operand_of, plain_operand, reference_of, term_of, value_of}
+use Rattle.binder.specs.ExpressionsBound.{bound_as_given, bound_operand, default_value, given_as, may_be_object as may_be_object_at, operand_of, plain_operand, reference_of, term_of, value_of, place_told}
 use Rattle.binder.specs.StatementsBound.{is_given_with, value_for}
 use Rattle.bound_calls.specs.declared.term.Term.{Term}
 use Rattle.bound_calls.specs.declared.term.Term.TheVariants as term
@@ -86,7 +86,7 @@ plain_pushed given x of d e plain p = record {
   stands = λ env tree below k.
       let m = p.stands env tree below k in
       let t = term_of env tree in
-      let at = place_of_expression tree in
+      let at = place_told tree in
       record { made = m.made; is = value_taken given env t at m.made m.is (plain_itself env d.tables x.term t d.pieces below at m.made plain k.term_is m.is); on_top = m.on_top };
 }
 
@@ -100,7 +100,7 @@ operand_pushed given x of d e b p =
     let P : Bool → Type 0 = λ (c : Bool). PushesFor c x d e in
     subst P (sym b) (record { grown = p.grown; stands = λ env tree below k. let m = p.stands env tree below k in record { made = m.made; is = m.is; on_top = m.on_top } })
 
-taken_is : (given : Bool) (env : Env) (e : Expr) → taken_for given env (term_of env e) (place_of_expression e) ≡ (if given then bound_as_given env e else bound_operand env e)
+taken_is : (given : Bool) (env : Env) (e : Expr) → taken_for given env (term_of env e) (place_told e) ≡ (if given then bound_as_given env e else bound_operand env e)
 taken_is true env e = refl
 taken_is false env e = refl
 

@@ -3,9 +3,6 @@ use Rattle.std.proofs.Common.{◌≡◌, Bool, true, false, List, [], ◌∷◌,
 use Rattle.std.specs.Prelude.{MatchBool}
 use Rattle.vba_base.specs.declared.place.Place.{Place}
 use Rattle.vba_lexer.specs.declared.token.Token.{Token}
-use Rattle.vba_words.specs.declared.mark.Mark.TheVariants as marks
-use Rattle.vba_words.specs.Spelling.{marked}
-use Rattle.vba_expression.specs.Spelling.{spell_args}
 use Rattle.vba_expression.specs.Tree.{Expr, Args, index}
 use Rattle.vba_expression.specs.Nodes as nodes
 use Rattle.vba_expression.specs.Nodes.{as_arguments, behind_node, behind_nodes, last_arguments, last_tree, rest}
@@ -18,10 +15,9 @@ use Rattle.bound_project.specs.Drafts.{Drafted}
 use Rattle.bound_project.specs.Expressions as bound
 use Rattle.bound_project.specs.Pieces.{Piece}
 use Rattle.bound_project.specs.Statements.{evaluate}
-use Rattle.binder.specs.Constants.{place_of_expression}
 use Rattle.binder.specs.Terms.{Env, Given, a_place, a_value, a_routine, a_function, a_host_member, err_object, err_raise, err_clear, error_word, no_term}
 use Rattle.binder.specs.Terms as plain
-use Rattle.binder.specs.ExpressionsBound.{callee, given_as, givens, indexed, item_of, term_of}
+use Rattle.binder.specs.ExpressionsBound.{callee, given_as, givens, indexed, item_of, term_of, place_told}
 use Rattle.binder.specs.StatementsBound.{called_term, called_with}
 use Rattle.bound_calls.specs.declared.term.Item.{Item}
 use Rattle.bound_calls.specs.declared.term.Item.TheVariants as item
@@ -31,7 +27,6 @@ use Rattle.bound_calls.specs.Standing.{Grown, TermNamed, TreeStands, on_pieces}
 use Rattle.bound_calls.specs.Steps.{Goes}
 use Rattle.bound_calls.proofs.Growing.{grown_twice, tree_grows}
 use Rattle.bound_calls.proofs.Steps.{goes_as, goes_twice}
-use Rattle.module_parts.proofs.Firsts.{expression_front}
 use Rattle.bound_actions.specs.Assigning.{GivenPushed}
 use Rattle.bound_actions.specs.Called.{ActionIs, CallsTreeOn, Continues, Framed, args_on}
 use Rattle.bound_actions.specs.Heights.{AddsOne, GivesSome, bracket, brackets}
@@ -87,7 +82,7 @@ some_given env ns g =
     let e = last_tree before in
     let P : Args → Type 0 = λ (xs : Args). SomeGiven (givens env xs) in
     let same : args_in ns g ≡ Args.plain (last_arguments (rest before)) g.comma e = sym (as_added ns g []) ∙ ap last_arguments (last_is ns g []) in
-    subst P (sym same) (given_last (givens env (last_arguments (rest before))) (record { name = None; term = Some (term_of env e); place = place_of_expression e }))
+    subst P (sym same) (given_last (givens env (last_arguments (rest before))) (record { name = None; term = Some (term_of env e); place = place_told e }))
 
 -- ---- what is called
 
@@ -113,13 +108,12 @@ called_by env place t gs made s h =
 indexed_called : (env : Env) (tree : Expr) (args : Args) (mark : Token) (more : Tree) (m e : Drafted) → SomeGiven (givens env args) → TreeStands env m.tables more (index tree mark args mark) m.pieces [] → GivenPushed more.term more.place m e
     → ActionIs action.Evaluate (called_with env tree (givens env args)) e.tables e.pieces
 indexed_called env tree args mark more m e some there g =
-    let p = place_of_expression tree in
+    let p = place_told tree in
     let z = callee env tree (term_of env tree) in
     let gs = givens env args in
     let whole = index tree mark args mark in
-    let front : place_of_expression whole ≡ p = expression_front tree (marked mark marks.LeftParenthesis ∷ (spell_args args ++ marked mark marks.RightParenthesis ∷ [])) in
     let pushed = g.stands env (term_of env whole) [] there.term_is in
-    let is : given_as env (indexed env p (item_of p z) gs) p ≡ Some pushed.made = ap (λ (q : Place). given_as env (indexed env p (item_of p z) gs) q) (sym (there.place_is ∙ front)) ∙ pushed.is in
+    let is : given_as env (indexed env p (item_of p z) gs) p ≡ Some pushed.made = ap (λ (q : Place). given_as env (indexed env p (item_of p z) gs) q) (sym there.place_is) ∙ pushed.is in
     record { made = evaluate pushed.made; is = called_by env p z gs pushed.made some is; fits = ap (λ (ps : List Piece). action_of e.tables action.Evaluate ps) pushed.on_top }
 
 behind_brackets : (ns : List ExpressionNode) (g : GivesSome ns) (tree : Expr) (mark : Token) → last_tree (behind_nodes (nodes.tree tree ∷ []) (ns ++ node.Index mark mark ∷ [])) ≡ index tree mark (args_in ns g) mark

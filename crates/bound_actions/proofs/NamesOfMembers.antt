@@ -20,14 +20,14 @@ use Rattle.bound_project.specs.Expressions as bound
 use Rattle.bound_project.specs.Expressions.{Lvalue, Storage, constant, err_value, err_number, err_source, err_description, host_object, host_member, kept_place, load, no_exprs}
 use Rattle.bound_project.specs.Project.{Declaration, nowhere}
 use Rattle.vba_values.specs.declared.object.HostRef.TheVariants as host
-use Rattle.binder.specs.Constants.{Known, home, meant_by, names_in, place_of_expression}
+use Rattle.binder.specs.Constants.{Known, home, meant_by, names_in}
 use Rattle.binder.specs.Declarations.{Own, the_result, a_parameter, a_local, a_local_constant, an_array, undeclared, Local, What, a_variable, a_constant, an_enum, a_member, a_type, an_event, a_procedure}
 use Rattle.binder.specs.Scopes.{Space, Meant, of_procedure, of_module, a_module, the_library, of_host, of_library, Qualifier, behind, has_dollar, plainly, qualifier_of}
 use Rattle.binder.specs.Storage.{declared_variable, module_storage, own_declaration, own_storage}
 use Rattle.binder.specs.Terms.{Env, Within, HostMember, a_place, a_value, a_routine, a_function, a_host_member, err_object, err_raise, err_clear, error_word, no_term, expression_of}
 use Rattle.binder.specs.Terms as plain
 use Rattle.binder.specs.Types.{meant_type, type_meant}
-use Rattle.binder.specs.ExpressionsBound.{HostKind, application, workbook, sheets, sheet, area, any_object, array_base, bare_call, behind_term, constant_term, declared_place, entry_term, err_member, field_named, field_of_place, field_of_value, from_zero, given_as, has_bounds, host_kind, host_term, if_there, kept_member, library_term, listed_member, mark_members, meant_term, member_of, member_of_kind, node_or, object_member, own_term, place_term, sheet_members, sheet_term, sheets_members, sheets_value, area_members, term_of, typed_term}
+use Rattle.binder.specs.ExpressionsBound.{HostKind, application, workbook, sheets, sheet, area, any_object, array_base, bare_call, behind_term, constant_term, declared_place, entry_term, err_member, field_named, field_of_place, field_of_value, from_zero, given_as, has_bounds, host_kind, host_term, if_there, kept_member, library_term, listed_member, mark_members, meant_term, member_of, member_of_kind, node_or, object_member, own_term, place_term, sheet_members, sheet_term, sheets_members, sheets_value, area_members, term_of, typed_term, place_told}
 use Rattle.bound_actions.specs.Members.{MemberNamed, NamedBy}
 use Rattle.bound_actions.proofs.NodeTrees.{behind_push}
 
@@ -236,7 +236,7 @@ behind_named env (Some q) x t h = from_zero_named x.name (meant_term env x (behi
 
 dotted_named : (env : Env) (base : Expr) (dot : Token) (x : Identifier) → MemberNamed x.name (term_of env (member base dot x))
 dotted_named env base dot x =
-    behind_named env (qualifier_of env.scope base) x (member_of env (place_of_expression base) (term_of env base) x) (member_named env (place_of_expression base) (term_of env base) x)
+    behind_named env (qualifier_of env.scope base) x (member_of env (place_told base) (term_of env base) x) (member_named env (place_told base) (term_of env base) x)
 
 new_named : (env : Env) (word : Token) (q : Option TypeQualifier) (first : Identifier) (dot : Token) (x : Identifier) (s : Option TypeSuffix) → MemberNamed x.name (term_of env (new_behind_dot word q first dot x s))
 new_named env word None first dot x None = tt
@@ -250,7 +250,7 @@ typed_named fold (Some a) of = tt
 type_of_named : (env : Env) (word : Token) (operand : Expr) (is_word : Token) (q : Option TypeQualifier) (first : Identifier) (dot : Token) (x : Identifier) (s : Option TypeSuffix)
     → MemberNamed x.name (term_of env (type_of_behind_dot word operand is_word q first dot x s))
 type_of_named env word operand is_word None first dot x None =
-    typed_named x.name (given_as env (term_of env operand) (place_of_expression operand)) (meant_type (type_meant env.scope (long_type first dot x)))
+    typed_named x.name (given_as env (term_of env operand) (place_told operand)) (meant_type (type_meant env.scope (long_type first dot x)))
 type_of_named env word operand is_word None first dot x (Some s) = dotted_named env (type_of word operand is_word (record { qualifier = None; name = first })) dot x
 type_of_named env word operand is_word (Some q) first dot x s = dotted_named env (type_of word operand is_word (record { qualifier = Some q; name = first })) dot x
 

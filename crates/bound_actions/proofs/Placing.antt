@@ -12,10 +12,9 @@ use Rattle.bound_project.specs.Bodies.{action_of}
 use Rattle.bound_project.specs.Pieces.{Piece, Tables, an_expr, a_place, put}
 use Rattle.bound_project.specs.Drafts.{Drafted}
 use Rattle.bound_project.specs.Statements.{with_place, with_value}
-use Rattle.binder.specs.Constants.{place_of_expression}
 use Rattle.binder.specs.Terms.{Env}
 use Rattle.binder.specs.Terms as terms
-use Rattle.binder.specs.ExpressionsBound.{given_as, term_of}
+use Rattle.binder.specs.ExpressionsBound.{given_as, term_of, place_told}
 use Rattle.binder.specs.StatementsBound.{keeps, place_in, settled, with_action}
 use Rattle.bound_terms.specs.declared.env.Within.{Within}
 use Rattle.bound_calls.specs.declared.term.Ending.{Ending}
@@ -69,7 +68,7 @@ kept_there : (at : Lvalue) (given : Option bound.Expr) (of : DeclaredType) → m
 kept_there at given of h = ap (λ (b : Bool). if b then option_map with_value given else Some (with_place at)) h
 
 pub with_place_bound : (env : Env) (tree : Expr) (x : Tree) (at : Ending) (d e g : Drafted) → d.pieces ≡ [] → Leaves env tree d e x → place_ending x.term ≡ Some at → WithPlacePushed at.kind at.of e g
-    → ActionStands (Some action.WithPlace) (with_action (term_of env tree) env (place_of_expression tree)) d g
+    → ActionStands (Some action.WithPlace) (with_action (term_of env tree) env (place_told tree)) d g
 with_place_bound env tree x at d e g empty l is w =
     let q = place_there env e.tables x.term at (term_of env tree) e.pieces d.pieces is l.stands.term_is in
     let p = q.stands in
@@ -80,15 +79,15 @@ with_place_bound env tree x at d e g empty l is w =
       bodies = all.bodies;
       named = tt;
       made = with_place p.at;
-      is = ap (λ (z : terms.Term). with_action z env (place_of_expression tree)) p.is
-          ∙ kept_there p.at (given_as env (terms.a_place p.at (declared_view at.of) q.bounded q.lends) (place_of_expression tree)) at.of w.plain;
+      is = ap (λ (z : terms.Term). with_action z env (place_told tree)) p.is
+          ∙ kept_there p.at (given_as env (terms.a_place p.at (declared_view at.of) q.bounded q.lends) (place_told tree)) at.of w.plain;
       fits = ap (λ (ps : List Piece). action_of g.tables action.WithPlace ps) top;
     }
 
 -- what is kept as it is
 value_kept : (env : Env) (tree : Expr) (x : Tree) (of : DeclaredType) (d e g : Drafted) → d.pieces ≡ [] → Leaves env tree d e x
-    → with_action (term_of env tree) env (place_of_expression tree) ≡ option_map with_value (given_as env (term_of env tree) (place_of_expression tree)) → PushesGiven x e g of
-    → ActionStands (Some action.WithValue) (with_action (term_of env tree) env (place_of_expression tree)) d g
+    → with_action (term_of env tree) env (place_told tree) ≡ option_map with_value (given_as env (term_of env tree) (place_told tree)) → PushesGiven x e g of
+    → ActionStands (Some action.WithValue) (with_action (term_of env tree) env (place_told tree)) d g
 value_kept env tree x of d e g empty l kept p =
     let m = p.stands env tree d.pieces l.stands in
     let all = grown_twice d e g l.grown p.grown in
@@ -110,10 +109,10 @@ with_object env place at of bounded lends h =
     ap (λ (b : Bool). if b then option_map with_value given else Some (with_place at)) h
 
 pub with_object_bound : (env : Env) (tree : Expr) (x : Tree) (at : Ending) (of : DeclaredType) (d e g : Drafted) → d.pieces ≡ [] → Leaves env tree d e x → place_ending x.term ≡ Some at → may_be_object at.of ≡ true → PushesGiven x e g of
-    → ActionStands (Some action.WithValue) (with_action (term_of env tree) env (place_of_expression tree)) d g
+    → ActionStands (Some action.WithValue) (with_action (term_of env tree) env (place_told tree)) d g
 with_object_bound env tree x at of d e g empty l is object p =
     let q = place_there env e.tables x.term at (term_of env tree) e.pieces d.pieces is l.stands.term_is in
-    let place = place_of_expression tree in
+    let place = place_told tree in
     let P : terms.Term → Type 0 = λ (y : terms.Term). with_action y env place ≡ option_map with_value (given_as env y place) in
     value_kept env tree x of d e g empty l (subst P (sym q.stands.is) (with_object env place q.stands.at at.of q.bounded q.lends object)) p
 
@@ -144,8 +143,8 @@ no_place env t term.Nothing z ps below place is h =
     let P : terms.Term → Type 0 = λ (y : terms.Term). with_action y env place ≡ option_map with_value (given_as env y place) in subst P (sym h) refl
 
 pub with_value_bound : (env : Env) (tree : Expr) (x : Tree) (of : DeclaredType) (d e g : Drafted) → d.pieces ≡ [] → Leaves env tree d e x → place_ending x.term ≡ None → PushesGiven x e g of
-    → ActionStands (Some action.WithValue) (with_action (term_of env tree) env (place_of_expression tree)) d g
-with_value_bound env tree x of d e g empty l is p = value_kept env tree x of d e g empty l (no_place env e.tables x.term (term_of env tree) e.pieces d.pieces (place_of_expression tree) is l.stands.term_is) p
+    → ActionStands (Some action.WithValue) (with_action (term_of env tree) env (place_told tree)) d g
+with_value_bound env tree x of d e g empty l is p = value_kept env tree x of d e g empty l (no_place env e.tables x.term (term_of env tree) e.pieces d.pieces (place_told tree) is l.stands.term_is) p
 
 -- ---- what With keeps
 

@@ -19,10 +19,10 @@ use Rattle.bound_project.specs.Pieces.{Piece, Tables, an_expr, put}
 use Rattle.bound_project.specs.Statements.{Action, set, set_member}
 use Rattle.bound_project.specs.View.{declared_view}
 use Rattle.binder.specs.Types.{is_object}
-use Rattle.binder.specs.Constants.{is_variant, place_of_expression}
+use Rattle.binder.specs.Constants.{is_variant}
 use Rattle.binder.specs.Terms.{Env, Given, a_host_member, a_place, a_routine, a_value}
 use Rattle.binder.specs.Terms as plain
-use Rattle.binder.specs.ExpressionsBound.{bound_reference, callee, givens, indexed, item_of, object_member, term_of}
+use Rattle.binder.specs.ExpressionsBound.{bound_reference, callee, givens, indexed, item_of, object_member, term_of, place_told}
 use Rattle.binder.specs.StatementsBound.{set_target, set_to, target_before}
 use Rattle.bound_calls.specs.declared.term.HostMember.{HostMember}
 use Rattle.bound_calls.specs.declared.term.Term.{Term}
@@ -86,7 +86,7 @@ abbrev set_with : Env → Place → List Given → plain.Term → plain.Term
 set_with env place gs (a_host_member e m) = if is_some m.greatest then indexed env place (a_host_member e m) gs else a_host_member e m
 set_with env place gs t = indexed env place t gs
 
-target_parts : (env : Env) (base : Expr) (left right : Token) (args : Args) → set_target env (index base left args right) ≡ set_with env (place_of_expression base) (givens env args) (target_before env base)
+target_parts : (env : Env) (base : Expr) (left right : Token) (args : Args) → set_target env (index base left args right) ≡ set_with env (place_told base) (givens env args) (target_before env base)
 target_parts env base left right args = refl
 
 abbrev is_member : plain.Term → Bool
@@ -127,7 +127,7 @@ sets_split_member env split all x y m d f g h kind at one l c made s =
     let z = callee env base (term_of env base) in
     let at_index = index_at split all at l.alone one in
     let args = at_index.0 in
-    let p = place_of_expression base in
+    let p = place_told base in
     let P : Expr → Type 0 = λ (t : Expr). SetsTo env t d h kind in
     subst P (sym at_index.1) (record {
       grown = grown_twice d f h l.leaves.grown (grown_twice f g h c.grown made.grown);
@@ -176,7 +176,7 @@ sets_split env split all x more y d f g h e kind at one l c item r s =
     let at_index = index_at split all at l.alone one in
     let args = at_index.0 in
     let tree = index base at.left args at.right in
-    let p = place_of_expression base in
+    let p = place_told base in
     let P : Expr → Type 0 = λ (t : Expr). SetsTo env t d e kind in
     let L : Expr → Type 0 = λ (t : Expr). Leaves env t d h more in
     let leaves : Leaves env tree d h more = subst L at_index.1 whole in

@@ -23,10 +23,9 @@ use Rattle.bound_project.specs.Drafts.{Drafted}
 use Rattle.bound_project.specs.Statements.{Action, assign_member}
 use Rattle.bound_project.specs.View.{declared_view}
 use Rattle.binder.specs.Types.{is_object}
-use Rattle.binder.specs.Constants.{place_of_expression}
 use Rattle.binder.specs.Terms.{Env, Given, a_host_member, listed_values}
 use Rattle.binder.specs.Terms as plain
-use Rattle.binder.specs.ExpressionsBound.{callee, given_as, givens, host_arguments, indexed, item_of, mark_members, takes_arguments, term_of}
+use Rattle.binder.specs.ExpressionsBound.{callee, given_as, givens, host_arguments, indexed, item_of, mark_members, takes_arguments, term_of, place_told}
 use Rattle.binder.specs.StatementsBound.{assigned, assigned_to, fits_written, has_written_default, is_given_with, is_variant_place, is_written_member, member_written, takes_value, target_before}
 use Rattle.bound_calls.specs.declared.term.HostMember.{HostMember}
 use Rattle.bound_calls.specs.declared.term.MemberCall.{MemberCall}
@@ -163,7 +162,7 @@ indexed_given env base left right args object m h = ap (λ (t : plain.Term). tak
 indexed_assigned : (env : Env) (base : Expr) (left right : Token) (args : Args) (object : bound.Expr) (m : plain.HostMember) (value : bound.Expr) → target_before env base ≡ a_host_member object m
     → assigned_to env (index base left args right) value ≡ member_written env object m (givens env args) value
 indexed_assigned env base left right args object m value h =
-    let p = place_of_expression base in
+    let p = place_told base in
     ap (λ (t : plain.Term). if takes_value env t then assigned env p value (givens env args) t else assigned env p value [] (indexed env p t (givens env args))) h
 
 -- a member with its arguments, at the end of nodes

@@ -5,10 +5,9 @@ use Rattle.vba_expression.specs.Tree.{Expr}
 use Rattle.bound_project.specs.Expressions as bound
 use Rattle.bound_project.specs.Drafts.{Drafted}
 use Rattle.bound_project.specs.Pieces.{Piece, an_expr}
-use Rattle.binder.specs.Constants.{place_of_expression}
 use Rattle.binder.specs.Terms.{Env}
 use Rattle.binder.specs.Terms as plain
-use Rattle.binder.specs.ExpressionsBound.{given_as, operand_of, term_of}
+use Rattle.binder.specs.ExpressionsBound.{given_as, operand_of, term_of, place_told}
 use Rattle.bound_calls.specs.declared.term.Term.{Term}
 use Rattle.bound_calls.specs.declared.term.Term.TheVariants as term
 use Rattle.bound_calls.specs.declared.term.Tree.{Tree}
@@ -35,7 +34,7 @@ taken_for false env t place = operand_of env t place
 pub record PushesFor (given : Bool) (x : Tree) (d e : Drafted) : Type 0 where
   pub grown : Grown d e
   pub stands : (env : Env) (tree : Expr) (below : List Piece) → TreeStands env d.tables x tree d.pieces below
-      → ExprPushed (taken_for given env (term_of env tree) (place_of_expression tree)) e.pieces below
+      → ExprPushed (taken_for given env (term_of env tree) (place_told tree)) e.pieces below
 
 -- a value was pushed
 pub record ValueFor (found : Option bound.Expr) (d e : Drafted) : Type 0 where

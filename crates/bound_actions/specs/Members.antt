@@ -16,10 +16,9 @@ use Rattle.bound_project.specs.Drafts.{Drafted, ActionNamed}
 use Rattle.bound_project.specs.Expressions as bound
 use Rattle.bound_project.specs.Pieces.{Piece, Tables, an_expr}
 use Rattle.binder.specs.Types.{is_object}
-use Rattle.binder.specs.Constants.{place_of_expression}
 use Rattle.binder.specs.Terms.{Env, a_host_member}
 use Rattle.binder.specs.Terms as plain
-use Rattle.binder.specs.ExpressionsBound.{callee, takes_arguments, term_of}
+use Rattle.binder.specs.ExpressionsBound.{callee, takes_arguments, term_of, place_told}
 use Rattle.binder.specs.StatementsBound.{assigned, assigned_to, has_written_default, is_given_with, is_written_member, takes_value}
 use Rattle.bound_calls.specs.declared.term.MemberCall.{MemberCall}
 use Rattle.bound_calls.specs.declared.term.Term.{Term}
@@ -90,5 +89,5 @@ pub record GivesMember (env : Env) (place : Expr) (kind : ActionKind) (t : Table
 pub record AssignsItem (env : Env) (place : Place) (x : Term) (ns : List ExpressionNode) (d e : Drafted) (kind : ActionKind) : Type 0 where
   pub grown : Grown d e
   pub named : ActionNamed e.tables kind
-  pub stands : (tree : Expr) (left right : Token) (below : List Piece) → place ≡ place_of_expression tree → TermStands env d.tables x (callee env tree (term_of env tree)) d.pieces below
+  pub stands : (tree : Expr) (left right : Token) (below : List Piece) → place ≡ place_told tree → TermStands env d.tables x (callee env tree (term_of env tree)) d.pieces below
       → GivesMember env (last_tree (behind_nodes (nodes.tree tree ∷ []) (ns ++ node.Index left right ∷ []))) kind e.tables e.pieces below

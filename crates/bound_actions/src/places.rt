@@ -5,8 +5,7 @@ ghost use Rattle.vba_expression.specs.View.{view as expression_view};
 ghost use Rattle.bound_project.specs.DraftView.{draft_view};
 ghost use Rattle.bound_project.specs.Drafts.{NodeNamed};
 ghost use Rattle.bound_project.specs.View.{declared_view};
-ghost use Rattle.binder.specs.Constants.{place_of_expression};
-ghost use Rattle.binder.specs.ExpressionsBound.{term_of};
+ghost use Rattle.binder.specs.ExpressionsBound.{term_of, place_told};
 ghost use Rattle.binder.specs.StatementsBound as plain;
 ghost use Rattle.bound_actions.specs.Actions.{ActionStands, PlacePushed, may_be_object};
 ghost use Rattle.bound_actions.specs.Kept.{Keeps, WithPlacePushed, place_ending};
@@ -73,7 +72,7 @@ pub fn bind_with<'a>(
     requires env { EnvStands env }
     requires empty { (draft_view draft.old).pieces ≡ [] }
     ensures { IfOk result (λ kind. ActionStands kind
-        (plain.with_action (term_of (env_view env.entry) (expression_view expression.now)) (env_view env.entry) (place_of_expression (expression_view expression.now)))
+        (plain.with_action (term_of (env_view env.entry) (expression_view expression.now)) (env_view env.entry) (place_told (expression_view expression.now)))
         (draft_view draft.old) (draft_view draft.new)) }
 {
     let tree = tree_of(alloc, draft, env, expression)?;

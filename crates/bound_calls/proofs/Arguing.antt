@@ -22,11 +22,10 @@ use Rattle.bound_project.specs.Pieces.{Argument, place_lent, value_copied, defau
 use Rattle.bound_project.specs.Project as project
 use Rattle.bound_project.specs.Drafts.{Drafted, NodeNamed, with_constant}
 use Rattle.bound_project.proofs.Drafts.{constant_last}
-use Rattle.binder.specs.Constants.{place_of_expression}
 use Rattle.binder.specs.Types.{is_object}
 use Rattle.binder.specs.Terms.{Env, Given, a_place, taken_by, by_reference, by_copy, is_lent_to, is_copied_to}
 use Rattle.binder.specs.Terms as plain
-use Rattle.binder.specs.ExpressionsBound.{argument_of, given_as, operand_of, term_of, givens}
+use Rattle.binder.specs.ExpressionsBound.{argument_of, given_as, operand_of, term_of, givens, place_told}
 use Rattle.bound_calls.specs.declared.term.Ending.{Ending}
 use Rattle.bound_calls.specs.declared.term.Term.{Term}
 use Rattle.bound_calls.specs.declared.term.Term.TheVariants as term
@@ -79,7 +78,7 @@ argument_kept of x u d e keeps h = record {
   grown = h.grown;
   stands = λ env tree below k.
       let p = h.stands env tree below k in
-      record { made = p.made; is = argument_given env of (term_of env tree) (place_of_expression tree) true keeps ∙ p.is; on_top = p.on_top };
+      record { made = p.made; is = argument_given env of (term_of env tree) (place_told tree) true keeps ∙ p.is; on_top = p.on_top };
 }
 
 pub argument_operand : (of : DeclaredType) (x : Tree) (u : DeclaredType) (d e : Drafted) → keeps_object of ≡ false → PushesOperand x d e (Some u) → PushesArgument of x d e
@@ -87,7 +86,7 @@ argument_operand of x u d e keeps h = record {
   grown = h.grown;
   stands = λ env tree below k.
       let p = h.stands env tree below k in
-      record { made = p.made; is = argument_given env of (term_of env tree) (place_of_expression tree) false keeps ∙ p.is; on_top = p.on_top };
+      record { made = p.made; is = argument_given env of (term_of env tree) (place_told tree) false keeps ∙ p.is; on_top = p.on_top };
 }
 
 -- a parameter takes a copy
@@ -102,20 +101,20 @@ taken_copy value p t place made many how found = record {
 
 copy_taken : (p : Parameter) (x : Tree) (d e : Drafted) → p.is_param_array ≡ false → Copies p.of x d e
     → ((env : Env) (tree : Expr) (below : List Piece) → TreeStands env d.tables x tree d.pieces below → (rest : bound.Args)
-    → taken_by (argument_of env) (parameter_view p) (plain_given env tree) rest ≡ by_copy (argument_of env) (parameter_view p) (term_of env tree) (place_of_expression tree) rest)
+    → taken_by (argument_of env) (parameter_view p) (plain_given env tree) rest ≡ by_copy (argument_of env) (parameter_view p) (term_of env tree) (place_told tree) rest)
     → PassesTree p x d e
 copy_taken p x d e many h how = record {
   grown = h.grown;
   stands = λ env tree below k.
       let c = h.stands env tree below k in
-      record { made = value_copied c.made (declared_view p.of); taken = taken_copy (argument_of env) (parameter_view p) (term_of env tree) (place_of_expression tree) c.made many (how env tree below k) c.is; on_top = c.on_top };
+      record { made = value_copied c.made (declared_view p.of); taken = taken_copy (argument_of env) (parameter_view p) (term_of env tree) (place_told tree) c.made many (how env tree below k) c.is; on_top = c.on_top };
 }
 
 pub passed_copy : (p : Parameter) (x : Tree) (d e : Drafted) → p.is_param_array ≡ false → p.is_by_reference ≡ false → Copies p.of x d e → PassesTree p x d e
 passed_copy p x d e many reference h =
     copy_taken p x d e many h (λ env tree below k rest.
-    ap (λ b. if b then by_reference (argument_of env) (parameter_view p) (term_of env tree) (place_of_expression tree) rest
-    else by_copy (argument_of env) (parameter_view p) (term_of env tree) (place_of_expression tree) rest) reference)
+    ap (λ b. if b then by_reference (argument_of env) (parameter_view p) (term_of env tree) (place_told tree) rest
+    else by_copy (argument_of env) (parameter_view p) (term_of env tree) (place_told tree) rest) reference)
 
 -- what isn't lent
 abbrev pub no_lent : Term → Type 0
@@ -145,9 +144,9 @@ copied_anyway env x d y below n h p place rest = at x.term n h
 pub passed_anyway : (p : Parameter) (x : Tree) (d e : Drafted) → p.is_param_array ≡ false → p.is_by_reference ≡ true → no_lent x.term → Copies p.of x d e → PassesTree p x d e
 passed_anyway p x d e many reference n h =
     copy_taken p x d e many h (λ env tree below k rest.
-    ap (λ b. if b then by_reference (argument_of env) (parameter_view p) (term_of env tree) (place_of_expression tree) rest
-    else by_copy (argument_of env) (parameter_view p) (term_of env tree) (place_of_expression tree) rest) reference
-    ∙ copied_anyway env x d (term_of env tree) below n k.term_is (parameter_view p) (place_of_expression tree) rest)
+    ap (λ b. if b then by_reference (argument_of env) (parameter_view p) (term_of env tree) (place_told tree) rest
+    else by_copy (argument_of env) (parameter_view p) (term_of env tree) (place_told tree) rest) reference
+    ∙ copied_anyway env x d (term_of env tree) below n k.term_is (parameter_view p) (place_told tree) rest)
 
 -- a place is lent
 abbrev by_place : Env → project.Parameter → Lvalue → Declared → Bool → Place → bound.Args → (lent copied : Bool) → Option bound.Args
@@ -173,7 +172,7 @@ passed_place p x kind of bounded d e many reference is fits h = record {
         taken = record {
           no_name = refl;
           no_list = many;
-          makes = λ rest. reference_taken env p (term_of env tree) s.at (declared_view of) bounded (place_of_expression tree) rest true (is_copied_to s.at (declared_view of) (declared_view p.of)) reference s.is fits refl;
+          makes = λ rest. reference_taken env p (term_of env tree) s.at (declared_view of) bounded (place_told tree) rest true (is_copied_to s.at (declared_view of) (declared_view p.of)) reference s.is fits refl;
         };
         on_top = h.stands s.at below s.ends;
       };
@@ -205,7 +204,7 @@ placed_copy p x kind of bounded d e many reference is fits copies h =
     copy_taken p x d e many h (λ env tree below k rest.
     let A : Term → Type 0 = λ y. TermStands env d.tables y (term_of env tree) d.pieces below in
     let s = subst A is k.term_is in
-    let place = place_of_expression tree in
+    let place = place_told tree in
     reference_taken env p (term_of env tree) s.at (declared_view of) bounded place rest false true reference s.is fits (copied_to d.tables kind of p.of s.at d.pieces below copies s.ends)
     ∙ ap (λ y. by_copy (argument_of env) (parameter_view p) y place rest) (sym s.is))
 

@@ -5,9 +5,6 @@ use Rattle.std.specs.Prelude.{unwrap_or}
 use Rattle.vba_base.specs.declared.place.Place.{Place}
 use Rattle.vba_lexer.specs.declared.token.Token.{Token}
 use Rattle.vba_words.specs.declared.identifier.Identifier.{Identifier}
-use Rattle.vba_words.specs.declared.mark.Mark.TheVariants as mark
-use Rattle.vba_words.specs.Spelling.{marked}
-use Rattle.vba_expression.specs.Spelling.{spell_args}
 use Rattle.vba_expression.specs.declared.node.ExpressionNode.TheVariants as node
 use Rattle.vba_expression.specs.Tree.{Expr, index, name, Args, missing, plain}
 use Rattle.vba_expression.specs.Reader.{name_in}
@@ -25,13 +22,11 @@ use Rattle.bound_project.specs.Project as project
 use Rattle.bound_project.specs.Drafts.{Drafted, NodeNamed}
 use Rattle.bound_project.proofs.Drafts.{Extends}
 use Rattle.vba_values.specs.Types.{Declared}
-use Rattle.binder.specs.Constants.{place_of_expression}
 use Rattle.binder.specs.Declarations.{Written}
 use Rattle.binder.specs.Scopes.{Space}
 use Rattle.binder.specs.Terms.{Env, Given, a_value, a_routine, value_with}
 use Rattle.binder.specs.Terms as plain_terms
-use Rattle.binder.specs.ExpressionsBound.{argument_of, call_with, bare_call, callee, indexed, item_of, term_of, value_of, givens}
-use Rattle.module_parts.proofs.Firsts.{expression_front}
+use Rattle.binder.specs.ExpressionsBound.{argument_of, call_with, bare_call, callee, indexed, item_of, term_of, value_of, givens, place_told}
 use Rattle.bound_calls.specs.declared.term.Ending.{Ending}
 use Rattle.bound_calls.specs.declared.term.Routine.{Routine}
 use Rattle.bound_calls.specs.declared.term.Term.{Term}
@@ -263,12 +258,12 @@ pub routine_item : (place : Place) (z : plain_terms.Term) (space : Space) (numbe
 routine_item place z space number w h = ap (λ y. item_of place y) h ∙ sym h
 
 -- what brackets make of an expression
-pub tree_ended : (env : Env) (t : Tables) (y : Term) (place : Place) (b : Expr) (args : Args) (left right : Token) (ps below : List Piece) → place ≡ place_of_expression b
-    → TermStands env t y (indexed env (place_of_expression b) (item_of (place_of_expression b) (callee env b (term_of env b))) (givens env args)) ps below
+pub tree_ended : (env : Env) (t : Tables) (y : Term) (place : Place) (b : Expr) (args : Args) (left right : Token) (ps below : List Piece) → place ≡ place_told b
+    → TermStands env t y (indexed env (place_told b) (item_of (place_told b) (callee env b (term_of env b))) (givens env args)) ps below
     → TreeStands env t (record { place = place; name = None; dotted = None; term = y }) (index b left args right) ps below
 tree_ended env t y place b args left right ps below at h = record {
   term_is = h;
-  place_is = at ∙ sym (expression_front b (marked left mark.LeftParenthesis ∷ (spell_args args ++ marked right mark.RightParenthesis ∷ [])));
+  place_is = at;
   name_is = refl;
   qualifier_is = refl;
   leaf = tt;
@@ -284,12 +279,12 @@ index_stands env x ending left right xs d e k c (nodes.arguments args ∷ []) ba
 index_stands env x ending left right xs d e k c (nodes.arguments args ∷ nodes.arguments more ∷ is) base h = absurd h
 index_stands env x ending left right xs d e k c (nodes.arguments args ∷ nodes.tree y ∷ is) base h =
     let s = h.1.0 in
-    let A : plain_terms.Term → Type 0 = λ z. ValueStands e.tables ending (indexed env (place_of_expression y) z (givens env args)) e.pieces h.0 in (
+    let A : plain_terms.Term → Type 0 = λ z. ValueStands e.tables ending (indexed env (place_told y) z (givens env args)) e.pieces h.0 in (
       h.0,
       (
         tree_ended env e.tables (term.Value ending) x.place y args left right e.pieces h.0 s.place_is
-            (subst A (sym (routine_item (place_of_expression y) (callee env y (term_of env y)) s.routine.space s.routine.number s.routine.written s.routine.is))
-            (call_stands env e.tables x.routine x.passed d e ending (callee env y (term_of env y)) (place_of_expression y) args h.0 h.0 c s.routine s.passed)),
+            (subst A (sym (routine_item (place_told y) (callee env y (term_of env y)) s.routine.space s.routine.number s.routine.written s.routine.is))
+            (call_stands env e.tables x.routine x.passed d e ending (callee env y (term_of env y)) (place_told y) args h.0 h.0 c s.routine s.passed)),
         stands_grows env d.tables e.tables c.grown.tables xs k is h.0 base h.1.1,
       ),
     )

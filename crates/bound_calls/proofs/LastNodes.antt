@@ -28,8 +28,8 @@ value_passes test m make h ((an_argument a) ∷ st) = m
 value_passes test m make h ((a_value_shown a) ∷ st) = m
 value_passes test m make h (a_zone ∷ st) = m
 value_passes test m make h (a_test_begun ∷ st) = m
-value_passes test m make h ((a_test_is a b) ∷ st) = m
-value_passes test m make h ((a_test_range a b) ∷ st) = m
+value_passes test m make h ((a_test_is a b c) ∷ st) = m
+value_passes test m make h ((a_test_range a b c d) ∷ st) = m
 value_passes test m make h ((a_resize a b c) ∷ st) = m
 value_passes test m make h ((an_erased a) ∷ st) = m
 
@@ -43,8 +43,8 @@ place_passes test m make h ((an_argument a) ∷ st) = m
 place_passes test m make h ((a_value_shown a) ∷ st) = m
 place_passes test m make h (a_zone ∷ st) = m
 place_passes test m make h (a_test_begun ∷ st) = m
-place_passes test m make h ((a_test_is a b) ∷ st) = m
-place_passes test m make h ((a_test_range a b) ∷ st) = m
+place_passes test m make h ((a_test_is a b c) ∷ st) = m
+place_passes test m make h ((a_test_range a b c d) ∷ st) = m
 place_passes test m make h ((a_resize a b c) ∷ st) = m
 place_passes test m make h ((an_erased a) ∷ st) = m
 
@@ -60,8 +60,8 @@ both_pass test m make h (an_expr y ∷ (an_argument a) ∷ st) = m
 both_pass test m make h (an_expr y ∷ (a_value_shown a) ∷ st) = m
 both_pass test m make h (an_expr y ∷ a_zone ∷ st) = m
 both_pass test m make h (an_expr y ∷ a_test_begun ∷ st) = m
-both_pass test m make h (an_expr y ∷ (a_test_is a b) ∷ st) = m
-both_pass test m make h (an_expr y ∷ (a_test_range a b) ∷ st) = m
+both_pass test m make h (an_expr y ∷ (a_test_is a b c) ∷ st) = m
+both_pass test m make h (an_expr y ∷ (a_test_range a b c d) ∷ st) = m
 both_pass test m make h (an_expr y ∷ (a_resize a b c) ∷ st) = m
 both_pass test m make h (an_expr y ∷ (an_erased a) ∷ st) = m
 both_pass test m make h ((a_place a) ∷ st) = m
@@ -70,8 +70,8 @@ both_pass test m make h ((an_argument a) ∷ st) = m
 both_pass test m make h ((a_value_shown a) ∷ st) = m
 both_pass test m make h (a_zone ∷ st) = m
 both_pass test m make h (a_test_begun ∷ st) = m
-both_pass test m make h ((a_test_is a b) ∷ st) = m
-both_pass test m make h ((a_test_range a b) ∷ st) = m
+both_pass test m make h ((a_test_is a b c) ∷ st) = m
+both_pass test m make h ((a_test_range a b c d) ∷ st) = m
 both_pass test m make h ((a_resize a b c) ∷ st) = m
 both_pass test m make h ((an_erased a) ∷ st) = m
 
@@ -99,8 +99,8 @@ member_passes test m name make h es ((an_argument a) ∷ st) = m
 member_passes test m name make h es ((a_value_shown a) ∷ st) = m
 member_passes test m name make h es (a_zone ∷ st) = m
 member_passes test m name make h es (a_test_begun ∷ st) = m
-member_passes test m name make h es ((a_test_is a b) ∷ st) = m
-member_passes test m name make h es ((a_test_range a b) ∷ st) = m
+member_passes test m name make h es ((a_test_is a b c) ∷ st) = m
+member_passes test m name make h es ((a_test_range a b c d) ∷ st) = m
 member_passes test m name make h es ((a_resize a b c) ∷ st) = m
 member_passes test m name make h es ((an_erased a) ∷ st) = m
 
@@ -174,7 +174,7 @@ kind_agrees t n node.Shown st b h = let e : None ≡ Some b = h in absurd cc
 kind_agrees t n node.Zone st b h = let e : None ≡ Some b = h in absurd cc
 kind_agrees t n node.TestBegins st b h = let e : None ≡ Some b = h in absurd cc
 kind_agrees t n (node.TestIs o of) st b h = let e : None ≡ Some b = h in absurd cc
-kind_agrees t n (node.TestRange low high) st b h = let e : None ≡ Some b = h in absurd cc
+kind_agrees t n (node.TestRange low high high_at) st b h = let e : None ≡ Some b = h in absurd cc
 kind_agrees t n (node.Resize count of) st b h = let e : None ≡ Some b = h in absurd cc
 kind_agrees t n node.Erased st b h = let e : None ≡ Some b = h in absurd cc
 

@@ -5,9 +5,6 @@ use Rattle.std.specs.Prelude.{bytes_eq, reverse}
 use Rattle.vba_base.specs.declared.place.Place.{Place}
 use Rattle.vba_lexer.specs.declared.token.Token.{Token}
 use Rattle.vba_words.specs.declared.identifier.Identifier.{Identifier}
-use Rattle.vba_words.specs.declared.mark.Mark.TheVariants as mark
-use Rattle.vba_words.specs.Spelling.{marked}
-use Rattle.vba_expression.specs.Spelling.{spell_args}
 use Rattle.vba_expression.specs.declared.node.ExpressionNode.TheVariants as node
 use Rattle.vba_expression.specs.Tree.{Expr, Args, no_args, missing, plain}
 use Rattle.vba_expression.specs.Tree as tree
@@ -28,15 +25,14 @@ use Rattle.bound_project.specs.Pieces.{Argument, Piece, Tables, an_argument, arg
 use Rattle.bound_project.specs.Project as project
 use Rattle.bound_project.specs.Drafts.{Drafted, NodeNamed}
 use Rattle.bound_project.proofs.Drafts.{order_extends}
-use Rattle.binder.specs.Constants.{home, place_of_expression}
+use Rattle.binder.specs.Constants.{home}
 use Rattle.binder.specs.Declarations.{Written}
 use Rattle.binder.specs.Names.{scope_in}
 use Rattle.binder.specs.Scopes.{Scope, Space}
 use Rattle.binder.specs.Storage.{bound_parameters, procedure_number}
 use Rattle.binder.specs.Terms.{Env, Given, a_value, bound_arguments, parameter_named}
 use Rattle.binder.specs.Terms as plain_terms
-use Rattle.binder.specs.ExpressionsBound.{is_get, reader, parameters_in, call_type, call_value, call_with, if_there, indexes_value, indexed_value, node_or, numbers_of, argument_of, callee, indexed, term_of, givens}
-use Rattle.module_parts.proofs.Firsts.{expression_front}
+use Rattle.binder.specs.ExpressionsBound.{is_get, reader, parameters_in, call_type, call_value, call_with, if_there, indexes_value, indexed_value, node_or, numbers_of, argument_of, callee, indexed, term_of, givens, place_told}
 use Rattle.bound_calls.specs.declared.term.Ending.{Ending}
 use Rattle.bound_calls.specs.declared.term.Routine.{Routine}
 use Rattle.bound_calls.specs.declared.term.Term.TheVariants as term
@@ -365,7 +361,7 @@ above_more xs x st = ap (λ l. above l st) (map_push an_argument xs x) ∙ above
 unpacked_on : (env : Env) (t : Tables) (k : ℕ) (ks : List ℕ) (i : Item) (xs : List Item) (p : Passed) (before : Args) (comma : Option Token) (name : Identifier) (mark : Token) (e : Expr) (is : List nodes.Item) (ps below : List Piece) (base : Base)
     → NamedStands env p (record { number = k }) name e ps below → Unpacked env t ks i xs p before is below base → Unpacked env t (k ∷ ks) i xs p (tree.named before comma name mark e) is ps base
 unpacked_on env t k ks i xs p before comma name mark e is ps below base s r =
-    let g : Given = record { name = Some name.name; term = Some (term_of env e); place = place_of_expression e } in
+    let g : Given = record { name = Some name.name; term = Some (term_of env e); place = place_told e } in
     let A : List ℕ → Type 0 = λ l. AllNamedTaken (argument_of env) p.count (map parameter_view p.left.now) (r.given ++ g ∷ []) l (r.made ++ s.made ∷ []) in
     record {
       before = r.before;
@@ -507,12 +503,12 @@ none_given value n ps k ks xs h = at (reverse ks) xs (subst (λ l. AllNamedTaken
 
 called_stands : (env : Env) (x : Call) (d e : Drafted) (named : List ℕ) (ending : Ending) (y : Expr) (before : Args) (given : List Given) (made : List Argument) (gs : List Given) (between below : List Piece) → (given ≡ [] → ⊥) → EndsNamed x.routine x.passed named d e ending
     → gs ≡ givens env before ++ given → CallStands env x y before between below → AllNamedTaken (argument_of env) x.passed.count (map parameter_view x.passed.left.now) given named made → d.pieces ≡ above (map an_argument made) between
-    → ValueStands e.tables ending (indexed env (place_of_expression y) (callee env y (term_of env y)) gs) e.pieces below
+    → ValueStands e.tables ending (indexed env (place_told y) (callee env y (term_of env y)) gs) e.pieces below
 called_stands env x d e named ending y before [] made gs between below some h is s names a = absurd (some refl)
 called_stands env x d e named ending y before (g ∷ ns) made gs between below some h is s names a =
-    let A : List Given → Type 0 = λ l. ValueStands e.tables ending (indexed env (place_of_expression y) (callee env y (term_of env y)) l) e.pieces below in
+    let A : List Given → Type 0 = λ l. ValueStands e.tables ending (indexed env (place_told y) (callee env y (term_of env y)) l) e.pieces below in
     let p = s.passed in
-    subst A (sym is) (call_stands env e.tables x.routine x.passed d e named ending (callee env y (term_of env y)) (place_of_expression y) (givens env before) p.made g ns made below between below h refl s.routine p.taken p.count_is names a p.on_top)
+    subst A (sym is) (call_stands env e.tables x.routine x.passed d e named ending (callee env y (term_of env y)) (place_told y) (givens env before) p.made g ns made below between below h refl s.routine p.taken p.count_is names a p.on_top)
 
 index_stands : (env : Env) (x : Call) (k : ℕ) (ks : List ℕ) (ending : Ending) (left right : Token) (xs : List Item) (d e : Drafted) → AllNamed d.tables xs → EndsNamed x.routine x.passed (reverse (k ∷ ks)) d e ending → (is : List nodes.Item)
     (base : Base) → Stands env d.tables (with_named (k ∷ ks) (item.Call x ∷ xs)) is d.pieces base
@@ -527,14 +523,14 @@ index_stands env x k ks ending left right xs d e n c (nodes.arguments args ∷ n
     let u = unpacked env d.tables (k ∷ ks) (item.Call x) xs x.passed args (nodes.tree y ∷ is) d.pieces base refl h in
     let s = u.stands.1.0 in
     let below = u.stands.0 in
-    let T : plain_terms.Term → Type 0 = λ z. ValueStands e.tables ending (indexed env (place_of_expression y) z (givens env args)) e.pieces below in
+    let T : plain_terms.Term → Type 0 = λ z. ValueStands e.tables ending (indexed env (place_told y) z (givens env args)) e.pieces below in
     let N : List Given → Type 0 = λ l. AllNamedTaken (argument_of env) x.passed.count (map parameter_view x.passed.left.now) l (reverse (k ∷ ks)) u.made in (
       below,
       (
         record {
-          term_is = subst T (sym (routine_item (place_of_expression y) (callee env y (term_of env y)) s.routine.space s.routine.number s.routine.written s.routine.is))
+          term_is = subst T (sym (routine_item (place_told y) (callee env y (term_of env y)) s.routine.space s.routine.number s.routine.written s.routine.is))
               (called_stands env x d e (reverse (k ∷ ks)) ending y u.before u.given u.made (givens env args) u.between below (λ z. none_given (argument_of env) x.passed.count (map parameter_view x.passed.left.now) k ks u.made (subst N z u.taken)) c u.givens_are s u.taken u.on_top);
-          place_is = s.place_is ∙ sym (expression_front y (marked left mark.LeftParenthesis ∷ (spell_args args ++ marked right mark.RightParenthesis ∷ [])));
+          place_is = s.place_is;
           name_is = refl;
           qualifier_is = refl;
           leaf = tt;

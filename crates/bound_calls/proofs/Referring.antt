@@ -21,10 +21,10 @@ use Rattle.binder.specs.Types.{is_object}
 use Rattle.binder.specs.Declarations.{Written}
 use Rattle.binder.specs.Scopes.{Space}
 use Rattle.binder.specs.Storage.{procedure_number}
-use Rattle.binder.specs.Constants.{is_variant, place_of_expression}
+use Rattle.binder.specs.Constants.{is_variant}
 use Rattle.binder.specs.Terms.{Env, a_routine, a_value, bound_arguments, expression_of, typed_value, value_with}
 use Rattle.binder.specs.Terms as plain
-use Rattle.binder.specs.ExpressionsBound.{bare_call, call_type, call_value, parameters_in, if_there, is_host_type, has_default, has_object, plain_operand, if_any, default_value, typed_reference, value_of, operand_of, reference_of, given_as, term_of}
+use Rattle.binder.specs.ExpressionsBound.{bare_call, call_type, call_value, parameters_in, if_there, is_host_type, has_default, has_object, plain_operand, if_any, default_value, typed_reference, value_of, operand_of, reference_of, given_as, term_of, place_told}
 use Rattle.bound_calls.specs.declared.term.Ending.{Ending}
 use Rattle.bound_calls.specs.declared.term.HostMember.{HostMember}
 use Rattle.bound_calls.specs.declared.term.Routine.{Routine}
@@ -293,7 +293,7 @@ pushes_default x d m e of w p has eq =
       grown = grown_twice d m (record m { pieces = put m.tables (node_of node.DefaultOf x.place variant) m.pieces }) p.grown (grown_pieces m (put m.tables (node_of node.DefaultOf x.place variant) m.pieces));
       stands = λ env tree below k.
           let h = p.stands env tree below k in
-          let place = place_of_expression tree in
+          let place = place_told tree in
           let y = term_of env tree in
           let reference = expression_of h.made h.place (declared_view of) in
           record {
@@ -320,7 +320,7 @@ pushes_err x d e is eq =
           let s = subst A is k.term_is in
           record {
             made = expression_of (err_value err_number) x.place type.long;
-            is = ap (λ z. operand_of env z (place_of_expression tree)) s.0 ∙ ap (λ (q : Place). Some (expression_of (err_value err_number) q type.long)) (sym k.place_is);
+            is = ap (λ z. operand_of env z (place_told tree)) s.0 ∙ ap (λ (q : Place). Some (expression_of (err_value err_number) q type.long)) (sym k.place_is);
             operand = refl;
             on_top = ap (λ st. expr_of n (err_value err_number) ∷ st) s.1;
           };
@@ -410,7 +410,7 @@ value_plainly x d m e v of n t p = record {
   grown = grown_twice d m e t.grown p.grown;
   stands = λ env tree below k.
       let y = term_of env tree in
-      let place = place_of_expression tree in
+      let place = place_told tree in
       let h = t.stands env y below k.term_is in
       let s = p.stands h.made below h.ends in
       let here : value_of env y place ≡ Some (expression_of h.made x.place (declared_view v.of)) = h.is place ∙ ap (λ (q : Place). Some (expression_of h.made q (declared_view v.of))) (sym k.place_is) in
@@ -428,7 +428,7 @@ given_if_any x d m e v of t p = record {
   grown = grown_twice d m e t.grown p.grown;
   stands = λ env tree below k.
       let y = term_of env tree in
-      let place = place_of_expression tree in
+      let place = place_told tree in
       let h = t.stands env y below k.term_is in
       let s = p.stands h.made below h.ends in
       let here : given_as env y place ≡ Some (expression_of h.made x.place (declared_view v.of)) = h.is place ∙ ap (λ (q : Place). Some (expression_of h.made q (declared_view v.of))) (sym k.place_is) in
@@ -437,14 +437,13 @@ given_if_any x d m e v of t p = record {
 
 -- ---- left operands
 
-pub left_reference : (x : Tree) (d e : Drafted) (of : DeclaredType) → PushesReference x d e of → PushesLeft x d e (record { place = x.place; of = Some of; is_reference = true })
+pub left_reference : (x : Tree) (d e : Drafted) (of : DeclaredType) → PushesReference x d e of → PushesLeft x d e (record { of = Some of; is_reference = true })
 left_reference x d e of h = record {
   grown = h.grown;
-  place_is = refl;
   stands = λ env tree below k.
       let s = h.stands env tree below k in
       record { made = expression_of s.made s.place (declared_view of); is = s.is; operand = refl; on_top = s.on_top };
 }
 
-pub left_operand : (x : Tree) (d e : Drafted) (of : Option DeclaredType) → PushesOperand x d e of → PushesLeft x d e (record { place = x.place; of = of; is_reference = false })
-left_operand x d e of h = record { grown = h.grown; place_is = refl; stands = h.stands }
+pub left_operand : (x : Tree) (d e : Drafted) (of : Option DeclaredType) → PushesOperand x d e of → PushesLeft x d e (record { of = of; is_reference = false })
+left_operand x d e of h = record { grown = h.grown; stands = h.stands }

@@ -12,12 +12,10 @@ use Rattle.vba_expression.specs.declared.operator.BinaryOperator.{BinaryOperator
 use Rattle.vba_expression.specs.declared.operator.BinaryOperator.TheVariants as operators
 use Rattle.vba_expression.specs.declared.node.ExpressionNode.TheVariants as node
 use Rattle.vba_expression.specs.Tree.{Expr, binary, parenthesised, unary}
-use Rattle.vba_expression.specs.Spelling.{binary_reading, spell}
 use Rattle.vba_expression.specs.Reader.{name_in}
 use Rattle.vba_expression.specs.Nodes as nodes
 use Rattle.vba_expression.specs.declared.node.ExpressionNode.{ExpressionNode}
 use Rattle.vba_expression.specs.Nodes.{behind_node, behind_nodes, items_of, last_tree, tree_in}
-use Rattle.module_parts.proofs.Firsts.{expression_front}
 use Rattle.bound_project.specs.declared.declared_type.DeclaredType.{DeclaredType}
 use Rattle.bound_project.specs.declared.declared_type.DeclaredType.TheVariants.{Plain}
 use Rattle.bound_project.specs.declared.declared_type.ElementType.TheVariants as element
@@ -29,10 +27,10 @@ use Rattle.bound_project.specs.Expressions.{constant, same}
 use Rattle.bound_project.specs.Pieces.{Piece, Tables, an_expr, expr_of, of_both}
 use Rattle.bound_project.specs.Drafts.{Drafted}
 use Rattle.bound_project.proofs.Drafts.{constant_last}
-use Rattle.binder.specs.Constants.{place_of_expression, compare_in, operator_kind, value_type}
+use Rattle.binder.specs.Constants.{compare_in, operator_kind, value_type}
 use Rattle.binder.specs.Terms.{Env, a_value, expression_of}
 use Rattle.binder.specs.Terms as plain
-use Rattle.binder.specs.ExpressionsBound.{term_of, value_of, operand_of, reference_of, given_as, as_value, binary_term, same_term, if_there, value_term, literal_term, bound_value, bound_operand}
+use Rattle.binder.specs.ExpressionsBound.{term_of, value_of, operand_of, reference_of, given_as, as_value, binary_term, same_term, if_there, value_term, literal_term, bound_value, bound_operand, place_told}
 use Rattle.vba_words.specs.declared.identifier.Identifier.{Identifier}
 use Rattle.bound_calls.specs.declared.term.Ending.{Ending}
 use Rattle.bound_calls.specs.declared.term.Term.{Term}
@@ -57,7 +55,7 @@ settle_stands : (env : Env) (x : Tree) (xs : List Item) (d e : Drafted) (left : 
 settle_stands env x xs d e left n p [] base h = absurd h
 settle_stands env x xs d e left n p (nodes.arguments args ∷ is) base h = absurd h
 settle_stands env x xs d e left n p (nodes.tree tree ∷ is) base h =
-    (h.0, (record { pushed = p.stands env tree h.0 h.1.0; place_is = p.place_is ∙ h.1.0.place_is }, stands_grows env d.tables e.tables p.grown.tables xs n.1 is h.0 base h.1.1))
+    (h.0, (record { pushed = p.stands env tree h.0 h.1.0 }, stands_grows env d.tables e.tables p.grown.tables xs n.1 is h.0 base h.1.1))
 
 settle_tree : (env : Env) (x : Tree) (xs : List Item) (d e : Drafted) (left : Operand) → AllNamed d.tables (item.Tree x ∷ xs) → PushesLeft x d e left → Goes env d (item.Tree x ∷ xs) e (item.Operand left ∷ xs) (λ is. is)
 settle_tree env x xs d e left n p = record {
@@ -83,7 +81,7 @@ leaf_same : (name : Option Identifier) (ps : List Piece) → LeafStands name ps 
 leaf_same (Some name) ps = refl
 leaf_same None ps = tt
 
-leaf_stands : (env : Env) (xs ys : List Item) (d e f : Drafted) (x : Tree) (tree : Expr) → Goes env d xs e ys (λ is. is) → MakesLeaf env e f x.term (term_of env tree) → x.place ≡ place_of_expression tree
+leaf_stands : (env : Env) (xs ys : List Item) (d e f : Drafted) (x : Tree) (tree : Expr) → Goes env d xs e ys (λ is. is) → MakesLeaf env e f x.term (term_of env tree) → x.place ≡ place_told tree
     → option_map (λ name. name.now) x.name ≡ name_in tree → QualifierStands env (option_map (λ name. name.now) x.name) x.dotted tree f.pieces f.pieces → (is : List nodes.Item) (base : Base) → Stands env d.tables xs is d.pieces base
     → Stands env f.tables (item.Tree x ∷ ys) (nodes.tree tree ∷ is) f.pieces base
 leaf_stands env xs ys d e f x tree g m p n q is base h = (
@@ -95,7 +93,7 @@ leaf_stands env xs ys d e f x tree g m p n q is base h = (
   ),
 )
 
-pub goes_leaf : (env : Env) (xs ys new : List Item) (d e f : Drafted) (x : Tree) (tree : Expr) → Goes env d xs e ys (λ is. is) → MakesLeaf env e f x.term (term_of env tree) → x.place ≡ place_of_expression tree
+pub goes_leaf : (env : Env) (xs ys new : List Item) (d e f : Drafted) (x : Tree) (tree : Expr) → Goes env d xs e ys (λ is. is) → MakesLeaf env e f x.term (term_of env tree) → x.place ≡ place_told tree
     → option_map (λ name. name.now) x.name ≡ name_in tree → QualifierStands env (option_map (λ name. name.now) x.name) x.dotted tree f.pieces f.pieces → new ≡ item.Tree x ∷ ys → Goes env d xs f new (λ is. nodes.tree tree ∷ is)
 goes_leaf env xs ys new d e f x tree g m p n q eq =
     let A : List Item → Type 0 = λ l. Goes env d xs f l (λ is. nodes.tree tree ∷ is) in
@@ -136,10 +134,10 @@ goes_made env x y xs old new d e f o n grown k named make g eq =
     }))
 
 pub goes_parenthesised : (env : Env) (x : Tree) (left right : Token) (v : Ending) (xs old new : List Item) (d e : Drafted) → old ≡ item.Tree x ∷ xs
-    → new ≡ item.Tree (record { place = left.place; name = None; dotted = None; term = term.Value v }) ∷ xs → AllNamed d.tables old → TakesGiven x.term d e v → Goes env d old e new (behind_node (node.Parenthesised left right))
+    → new ≡ item.Tree (record { place = x.place; name = None; dotted = None; term = term.Value v }) ∷ xs → AllNamed d.tables old → TakesGiven x.term d e v → Goes env d old e new (behind_node (node.Parenthesised left right))
 goes_parenthesised env x left right v xs old new d e o n k g =
-    goes_made env x (record { place = left.place; name = None; dotted = None; term = term.Value v }) xs old new d e (λ tree. parenthesised left tree right) o n g.grown k g.named
-    (λ tree below h. record { term_is = valued env e.tables v (term_of env tree) (place_of_expression tree) e.pieces below (g.stands env (term_of env tree) below h.term_is); place_is = refl; name_is = refl; qualifier_is = refl; leaf = tt })
+    goes_made env x (record { place = x.place; name = None; dotted = None; term = term.Value v }) xs old new d e (λ tree. parenthesised left tree right) o n g.grown k g.named
+    (λ tree below h. record { term_is = valued env e.tables v (term_of env tree) (place_told tree) e.pieces below (g.stands env (term_of env tree) below h.term_is); place_is = h.place_is; name_is = refl; qualifier_is = refl; leaf = tt })
     (behind_node (node.Parenthesised left right)) (λ tree is. refl)
 
 -- ---- operators
@@ -148,12 +146,12 @@ pub goes_unary : (env : Env) (x : Tree) (operator : UnaryOperator) (token : Toke
     → new ≡ item.Tree (record { place = token.place; name = None; dotted = None; term = made }) ∷ xs → AllNamed d.tables old → PushesOperand x d e of → MakesUnary operator of made → Goes env d old e new (behind_node (node.Unary operator token))
 goes_unary env x operator token of made xs old new d e o n k p m =
     goes_made env x (record { place = token.place; name = None; dotted = None; term = made }) xs old new d e (λ tree. unary operator token tree) o n p.grown k (m.named e.tables)
-    (λ tree below h. record { term_is = m.stands env e.tables (operand_of env (term_of env tree) (place_of_expression tree)) e.pieces below (p.stands env tree below h); place_is = refl; name_is = refl; qualifier_is = refl; leaf = tt })
+    (λ tree below h. record { term_is = m.stands env e.tables (operand_of env (term_of env tree) (place_told tree)) e.pieces below (p.stands env tree below h); place_is = refl; name_is = refl; qualifier_is = refl; leaf = tt })
     (behind_node (node.Unary operator token)) (λ tree is. refl)
 
 -- but for Is an operator takes operands
 two_operands : (env : Env) (l r : Expr) (o : BinaryOperator) (token : Token) → is_same o ≡ false
-    → term_of env (binary l o token r) ≡ binary_term env (operator_kind o) (operand_of env (term_of env l) (place_of_expression l)) (operand_of env (term_of env r) (place_of_expression r))
+    → term_of env (binary l o token r) ≡ binary_term env (operator_kind o) (operand_of env (term_of env l) (place_told l)) (operand_of env (term_of env r) (place_told r))
 two_operands env l r operators.Power token h = refl
 two_operands env l r operators.Divide token h = refl
 two_operands env l r operators.Multiply token h = refl
@@ -182,7 +180,7 @@ plain_left b env t place h = rw h refl
 binary_stands : (env : Env) (left : Operand) (x : Tree) (operator : BinaryOperator) (token : Token) (of : Option DeclaredType) (made : Term) (xs : List Item) (d e : Drafted) (compare : Compare) → is_same operator ≡ false → left.is_reference ≡ false → compare ≡ compare_in env.scope
     → AllNamed d.tables xs → PushesOperand x d e of → MakesBinary compare operator left.of of made → (is : List nodes.Item) (base : Base)
     → Stands env d.tables (item.Tree x ∷ item.Operand left ∷ xs) is d.pieces base
-    → Stands env e.tables (item.Tree (record { place = left.place; name = None; dotted = None; term = made }) ∷ xs) (behind_node (node.Binary operator token) is) e.pieces base
+    → Stands env e.tables (item.Tree (record { place = token.place; name = None; dotted = None; term = made }) ∷ xs) (behind_node (node.Binary operator token) is) e.pieces base
 binary_stands env left x operator token of made xs d e compare o q c k p m [] base h = absurd h
 binary_stands env left x operator token of made xs d e compare o q c k p m (nodes.arguments args ∷ is) base h = absurd h
 binary_stands env left x operator token of made xs d e compare o q c k p m (nodes.tree r ∷ []) base h = absurd h.1.1
@@ -191,12 +189,12 @@ binary_stands env left x operator token of made xs d e compare o q c k p m (node
     let low = h.1.1 in
     let A : plain.Term → Type 0 = λ z. TermStands env e.tables made z e.pieces low.0 in
     let B : Option bound.Expr → Type 0 = λ z. PushedStands left.of z h.0 low.0 in
-    let pushed = subst B (plain_left left.is_reference env (term_of env l) (place_of_expression l) q) low.1.0.pushed in (
+    let pushed = subst B (plain_left left.is_reference env (term_of env l) (place_told l) q) low.1.0.pushed in (
       low.0,
       (
         record {
-          term_is = subst A (sym (two_operands env l r operator token o)) (m.stands env e.tables (operand_of env (term_of env l) (place_of_expression l)) (operand_of env (term_of env r) (place_of_expression r)) e.pieces h.0 low.0 c pushed (p.stands env r h.0 h.1.0));
-          place_is = low.1.0.place_is ∙ sym (expression_front l (read token (binary_reading operator) ∷ spell r));
+          term_is = subst A (sym (two_operands env l r operator token o)) (m.stands env e.tables (operand_of env (term_of env l) (place_told l)) (operand_of env (term_of env r) (place_told r)) e.pieces h.0 low.0 c pushed (p.stands env r h.0 h.1.0));
+          place_is = refl;
           name_is = refl;
           qualifier_is = refl;
           leaf = tt;
@@ -206,7 +204,7 @@ binary_stands env left x operator token of made xs d e compare o q c k p m (node
     )
 
 pub goes_binary : (env : Env) (left : Operand) (x : Tree) (operator : BinaryOperator) (token : Token) (of : Option DeclaredType) (made : Term) (xs old between new : List Item) (d e : Drafted) (compare : Compare)
-    → is_same operator ≡ false → left.is_reference ≡ false → compare ≡ compare_in env.scope → old ≡ item.Tree x ∷ between → between ≡ item.Operand left ∷ xs → new ≡ item.Tree (record { place = left.place; name = None; dotted = None; term = made }) ∷ xs → AllNamed d.tables old
+    → is_same operator ≡ false → left.is_reference ≡ false → compare ≡ compare_in env.scope → old ≡ item.Tree x ∷ between → between ≡ item.Operand left ∷ xs → new ≡ item.Tree (record { place = token.place; name = None; dotted = None; term = made }) ∷ xs → AllNamed d.tables old
     → PushesOperand x d e of → MakesBinary compare operator left.of of made → Goes env d old e new (behind_node (node.Binary operator token))
 goes_binary env left x operator token of made xs old between new d e compare other q c o b n k p m =
     let g = behind_node (node.Binary operator token) in
@@ -242,7 +240,7 @@ left_pushed of u found ps below h k = let A : Option DeclaredType → Type 0 = �
 
 same_stands : (env : Env) (left : Operand) (u of : DeclaredType) (x : Tree) (token : Token) (xs : List Item) (d e : Drafted) → left.is_reference ≡ true → left.of ≡ Some u → AllNamed d.tables xs → PushesReference x d e of
     → (is : List nodes.Item) (base : Base) → Stands env d.tables (item.Tree x ∷ item.Operand left ∷ xs) is d.pieces base
-    → Stands env e.tables (item.Tree (record { place = left.place; name = None; dotted = None; term = term.Value same_ending }) ∷ xs) (behind_node (node.Binary operators.Is token) is) e.pieces base
+    → Stands env e.tables (item.Tree (record { place = token.place; name = None; dotted = None; term = term.Value same_ending }) ∷ xs) (behind_node (node.Binary operators.Is token) is) e.pieces base
 same_stands env left u of x token xs d e q v k p [] base h = absurd h
 same_stands env left u of x token xs d e q v k p (nodes.arguments args ∷ is) base h = absurd h
 same_stands env left u of x token xs d e q v k p (nodes.tree r ∷ []) base h = absurd h.1.1
@@ -251,13 +249,13 @@ same_stands env left u of x token xs d e q v k p (nodes.tree r ∷ nodes.tree l 
     let low = h.1.1 in
     let s = p.stands env r h.0 h.1.0 in
     let B : Option bound.Expr → Type 0 = λ z. PushedStands left.of z h.0 low.0 in
-    let w = left_pushed left.of u (reference_of env (term_of env l) (place_of_expression l)) h.0 low.0 v (subst B (referred_left left.is_reference env (term_of env l) (place_of_expression l) q) low.1.0.pushed) in (
+    let w = left_pushed left.of u (reference_of env (term_of env l) (place_told l)) h.0 low.0 v (subst B (referred_left left.is_reference env (term_of env l) (place_told l) q) low.1.0.pushed) in (
       low.0,
       (
         record {
-          term_is = same_term_stands env e.tables (reference_of env (term_of env l) (place_of_expression l)) (reference_of env (term_of env r) (place_of_expression r)) w.made
+          term_is = same_term_stands env e.tables (reference_of env (term_of env l) (place_told l)) (reference_of env (term_of env r) (place_told r)) w.made
               (expression_of s.made s.place (declared_view of)) e.pieces h.0 low.0 w.is s.is w.on_top s.on_top;
-          place_is = low.1.0.place_is ∙ sym (expression_front l (read token (binary_reading operators.Is) ∷ spell r));
+          place_is = refl;
           name_is = refl;
           qualifier_is = refl;
           leaf = tt;
@@ -267,7 +265,7 @@ same_stands env left u of x token xs d e q v k p (nodes.tree r ∷ nodes.tree l 
     )
 
 pub goes_same_object : (env : Env) (left : Operand) (u of : DeclaredType) (x : Tree) (token : Token) (xs old between new : List Item) (d e : Drafted) → left.is_reference ≡ true → left.of ≡ Some u → old ≡ item.Tree x ∷ between
-    → between ≡ item.Operand left ∷ xs → new ≡ item.Tree (record { place = left.place; name = None; dotted = None; term = term.Value same_ending }) ∷ xs → AllNamed d.tables old → PushesReference x d e of
+    → between ≡ item.Operand left ∷ xs → new ≡ item.Tree (record { place = token.place; name = None; dotted = None; term = term.Value same_ending }) ∷ xs → AllNamed d.tables old → PushesReference x d e of
     → Goes env d old e new (behind_node (node.Binary operators.Is token))
 goes_same_object env left u of x token xs old between new d e q v o b n k p =
     let g = behind_node (node.Binary operators.Is token) in

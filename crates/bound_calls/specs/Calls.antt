@@ -16,10 +16,10 @@ use Rattle.bound_project.specs.Lists.{above}
 use Rattle.bound_project.specs.Pieces.{Argument, place_lent, value_copied, Piece, an_argument, an_expr}
 use Rattle.bound_project.specs.Project as project
 use Rattle.bound_project.specs.Drafts.{Drafted}
-use Rattle.binder.specs.Constants.{is_variant, place_of_expression}
+use Rattle.binder.specs.Constants.{is_variant}
 use Rattle.binder.specs.Types.{is_object}
 use Rattle.binder.specs.Terms.{Env, Given}
-use Rattle.binder.specs.ExpressionsBound.{argument_of, term_of}
+use Rattle.binder.specs.ExpressionsBound.{argument_of, term_of, place_told}
 use Rattle.bound_calls.specs.declared.term.Ending.{Ending}
 use Rattle.bound_calls.specs.declared.term.Routine.{Routine}
 use Rattle.bound_calls.specs.declared.term.Term.{Term}
@@ -68,7 +68,7 @@ pub record ArgumentIs (found : Option bound.Expr) (ps below : List Piece) : Type
 pub record PushesArgument (of : DeclaredType) (x : Tree) (d e : Drafted) : Type 0 where
   pub grown : Grown d e
   pub stands : (env : Env) (tree : Expr) (below : List Piece) → TreeStands env d.tables x tree d.pieces below
-      → ArgumentIs (argument_of env (declared_view of) (term_of env tree) (place_of_expression tree)) e.pieces below
+      → ArgumentIs (argument_of env (declared_view of) (term_of env tree) (place_told tree)) e.pieces below
 
 -- a value that was copied for a parameter of a type
 pub record CopiedIs (of : DeclaredType) (found : Option bound.Expr) (ps below : List Piece) : Type 0 where
@@ -79,7 +79,7 @@ pub record CopiedIs (of : DeclaredType) (found : Option bound.Expr) (ps below : 
 pub record Copies (of : DeclaredType) (x : Tree) (d e : Drafted) : Type 0 where
   pub grown : Grown d e
   pub stands : (env : Env) (tree : Expr) (below : List Piece) → TreeStands env d.tables x tree d.pieces below
-      → CopiedIs of (argument_of env (declared_view of) (term_of env tree) (place_of_expression tree)) e.pieces below
+      → CopiedIs of (argument_of env (declared_view of) (term_of env tree) (place_told tree)) e.pieces below
 
 -- an argument that was pushed for a parameter
 pub record TakenIs (env : Env) (p : project.Parameter) (g : Given) (ps below : List Piece) : Type 0 where

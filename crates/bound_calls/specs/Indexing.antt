@@ -13,9 +13,8 @@ use Rattle.bound_project.specs.Expressions as bound
 use Rattle.bound_project.specs.Pieces.{Piece, Tables}
 use Rattle.bound_project.specs.Pieces as piece
 use Rattle.bound_project.specs.Drafts.{Drafted}
-use Rattle.binder.specs.Constants.{place_of_expression}
 use Rattle.binder.specs.Terms.{Env}
-use Rattle.binder.specs.ExpressionsBound.{callee, element_place, givens, indexed, item_of, term_of}
+use Rattle.binder.specs.ExpressionsBound.{callee, element_place, givens, indexed, item_of, term_of, place_told}
 use Rattle.bound_calls.specs.declared.term.Term.{Term}
 use Rattle.bound_calls.specs.declared.term.Tree.{Tree}
 use Rattle.bound_calls.specs.declared.term.Target.{Target}
@@ -54,7 +53,7 @@ pub record Opens (env : Env) (x : Tree) (d e : Drafted) (i : Item) : Type 0 wher
 pub record OpensTerm (env : Env) (x : Tree) (y : Term) (d e : Drafted) (i : Item) : Type 0 where
   pub grown : Grown d e
   pub named : ItemNamed e.tables i
-  pub stands : (tree : Expr) (items : List Item) (is : List nodes.Item) (below : List Piece) (base : Base) → x.place ≡ place_of_expression tree → TermStands env d.tables y (callee env tree (term_of env tree)) d.pieces below
+  pub stands : (tree : Expr) (items : List Item) (is : List nodes.Item) (below : List Piece) (base : Base) → x.place ≡ place_told tree → TermStands env d.tables y (callee env tree (term_of env tree)) d.pieces below
       → Stands env e.tables items is below base → Stands env e.tables (i ∷ items) (nodes.arguments no_args ∷ nodes.tree tree ∷ is) e.pieces base
 
 -- the expression on top is one more argument
@@ -82,4 +81,4 @@ pub record Closes (i : Item) (d e : Drafted) (y : Tree) : Type 0 where
 pub record EndsIndexed (x : Indexed) (y : Term) : Type 0 where
   pub named : (t : Tables) → TermNamed t y
   pub stands : (env : Env) (t : Tables) (e : Expr) (args : Args) (ps below : List Piece) → IndexedStands env x e args ps below
-      → TermStands env t y (indexed env (place_of_expression e) (item_of (place_of_expression e) (callee env e (term_of env e))) (givens env args)) ps below
+      → TermStands env t y (indexed env (place_told e) (item_of (place_told e) (callee env e (term_of env e))) (givens env args)) ps below

@@ -9,10 +9,10 @@ use Rattle.bound_project.specs.View.{declared_view}
 use Rattle.bound_project.specs.Expressions as bound
 use Rattle.bound_project.specs.Pieces.{Piece, Tables, an_expr}
 use Rattle.bound_project.specs.Drafts.{Drafted, NodeNamed}
-use Rattle.binder.specs.Constants.{is_variant, place_of_expression}
+use Rattle.binder.specs.Constants.{is_variant}
 use Rattle.binder.specs.Terms.{Env, expression_of}
 use Rattle.binder.specs.Terms as plain
-use Rattle.binder.specs.ExpressionsBound.{is_host_type, may_give_object, has_object, if_any, reference_of, given_as, term_of}
+use Rattle.binder.specs.ExpressionsBound.{is_host_type, may_give_object, has_object, if_any, reference_of, given_as, term_of, place_told}
 use Rattle.bound_calls.specs.declared.term.Ending.{Ending}
 use Rattle.bound_calls.specs.declared.term.Term.{Term}
 use Rattle.bound_calls.specs.declared.term.Term.TheVariants as term
@@ -94,7 +94,7 @@ pub record ReferenceIs (of : DeclaredType) (found : Option bound.Expr) (ps below
 pub record PushesReference (x : Tree) (d e : Drafted) (of : DeclaredType) : Type 0 where
   pub grown : Grown d e
   pub stands : (env : Env) (tree : Expr) (below : List Piece) → TreeStands env d.tables x tree d.pieces below
-      → ReferenceIs of (reference_of env (term_of env tree) (place_of_expression tree)) e.pieces below
+      → ReferenceIs of (reference_of env (term_of env tree) (place_told tree)) e.pieces below
 
 -- a term is taken as it is
 pub record TakesGiven (x : Term) (d e : Drafted) (ending : Ending) : Type 0 where
@@ -106,10 +106,10 @@ pub record TakesGiven (x : Term) (d e : Drafted) (ending : Ending) : Type 0 wher
 pub record PushesGiven (x : Tree) (d e : Drafted) (of : DeclaredType) : Type 0 where
   pub grown : Grown d e
   pub stands : (env : Env) (tree : Expr) (below : List Piece) → TreeStands env d.tables x tree d.pieces below
-      → PushedIs of (given_as env (term_of env tree) (place_of_expression tree)) e.pieces below
+      → PushedIs of (given_as env (term_of env tree) (place_told tree)) e.pieces below
 
 -- the same, but the value of an object's default member where that needs no argument
 pub record PushesIfAny (x : Tree) (d e : Drafted) (of : DeclaredType) : Type 0 where
   pub grown : Grown d e
   pub stands : (env : Env) (tree : Expr) (below : List Piece) → TreeStands env d.tables x tree d.pieces below
-      → PushedIs of (option_map if_any (given_as env (term_of env tree) (place_of_expression tree))) e.pieces below
+      → PushedIs of (option_map if_any (given_as env (term_of env tree) (place_told tree))) e.pieces below

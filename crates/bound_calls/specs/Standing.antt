@@ -27,11 +27,11 @@ use Rattle.binder.specs.Declarations.{Written}
 use Rattle.declared_names.specs.View.{space_view, written_view}
 use Rattle.binder.specs.Options.{from_two}
 use Rattle.binder.specs.Scopes.{Space, qualifier_of}
-use Rattle.binder.specs.Constants.{compare_in, place_of_expression}
+use Rattle.binder.specs.Constants.{compare_in}
 use Rattle.binder.specs.Storage.{procedure_number}
 use Rattle.binder.specs.Terms.{Env, Given, a_place, a_value, a_routine, a_function, a_host_member, err_object, err_raise, err_clear, error_word, no_term, expression_of, listed_values, parameter_named, taken_by}
 use Rattle.binder.specs.Terms as plain
-use Rattle.binder.specs.ExpressionsBound.{reader, parameters_in, call_type, callee, item_of, element_place, element_type, argument_of, function_values, givens, given_as, indexed, numbers_of, term_of, operand_of, reference_of}
+use Rattle.binder.specs.ExpressionsBound.{reader, parameters_in, call_type, callee, item_of, element_place, element_type, argument_of, function_values, givens, given_as, indexed, numbers_of, term_of, operand_of, reference_of, place_told}
 use Rattle.bound_calls.specs.declared.term.Dotted.{Dotted}
 use Rattle.bound_calls.specs.declared.term.Ending.{Ending}
 use Rattle.bound_calls.specs.declared.term.Property.{Property}
@@ -176,7 +176,7 @@ LeafStands None ps below = Unit {0}
 
 pub record TreeStands (env : Env) (t : Tables) (x : Tree) (e : Expr) (ps below : List Piece) : Type 0 where
   pub term_is : TermStands env t x.term (term_of env e) ps below
-  pub place_is : x.place ≡ place_of_expression e
+  pub place_is : x.place ≡ place_told e
   pub name_is : option_map (λ name. name.now) x.name ≡ name_in e
   pub qualifier_is : QualifierStands env (option_map (λ name. name.now) x.name) x.dotted e ps below
   pub leaf : LeafStands (option_map (λ name. name.now) x.name) ps below
@@ -187,8 +187,7 @@ left_of true env t place = reference_of env t place
 left_of false env t place = operand_of env t place
 
 pub record OperandStands (env : Env) (x : Operand) (e : Expr) (ps below : List Piece) : Type 0 where
-  pub pushed : PushedStands x.of (left_of x.is_reference env (term_of env e) (place_of_expression e)) ps below
-  pub place_is : x.place ≡ place_of_expression e
+  pub pushed : PushedStands x.of (left_of x.is_reference env (term_of env e) (place_told e)) ps below
 
 -- arguments that were pushed for the first of these parameters
 pub record PassedStands (env : Env) (parameters : List Parameter) (x : Passed) (args : Args) (ps below : List Piece) : Type 0 where
@@ -200,12 +199,12 @@ pub record PassedStands (env : Env) (parameters : List Parameter) (x : Passed) (
 -- a procedure that is called, and the arguments that were pushed
 pub record CallStands (env : Env) (x : Call) (e : Expr) (args : Args) (ps below : List Piece) : Type 0 where
   pub routine : RoutineStands env x.routine (callee env e (term_of env e)) below below
-  pub place_is : x.place ≡ place_of_expression e
+  pub place_is : x.place ≡ place_told e
   pub passed : PassedStands env (map parameter_view x.routine.parameters.now) x.passed args ps below
 
 -- an expression that is given without a name, and an argument that isn't written
 abbrev pub plain_given : Env → Expr → Given
-plain_given env e = record { name = None; term = Some (term_of env e); place = place_of_expression e }
+plain_given env e = record { name = None; term = Some (term_of env e); place = place_told e }
 
 abbrev pub missing_given : Given
 missing_given = record { name = None; term = None; place = nowhere }
@@ -258,8 +257,8 @@ TargetStands env target.Value of lends place x ps below = ValueIndexed env of pl
 -- what is indexed, and the numbers that were pushed
 pub record IndexedStands (env : Env) (x : Indexed) (e : Expr) (args : Args) (ps below : List Piece) : Type 0 where
   pub between : List Piece
-  pub target_is : TargetStands env x.target x.of x.lends (place_of_expression e) (callee env e (term_of env e)) between below
-  pub place_is : x.place ≡ place_of_expression e
+  pub target_is : TargetStands env x.target x.of x.lends (place_told e) (callee env e (term_of env e)) between below
+  pub place_is : x.place ≡ place_told e
   pub made : List bound.Expr
   pub numbers : AllNumbers (operand_of env) (givens env args) made
   pub count_is : x.count ≡ length made
@@ -287,7 +286,7 @@ AllValues env f i gs es = ⊥
 
 pub record FunctionStands (env : Env) (x : FunctionCall) (e : Expr) (args : Args) (ps below : List Piece) : Type 0 where
   pub function_is : FunctionIs env x.function (callee env e (term_of env e))
-  pub place_is : x.place ≡ place_of_expression e
+  pub place_is : x.place ≡ place_told e
   pub made : List bound.Expr
   pub values : AllValues env x.function.function 0 (givens env args) made
   pub count_is : x.count ≡ length made
@@ -297,8 +296,8 @@ pub record FunctionStands (env : Env) (x : FunctionCall) (e : Expr) (args : Args
 -- them are written
 pub record MemberStands (env : Env) (t : Tables) (x : MemberCall) (e : Expr) (args : Args) (ps below : List Piece) : Type 0 where
   pub object : bound.Expr
-  pub is : item_of (place_of_expression e) (callee env e (term_of env e)) ≡ a_host_member object (member_is t x.member)
-  pub place_is : x.place ≡ place_of_expression e
+  pub is : item_of (place_told e) (callee env e (term_of env e)) ≡ a_host_member object (member_is t x.member)
+  pub place_is : x.place ≡ place_told e
   pub made : List bound.Expr
   pub values : AllListed (given_as env) (givens env args) made
   pub written_is : (more : List bound.Expr) → given_count (exprs_of (made ++ more)) ≡ x.written + given_count (exprs_of more)
@@ -317,7 +316,7 @@ pub record NamedStands (env : Env) (passed : Passed) (x : Named) (name : Identif
   pub parameter : Parameter
   pub found : parameter_named passed.count (map parameter_view passed.left.now) name.name ≡ Some (x.number, parameter)
   pub made : Argument
-  pub makes : (rest : bound.Args) → taken_by (argument_of env) parameter (record { name = Some name.name; term = Some (term_of env e); place = place_of_expression e }) rest ≡ Some (with_argument made rest)
+  pub makes : (rest : bound.Args) → taken_by (argument_of env) parameter (record { name = Some name.name; term = Some (term_of env e); place = place_told e }) rest ≡ Some (with_argument made rest)
   pub on_top : ps ≡ an_argument made ∷ below
 
 abbrev pub NamedAbove : Env → Option Passed → Named → Identifier → Expr → (ps below : List Piece) → Type 0

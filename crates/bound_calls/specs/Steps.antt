@@ -11,10 +11,10 @@ use Rattle.bound_project.specs.declared.declared_type.DeclaredType.{DeclaredType
 use Rattle.bound_project.specs.Expressions as bound
 use Rattle.bound_project.specs.Pieces.{Piece, Tables}
 use Rattle.bound_project.specs.Drafts.{Drafted, with_constant}
-use Rattle.binder.specs.Constants.{place_of_expression, operator_kind, unary_kind, compare_in}
+use Rattle.binder.specs.Constants.{operator_kind, unary_kind, compare_in}
 use Rattle.binder.specs.Terms.{Env}
 use Rattle.binder.specs.Terms as plain
-use Rattle.binder.specs.ExpressionsBound.{term_of, value_of, operand_of, unary_term, binary_term}
+use Rattle.binder.specs.ExpressionsBound.{term_of, value_of, operand_of, unary_term, binary_term, place_told}
 use Rattle.bound_calls.specs.declared.term.Term.{Term}
 use Rattle.bound_calls.specs.declared.term.Tree.{Tree}
 use Rattle.bound_calls.specs.declared.term.Operand.{Operand}
@@ -30,14 +30,13 @@ taken (Some x) xs = x ∷ xs
 pub record PushesOperand (x : Tree) (d e : Drafted) (of : Option DeclaredType) : Type 0 where
   pub grown : Grown d e
   pub stands : (env : Env) (tree : Expr) (below : List Piece) → TreeStands env d.tables x tree d.pieces below
-      → PushedStands of (operand_of env (term_of env tree) (place_of_expression tree)) e.pieces below
+      → PushedStands of (operand_of env (term_of env tree) (place_told tree)) e.pieces below
 
 -- an expression is pushed as a left operand
 pub record PushesLeft (x : Tree) (d e : Drafted) (left : Operand) : Type 0 where
   pub grown : Grown d e
-  pub place_is : left.place ≡ x.place
   pub stands : (env : Env) (tree : Expr) (below : List Piece) → TreeStands env d.tables x tree d.pieces below
-      → PushedStands left.of (left_of left.is_reference env (term_of env tree) (place_of_expression tree)) e.pieces below
+      → PushedStands left.of (left_of left.is_reference env (term_of env tree) (place_told tree)) e.pieces below
 
 -- a step from a stack to another one, beside what it does to the plain items
 pub record Goes (env : Env) (d : Drafted) (xs : List Item) (e : Drafted) (ys : List Item) (f : List nodes.Item → List nodes.Item) : Type 0 where
@@ -76,7 +75,7 @@ pub record AddsConstant (v : Val) (d e : Drafted) (number : ℕ) : Type 0 where
 pub record PushesValue (x : Tree) (d e : Drafted) (of : Option DeclaredType) : Type 0 where
   pub grown : Grown d e
   pub stands : (env : Env) (tree : Expr) (below : List Piece) → TreeStands env d.tables x tree d.pieces below
-      → PushedStands of (value_of env (term_of env tree) (place_of_expression tree)) e.pieces below
+      → PushedStands of (value_of env (term_of env tree) (place_told tree)) e.pieces below
 
 -- all but the last node of an expression was pushed
 pub record Leaves (env : Env) (tree : Expr) (d e : Drafted) (x : Tree) : Type 0 where

@@ -39,17 +39,12 @@ fn push_left<'a>(
     if is_reference {
         let of = push_reference(alloc, draft, tree)?;
         return Ok(Operand {
-            place: tree.place,
             of: Some(of),
             is_reference,
         });
     }
     let of = push_operand(alloc, draft, tree)?;
-    Ok(Operand {
-        place: tree.place,
-        of,
-        is_reference,
-    })
+    Ok(Operand { of, is_reference })
 }
 
 /// A tree on top is a left operand, which is pushed: as a reference, or as an operand.

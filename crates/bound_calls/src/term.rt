@@ -85,7 +85,7 @@ pub struct Dotted<'a> {
     pub name: &'a Identifier,
 }
 
-/// An expression: the place of its first token, the name that it is, or else the two names that it is, where the first
+/// An expression: the place where it is told, the name that it is, or else the two names that it is, where the first
 /// one says where the second one is looked up, and what it is.
 #[derive(Clone, Copy)]
 pub struct Tree<'a> {
@@ -95,11 +95,9 @@ pub struct Tree<'a> {
     pub term: Term<'a>,
 }
 
-/// A left operand that was pushed: the place of its first token, and its type; none where it isn't bound. The left one of
-/// Is was pushed as a reference.
+/// A left operand that was pushed: its type; none where it isn't bound. The left one of Is was pushed as a reference.
 #[derive(Clone, Copy)]
 pub struct Operand {
-    pub place: Place,
     pub of: Option<DeclaredType>,
     pub is_reference: bool,
 }

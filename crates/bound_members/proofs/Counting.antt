@@ -6,7 +6,7 @@ use Rattle.vba_values.specs.Types.{Declared}
 use Rattle.bound_project.specs.declared.node.Node.{Node}
 use Rattle.bound_project.specs.declared.node.NodeKind.{NodeKind}
 use Rattle.bound_project.specs.declared.node.NodeKind.TheVariants as node
-use Rattle.bound_project.specs.Expressions.{expr, not_given, constant, load, load_made, element_value, field_value, unary, binary, call, err_value, default_of, default_if_any, same, is_type, library, bound_of, host_object, active_sheet, host_member, named_member, this, new_object, method, late_member, late_item, no_args, in_order, Exprs, no_exprs, also, given_count}
+use Rattle.bound_project.specs.Expressions.{expr, not_given, constant, load, load_made, element_value, field_value, unary, binary, call, err_value, default_of, default_if_any, enumerated, same, is_type, library, bound_of, host_object, active_sheet, host_member, named_member, this, new_object, method, late_member, late_item, no_args, in_order, Exprs, no_exprs, also, given_count}
 use Rattle.bound_project.specs.Expressions as bound
 use Rattle.bound_project.specs.Pieces.{Piece, an_expr, Tables, arguments_off, as_operand, expr_of, exprs_off, name_in, order_in, put_kind}
 use Rattle.bound_project.specs.View.{base_view, declared_view}
@@ -58,7 +58,7 @@ kind_given t n node.Shown st h = let e : false ≡ true = h in absurd cc
 kind_given t n node.Zone st h = let e : false ≡ true = h in absurd cc
 kind_given t n node.TestBegins st h = let e : false ≡ true = h in absurd cc
 kind_given t n (node.TestIs o of) st h = let e : false ≡ true = h in absurd cc
-kind_given t n (node.TestRange low high) st h = let e : false ≡ true = h in absurd cc
+kind_given t n (node.TestRange low high high_at) st h = let e : false ≡ true = h in absurd cc
 kind_given t n (node.Resize count of) st h = let e : false ≡ true = h in absurd cc
 kind_given t n node.Erased st h = let e : false ≡ true = h in absurd cc
 
@@ -81,6 +81,7 @@ count_more (call a b) place of operand st h rest = refl
 count_more (err_value a) place of operand st h rest = refl
 count_more (default_of a) place of operand st h rest = refl
 count_more (default_if_any a) place of operand st h rest = refl
+count_more (enumerated a) place of operand st h rest = refl
 count_more (same a b) place of operand st h rest = refl
 count_more (is_type a b) place of operand st h rest = refl
 count_more (library a b c d e) place of operand st h rest = refl
@@ -120,6 +121,7 @@ typed_kind (call a b) place of operand st h u = refl
 typed_kind (err_value a) place of operand st h u = refl
 typed_kind (default_of a) place of operand st h u = refl
 typed_kind (default_if_any a) place of operand st h u = refl
+typed_kind (enumerated a) place of operand st h u = refl
 typed_kind (same a b) place of operand st h u = refl
 typed_kind (is_type a b) place of operand st h u = refl
 typed_kind (library a b c d e) place of operand st h u = refl
@@ -169,7 +171,7 @@ kind_typed t n node.Shown st h = let e : false ≡ true = h in absurd cc
 kind_typed t n node.Zone st h = let e : false ≡ true = h in absurd cc
 kind_typed t n node.TestBegins st h = let e : false ≡ true = h in absurd cc
 kind_typed t n (node.TestIs o of) st h = let e : false ≡ true = h in absurd cc
-kind_typed t n (node.TestRange low high) st h = let e : false ≡ true = h in absurd cc
+kind_typed t n (node.TestRange low high high_at) st h = let e : false ≡ true = h in absurd cc
 kind_typed t n (node.Resize count of) st h = let e : false ≡ true = h in absurd cc
 kind_typed t n node.Erased st h = let e : false ≡ true = h in absurd cc
 

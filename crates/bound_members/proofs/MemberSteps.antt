@@ -20,10 +20,9 @@ use Rattle.bound_project.specs.Project.{nowhere}
 use Rattle.bound_project.specs.declared.declared_type.DeclaredType.TheVariants.{Plain}
 use Rattle.bound_project.specs.declared.declared_type.ElementType.TheVariants as element
 use Rattle.bound_project.specs.View.{declared_view}
-use Rattle.binder.specs.Constants.{place_of_expression}
 use Rattle.binder.specs.Terms.{Env, Given, a_value, expression_of, listed_values, no_term}
 use Rattle.binder.specs.Terms as terms
-use Rattle.binder.specs.ExpressionsBound.{callee, given_as, givens, host_arguments, host_called, if_there, indexed, item_of, takes_arguments, term_of}
+use Rattle.binder.specs.ExpressionsBound.{callee, given_as, givens, host_arguments, host_called, if_there, indexed, item_of, takes_arguments, term_of, place_told}
 use Rattle.bound_calls.specs.declared.term.Ending.{Ending}
 use Rattle.bound_calls.specs.declared.term.HostMember.{HostMember}
 use Rattle.bound_calls.specs.declared.term.Item.{Item}
@@ -44,8 +43,8 @@ use Rattle.bound_members.proofs.Counting.{counts}
 
 -- ---- arguments begin
 
-opened : (place : Place) (m : HostMember) (given : ℕ) (d : Drafted) (env : Env) (tree : Expr) (below : List Piece) → place ≡ place_of_expression tree
-    → TermStands env d.tables (term.HostMember m) (item_of (place_of_expression tree) (callee env tree (term_of env tree))) d.pieces below
+opened : (place : Place) (m : HostMember) (given : ℕ) (d : Drafted) (env : Env) (tree : Expr) (below : List Piece) → place ≡ place_told tree
+    → TermStands env d.tables (term.HostMember m) (item_of (place_told tree) (callee env tree (term_of env tree))) d.pieces below
     → MemberStands env d.tables (record { place = place; member = m; given = given; count = 0; written = 0 }) tree no_args (put d.tables (node_of (kinds.MemberThere m.name given) place m.of) d.pieces) below
 opened place m given d env tree below p k = record {
   object = k.object;
@@ -94,7 +93,7 @@ added env x y v count written comma xs d m c w named given t k (nodes.tree z ∷
           place_is = s.place_is;
           made = s.made ++ made ∷ [];
           values = listed_more (given_as env) (givens env args) s.made (plain_given env z) made s.values
-              (value_given (given_as env) (term_of env z) (place_of_expression z) made (subst A h.1.0.place_is (g.is y.place)));
+              (value_given (given_as env) (term_of env z) (place_told z) made (subst A h.1.0.place_is (g.is y.place)));
           written_is = one_written made s.made x.written written w s.written_is (counts m.tables n v.kind g.made m.pieces h.0 given (g.ends n));
           count_is = omega (arith, c, s.count_is, length-append s.made (made ∷ []));
           on_top = g.ends n ∙ ap (λ (ps : List Piece). an_expr made ∷ ps) s.on_top ∙ sym (above_push (map an_expr s.made) (an_expr made) (a_member s.object (name_in m.tables x.member.name) x.given ∷ low.0))
@@ -176,7 +175,7 @@ pub ends_member : (x : MemberCall) → x.given ≡ x.written → ((t : Tables) �
 ends_member x g takes = record {
   named = λ t named. named;
   stands = λ env t e args ps below s.
-      let place = place_of_expression e in
+      let place = place_told e in
       record {
         made = host_member s.object (name_in t x.member.name) (exprs_of s.made);
         is = ap (λ (z : terms.Term). indexed env place z (givens env args)) s.is ∙ called_is env s.object (member_is t x.member) x.count (givens env args) s.made s.count_is (takes t) s.values;

@@ -7,9 +7,8 @@ use Rattle.bound_project.specs.declared.node.NodeKind.{NodeKind}
 use Rattle.bound_project.specs.declared.node.NodeKind.TheVariants as node
 use Rattle.bound_project.specs.Pieces.{Piece, Tables}
 use Rattle.bound_project.specs.Drafts.{Drafted}
-use Rattle.binder.specs.Constants.{place_of_expression}
 use Rattle.binder.specs.Terms.{Env}
-use Rattle.binder.specs.ExpressionsBound.{callee, givens, indexed, item_of, term_of}
+use Rattle.binder.specs.ExpressionsBound.{callee, givens, indexed, item_of, term_of, place_told}
 use Rattle.bound_calls.specs.declared.term.HostMember.{HostMember}
 use Rattle.bound_calls.specs.declared.term.Item.{Item}
 use Rattle.bound_calls.specs.declared.term.Item.TheVariants as item
@@ -23,15 +22,15 @@ use Rattle.bound_calls.specs.Standing.{ItemNamed, MemberStands, Stands, TermName
 pub record OpensMember (place : Place) (m : HostMember) (d e : Drafted) (c : MemberCall) : Type 0 where
   pub grown : Grown d e
   pub named : ItemNamed e.tables (item.Member c)
-  pub stands : (env : Env) (tree : Expr) (items : List Item) (is : List nodes.Item) (below : List Piece) (base : Base) → place ≡ place_of_expression tree
-      → TermStands env d.tables (term.HostMember m) (item_of (place_of_expression tree) (callee env tree (term_of env tree))) d.pieces below → Stands env e.tables items is below base
+  pub stands : (env : Env) (tree : Expr) (items : List Item) (is : List nodes.Item) (below : List Piece) (base : Base) → place ≡ place_told tree
+      → TermStands env d.tables (term.HostMember m) (item_of (place_told tree) (callee env tree (term_of env tree))) d.pieces below → Stands env e.tables items is below base
       → Stands env e.tables (item.Member c ∷ items) (nodes.arguments no_args ∷ nodes.tree tree ∷ is) e.pieces base
 
 -- what a member makes of the arguments that were pushed
 pub record EndsMember (x : MemberCall) (y : Term) : Type 0 where
   pub named : (t : Tables) → ItemNamed t (item.Member x) → TermNamed t y
   pub stands : (env : Env) (t : Tables) (e : Expr) (args : Args) (ps below : List Piece) → MemberStands env t x e args ps below
-      → TermStands env t y (indexed env (place_of_expression e) (item_of (place_of_expression e) (callee env e (term_of env e))) (givens env args)) ps below
+      → TermStands env t y (indexed env (place_told e) (item_of (place_told e) (callee env e (term_of env e))) (givens env args)) ps below
 
 -- nodes of values that count as given
 abbrev pub is_value_kind : NodeKind → Bool

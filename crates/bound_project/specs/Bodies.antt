@@ -89,9 +89,9 @@ action_of t (kind.Raise count) st = whole (arguments_off count st no_args) (λ a
 action_of t (kind.RaiseInOrder count order) st = whole (arguments_off count st no_args) (λ args. raise (in_order (order_in t order) args))
 action_of t (kind.Test sense to other) st = one_value st (λ e. test sense e to other)
 action_of t (kind.GoTo to) st = alone st (go_to to)
-action_of t (kind.For x compare last step first behind) (an_expr c ∷ an_expr b ∷ an_expr a ∷ []) =
-    Some (for_to (variable_view x) compare a (as_operand last b) (as_operand step c) first behind)
-action_of t (kind.For x compare last step first behind) st = None
+action_of t (kind.For x compare last step last_at step_at first behind) (an_expr c ∷ an_expr b ∷ an_expr a ∷ []) =
+    Some (for_to (variable_view x) compare a (as_operand last b) (as_operand step c) last_at step_at first behind)
+action_of t (kind.For x compare last step last_at step_at first behind) st = None
 action_of t (kind.Next x header first) st = alone st (next (variable_view x) header first)
 action_of t (kind.ForEach x first behind) st = one_value st (λ e. for_each (variable_view x) e first behind)
 action_of t (kind.NextEach x header first) st = alone st (next_each (variable_view x) header first)

@@ -35,8 +35,9 @@ pub record ByName : Type 0 where
   pub names : List (List ℕ)
 
 mutual
-  -- an expression: what it is, the place of its first token, its declared type, and the one that it has as an
-  -- operand, once an object has given way to the value of its default member
+  -- an expression: what it is, the place where it is told, its declared type, and the one that it has as an operand,
+  -- once an object has given way to the value of its default member. It is told at its operator where it is one's, in
+  -- parentheses too, and else at its first token
   pub data Expr : Type 0 where
     expr : Node → Place → (of operand : Declared) → Expr
 
@@ -60,6 +61,8 @@ mutual
     default_of : Expr → Node
     -- the value itself, but of an object whose default member needs no argument the value of that; Nothing stays
     default_if_any : Expr → Node
+    -- the value itself, but of an object of a class the Collection that its enumerator gives: what a For Each walks
+    enumerated : Expr → Node
     -- an object of the host that is always there, as Err
     host_object : HostRef → Node
     -- the first sheet
@@ -101,6 +104,13 @@ mutual
     object_field : Expr → (field : ℕ) → Declared → (bounded : Bool) → Lvalue
     -- a place that is declared As New, with the class of its objects
     as_new : (class : ℕ) → Lvalue → Lvalue
+    -- what arguments lead to from a place where the run says what is there: an element of an array, or what default
+    -- members give, which no variable has
+    element_along : Lvalue → Exprs → Lvalue
+    -- a public variable of an object that is found in the run, by its folded name
+    late_field : Expr → (name : List ℕ) → Lvalue
+    -- what an expression gives, which no variable has: arguments behind it lead on from there
+    value_place : Expr → Lvalue
 
   -- arguments, each by the way in which its parameter takes it
   pub data Args : Type 0 where

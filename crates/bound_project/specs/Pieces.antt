@@ -1,6 +1,7 @@
 -- Serves the code: the trees that nodes in postfix order stand for. Reading a node takes the pieces that it ends off a
 -- stack and puts one piece there. Where the pieces don't fit, one piece is left that fits nowhere.
 use Rattle.std.specs.Prelude.{ℕ, zero, suc, ◌==◌, Bool, ◌&&◌, if◌then◌else◌, bytes_eq, List, [], ◌∷◌, Option, Some, None, option_map, slice_index_or}
+use Rattle.vba_base.specs.declared.place.Place.{Place}
 use Rattle.vba_values.specs.declared.types.OpKind.{OpKind}
 use Rattle.vba_values.specs.Types.{Declared}
 use Rattle.vba_values.specs.Val.{Val, empty, text}
@@ -31,8 +32,8 @@ pub data Piece : Type 0 where
   a_value_shown : Expr → Piece
   a_zone : Piece
   a_test_begun : Piece
-  a_test_is : OpKind → Expr → Piece
-  a_test_range : (low high : Expr) → Piece
+  a_test_is : OpKind → Place → Expr → Piece
+  a_test_range : (low high : Expr) → (low_at high_at : Place) → Piece
   a_resize : Lvalue → Exprs → Option Declared → Piece
   an_erased : Lvalue → Piece
 
@@ -87,8 +88,8 @@ prints_off (suc n) st ps = None
 -- so many tests of a Case off the stack
 abbrev pub tests_off : ℕ → List Piece → Tests → Option (Tests × List Piece)
 tests_off zero st ts = Some (ts, st)
-tests_off (suc n) (a_test_is o e ∷ st) ts = tests_off n st (test_is o e ts)
-tests_off (suc n) (a_test_range low high ∷ st) ts = tests_off n st (test_range low high ts)
+tests_off (suc n) (a_test_is o at e ∷ st) ts = tests_off n st (test_is o at e ts)
+tests_off (suc n) (a_test_range low high low_at high_at ∷ st) ts = tests_off n st (test_range low high low_at high_at ts)
 tests_off (suc n) st ts = None
 
 -- so many arrays of a ReDim, and of an Erase, off the stack
@@ -193,8 +194,8 @@ put_kind t n (node.ByList count) st = of_found (λ es. an_argument (values_liste
 put_kind t n node.Shown st = of_value (λ e. a_value_shown e) st
 put_kind t n node.Zone st = a_zone ∷ st
 put_kind t n node.TestBegins st = a_test_begun ∷ st
-put_kind t n (node.TestIs o of) st = of_test (λ e. a_test_is o (as_operand of e)) st
-put_kind t n (node.TestRange low high) st = of_range (λ a b. a_test_range (as_operand low a) (as_operand high b)) st
+put_kind t n (node.TestIs o of) st = of_test (λ e. a_test_is o n.place (as_operand of e)) st
+put_kind t n (node.TestRange low high high_at) st = of_range (λ a b. a_test_range (as_operand low a) (as_operand high b) n.place high_at) st
 put_kind t n (node.Resize count of) st = of_place_found (λ x es. a_resize x es (option_map declared_view of)) (exprs_off count st no_exprs)
 put_kind t n node.Erased st = of_place (λ x. an_erased x) st
 

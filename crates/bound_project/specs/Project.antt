@@ -83,8 +83,8 @@ pub record Handler : Type 0 where
   pub procedure : ℕ
 
 -- a class module: its variables, its Class_Initialize and Class_Terminate where they are written, its public members, and
--- its default member where it has one; the events that it declares, the numbers of its WithEvents variables, and its
--- handlers
+-- its default member and its enumerator where it has one; the events that it declares, the numbers of its WithEvents
+-- variables, and its handlers
 pub record Class : Type 0 where
   pub name : Spelled
   pub fields : List Declaration
@@ -92,6 +92,7 @@ pub record Class : Type 0 where
   pub terminate : Option ℕ
   pub members : List Named
   pub default : Option Member
+  pub enumerator : Option Member
   pub events : List DeclaredEvent
   pub with_events : List ℕ
   pub handlers : List Handler
@@ -135,7 +136,7 @@ abbrev pub procedure_at : Declarations → ℕ → Procedure
 procedure_at d p = slice_index_or d.procedures p no_procedure
 
 abbrev pub no_class : Class
-no_class = record { name = no_name; fields = []; initialize = None; terminate = None; members = []; default = None; events = []; with_events = []; handlers = [] }
+no_class = record { name = no_name; fields = []; initialize = None; terminate = None; members = []; default = None; enumerator = None; events = []; with_events = []; handlers = [] }
 
 -- a class by its number; the number 0 is that of Collection, which ends without a word
 abbrev pub class_at : Declarations → ℕ → Class

@@ -8,11 +8,12 @@ use Rattle.vba_values.specs.declared.types.Compare.{Compare}
 use Rattle.vba_values.specs.Types.{Declared}
 use Rattle.bound_project.specs.Expressions.{Variable, ByName, Expr, Exprs, Lvalue, Args, Given, Prints}
 
--- the tests of a Case: `Is o e`, of which `e` alone is `Is = e`, and `e To e`
+-- the tests of a Case: `Is o e`, of which `e` alone is `Is = e`, and `e To e`. Each comparison is told at a place: at its
+-- operator where that is written, else at the first token of the expression
 pub data Tests : Type 0 where
   no_tests : Tests
-  test_is : OpKind → Expr → Tests → Tests
-  test_range : (low high : Expr) → Tests → Tests
+  test_is : OpKind → Place → Expr → Tests → Tests
+  test_range : (low high : Expr) → (low_at high_at : Place) → Tests → Tests
 
 -- On Error GoTo 0, On Error Resume Next, On Error GoTo label
 pub data Handling : Type 0 where
@@ -52,6 +53,9 @@ pub data Action : Type 0 where
   -- [Let] place(arguments) = value where the run says what is at the place: an element of an array takes the value, and else
   -- what the arguments lead to has its default member written
   assign_element : Lvalue → Exprs → (value : Expr) → Action
+  -- Set place(arguments) = value where the run says what is at the place: an element of an array takes the object, and else
+  -- the default member to which the arguments lead is set
+  set_element : Lvalue → Exprs → (value : Expr) → Action
   -- [Let] base.name(arguments) = value, and Set of it, for a member that is found in the run
   assign_late : (base : Expr) → (name : List ℕ) → ByName → Given → (value : Expr) → Action
   set_late : (base : Expr) → (name : List ℕ) → ByName → Given → (value : Expr) → Action
@@ -76,8 +80,8 @@ pub data Action : Type 0 where
   test : Bool → Expr → (to other : ℕ) → Action
   -- GoTo, Do and Loop without a condition, Wend, Exit Do, Exit For
   go_to : ℕ → Action
-  -- For: into its block, or behind it
-  for_to : Variable → Compare → (start last step : Expr) → (first behind : ℕ) → Action
+  -- For, with the first token of its end, and of its step where one is written: into its block, or behind it
+  for_to : Variable → Compare → (start last step : Expr) → (last_at : Place) → (step_at : Option Place) → (first behind : ℕ) → Action
   -- Next of the For with this number: into its block again, or on
   next : Variable → (header first : ℕ) → Action
   -- For Each: into its block, or behind it

@@ -112,6 +112,7 @@ class_view c = record {
   terminate = c.terminate;
   members = [];
   default = None;
+  enumerator = None;
   events = [];
   with_events = [];
   handlers = [];

@@ -5,8 +5,8 @@ use Rattle.vba_values.specs.declared.object.ObjRef.TheVariants.{Nothing}
 use Rattle.vba_values.specs.Types.{Declared}
 use Rattle.vba_values.specs.Types as type
 use Rattle.vba_values.specs.Val.{Val, empty, null, missing, boolean, whole, currency, text, object}
-use Rattle.bound_project.specs.Expressions.{Storage, local, shared, own, Variable, Expr, expr, Node, not_given, constant, load, load_made, element_value, field_value, unary, binary, call, err_value, default_of, default_if_any, same, is_type, library, bound_of, host_object, active_sheet, host_member, named_member, this, new_object, method, late_member, late_item, Lvalue, variable, item, element, field, kept_place, object_field, as_new, Args, no_args, by_place, by_copy, by_default, by_list, in_order, Given, none_given, place_given, expr_given, Exprs, no_exprs, also, Prints, no_prints, shown, zone}
-use Rattle.bound_project.specs.Statements.{Handling, passed_on, skipped, handled_at, Resizes, no_resizes, resize, Arrays, no_arrays, an_array, Tests, no_tests, test_is, test_range, Action, assign, assign_item, set, assign_default, assign_member, set_member, assign_through, assign_element, assign_late, set_late, evaluate, let_property, set_property, let_method, set_method, raise_event, print, raise, test, go_to, for_to, next, for_each, next_each, exit_each, select, case_of, redim, erase, with_place, with_value, end_with, go_sub, return_sub, exit_to, on_error, end_handler, clear_err, resume_again, resume_next, resume_at, stop, end_run, Statement}
+use Rattle.bound_project.specs.Expressions.{Storage, local, shared, own, Variable, Expr, expr, Node, not_given, constant, load, load_made, element_value, field_value, unary, binary, call, err_value, default_of, default_if_any, enumerated, same, is_type, library, bound_of, host_object, active_sheet, host_member, named_member, this, new_object, method, late_member, late_item, Lvalue, variable, item, element, field, kept_place, object_field, as_new, element_along, late_field, value_place, Args, no_args, by_place, by_copy, by_default, by_list, in_order, Given, none_given, place_given, expr_given, Exprs, no_exprs, also, Prints, no_prints, shown, zone}
+use Rattle.bound_project.specs.Statements.{Handling, passed_on, skipped, handled_at, Resizes, no_resizes, resize, Arrays, no_arrays, an_array, Tests, no_tests, test_is, test_range, Action, assign, assign_item, set, assign_default, assign_member, set_member, assign_through, assign_element, set_element, assign_late, set_late, evaluate, let_property, set_property, let_method, set_method, raise_event, print, raise, test, go_to, for_to, next, for_each, next_each, exit_each, select, case_of, redim, erase, with_place, with_value, end_with, go_sub, return_sub, exit_to, on_error, end_handler, clear_err, resume_again, resume_next, resume_at, stop, end_run, Statement}
 use Rattle.bound_project.specs.Project.{Handler, Member, is_variable, is_procedure, is_property, Class, Declarations, Body, Project, no_declaration, no_event, procedure_at, class_at, statements_at}
 
 -- each item of a list is so
@@ -88,6 +88,7 @@ abbrev mutual
   WholeNode pr p (err_value member) = Unit {0}
   WholeNode pr p (default_of e) = WholeExpr pr p e
   WholeNode pr p (default_if_any e) = WholeExpr pr p e
+  WholeNode pr p (enumerated e) = WholeExpr pr p e
   WholeNode pr p (same a b) = WholeExpr pr p a × WholeExpr pr p b
   WholeNode pr p (is_type e of) = WholeExpr pr p e × HasType pr.declared of
   WholeNode pr p (library f text_form es compare base) = WholeExprs pr p es
@@ -110,6 +111,9 @@ abbrev mutual
   WholePlace pr p (kept_place header) = HasStatement pr p header
   WholePlace pr p (object_field e i of bounded) = WholeExpr pr p e × HasType pr.declared of
   WholePlace pr p (as_new c x) = WholePlace pr p x
+  WholePlace pr p (element_along x es) = WholePlace pr p x × WholeExprs pr p es
+  WholePlace pr p (late_field e name) = WholeExpr pr p e
+  WholePlace pr p (value_place e) = WholeExpr pr p e
 
   pub WholeArgs : Project → (procedure : ℕ) → Args → Type 0
   WholeArgs pr p no_args = Unit {0}
@@ -137,8 +141,8 @@ WholePrints pr p (zone ps) = WholePrints pr p ps
 
 abbrev pub WholeTests : Project → (procedure : ℕ) → Tests → Type 0
 WholeTests pr p no_tests = Unit {0}
-WholeTests pr p (test_is o e ts) = WholeExpr pr p e × WholeTests pr p ts
-WholeTests pr p (test_range a b ts) = WholeExpr pr p a × (WholeExpr pr p b × WholeTests pr p ts)
+WholeTests pr p (test_is o at e ts) = WholeExpr pr p e × WholeTests pr p ts
+WholeTests pr p (test_range a b a_at b_at ts) = WholeExpr pr p a × (WholeExpr pr p b × WholeTests pr p ts)
 
 abbrev pub WholeResizes : Project → (procedure : ℕ) → Resizes → Type 0
 WholeResizes pr p no_resizes = Unit {0}
@@ -162,6 +166,7 @@ WholeAction pr p (assign_member base name es e) = WholeExpr pr p e × (WholeExpr
 WholeAction pr p (set_member base e) = WholeExpr pr p e × WholeExpr pr p base
 WholeAction pr p (assign_through target e) = WholeExpr pr p e × WholeExpr pr p target
 WholeAction pr p (assign_element x es e) = WholeExpr pr p e × (WholePlace pr p x × WholeExprs pr p es)
+WholeAction pr p (set_element x es e) = WholeExpr pr p e × (WholePlace pr p x × WholeExprs pr p es)
 WholeAction pr p (assign_late base name by given e) = WholeExpr pr p e × (WholeExpr pr p base × WholeGiven pr p given)
 WholeAction pr p (set_late base name by given e) = WholeExpr pr p e × (WholeExpr pr p base × WholeGiven pr p given)
 WholeAction pr p (evaluate e) = WholeExpr pr p e
@@ -176,7 +181,7 @@ WholeAction pr p (print ps ends) = WholePrints pr p ps
 WholeAction pr p (raise args) = WholeArgs pr p args
 WholeAction pr p (test sense e to other) = WholeExpr pr p e × (HasTarget pr p to × HasTarget pr p other)
 WholeAction pr p (go_to to) = HasTarget pr p to
-WholeAction pr p (for_to x compare a b c first behind) =
+WholeAction pr p (for_to x compare a b c last_at step_at first behind) =
     WholeExpr pr p a × (WholeExpr pr p b × (WholeExpr pr p c × (HasVariable pr.declared p x × (HasTarget pr p first × HasTarget pr p behind))))
 WholeAction pr p (next x header first) = HasVariable pr.declared p x × (HasStatement pr p header × HasTarget pr p first)
 WholeAction pr p (for_each x e first behind) = WholeExpr pr p e × (HasVariable pr.declared p x × (HasTarget pr p first × HasTarget pr p behind))
@@ -230,7 +235,7 @@ abbrev pub WholeClass : Declarations → Class → Type 0
 WholeClass d c =
     IfThere (λ p. p < length d.procedures) c.initialize × (IfThere (λ p. p < length d.procedures) c.terminate ×
     (All (λ x. WholeMember d (length c.fields) x.member) c.members × (IfThere (WholeMember d (length c.fields)) c.default ×
-    (All (λ i. i < length c.fields) c.with_events × All (WholeHandler d c) c.handlers))))
+    (IfThere (WholeMember d (length c.fields)) c.enumerator × (All (λ i. i < length c.fields) c.with_events × All (WholeHandler d c) c.handlers)))))
 
 -- a project is whole: a body for each procedure, numbers that name what is there, and a procedure to begin with
 pub record IsWhole (pr : Project) : Type 0 where

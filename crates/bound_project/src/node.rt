@@ -118,7 +118,8 @@ pub enum NodeKind {
     Zone,
     /// A test of a Case begins.
     TestBegins,
-    /// `Is operator value`, and `low To high`, with the types that the values have as operands.
+    /// `Is operator value`, and `low To high`, with the types that the values have as operands. The node's place is where
+    /// the comparison with the value, and with `low`, is told; the one with `high` has a place of its own.
     TestIs {
         operator: OpKind,
         of: DeclaredType,
@@ -126,6 +127,7 @@ pub enum NodeKind {
     TestRange {
         low: DeclaredType,
         high: DeclaredType,
+        high_at: Place,
     },
     /// An array of a ReDim: the place before so many bounds, and the type of its elements where that is written.
     Resize {
@@ -136,8 +138,8 @@ pub enum NodeKind {
     Erased,
 }
 
-/// A node: what it is, the place of the first token of what it ends, the declared type of that, and the one that it has
-/// as an operand.
+/// A node: what it is, the place where what it ends is told, the declared type of that, and the one that it has as an
+/// operand. An operator is told at itself, and else an expression at its first token.
 #[derive(Clone, Copy)]
 pub struct Node {
     pub kind: NodeKind,

@@ -82,12 +82,15 @@ pub enum ActionKind {
     GoTo {
         to: u32,
     },
-    /// With the types that the last value and the step have as operands.
+    /// With the types that the last value and the step have as operands, the first token of the last value, and that of
+    /// the step where one is written.
     For {
         counter: Variable,
         compare: Compare,
         last: DeclaredType,
         step: DeclaredType,
+        last_at: Place,
+        step_at: Option<Place>,
         first: u32,
         behind: u32,
     },

@@ -144,16 +144,16 @@ select_pushed first found of d e empty v = record {
 
 -- ---- For and Next
 
-for_made : (env : Env) (named : Option bound.Variable) (x : bound.Variable) (compare : Compare) (start last step : Option bound.Expr) (a b c : bound.Expr) (first behind : ℕ)
+for_made : (env : Env) (named : Option bound.Variable) (x : bound.Variable) (compare : Compare) (start last step : Option bound.Expr) (last_at : Place) (step_at : Option Place) (a b c : bound.Expr) (first behind : ℕ)
     → Some x ≡ named → compare ≡ compare_in env.scope → start ≡ Some a → last ≡ Some b → step ≡ Some c
-    → for_action named env start last step first behind ≡ Some (to.for_to x compare a b c first behind)
-for_made env named x compare start last step a b c first behind name same from until by = rw (← name, from, until, by, ← same)
+    → for_action named env start last step last_at step_at first behind ≡ Some (to.for_to x compare a b c last_at step_at first behind)
+for_made env named x compare start last step last_at step_at a b c first behind name same from until by = rw (← name, from, until, by, ← same)
 
 pub for_pushed : (env : Env) (counter : Variable) (named : Option bound.Variable) (compare : Compare) (start last step : Option bound.Expr) (to_type by : DeclaredType)
-    (first behind : ℕ) (d g : Drafted)
-    → d.pieces ≡ [] → Some (variable_view counter) ≡ named → compare ≡ compare_in env.scope → ForValues start last step to_type by d g
-    → ActionPushed (kind.For counter compare to_type by first behind) (for_action named env start last step first behind) d g
-for_pushed env counter named compare start last step to_type by first behind d g empty name same v =
+    (last_at last_told : Place) (step_at step_told : Option Place) (first behind : ℕ) (d g : Drafted)
+    → d.pieces ≡ [] → Some (variable_view counter) ≡ named → compare ≡ compare_in env.scope → ForValues start last step to_type by d g → last_at ≡ last_told → step_at ≡ step_told
+    → ActionPushed (kind.For counter compare to_type by last_at step_at first behind) (for_action named env start last step last_told step_told first behind) d g
+for_pushed env counter named compare start last step to_type by last_at last_told step_at step_told first behind d g empty name same v told stepped =
     let a = v.start_pushed in
     let b = v.last_pushed in
     let c = v.step_pushed in
@@ -166,12 +166,14 @@ for_pushed env counter named compare start last step to_type by first behind d g
       statements = c.same.statements ∙ (b.same.statements ∙ a.same.statements);
       bodies = c.same.bodies ∙ (b.same.bodies ∙ a.same.bodies);
       named = tt;
-      made = to.for_to (variable_view counter) compare a.pushed.made b.pushed.made c.pushed.made first behind;
-      is = for_made env named (variable_view counter) compare start last step a.pushed.made b.pushed.made c.pushed.made first behind name same a.pushed.is b.pushed.is c.pushed.is;
+      made = to.for_to (variable_view counter) compare a.pushed.made b.pushed.made c.pushed.made last_told step_told first behind;
+      is = for_made env named (variable_view counter) compare start last step last_told step_told a.pushed.made b.pushed.made c.pushed.made first behind name same a.pushed.is b.pushed.is c.pushed.is;
       fits =
-          ap (action_of g.tables (kind.For counter compare to_type by first behind)) c_is
-          ∙ (ap (λ x. Some (to.for_to (variable_view counter) compare a.pushed.made x (as_operand by c.pushed.made) first behind)) (as_operand_itself to_type b.pushed.made b.pushed.operand)
-          ∙ ap (λ x. Some (to.for_to (variable_view counter) compare a.pushed.made b.pushed.made x first behind)) (as_operand_itself by c.pushed.made c.pushed.operand));
+          ap (action_of g.tables (kind.For counter compare to_type by last_at step_at first behind)) c_is
+          ∙ (ap (λ x. Some (to.for_to (variable_view counter) compare a.pushed.made x (as_operand by c.pushed.made) last_at step_at first behind)) (as_operand_itself to_type b.pushed.made b.pushed.operand)
+          ∙ (ap (λ x. Some (to.for_to (variable_view counter) compare a.pushed.made b.pushed.made x last_at step_at first behind)) (as_operand_itself by c.pushed.made c.pushed.operand)
+          ∙ (ap (λ p. Some (to.for_to (variable_view counter) compare a.pushed.made b.pushed.made c.pushed.made p step_at first behind)) told
+          ∙ ap (λ p. Some (to.for_to (variable_view counter) compare a.pushed.made b.pushed.made c.pushed.made last_told p first behind)) stepped)));
     }
 
 -- Next of the innermost block, which is a For

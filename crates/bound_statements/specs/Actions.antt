@@ -20,8 +20,8 @@ use Rattle.binder.specs.Options.{from_two}
 use Rattle.binder.specs.Constants.{compare_in, place_of_expression}
 use Rattle.binder.specs.Numbering.{Opened, Standing, Sought, here, an_arm, behind_block, sought_behind}
 use Rattle.binder.specs.Terms as terms
-use Rattle.binder.specs.ExpressionsBound.{bound_as_given, bound_operand, bound_reference, givens, term_of}
-use Rattle.binder.specs.StatementsBound.{Around, assigned_to, called_place, called_with, redim_arrays, erased_arrays, value_shown, items_shown, ends_line, simple_action, block_action, loop_variable, next_action, loop_action, for_action, step_value, case_tests, selected, line_of, header_of, set_target, set_to, value_for, with_action}
+use Rattle.binder.specs.ExpressionsBound.{bound_as_given, bound_operand, bound_reference, givens, term_of, place_told}
+use Rattle.binder.specs.StatementsBound.{Around, assigned_to, called_place, called_with, redim_arrays, erased_arrays, value_shown, items_shown, ends_line, simple_action, block_action, loop_variable, next_action, loop_action, for_action, step_value, step_place, case_tests, selected, line_of, header_of, set_target, set_to, value_for, with_action}
 use Rattle.bound_calls.specs.Standing.{PushedIs}
 
 -- a condition of a line: where it holds, control goes to the first statement of its block
@@ -35,7 +35,8 @@ case_in env a s tests =
 
 abbrev pub for_in : terms.Env → Standing → Identifier → (start limit : Expr) → Option tree.StepClause → Option Action
 for_in env s x start limit step =
-    for_action (loop_variable env x) env (bound_operand env start) (bound_operand env limit) (step_value env (place_of s.part) step) (sought_behind here s) (sought_behind (behind_block 0) s)
+    for_action (loop_variable env x) env (bound_operand env start) (bound_operand env limit) (step_value env (place_of s.part) step)
+    (place_of_expression limit) (step_place step) (sought_behind here s) (sought_behind (behind_block 0) s)
 
 abbrev pub each_in : terms.Env → Standing → Identifier → Expr → Option Action
 each_in env s x group =
@@ -53,7 +54,7 @@ block_in env a s (tree.next_line next_word x) = next_action env s.around
 block_in env a s (tree.do_line do_word c) = loop_action env c (sought_behind here s) (sought_behind (behind_block 0) s)
 block_in env a s (tree.loop_line loop_word c) = loop_action env c (header_of s.around) (sought_behind here s)
 block_in env a s (tree.while_line while_word e) = branch_in env s (behind_block 0) e
-block_in env a s (tree.with_line with_word e) = with_action (term_of env e) env (place_of_expression e)
+block_in env a s (tree.with_line with_word e) = with_action (term_of env e) env (place_told e)
 block_in env a s line = block_action a s line
 
 -- a statement other than a single-line If, in this scope

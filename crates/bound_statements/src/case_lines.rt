@@ -4,6 +4,7 @@ ghost use Rattle.std.specs.Prelude.{◌≡◌, [], ◌∷◌, List, Option, Some
 ghost use Rattle.bound_statements.specs.Actions.{OperandIs, Selects, case_in};
 ghost use Rattle.bound_statements.specs.Reads.{ItemPushed, Read};
 ghost use Rattle.bound_statements.specs.Round.{StandsAt, around_view};
+ghost use Rattle.binder.specs.Constants.{place_of_expression};
 ghost use Rattle.binder.specs.ExpressionsBound.{bound_operand};
 ghost use Rattle.binder.specs.Options.{from_two, from_three};
 ghost use Rattle.binder.specs.StatementsBound.{case_tests, selected};
@@ -26,9 +27,10 @@ use bound_declarations::NotYet;
 use bound_project::{ActionKind, DeclaredType, Draft, Node, NodeKind};
 use bound_terms::Env;
 use constant_values::operator_kind;
+use module_parts::expression_place;
 use statement_numbers::{Sought, Standing, plus};
 use std::alloc::Global;
-use vba_base::{NoMemory, OrMemory};
+use vba_base::{NoMemory, OrMemory, Place};
 use vba_expression::Expression;
 use vba_tree::{BlockLine, CaseTest, Listed, Next};
 use vba_values::OpKind;
@@ -43,46 +45,60 @@ fn begin_test(draft: &mut Draft) -> Result<(), NoMemory>
     })
 }
 
-/// Ends a test of one value.
-fn end_test(draft: &mut Draft, operator: OpKind, of: DeclaredType) -> Result<(), NoMemory>
+/// Ends a test of one value, which is told at a place.
+fn end_test(
+    draft: &mut Draft,
+    operator: OpKind,
+    at: Place,
+    of: DeclaredType,
+) -> Result<(), NoMemory>
     ensures { OnOk result (draft_view draft.new ≡ record (draft_view draft.old) {
-      pieces = piece.of_test (λ e. piece.a_test_is operator (piece.as_operand of e)) (draft_view draft.old).pieces;
+      pieces = piece.of_test (λ e. piece.a_test_is operator at (piece.as_operand of e)) (draft_view draft.old).pieces;
     }) }
 {
     draft.push(Node {
         kind: NodeKind::TestIs { operator, of },
+        place: at,
         ..blank_node()
     })
 }
 
-/// Ends a test of two values.
-fn end_range(draft: &mut Draft, low: DeclaredType, high: DeclaredType) -> Result<(), NoMemory>
+/// Ends a test of two values, each of which is told at a place.
+fn end_range(
+    draft: &mut Draft,
+    low: DeclaredType,
+    high: DeclaredType,
+    low_at: Place,
+    high_at: Place,
+) -> Result<(), NoMemory>
     ensures { OnOk result (draft_view draft.new ≡ record (draft_view draft.old) {
-      pieces = piece.of_range (λ a b. piece.a_test_range (piece.as_operand low a) (piece.as_operand high b)) (draft_view draft.old).pieces;
+      pieces = piece.of_range (λ a b. piece.a_test_range (piece.as_operand low a) (piece.as_operand high b) low_at high_at) (draft_view draft.old).pieces;
     }) }
 {
     draft.push(Node {
-        kind: NodeKind::TestRange { low, high },
+        kind: NodeKind::TestRange { low, high, high_at },
+        place: low_at,
         ..blank_node()
     })
 }
 
-/// Pushes a test of one value.
+/// Pushes a test of one value, which is told at a place.
 fn push_is<'a>(
     alloc: Global,
     draft: &mut Draft,
     env: Env<'a>,
     operator: OpKind,
+    at: Place,
     value: &'a Expression,
 ) -> Result<(), OrMemory<NotYet>>
     requires { EnvStands env }
     ensures { OnOk result ((rest : Option Tests)
-        → ItemPushed Tests piece.tests_off (from_two (test_is operator) (bound_operand (env_view env.entry) (expression_view value.now)) rest) rest
+        → ItemPushed Tests piece.tests_off (from_two (test_is operator at) (bound_operand (env_view env.entry) (expression_view value.now)) rest) rest
         (draft_view draft.old) (draft_view draft.new)) }
 {
     begin_test(draft)?;
     let of = push_operand(alloc, draft, env, value)?;
-    end_test(draft, operator, of)?;
+    end_test(draft, operator, at, of)?;
     Ok(())
 }
 
@@ -97,13 +113,16 @@ fn push_range<'a>(
     requires { EnvStands env }
     ensures { OnOk result ((rest : Option Tests)
         → ItemPushed Tests piece.tests_off
-        (from_three test_range (bound_operand (env_view env.entry) (expression_view low.now)) (bound_operand (env_view env.entry) (expression_view high.now)) rest) rest
+        (from_three (λ a b us. test_range a b (place_of_expression (expression_view low.now)) (place_of_expression (expression_view high.now)) us)
+        (bound_operand (env_view env.entry) (expression_view low.now)) (bound_operand (env_view env.entry) (expression_view high.now)) rest) rest
         (draft_view draft.old) (draft_view draft.new)) }
 {
     begin_test(draft)?;
-    let low = push_operand(alloc, draft, env, low)?;
-    let high = push_operand(alloc, draft, env, high)?;
-    end_range(draft, low, high)?;
+    let low_of = push_operand(alloc, draft, env, low)?;
+    let high_of = push_operand(alloc, draft, env, high)?;
+    let low_at = expression_place(low);
+    let high_at = expression_place(high);
+    end_range(draft, low_of, high_of, low_at, high_at)?;
     Ok(())
 }
 
@@ -120,14 +139,24 @@ fn push_test<'a>(
         (draft_view draft.old) (draft_view draft.new)) }
 {
     match test {
-        CaseTest::Value(value) => push_is(alloc, draft, env, OpKind::Eq, value),
+        CaseTest::Value(value) => {
+            push_is(
+                alloc,
+                draft,
+                env,
+                OpKind::Eq,
+                expression_place(value),
+                value,
+            )
+        }
         CaseTest::Range { low, high, .. } => push_range(alloc, draft, env, low, high),
         CaseTest::Comparison {
             operator,
+            operator_token,
             value,
             ..
         } => match operator_kind(*operator) {
-            Some(operator) => push_is(alloc, draft, env, operator, value),
+            Some(operator) => push_is(alloc, draft, env, operator, operator_token.place, value),
             None => Err(OrMemory::Fault(NotYet)),
         },
     }

@@ -16,7 +16,7 @@ use crate::values::{counter_of, push_given, push_integer, push_operand};
 use bound_declarations::NotYet;
 use bound_project::{ActionKind, DeclaredType, Draft, Variable};
 use bound_terms::Env;
-use module_parts::place_of;
+use module_parts::{expression_place, place_of};
 use statement_numbers::{Sought, Standing};
 use std::alloc::Global;
 use vba_base::{OrMemory, Place};
@@ -38,6 +38,16 @@ fn push_step<'a>(
     match step {
         None => Ok(push_integer(draft, place, 1)?),
         Some(step) => push_operand(alloc, draft, env, &step.value),
+    }
+}
+
+/// The place where the step of a For is told, where one is written.
+fn step_place(step: &Option<StepClause>) -> Option<Place>
+    ensures { result ≡ plain.step_place (option_map step_view step.now) }
+{
+    match step {
+        Some(step) => Some(expression_place(&step.value)),
+        None => None,
     }
 }
 
@@ -103,6 +113,8 @@ pub(crate) fn bind_for<'a>(
         compare: env.compare,
         last: of.last,
         step: of.step,
+        last_at: expression_place(limit),
+        step_at: step_place(step),
         first,
         behind,
     })

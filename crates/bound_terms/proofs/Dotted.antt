@@ -1,23 +1,19 @@
 -- Names behind dots.
-use Rattle.std.proofs.Common.{◌≡◌, ℕ, Bool, ◌&&◌, List, [], ◌∷◌, Option, Some, None, refl, sym, ap, subst, ◌∙◌}
+use Rattle.std.proofs.Common.{◌≡◌, ℕ, Bool, ◌&&◌, List, ◌∷◌, Option, Some, None, refl, sym, ap, subst, ◌∙◌}
 use Rattle.std.specs.Prelude.{option_map}
 use Rattle.vba_words.specs.declared.identifier.Identifier.{Identifier}
 use Rattle.vba_lexer.specs.declared.token.Token.{Token}
 use Rattle.vba_expression.specs.Tree.{Expr, literal, me, name, with_member, member, index, parenthesised, new, type_of, unary, binary}
 use Rattle.vba_expression.specs.Reader.{name_in, behind_dot}
-use Rattle.vba_words.specs.declared.mark.Mark.TheVariants as mark
-use Rattle.vba_words.specs.Spelling.{marked, naming}
-use Rattle.module_parts.proofs.Firsts.{expression_front}
 use Rattle.vba_expression.specs.declared.node.ExpressionNode.TheVariants as node
 use Rattle.vba_expression.specs.Nodes.{behind_node}
 use Rattle.bound_project.specs.Pieces.{Piece, Tables}
 use Rattle.bound_project.specs.Drafts.{Drafted}
 use Rattle.binder.specs.Declarations.{What, a_variable, a_constant, an_enum, a_member, a_type, an_event, a_procedure, Entry}
 use Rattle.binder.specs.Scopes.{Space, Scope, Qualifier, module_qualifier, enum_qualifier, library_qualifier, of_module, plainly, before_dot, counts, declares, behind, as_qualifier, first_at, is_named, qualifier_of, seen_from, enum_behind}
-use Rattle.binder.specs.Constants.{place_of_expression}
 use Rattle.binder.specs.Terms.{Env}
 use Rattle.binder.specs.Terms as plain
-use Rattle.binder.specs.ExpressionsBound.{term_of, meant_term, member_of, behind_term, from_zero}
+use Rattle.binder.specs.ExpressionsBound.{term_of, meant_term, member_of, behind_term, from_zero, place_told}
 use Rattle.bound_calls.specs.declared.term.Dotted.{Dotted}
 use Rattle.bound_calls.specs.declared.term.Term.{Term}
 use Rattle.bound_calls.specs.declared.term.Tree.{Tree}
@@ -41,10 +37,6 @@ named_base (new word of) x h = let e : None ≡ Some x = h in absurd cc
 named_base (type_of word operand is_word of) x h = let e : None ≡ Some x = h in absurd cc
 named_base (unary o token operand) x h = let e : None ≡ Some x = h in absurd cc
 named_base (binary l o token r) x h = let e : None ≡ Some x = h in absurd cc
-
--- the place of a name behind a dot is that of what stands before that
-pub member_place : (base : Expr) (dot : Token) (f : Identifier) → place_of_expression (member base dot f) ≡ place_of_expression base
-member_place base dot f = expression_front base (marked dot mark.Dot ∷ naming f ∷ [])
 
 -- ---- behind a module, an Enum or VBA
 
@@ -138,10 +130,10 @@ behind_stands env x f q d e t y m j k base dot below h =
     let is : qualifier_of env.scope base ≡ Some q = looked env d.tables x base d.pieces below h ∙ sym k in
     let same : d.pieces ≡ below = alone env d.tables x base q d.pieces below h k in
     let A : Expr → Type 0 = λ (z : Expr). TreeStands env e.tables (made_tree x y t) z e.pieces below in
-    let T : Option Qualifier → Type 0 = λ (o : Option Qualifier). TermStands env e.tables t (behind_term env o f (member_of env (place_of_expression base) (term_of env base) f)) e.pieces below in
+    let T : Option Qualifier → Type 0 = λ (o : Option Qualifier). TermStands env e.tables t (behind_term env o f (member_of env (place_told base) (term_of env base) f)) e.pieces below in
     subst A (sym (no_class env base dot f q is)) (record {
       term_is = subst T (sym is) (leaf_above env d e t (from_zero (meant_term env f (behind plainly env.scope q f))) below same m);
-      place_is = h.place_is ∙ sym (member_place base dot f);
+      place_is = h.place_is;
       name_is = refl;
       qualifier_is = joined env x base dot f q y e.pieces below j h.name_is is k (m.pieces ∙ same);
       leaf = tt;

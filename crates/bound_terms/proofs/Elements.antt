@@ -22,10 +22,9 @@ use Rattle.bound_project.specs.Lists.{above, exprs_of}
 use Rattle.bound_project.proofs.Lists.{above_push}
 use Rattle.bound_project.specs.Pieces.{Piece, Tables, an_expr, a_place, exprs_off, of_place, of_found, of_place_found, of_value, of_value_found, expr_of, put_kind, put, nothing}
 use Rattle.bound_project.specs.Drafts.{Drafted}
-use Rattle.binder.specs.Constants.{place_of_expression}
 use Rattle.binder.specs.Terms.{Env, Given, a_value, expression_of, has_names, listed_values}
 use Rattle.binder.specs.Terms as terms
-use Rattle.binder.specs.ExpressionsBound.{are_numbers, numbers_of, element_place, element_type, with_type, indexed, is_host_type, item_of, object_member, callee, term_of, operand_of, givens}
+use Rattle.binder.specs.ExpressionsBound.{are_numbers, numbers_of, element_place, element_type, with_type, indexed, is_host_type, item_of, object_member, callee, term_of, operand_of, givens, place_told}
 use Rattle.bound_calls.specs.declared.term.Ending.{Ending}
 use Rattle.bound_calls.specs.declared.term.Routine.{Routine}
 use Rattle.bound_calls.specs.declared.term.Term.{Term}
@@ -178,7 +177,7 @@ opens_place env x k of element_of bounded lends d e t is p = record {
     (
       record {
         between = e.pieces;
-        target_is = target_stands env t element_of of bounded lends (place_of_expression tree) (callee env tree (term_of env tree)) h.at e.pieces below is h.is (p.stands h.at below h.ends);
+        target_is = target_stands env t element_of of bounded lends (place_told tree) (callee env tree (term_of env tree)) h.at e.pieces below is h.is (p.stands h.at below h.ends);
         place_is = at;
         made = [];
         numbers = tt;
@@ -198,8 +197,8 @@ pushes_whole ending element_of place d e is eq =
 
 -- a value was pushed that numbers index, of what a term is
 pub opens_whole : (env : Env) (x : Tree) (y : Term) (i : Indexed) (d e : Drafted) → Grown d e → i ≡ begun x target.Value i.of false
-    → ((tree : Expr) (below : List Piece) → x.place ≡ place_of_expression tree → TermStands env d.tables y (callee env tree (term_of env tree)) d.pieces below
-    → TargetStands env target.Value i.of false (place_of_expression tree) (callee env tree (term_of env tree)) e.pieces below) → OpensTerm env x y d e (items.Indexed i)
+    → ((tree : Expr) (below : List Piece) → x.place ≡ place_told tree → TermStands env d.tables y (callee env tree (term_of env tree)) d.pieces below
+    → TargetStands env target.Value i.of false (place_told tree) (callee env tree (term_of env tree)) e.pieces below) → OpensTerm env x y d e (items.Indexed i)
 opens_whole env x y i d e grown is make =
     let P : Indexed → Type 0 = λ (z : Indexed). OpensTerm env x y d e (items.Indexed z) in
     subst P (sym is) (record {
@@ -211,7 +210,7 @@ opens_whole env x y i d e grown is make =
 pub opens_value : (env : Env) (x : Tree) (ending : Ending) (d e : Drafted) (i : Indexed) → PushesWhole ending x.place d e i → OpensTerm env x (term.Value ending) d e (items.Indexed i)
 opens_value env x ending d e i p =
     opens_whole env x (term.Value ending) i d e p.grown p.is (λ tree below at h.
-    let place = place_of_expression tree in
+    let place = place_told tree in
     let z = callee env tree (term_of env tree) in
     record {
       whole = expression_of h.made place (declared_view ending.of);
@@ -292,7 +291,7 @@ numbered env x y of count comma xs d e c p k (nodes.tree v ∷ nodes.arguments a
           target_is = s.target_is;
           place_is = s.place_is;
           made = s.made ++ m.made ∷ [];
-          numbers = numbers_more (operand_of env) (givens env args) s.made (record { name = None; term = Some (term_of env v); place = place_of_expression v }) m.made s.numbers
+          numbers = numbers_more (operand_of env) (givens env args) s.made (record { name = None; term = Some (term_of env v); place = place_told v }) m.made s.numbers
               (record { no_name = refl; term = term_of env v; given = refl; is = m.is });
           count_is = omega (arith, c, s.count_is, length-append s.made (m.made ∷ []));
           on_top = m.on_top ∙ ap (λ (ps : List Piece). an_expr m.made ∷ ps) s.on_top ∙ sym (above_push (map an_expr s.made) (an_expr m.made) s.between)
@@ -330,7 +329,7 @@ ends_variable x v is lt = record {
   named = λ t. tt;
   stands = λ env t e args ps below s.
       let gs = givens env args in
-      let place = place_of_expression e in
+      let place = place_told e in
       let T : Target → Type 0 = λ (z : Target). TargetStands env z x.of x.lends place (callee env e (term_of env e)) s.between below in
       let q = subst T is s.target_is in
       let es = exprs_of s.made in
@@ -349,7 +348,7 @@ ends_place x is lt = record {
   named = λ t. tt;
   stands = λ env t e args ps below s.
       let gs = givens env args in
-      let place = place_of_expression e in
+      let place = place_told e in
       let T : Target → Type 0 = λ (z : Target). TargetStands env z x.of x.lends place (callee env e (term_of env e)) s.between below in
       let q = subst T is s.target_is in
       let es = exprs_of s.made in
@@ -369,7 +368,7 @@ ends_value x is lt = record {
   named = λ t. tt;
   stands = λ env t e args ps below s.
       let gs = givens env args in
-      let place = place_of_expression e in
+      let place = place_told e in
       let T : Target → Type 0 = λ (z : Target). TargetStands env z x.of x.lends place (callee env e (term_of env e)) s.between below in
       let q = subst T is s.target_is in
       let es = exprs_of s.made in

@@ -27,12 +27,12 @@ use Rattle.bound_project.specs.Expressions as bound
 use Rattle.bound_project.specs.Pieces.{Piece, a_place, expr_of, name_in, put, put_kind}
 use Rattle.bound_project.specs.Drafts.{Drafted}
 use Rattle.binder.specs.Bind.{declarations_of}
-use Rattle.binder.specs.Constants.{home, place_of_expression}
+use Rattle.binder.specs.Constants.{home}
 use Rattle.binder.specs.Scopes.{Space, Qualifier, qualifier_of, enum_behind}
 use Rattle.binder.specs.Storage.{types_from, types_of_space, user_types}
 use Rattle.binder.specs.Terms.{Env, Within, a_place as a_place_term, a_value, a_routine, a_host_member, err_object, no_term, expression_of}
 use Rattle.binder.specs.Terms as terms
-use Rattle.binder.specs.ExpressionsBound.{bare_call, behind_term, err_member, field_named, field_of_place, field_of_value, has_bounds, kept_member, member_of, node_or, object_member, sheets_value, term_of, with_field, given_as, typed_term}
+use Rattle.binder.specs.ExpressionsBound.{bare_call, behind_term, err_member, field_named, field_of_place, field_of_value, has_bounds, kept_member, member_of, node_or, object_member, sheets_value, term_of, with_field, given_as, typed_term, place_told}
 use Rattle.binder.specs.Types.{meant_type, type_meant}
 use Rattle.declared_names.specs.Outside.{the_outside}
 use Rattle.declared_names.specs.View.{scope_view}
@@ -56,7 +56,7 @@ use Rattle.bound_calls.specs.Steps.{Goes, MakesLeaf}
 use Rattle.bound_calls.specs.Taking.{CallsRoutine, PushesSheet, ReadsMember}
 use Rattle.bound_calls.proofs.Growing.{grown_same, grown_twice, grown_pieces, all_named, stands_grows}
 use Rattle.bound_calls.proofs.Taking.{sheet_stands}
-use Rattle.bound_terms.proofs.Dotted.{looked, made_tree, member_place}
+use Rattle.bound_terms.proofs.Dotted.{looked, made_tree}
 
 -- ---- the fields of user types
 
@@ -366,7 +366,7 @@ dotted_base env (index base left args right) dot f h = refl
 dotted_base env (parenthesised left inner right) dot f h = refl
 dotted_base env (new word of) dot f h = let e : true ≡ false = h in absurd cc
 dotted_base env (type_of word operand is_word of) dot f h =
-    let e : true ≡ false = sym (typed_class (given_as env (term_of env operand) (place_of_expression operand)) (meant_type (type_meant env.scope of))) ∙ h in absurd cc
+    let e : true ≡ false = sym (typed_class (given_as env (term_of env operand) (place_told operand)) (meant_type (type_meant env.scope of))) ∙ h in absurd cc
 dotted_base env (unary o token operand) dot f h = refl
 dotted_base env (binary l o token r) dot f h = refl
 
@@ -374,14 +374,14 @@ tree_stands : (env : Env) (x : Tree) (f : Identifier) (d e : Drafted) (y : Term)
     → (base : Expr) (dot : Token) (below : List Piece) → TreeStands env d.tables x base d.pieces below → TreeStands env e.tables (made_tree x None y) (behind_dot base dot f) e.pieces below
 tree_stands env x f d e y m k base dot below h =
     let none : qualifier_of env.scope base ≡ None = looked env d.tables x base d.pieces below h ∙ sym k in
-    let member_is : term_of env (member base dot f) ≡ member_of env (place_of_expression base) (term_of env base) f =
-    ap (λ (o : Option Qualifier). behind_term env o f (member_of env (place_of_expression base) (term_of env base) f)) none in
+    let member_is : term_of env (member base dot f) ≡ member_of env (place_told base) (term_of env base) f =
+    ap (λ (o : Option Qualifier). behind_term env o f (member_of env (place_told base) (term_of env base) f)) none in
     let P : Place → Type 0 = λ (place : Place). TermStands env e.tables y (member_of env place (term_of env base) f) e.pieces below in
     let Q : terms.Term → Type 0 = λ (z : terms.Term). TermStands env e.tables y z e.pieces below in
     let A : Expr → Type 0 = λ (z : Expr). TreeStands env e.tables (made_tree x None y) z e.pieces below in
     subst A (sym (dotted_base env base dot f (m.there (term_of env base) below h.term_is))) (record {
       term_is = subst Q (sym member_is) (subst P h.place_is (m.stands (term_of env base) below h.term_is));
-      place_is = h.place_is ∙ sym (member_place base dot f);
+      place_is = h.place_is;
       name_is = refl;
       qualifier_is = ap (λ (o : Option Qualifier). enum_behind env.scope o f) none;
       leaf = tt;

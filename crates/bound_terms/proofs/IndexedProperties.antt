@@ -13,14 +13,14 @@ use Rattle.bound_project.specs.Expressions as bound
 use Rattle.bound_project.specs.Pieces.{Piece, an_expr}
 use Rattle.bound_project.specs.Project as project
 use Rattle.bound_project.specs.Drafts.{Drafted}
-use Rattle.binder.specs.Constants.{home, place_of_expression}
+use Rattle.binder.specs.Constants.{home}
 use Rattle.binder.specs.Declarations.{Written, What, a_variable, a_constant, an_enum, a_member, a_type, an_event, a_procedure, Entry}
 use Rattle.binder.specs.Names.{scope_in}
 use Rattle.binder.specs.Scopes.{Space, Scope, first_at, is_named, seen_from}
 use Rattle.binder.specs.Storage.{bound_parameter, bound_parameters, takes_value}
 use Rattle.binder.specs.Terms.{Env, Given, a_routine, a_value, bound_arguments, expression_of}
 use Rattle.binder.specs.Terms as terms
-use Rattle.binder.specs.ExpressionsBound.{argument_of, bare_call, call_value, call_with, callee, element_type, if_there, indexed, indexed_value, indexes_value, is_get, is_property, item_of, node_or, numbers_of, operand_of, parameters_in, procedure_with, reader, term_of, with_type}
+use Rattle.binder.specs.ExpressionsBound.{argument_of, bare_call, call_value, call_with, callee, element_type, if_there, indexed, indexed_value, indexes_value, is_get, is_property, item_of, node_or, numbers_of, operand_of, parameters_in, procedure_with, reader, term_of, with_type, place_told}
 use Rattle.declared_names.specs.View.{written_view}
 use Rattle.bound_calls.specs.declared.term.Ending.{Ending}
 use Rattle.bound_calls.specs.declared.term.Indexed.{Indexed}
@@ -126,7 +126,7 @@ indexes r false is none = tt
 pub opens_property : (env : Env) (x : Tree) (r : Routine) (ending : Ending) (d m e : Drafted) (i : Indexed) → IndexesValue r → CallsRoutine r d m ending → PushesWhole ending x.place m e i → OpensTerm env x (term.Routine r) d e (items.Indexed i)
 opens_property env x r ending d m e i v c p =
     opens_whole env x (term.Routine r) i d e (grown_twice d m e c.grown p.grown) p.is (λ tree below at h.
-    let place = place_of_expression tree in
+    let place = place_told tree in
     let z = callee env tree (term_of env tree) in
     let b = c.stands env z below h in
     let same : a_routine h.space h.number h.written ≡ a_routine b.space b.number b.written = sym h.is ∙ b.is in

@@ -31,11 +31,11 @@ use Rattle.bound_project.specs.Pieces.{Piece, Tables, an_expr, of_found, expr_of
 use Rattle.bound_project.specs.Drafts.{Drafted}
 use Rattle.binder.specs.Scopes.{has_dollar, of_library}
 use Rattle.binder.specs.Sources.{Source, base_of, has_choice, is_base_one}
-use Rattle.binder.specs.Constants.{compare_in, place_of_expression}
+use Rattle.binder.specs.Constants.{compare_in}
 use Rattle.binder.specs.Options.{from_two}
 use Rattle.binder.specs.Terms.{Env, Given, a_function, a_value, error_word, has_names, no_term}
 use Rattle.binder.specs.Terms as terms
-use Rattle.binder.specs.ExpressionsBound.{array_base, constant_term, from_zero, function_called, function_values, givens, if_there, indexed, is_user_type, item_of, library_term, plain_value, taken_as, takes_count, taking, term_of}
+use Rattle.binder.specs.ExpressionsBound.{array_base, constant_term, from_zero, function_called, function_values, givens, if_there, indexed, is_user_type, item_of, library_term, plain_value, taken_as, takes_count, taking, term_of, place_told}
 use Rattle.bound_calls.specs.declared.term.Function.{Function}
 use Rattle.bound_calls.specs.declared.term.FunctionCall.{FunctionCall}
 use Rattle.bound_calls.specs.declared.term.Term.{Term}
@@ -152,10 +152,10 @@ valued env x y how of count comma xs d e c w u p k (nodes.tree v ∷ nodes.argum
     let low = h.1.1 in
     let s = low.1.0 in
     let m = p.stands env v h.0 h.1.0 in
-    let g : Given = record { name = None; term = Some (term_of env v); place = place_of_expression v } in
+    let g : Given = record { name = None; term = Some (term_of env v); place = place_told v } in
     let f = x.function.function in
-    let found : option_and_then plain_value (taken_as env (taking f x.count) (term_of env v) (place_of_expression v)) ≡ Some m.made =
-    ap (λ t. option_and_then plain_value (taken_as env t (term_of env v) (place_of_expression v))) (sym w) ∙ ap (λ (o : Option bound.Expr). option_and_then plain_value o) m.is ∙ plain_is m.made of m.operand u in (
+    let found : option_and_then plain_value (taken_as env (taking f x.count) (term_of env v) (place_told v)) ≡ Some m.made =
+    ap (λ t. option_and_then plain_value (taken_as env t (term_of env v) (place_told v))) (sym w) ∙ ap (λ (o : Option bound.Expr). option_and_then plain_value o) m.is ∙ plain_is m.made of m.operand u in (
       low.0,
       (
         record {
@@ -255,7 +255,7 @@ ends_function x of takes typed = record {
   stands = λ env t e args ps below s.
       let f = x.function in
       let gs = givens env args in
-      let A : terms.Term → Type 0 = λ (z : terms.Term). indexed env (place_of_expression e) (item_of (place_of_expression e) z) gs ≡ a_value (library f.function f.is_text_form (exprs_of s.made) f.compare (base_view f.is_base_one)) (declared_view of) in
+      let A : terms.Term → Type 0 = λ (z : terms.Term). indexed env (place_told e) (item_of (place_told e) z) gs ≡ a_value (library f.function f.is_text_form (exprs_of s.made) f.compare (base_view f.is_base_one)) (declared_view of) in
       record {
         made = library f.function f.is_text_form (exprs_of s.made) f.compare (base_view f.is_base_one);
         is = subst A (sym s.function_is.is) (called_is env f.function f.is_text_form f.is_base_one f.compare x.count of gs s.made s.function_is.compare_is s.count_is takes typed s.values);

@@ -27,13 +27,13 @@ use Rattle.bound_project.proofs.Lists.{above_push, args_are, exprs_are}
 use Rattle.bound_project.specs.Pieces.{Argument, Piece, Tables, an_argument, an_expr, arguments_off, expr_of, exprs_off, of_found, put, put_kind, values_listed}
 use Rattle.bound_project.specs.Project as project
 use Rattle.bound_project.specs.Drafts.{Drafted, NodeNamed}
-use Rattle.binder.specs.Constants.{home, place_of_expression}
+use Rattle.binder.specs.Constants.{home}
 use Rattle.binder.specs.Names.{scope_in}
 use Rattle.binder.specs.Scopes.{Scope}
 use Rattle.binder.specs.Storage.{bound_parameters}
 use Rattle.binder.specs.Terms.{Env, Given, Item as Taken_item, a_value, are_apart, bound_arguments, built, by_position, has_names, left_over, listed_values, taken_by}
 use Rattle.binder.specs.Terms as terms
-use Rattle.binder.specs.ExpressionsBound.{argument_of, callee, given_as, givens, indexed, term_of}
+use Rattle.binder.specs.ExpressionsBound.{argument_of, callee, given_as, givens, indexed, term_of, place_told}
 use Rattle.bound_calls.specs.declared.term.Call.{Call}
 use Rattle.bound_calls.specs.declared.term.Ending.{Ending}
 use Rattle.bound_calls.specs.declared.term.Item.{Item}
@@ -82,11 +82,11 @@ below_gathered (suc n) i xs p f = below_gathered n i xs p f
 
 -- ---- one more value
 
-one_above : (env : Env) (p : Passed) (e : Expr) (of : DeclaredType) (ps below : List Piece) → is_gathering (map parameter_view p.left.now) ≡ true → PushedIs of (given_as env (term_of env e) (place_of_expression e)) ps below
+one_above : (env : Env) (p : Passed) (e : Expr) (of : DeclaredType) (ps below : List Piece) → is_gathering (map parameter_view p.left.now) ≡ true → PushedIs of (given_as env (term_of env e) (place_told e)) ps below
     → GatheredStands env p (plain_given env e) ps below
-one_above env p e of ps below many h = record { many = many; made = h.made; is = value_given (given_as env) (term_of env e) (place_of_expression e) h.made h.is; on_top = h.on_top }
+one_above env p e of ps below many h = record { many = many; made = h.made; is = value_given (given_as env) (term_of env e) (place_told e) h.made h.is; on_top = h.on_top }
 
-another_above : (env : Env) (o : Option Passed) (g : Given) (f : Expr) (of : DeclaredType) (ps between below : List Piece) → GatheredAbove env o g between below → PushedIs of (given_as env (term_of env f) (place_of_expression f)) ps between
+another_above : (env : Env) (o : Option Passed) (g : Given) (f : Expr) (of : DeclaredType) (ps between below : List Piece) → GatheredAbove env o g between below → PushedIs of (given_as env (term_of env f) (place_told f)) ps between
     → GatheredAbove env o (plain_given env f) ps between
 another_above env None g f of ps between below h k = absurd h
 another_above env (Some p) g f of ps between below h k = one_above env p f of ps between h.many k
@@ -422,13 +422,13 @@ index_stands env x n ending left right xs d e k c (nodes.arguments args ∷ node
     let below = u.stands.0 in
     let many = gathering env d.tables n (item.Call x) xs x.passed args (nodes.tree y ∷ is) d.pieces base refl h in
     let z = callee env y (term_of env y) in
-    let T : terms.Term → Type 0 = λ (t : terms.Term). ValueStands e.tables ending (indexed env (place_of_expression y) t (givens env args)) e.pieces below in
-    let A : List Given → Type 0 = λ l. ValueStands e.tables ending (indexed env (place_of_expression y) z l) e.pieces below in (
+    let T : terms.Term → Type 0 = λ (t : terms.Term). ValueStands e.tables ending (indexed env (place_told y) t (givens env args)) e.pieces below in
+    let A : List Given → Type 0 = λ l. ValueStands e.tables ending (indexed env (place_told y) z l) e.pieces below in (
       below,
       (
         tree_ended env e.tables (term.Value ending) x.place y args left right e.pieces below s.place_is
-            (subst T (sym (routine_item (place_of_expression y) z s.routine.space s.routine.number s.routine.written s.routine.is)) (subst A (sym u.givens_are)
-            (called_gathered env x.routine x.passed (suc n) d e ending z (place_of_expression y) (givens env u.before) p.made u.given u.made below u.between below many u.count_is (λ e0. absurd (omega (arith, e0))) c s.routine p.taken p.count_is u.values u.on_top p.on_top))),
+            (subst T (sym (routine_item (place_told y) z s.routine.space s.routine.number s.routine.written s.routine.is)) (subst A (sym u.givens_are)
+            (called_gathered env x.routine x.passed (suc n) d e ending z (place_told y) (givens env u.before) p.made u.given u.made below u.between below many u.count_is (λ e0. absurd (omega (arith, e0))) c s.routine p.taken p.count_is u.values u.on_top p.on_top))),
         stands_grows env d.tables e.tables c.passes.grown.tables xs k is below base u.stands.1.1,
       ),
     )

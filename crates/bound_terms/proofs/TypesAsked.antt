@@ -17,10 +17,9 @@ use Rattle.bound_project.specs.Expressions.{is_type}
 use Rattle.bound_project.specs.Expressions as bound
 use Rattle.bound_project.specs.Pieces.{Piece, Tables, expr_of, of_value}
 use Rattle.bound_project.specs.Drafts.{Drafted}
-use Rattle.binder.specs.Constants.{place_of_expression}
 use Rattle.binder.specs.Types.{meant_type, plain_type}
 use Rattle.binder.specs.Terms.{Env, a_value}
-use Rattle.binder.specs.ExpressionsBound.{given_as, term_of, typed_term}
+use Rattle.binder.specs.ExpressionsBound.{given_as, term_of, typed_term, place_told}
 use Rattle.bound_calls.specs.declared.term.Tree.{Tree}
 use Rattle.bound_calls.specs.declared.term.Term.{Term}
 use Rattle.bound_calls.specs.declared.term.Term.TheVariants as term
@@ -48,7 +47,7 @@ pub goes_type_of : (env : Env) (x : Tree) (word is_word : Token) (class : Identi
 goes_type_of env x word is_word class of v xs old new d e o n k meant p =
     goes_made env x (record { place = word.place; name = None; dotted = None; term = asked of }) xs old new d e (λ tree. type_of word tree is_word (short_type class)) o n p.grown k tt
     (λ tree below h. record {
-      term_is = typed e.tables (given_as env (term_of env tree) (place_of_expression tree)) of v (meant_type (plain_type env.scope class)) e.pieces below meant (p.stands env tree below h);
+      term_is = typed e.tables (given_as env (term_of env tree) (place_told tree)) of v (meant_type (plain_type env.scope class)) e.pieces below meant (p.stands env tree below h);
       place_is = refl;
       name_is = refl;
       qualifier_is = refl;

@@ -4,9 +4,8 @@ use Rattle.vba_expression.specs.Tree.{Expr, Args}
 use Rattle.bound_project.specs.declared.declared_type.DeclaredType.{DeclaredType}
 use Rattle.bound_project.specs.Pieces.{Piece, Tables}
 use Rattle.bound_project.specs.Drafts.{Drafted}
-use Rattle.binder.specs.Constants.{place_of_expression}
 use Rattle.binder.specs.Terms.{Env}
-use Rattle.binder.specs.ExpressionsBound.{callee, givens, indexed, item_of, taken_as, term_of}
+use Rattle.binder.specs.ExpressionsBound.{callee, givens, indexed, item_of, taken_as, term_of, place_told}
 use Rattle.binder.specs.ExpressionsBound as plain
 use Rattle.bound_calls.specs.declared.term.FunctionCall.{FunctionCall}
 use Rattle.bound_calls.specs.declared.term.Term.{Term}
@@ -25,10 +24,10 @@ taking_view taking.ByDefault = plain.by_default
 pub record PushesTaken (how : Taking) (x : Tree) (d e : Drafted) (of : DeclaredType) : Type 0 where
   pub grown : Grown d e
   pub stands : (env : Env) (tree : Expr) (below : List Piece) → TreeStands env d.tables x tree d.pieces below
-      → PushedIs of (taken_as env (taking_view how) (term_of env tree) (place_of_expression tree)) e.pieces below
+      → PushedIs of (taken_as env (taking_view how) (term_of env tree) (place_told tree)) e.pieces below
 
 -- what a function makes of the arguments that were pushed
 pub record EndsFunction (x : FunctionCall) (y : Term) : Type 0 where
   pub named : (t : Tables) → TermNamed t y
   pub stands : (env : Env) (t : Tables) (e : Expr) (args : Args) (ps below : List Piece) → FunctionStands env x e args ps below
-      → TermStands env t y (indexed env (place_of_expression e) (item_of (place_of_expression e) (callee env e (term_of env e))) (givens env args)) ps below
+      → TermStands env t y (indexed env (place_told e) (item_of (place_told e) (callee env e (term_of env e))) (givens env args)) ps below

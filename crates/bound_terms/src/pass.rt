@@ -134,9 +134,7 @@ fn step<'a>(
             step_with_member(alloc, draft, env, stack, refers, *dot, member)
         }
         ExpressionNode::Member { member, .. } => step_member(alloc, draft, env, stack, member),
-        ExpressionNode::Parenthesised { left, .. } => step_parenthesised(
-            alloc, draft, stack, *left,
-        ),
+        ExpressionNode::Parenthesised { .. } => step_parenthesised(alloc, draft, stack),
         ExpressionNode::TypeOf {
             type_of_word,
             class,
@@ -145,8 +143,8 @@ fn step<'a>(
         ExpressionNode::Unary { operator, token } => {
             step_unary(alloc, draft, stack, *operator, *token)
         }
-        ExpressionNode::Binary { operator, .. } => {
-            step_binary(alloc, draft, env.compare, stack, *operator)
+        ExpressionNode::Binary { operator, token } => {
+            step_binary(alloc, draft, env.compare, stack, *operator, *token)
         }
         ExpressionNode::NoArguments => step_no_arguments(alloc, draft, env, stack, given),
         ExpressionNode::MissingArgument { .. } => step_missing_argument(alloc, draft, stack),

@@ -55,24 +55,24 @@ pub fn step_literal<'a>(
     Ok(())
 }
 
-/// Parentheses: what stands in them is a value, and an object as it is.
+/// Parentheses: what stands in them is a value, and an object as it is; it is told where it was.
 pub fn step_parenthesised<'a>(
     alloc: Global,
     draft: &mut Draft,
     stack: &mut Vec<Item<'a>>,
-    left: Token,
 ) -> Result<(), OrMemory<NotYet>>
     requires { AllNamed (draft_view draft.old).tables (reverse stack.old.items) }
-    ensures { OnOk result ((env : plain.Env) (right : Token) → Goes env (draft_view draft.old) (reverse stack.old.items) (draft_view draft.new) (reverse stack.new.items) (behind_node (node.Parenthesised left right))) }
+    ensures { OnOk result ((env : plain.Env) (left right : Token) → Goes env (draft_view draft.old) (reverse stack.old.items) (draft_view draft.new) (reverse stack.new.items) (behind_node (node.Parenthesised left right))) }
 {
     let Some(Item::Tree(tree)) = take_item(stack) else {
         return Err(OrMemory::NoMemory);
     };
+    let place = tree.place;
     let ending = given_ending(alloc, draft, tree)?;
     put_item(
         stack,
         Item::Tree(Tree {
-            place: left.place,
+            place,
             name: None,
             dotted: None,
             term: Term::Value(ending),
@@ -169,9 +169,10 @@ fn step_same<'a>(
     alloc: Global,
     draft: &mut Draft,
     stack: &mut Vec<Item<'a>>,
+    token: Token,
 ) -> Result<(), OrMemory<NotYet>>
     requires { AllNamed (draft_view draft.old).tables (reverse stack.old.items) }
-    ensures { OnOk result ((env : plain.Env) (token : Token) → Goes env (draft_view draft.old) (reverse stack.old.items) (draft_view draft.new) (reverse stack.new.items) (behind_node (node.Binary operators.Is token))) }
+    ensures { OnOk result ((env : plain.Env) → Goes env (draft_view draft.old) (reverse stack.old.items) (draft_view draft.new) (reverse stack.new.items) (behind_node (node.Binary operators.Is token))) }
 {
     let Some((left, right)) = take_operands(stack) else {
         return Err(OrMemory::NoMemory);
@@ -186,7 +187,7 @@ fn step_same<'a>(
     put_item(
         stack,
         Item::Tree(Tree {
-            place: left.place,
+            place: token.place,
             name: None,
             dotted: None,
             term: Term::Value(Ending {
@@ -205,9 +206,10 @@ fn step_operands<'a>(
     compare: Compare,
     stack: &mut Vec<Item<'a>>,
     operator: BinaryOperator,
+    token: Token,
 ) -> Result<(), OrMemory<NotYet>>
     requires { AllNamed (draft_view draft.old).tables (reverse stack.old.items) }
-    ensures { OnOk result ((env : plain.Env) (token : Token) → compare ≡ compare_in env.scope
+    ensures { OnOk result ((env : plain.Env) → compare ≡ compare_in env.scope
         → Goes env (draft_view draft.old) (reverse stack.old.items) (draft_view draft.new) (reverse stack.new.items) (behind_node (node.Binary operator token))) }
 {
     let Some((left, right)) = take_operands(stack) else {
@@ -224,7 +226,7 @@ fn step_operands<'a>(
     put_item(
         stack,
         Item::Tree(Tree {
-            place: left.place,
+            place: token.place,
             name: None,
             dotted: None,
             term,
@@ -240,14 +242,15 @@ pub fn step_binary<'a>(
     compare: Compare,
     stack: &mut Vec<Item<'a>>,
     operator: BinaryOperator,
+    token: Token,
 ) -> Result<(), OrMemory<NotYet>>
     requires { AllNamed (draft_view draft.old).tables (reverse stack.old.items) }
-    ensures { OnOk result ((env : plain.Env) (token : Token) → compare ≡ compare_in env.scope
+    ensures { OnOk result ((env : plain.Env) → compare ≡ compare_in env.scope
         → Goes env (draft_view draft.old) (reverse stack.old.items) (draft_view draft.new) (reverse stack.new.items) (behind_node (node.Binary operator token))) }
 {
     match operator {
-        BinaryOperator::Is => step_same(alloc, draft, stack),
-        _ => step_operands(alloc, draft, compare, stack, operator),
+        BinaryOperator::Is => step_same(alloc, draft, stack, token),
+        _ => step_operands(alloc, draft, compare, stack, operator, token),
     }
 }
 

@@ -104,6 +104,11 @@ listed (instr.ItemAlong k) = listed_as 83 k 0
 listed instr.WriteThrough = listed_as 84 0 0
 listed (instr.LetElement k) = listed_as 85 k 0
 listed (instr.RaiseEvent event k) = listed_as 86 event k
+listed (instr.ElementAlong k) = listed_as 87 k 0
+listed (instr.SetElement k) = listed_as 88 k 0
+listed (instr.LateField name) = listed_as 89 (length name) 0
+listed instr.Enumerate = listed_as 90 0 0
+listed instr.PlaceOf = listed_as 91 0 0
 
 -- two numbers in decimal, with a blank between them
 abbrev pub both : (left right : ℕ) → List ℕ

@@ -42,6 +42,8 @@ operator_number op.Eqv = 15
 operator_number op.Imp = 16
 operator_number op.Neg = 17
 operator_number op.Not = 18
+operator_number op.Divide = 19
+operator_number op.Power = 20
 
 -- how texts are compared
 abbrev pub compare_number : Compare → ℕ

@@ -40,6 +40,8 @@ pub fn operator_number(operator: OpKind) -> u64
         OpKind::Imp => 16,
         OpKind::Neg => 17,
         OpKind::Not => 18,
+        OpKind::Divide => 19,
+        OpKind::Power => 20,
     }
 }
 

@@ -86,7 +86,7 @@ node_emits t u added g around n node.Zone st there = (ap (λ v. codes around st 
 node_emits t u added g around n node.TestBegins st there = (refl, there.1)
 node_emits t u added g around n (node.TestIs o of) st there =
     test_emits around _ _ (λ e. ap (λ c. plain.Selected around.header ∷ plain.Plain ∷ c) (same_one of e (λ d. plain.IfFits o around.compare (declared_view around.of) d around.to ∷ []))) st there
-node_emits t u added g around n (node.TestRange low high) st there =
+node_emits t u added g around n (node.TestRange low high high_at) st there =
     range_emits around _ _ (λ a b. ap (λ c. plain.Selected around.header ∷ plain.Plain ∷ c) (same_two low high a b (λ d e. plain.IfBetween around.compare (declared_view around.of) d e around.to ∷ []))) st there
 node_emits t u added g around n (node.Resize count of) st there = place_found_emits around count st _ (λ c. map (instr_view u) (node_instrs added t.orders around (node.Resize c of))) (λ x es. refl) there
 node_emits t u added g around n node.Erased st there = place_emits around _ _ (λ x. refl) st there

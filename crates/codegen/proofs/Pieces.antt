@@ -26,8 +26,8 @@ piece_code around (a_member e name given) = expr_code e ++ MemberThere name give
 piece_code around (a_value_shown e) = expr_code e ++ ShowText ∷ []
 piece_code around a_zone = Push empty ∷ []
 piece_code around a_test_begun = Selected around.header ∷ Plain ∷ []
-piece_code around (a_test_is o e) = Selected around.header ∷ Plain ∷ (expr_code e ++ IfFits o around.compare (declared_view around.of) (operand_type e) around.to ∷ [])
-piece_code around (a_test_range a b) =
+piece_code around (a_test_is o at e) = Selected around.header ∷ Plain ∷ (expr_code e ++ IfFits o around.compare (declared_view around.of) (operand_type e) around.to ∷ [])
+piece_code around (a_test_range a b a_at b_at) =
     Selected around.header ∷ Plain ∷ (expr_code a ++ (expr_code b ++ IfBetween around.compare (declared_view around.of) (operand_type a) (operand_type b) around.to ∷ []))
 piece_code around (a_resize x es of) = place_code x ++ (list_code es ++ Redim around.preserve of (list_count es) ∷ [])
 piece_code around (an_erased x) = place_code x ++ EraseAt ∷ []

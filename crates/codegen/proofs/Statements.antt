@@ -1,6 +1,7 @@
 -- The code of a statement is the instructions of what stands before its nodes, of its nodes, and of what stands behind.
 use Rattle.std.proofs.Common.{◌≡◌, Bool, ℕ, zero, suc, ◌+◌, true, false, List, [], ◌∷◌, ◌++◌, length, map, Option, Some, None, refl, sym, ap, subst, ◌∙◌, arith, append_assoc}
 use Rattle.std.specs.Prelude.{slice_index, IsSome, if◌then◌else◌}
+use Rattle.vba_base.specs.declared.place.Place.{Place}
 use Rattle.vba_values.specs.declared.types.Compare.{Compare}
 use Rattle.vba_values.specs.declared.types.OpKind.{OpKind}
 use Rattle.vba_values.specs.Types.{Declared}
@@ -64,10 +65,10 @@ TestsOff row header of compare first other st acc (Some (ts, rest)) =
     (codes (case_around row header of compare first) rest ++ tests_in row header of compare first other ts
     ≡ codes (case_around row header of compare first) st ++ tests_in row header of compare first other acc) × (AllThere rest → AllThere st)
 
-tests_is : (row : Row) (header : ℕ) (of : DeclaredType) (compare : Compare) (first other : ℕ) (o : OpKind) (e : Expr) (st : List Piece) (acc : Tests) (found : Option (Tests × List Piece))
-    → TestsOff row header of compare first other st (test_is o e acc) found → TestsOff row header of compare first other (a_test_is o e ∷ st) acc found
-tests_is row header of compare first other o e st acc None h = tt
-tests_is row header of compare first other o e st acc (Some (ts, rest)) h =
+tests_is : (row : Row) (header : ℕ) (of : DeclaredType) (compare : Compare) (first other : ℕ) (o : OpKind) (at : Place) (e : Expr) (st : List Piece) (acc : Tests) (found : Option (Tests × List Piece))
+    → TestsOff row header of compare first other st (test_is o at e acc) found → TestsOff row header of compare first other (a_test_is o at e ∷ st) acc found
+tests_is row header of compare first other o at e st acc None h = tt
+tests_is row header of compare first other o at e st acc (Some (ts, rest)) h =
     let after = tests_in row header of compare first other acc in
     let fits = plain.IfFits o compare (declared_view of) (operand_type e) (slice_index row first) in (
       h.0 ∙ one (codes (case_around row header of compare first) st) (plain.Selected header ∷ plain.Plain ∷ (expr_code e ++ fits ∷ [])) after _
@@ -75,10 +76,10 @@ tests_is row header of compare first other o e st acc (Some (ts, rest)) h =
       λ there. (tt, h.1 there),
     )
 
-tests_range : (row : Row) (header : ℕ) (of : DeclaredType) (compare : Compare) (first other : ℕ) (a b : Expr) (st : List Piece) (acc : Tests) (found : Option (Tests × List Piece))
-    → TestsOff row header of compare first other st (test_range a b acc) found → TestsOff row header of compare first other (a_test_range a b ∷ st) acc found
-tests_range row header of compare first other a b st acc None h = tt
-tests_range row header of compare first other a b st acc (Some (ts, rest)) h =
+tests_range : (row : Row) (header : ℕ) (of : DeclaredType) (compare : Compare) (first other : ℕ) (a b : Expr) (a_at b_at : Place) (st : List Piece) (acc : Tests) (found : Option (Tests × List Piece))
+    → TestsOff row header of compare first other st (test_range a b a_at b_at acc) found → TestsOff row header of compare first other (a_test_range a b a_at b_at ∷ st) acc found
+tests_range row header of compare first other a b a_at b_at st acc None h = tt
+tests_range row header of compare first other a b a_at b_at st acc (Some (ts, rest)) h =
     let after = tests_in row header of compare first other acc in
     let fits = plain.IfBetween compare (declared_view of) (operand_type a) (operand_type b) (slice_index row first) in (
       h.0 ∙ one (codes (case_around row header of compare first) st) (plain.Selected header ∷ plain.Plain ∷ (expr_code a ++ (expr_code b ++ fits ∷ []))) after _
@@ -89,10 +90,10 @@ tests_range row header of compare first other a b st acc (Some (ts, rest)) h =
 
 tests_are : (row : Row) (header : ℕ) (of : DeclaredType) (compare : Compare) (first other n : ℕ) (st : List Piece) (acc : Tests) → TestsOff row header of compare first other st acc (tests_off n st acc)
 tests_are row header of compare first other zero st acc = (refl, λ there. there)
-tests_are row header of compare first other (suc n) (a_test_is o e ∷ st) acc =
-    tests_is row header of compare first other o e st acc (tests_off n st (test_is o e acc)) (tests_are row header of compare first other n st (test_is o e acc))
-tests_are row header of compare first other (suc n) (a_test_range a b ∷ st) acc =
-    tests_range row header of compare first other a b st acc (tests_off n st (test_range a b acc)) (tests_are row header of compare first other n st (test_range a b acc))
+tests_are row header of compare first other (suc n) (a_test_is o at e ∷ st) acc =
+    tests_is row header of compare first other o at e st acc (tests_off n st (test_is o at e acc)) (tests_are row header of compare first other n st (test_is o at e acc))
+tests_are row header of compare first other (suc n) (a_test_range a b a_at b_at ∷ st) acc =
+    tests_range row header of compare first other a b a_at b_at st acc (tests_off n st (test_range a b a_at b_at acc)) (tests_are row header of compare first other n st (test_range a b a_at b_at acc))
 tests_are row header of compare first other (suc n) st acc = tt
 
 abbrev ResizesOff : Around → List Piece → Resizes → Option (Resizes × List Piece) → Type 0
@@ -300,9 +301,9 @@ action_made t u added g row p i next (kind.RaiseInOrder n order) st =
     (args_made (around_of row k) (action_code (entry row) p i next) (λ m. plain.Reorder o m ∷ after) _ (λ args. append_assoc (args_code args) (plain.Reorder o (count args) ∷ []) after) n st (arguments_off n st no_args) (args_are (around_of row k) n st no_args))
 action_made t u added g row p i next (kind.Test sense to other) st = value_made (around_of row (kind.Test sense to other)) (action_code (entry row) p i next) [] _ _ (λ e. refl) st
 action_made t u added g row p i next (kind.GoTo to) st = alone_made (around_of row (kind.GoTo to)) (action_code (entry row) p i next) _ _ refl st
-action_made t u added g row p i next (kind.For x compare last step first behind) (an_expr c ∷ an_expr b ∷ an_expr a ∷ []) =
+action_made t u added g row p i next (kind.For x compare last step last_at step_at first behind) (an_expr c ∷ an_expr b ∷ an_expr a ∷ []) =
     (ap (λ x. plain.LoopOff i ∷ x) (two (expr_code a) (expr_code b) (expr_code c) _ _ (same_two last step b c (λ d e. plain.LoopOn (variable_view x) i compare d e ∷ plain.Branch true (slice_index row first) (slice_index row behind) ∷ []))), (tt, (tt, (tt, tt))))
-action_made t u added g row p i next (kind.For x compare last step first behind) st = tt
+action_made t u added g row p i next (kind.For x compare last step last_at step_at first behind) st = tt
 action_made t u added g row p i next (kind.Next x header first) st = alone_made (around_of row (kind.Next x header first)) (action_code (entry row) p i next) _ _ refl st
 action_made t u added g row p i next (kind.ForEach x first behind) st = value_made (around_of row (kind.ForEach x first behind)) (action_code (entry row) p i next) (plain.EachOff i ∷ []) _ _ (λ e. refl) st
 action_made t u added g row p i next (kind.NextEach x header first) st = alone_made (around_of row (kind.NextEach x header first)) (action_code (entry row) p i next) _ _ refl st

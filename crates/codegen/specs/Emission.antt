@@ -88,7 +88,7 @@ abbrev pub part_instrs : Around → NodeKind → List Instr
 part_instrs around node.Shown = instr.ShowText ∷ []
 part_instrs around node.TestBegins = instr.Selected around.header ∷ instr.Plain ∷ []
 part_instrs around (node.TestIs o of) = instr.IfFits o around.compare around.of of around.to ∷ []
-part_instrs around (node.TestRange low high) = instr.IfBetween around.compare around.of low high around.to ∷ []
+part_instrs around (node.TestRange low high high_at) = instr.IfBetween around.compare around.of low high around.to ∷ []
 part_instrs around (node.Resize count of) = instr.Redim around.preserve of count ∷ []
 part_instrs around node.Erased = instr.EraseAt ∷ []
 part_instrs around k = []
@@ -115,7 +115,7 @@ around_of row k = record { header = 0; of = Plain Variant; compare = by_units; t
 
 -- before its nodes
 abbrev pub before_instrs : ℕ → ActionKind → List Instr
-before_instrs i (kind.For x compare last step first behind) = instr.LoopOff i ∷ []
+before_instrs i (kind.For x compare last step last_at step_at first behind) = instr.LoopOff i ∷ []
 before_instrs i (kind.ForEach x first behind) = instr.EachOff i ∷ []
 before_instrs i k = []
 
@@ -152,7 +152,7 @@ property_assignment_instrs orders k = []
 
 -- the first or the last line of a loop
 abbrev pub loop_instrs : (statement : ℕ) → ActionKind → List Instr
-loop_instrs i (kind.For x compare last step first behind) = instr.LoopOn x i compare last step ∷ []
+loop_instrs i (kind.For x compare last step last_at step_at first behind) = instr.LoopOn x i compare last step ∷ []
 loop_instrs i (kind.Next x header first) = instr.NextRound x header ∷ []
 loop_instrs i (kind.ForEach x first behind) = instr.EachOn i ∷ instr.NextItem x i ∷ []
 loop_instrs i (kind.NextEach x header first) = instr.NextItem x header ∷ []
@@ -187,7 +187,7 @@ end_instr orders row p next (kind.Raise count) = instr.Throw count
 end_instr orders row p next (kind.RaiseInOrder count order) = instr.Throw (order_length orders order)
 end_instr orders row p next (kind.Test sense to other) = instr.Branch sense (slice_index row to) (slice_index row other)
 end_instr orders row p next (kind.GoTo to) = instr.Finish (slice_index row to)
-end_instr orders row p next (kind.For x compare last step first behind) = instr.Branch true (slice_index row first) (slice_index row behind)
+end_instr orders row p next (kind.For x compare last step last_at step_at first behind) = instr.Branch true (slice_index row first) (slice_index row behind)
 end_instr orders row p next (kind.Next x header first) = instr.Branch true (slice_index row first) (slice_index row next)
 end_instr orders row p next (kind.ForEach x first behind) = instr.Branch true (slice_index row first) (slice_index row behind)
 end_instr orders row p next (kind.NextEach x header first) = instr.Branch true (slice_index row first) (slice_index row next)

@@ -232,7 +232,7 @@ fn put_part(code: &mut Vec<Instr>, around: Around, kind: NodeKind) -> Result<(),
             test: of,
             to: around.to,
         },
-        NodeKind::TestRange { low, high } => Instr::IfBetween {
+        NodeKind::TestRange { low, high, .. } => Instr::IfBetween {
             compare: around.compare,
             of: around.of,
             low,

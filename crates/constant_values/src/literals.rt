@@ -44,11 +44,13 @@ pub fn literal_meant(alloc: Global, literal: &LiteralValue) -> Result<Value, NoM
     }
 }
 
-/// The operator of the tables that an operator is. `/` and `^` would give a Double, and Is goes by none.
+/// The operator of the tables that an operator is. Is goes by none.
 pub fn operator_kind(operator: BinaryOperator) -> Option<OpKind>
     ensures { result ≡ plain.operator_kind operator }
 {
     match operator {
+        BinaryOperator::Power => Some(OpKind::Power),
+        BinaryOperator::Divide => Some(OpKind::Divide),
         BinaryOperator::Multiply => Some(OpKind::Mul),
         BinaryOperator::IntegerDivide => Some(OpKind::IntDiv),
         BinaryOperator::Modulo => Some(OpKind::Mod),
@@ -66,7 +68,7 @@ pub fn operator_kind(operator: BinaryOperator) -> Option<OpKind>
         BinaryOperator::Xor => Some(OpKind::Xor),
         BinaryOperator::Eqv => Some(OpKind::Eqv),
         BinaryOperator::Imp => Some(OpKind::Imp),
-        BinaryOperator::Power | BinaryOperator::Divide | BinaryOperator::Is => None,
+        BinaryOperator::Is => None,
     }
 }
 

@@ -200,7 +200,7 @@ can_index_law (object (Host (host.Area s t l r c))) k m = then_still (fits_in_la
 can_index_law (object o) k m = bad 438 (same m)
 can_index_law v k m = bad 450 (same m)
 
-plains_law : (vs : List Val) (m : Memory) → Law m [] (plains vs m)
+pub plains_law : (vs : List Val) (m : Memory) → Law m [] (plains vs m)
 plains_law [] m = fine [] (same m)
 plains_law (v ∷ vs) m = then_still (plain_law v m) (λ w m1. then_still (plains_law vs m1) (λ ws m2. fine (w ∷ ws) (same m2)))
 

@@ -1,27 +1,26 @@
 -- What uses of members raise that are found in the run.
-use Rattle.std.proofs.Common.{◌≡◌, ℕ, Bool, List, [], Option, Some, refl}
+use Rattle.std.proofs.Common.{ℕ, Bool, List, [], Option, Some, None}
 use Rattle.std.specs.Prelude.{not, ◌||◌, if◌then◌else◌}
-use Rattle.vba_values.specs.declared.object.ObjRef.TheVariants.{Heap}
-use Rattle.vba_values.specs.Val.{Val, missing, object, array}
+use Rattle.vba_values.specs.declared.object.ObjRef.TheVariants.{Nothing, Heap}
+use Rattle.vba_values.specs.Val.{Val, missing, object}
 use Rattle.bound_project.specs.Expressions.{ByName}
-use Rattle.bound_project.specs.Project.{Declarations, Parameter}
+use Rattle.bound_project.specs.Project.{Declarations, Parameter, Member, is_variable, is_procedure, is_property}
 use Rattle.vba_meaning.specs.Paths.{Path}
-use Rattle.vba_meaning.specs.Memory.{Slot, Memory, value_at}
+use Rattle.vba_meaning.specs.Memory.{Slot, Memory}
 use Rattle.vba_meaning.specs.Effects.{Effect, on_fine, slot_values}
 use Rattle.vba_meaning.specs.Collections.{CollectionMember, is_item, found_or}
 use Rattle.vba_meaning.specs.Host.{as_given, member_there, member_assigned}
 use Rattle.vba_meaning.specs.ByName.{named_there}
-use Rattle.vba_meaning.specs.Defaults.{in_variable, by_let, in_member, write, let_item, Next, over_with, after_use, is_instance, parameters_of, without_last, last_type, is_object_type, nothing_more, put, write_along, most_passed}
-use Rattle.vba_meaning.specs.LateBound.{Use, reading, assigning, setting, Way, by_variable, by_call, by_setter, all_taken, given_twice, any_lacks, arguments_fit, arranged, way_by_name, taken_by_way, has_names, indexes, what_is_indexed, way_there, host_there, late_there, how_many, argument_tasks, value_bound, place_copied, call_way, late_called, host_arguments, let_element, let_indexed, let_plain, let_way, item_let, host_let, late_let, set_way, late_set}
+use Rattle.vba_meaning.specs.Defaults.{by_let, in_member, let_item, set_item, Next, over_with, is_instance, class_of_value, parameters_of, without_last, last_type, nothing_more, put, most_passed}
+use Rattle.vba_meaning.specs.LateBound.{Use, reading, assigning, setting, Way, by_variable, by_call, by_setter, all_taken, given_twice, any_lacks, arguments_fit, arranged, way_by_name, member_named, variable_named, public_variable, taken_by_way, has_names, indexes, what_is_indexed, way_there, host_there, late_there, how_many, argument_tasks, value_bound, place_copied, call_way, late_called, host_arguments, let_element, element_set, let_indexed, let_plain, let_way, item_let, host_let, late_let, set_way, late_set}
 use Rattle.object_counts.specs.Gains.{member_assigned_gains}
-use Rattle.object_counts.specs.UseGains.{way_gains, what_is_indexed_gains, way_there_gains, late_there_gains, value_bound_gains, place_copied_gains, call_way_gains, late_called_gains, written_gains, let_element_gains, let_indexed_gains, let_plain_gains, let_way_gains, item_let_gains, host_let_gains, late_let_gains, set_way_gains, late_set_gains, put_gains}
+use Rattle.object_counts.specs.UseGains.{way_gains, what_is_indexed_gains, way_there_gains, late_there_gains, value_bound_gains, place_copied_gains, call_way_gains, late_called_gains, let_element_gains, element_set_gains, let_indexed_gains, let_plain_gains, let_way_gains, item_let_gains, host_let_gains, late_let_gains, set_way_gains, late_set_gains, put_gains}
 use Rattle.object_counts.proofs.Looks.{same}
-use Rattle.object_counts.proofs.Chains.{Law, fine, bad, then_law, then_still, after_still, either, both, held_law}
+use Rattle.object_counts.proofs.Chains.{Law, fine, bad, then_still, after_still, either, both, held_law}
 use Rattle.object_counts.proofs.Variables.{set_object_law, set_at_law}
-use Rattle.object_counts.proofs.Loops.{element_in_law}
 use Rattle.object_counts.proofs.Items.{found_or_law, collection_member_law, item_found_holds}
-use Rattle.object_counts.proofs.Hosts.{member_there_law, named_there_law, place_at_law, member_assigned_law, member_not_set_law}
-use Rattle.object_counts.proofs.Uses.{over_law, nothing_law, after_law, read_variable_law, index_along_law, put_law, write_along_law, let_along_law, tasks_law, use_then_law}
+use Rattle.object_counts.proofs.Hosts.{member_there_law, named_there_law, member_assigned_law, member_not_set_law}
+use Rattle.object_counts.proofs.Uses.{over_law, nothing_law, read_variable_law, in_place_law, index_along_law, put_law, written_law, let_at_law, let_along_law, set_along_law, tasks_law, use_then_law}
 
 -- what is found by a name, and then
 found_law : (d : Declarations) (aim : Use) (name : List ℕ) (gs : List Bool) (v : Val) {h : Way → Memory → List ℕ} {f : Way → Memory → Effect Next} → ((w : Way) (m : Memory) → Law m (h w m) (f w m)) → (m : Memory)
@@ -61,6 +60,19 @@ pub late_there_law : (d : Declarations) (aim : Use) (name : List ℕ) (by : ByNa
 late_there_law d aim name by gs v m =
     either (is_instance v m) (found_law d aim name gs v (way_there_law d aim by gs v) m) (host_there_law d aim name by gs v m)
 
+-- ---- the place of a public variable
+
+variable_named_law : (d : Declarations) (v : Val) (x : Option Member) (m : Memory) → Law m [] (variable_named d v x m)
+variable_named_law d v None m = bad 438 (same m)
+variable_named_law d v (Some (is_variable i makes)) m = fine _ (same m)
+variable_named_law d v (Some (is_procedure p)) m = bad 438 (same m)
+variable_named_law d v (Some (is_property reads lets sets)) m = bad 438 (same m)
+
+pub public_variable_law : (d : Declarations) (name : List ℕ) (v : Val) (m : Memory) → Law m [] (public_variable d name v m)
+public_variable_law d name (object Nothing) m = bad 91 (same m)
+public_variable_law d name (object o) m = variable_named_law d (object o) (if is_instance (object o) m then member_named (class_of_value d (object o) m).members name else None) m
+public_variable_law d name v m = bad 424 (same m)
+
 -- ---- arguments
 
 pub value_bound_law : (d : Declarations) (aim : Use) (name : List ℕ) (by : ByName) (gs : List Bool) (i : ℕ) (base v : Val) (m : Memory)
@@ -85,15 +97,8 @@ late_called_law d name by gs base begun xs m = found_law d reading name gs base 
 
 -- ---- a member is assigned to
 
-written_law : (d : Declarations) (v : Val) {m : Memory} {gs : List ℕ} {e : Effect Next} → Law m gs e → Law m (written_gains d v gs e) (after_use e (write most_passed v) (λ w m1. write_along d most_passed v w m1))
-written_law d v a = after_law (write most_passed v) a (λ w m1. write_along_law d most_passed v w m1)
-
-element_by : (d : Declarations) (q : Path) (vs : List Val) (v : Val) (m : Memory) (x : Option Val) → value_at m q ≡ x → Law m (let_element_gains d q vs v m) (let_element d q vs v m)
-element_by d q vs v m (Some (array bounds of items)) e = rw e (after_still (element_in_law q (value_at m q) vs m) (λ p m1. put_law d (in_variable p) v m1))
-element_by d q vs v m x e = rw e (after_law (let_item most_passed vs v) (read_variable_law d q m) (λ w m1. let_along_law d most_passed vs v w m1))
-
 pub let_element_law : (d : Declarations) (q : Path) (vs : List Val) (v : Val) (m : Memory) → Law m (let_element_gains d q vs v m) (let_element d q vs v m)
-let_element_law d q vs v m = element_by d q vs v m (value_at m q) refl
+let_element_law d q vs v m = in_place_law d q vs (let_item most_passed vs v) (λ p m1. let_at_law d p v m1) (λ w m1. let_along_law d most_passed vs v w m1) m
 
 let_indexed_law : (d : Declarations) (begun : Val) (vs : List Val) (v : Val) (w : Way) (m : Memory) → Law m (let_indexed_gains d begun vs v w m) (let_indexed d begun vs v w m)
 let_indexed_law d begun vs v (by_variable q) m = let_element_law d q vs v m
@@ -101,7 +106,7 @@ let_indexed_law d begun vs v (by_call p property) m = let_along_law d most_passe
 let_indexed_law d begun vs v (by_setter p) m = let_along_law d most_passed vs v begun m
 
 let_plain_law : (d : Declarations) (by : ByName) (base : Val) (xs : List Slot) (v : Val) (w : Way) (m : Memory) → Law m (let_plain_gains d by base xs v w m) (let_plain d by base xs v w m)
-let_plain_law d by base xs v (by_variable q) m = either (is_object_type q.of) (written_law d v (read_variable_law d q m)) (put_law d (in_variable q) v m)
+let_plain_law d by base xs v (by_variable q) m = let_at_law d q v m
 let_plain_law d by base xs v (by_call p property) m = fine _ (same m)
 let_plain_law d by base xs v (by_setter p) m = put_law d (by_let p base (arranged (without_last (parameters_of d p)) by xs)) v m
 
@@ -128,12 +133,15 @@ late_let_law d name by gs base begun xs v m =
 
 -- ---- a member is set
 
-set_way_law : (d : Declarations) (by : ByName) (gs : List Bool) (base : Val) (xs : List Slot) (v : Val) (w : Way) (m : Memory) → Law m (set_way_gains d by gs xs v w m) (set_way d by gs base xs v w m)
-set_way_law d by gs base xs v (by_variable q) m =
-    either (indexes d by gs (by_variable q)) (then_law (place_at_law q (slot_values xs) m) (λ p m1. nothing_law (set_at_law p v m1))) (nothing_law (set_at_law q v m))
-set_way_law d by gs base xs v (by_setter p) m = then_still (set_object_law (last_type (parameters_of d p)) v m) (λ w m1. fine _ (same m1))
-set_way_law d by gs base xs v (by_call p property) m = bad 438 (same m)
+pub element_set_law : (d : Declarations) (q : Path) (vs : List Val) (v : Val) (m : Memory) → Law m (element_set_gains d q vs v m) (element_set d q vs v m)
+element_set_law d q vs v m = in_place_law d q vs (set_item most_passed vs v) (λ p m1. nothing_law (set_at_law p v m1)) (λ w m1. set_along_law d most_passed vs v w m1) m
 
-pub late_set_law : (d : Declarations) (name : List ℕ) (by : ByName) (gs : List Bool) (base : Val) (xs : List Slot) (v : Val) (m : Memory) → Law m (late_set_gains d name by gs base xs v m) (late_set d name by gs base xs v m)
-late_set_law d name by gs base xs v m =
-    either (is_instance base m) (found_law d setting name gs base (set_way_law d by gs base xs v) m) (nothing_law (member_not_set_law base m))
+set_way_law : (d : Declarations) (by : ByName) (gs : List Bool) (base begun : Val) (xs : List Slot) (v : Val) (w : Way) (m : Memory) → Law m (set_way_gains d by gs begun xs v w m) (set_way d by gs base begun xs v w m)
+set_way_law d by gs base begun xs v (by_variable q) m = either (indexes d by gs (by_variable q)) (element_set_law d q (slot_values xs) v m) (nothing_law (set_at_law q v m))
+set_way_law d by gs base begun xs v (by_setter p) m = then_still (set_object_law (last_type (parameters_of d p)) v m) (λ w m1. fine _ (same m1))
+set_way_law d by gs base begun xs v (by_call p property) m = either (indexes d by gs (by_call p property)) (set_along_law d most_passed (slot_values xs) v begun m) (bad 438 (same m))
+
+pub late_set_law : (d : Declarations) (name : List ℕ) (by : ByName) (gs : List Bool) (base begun : Val) (xs : List Slot) (v : Val) (m : Memory)
+    → Law m (late_set_gains d name by gs base begun xs v m) (late_set d name by gs base begun xs v m)
+late_set_law d name by gs base begun xs v m =
+    either (is_instance base m) (found_law d setting name gs base (set_way_law d by gs base begun xs v) m) (nothing_law (member_not_set_law base m))

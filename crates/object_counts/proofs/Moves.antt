@@ -13,12 +13,12 @@ use Rattle.vba_meaning.specs.References.{let_held, held_by, let_frame}
 use Rattle.vba_meaning.specs.Effects.{Event, Raised, Effect, Fine, Bad-at, Out, Tell, unlent, slot_values, packed, reordered, raised_by, err_of, failed_statement}
 use Rattle.vba_meaning.specs.Events.{source_of, sinks, due, lent_again, raise_over, change, sheet_of, target_of, no_change}
 use Rattle.vba_meaning.specs.Objects.{initialize_of, made_at}
-use Rattle.vba_meaning.specs.Host.{is_counted, is_raise}
+use Rattle.vba_meaning.specs.Host.{is_counted, is_raise, path_to}
 use Rattle.vba_meaning.specs.ByName.{in_parameter_order}
-use Rattle.vba_meaning.specs.Defaults.{Next, gives, then_call, is_instance, most_passed, most_calls}
+use Rattle.vba_meaning.specs.Defaults.{Next, gives, then_call, is_instance, has_array, most_passed, most_calls}
 use Rattle.vba_meaning.specs.LateBound.{lends_place, host_arguments}
 use Rattle.vba_meaning.specs.Meaning.{State, with_memory, turned}
-use Rattle.pcode.specs.Instructions.{Instr, Begin, Push, LoadErr, PathOf, ReadThrough, ElementOf, ElementIn, FieldOf, Dot, Index, PartOf, Operate, OperateAlone, Plain, PlainIfAny, PushHost, FirstSheet, MemberThere, MemberOf, NamedThere, NamedOf, PushThis, New, ObjectThere, FieldIn, AsNew, MakeThere, StoreMade, FindLate, BindValue, BindPlace, CallLate, LetLate, SetLate, ItemAlong, WriteThrough, LetElement, Same, IsType, Library, BoundAt, Fit, FitObject, Drop, Lend, Pack, Reorder, Lift, Call, CallOf, Store, SetAt, StoreDefault, StoreMember, StoreItem, SetMember, RaiseEvent, ShowText, Show, Throw, LoopOff, LoopOn, NextRound, EachOff, EachOn, NextItem, Keep, Selected, IfFits, IfBetween, Redim, EraseAt, KeepPath, DropKept, PutReturn, TakeReturn, SetPolicy, HandlerOff, ErrOff, Again, Behind, Resumes, Finish, Branch, Halt, StopHere, Leave, Code, next_statement, entry_of}
+use Rattle.pcode.specs.Instructions.{Instr, Begin, Push, LoadErr, PathOf, ReadThrough, ElementOf, ElementIn, FieldOf, Dot, Index, PartOf, Operate, OperateAlone, Plain, PlainIfAny, Enumerate, PushHost, FirstSheet, MemberThere, MemberOf, NamedThere, NamedOf, PushThis, New, ObjectThere, FieldIn, AsNew, MakeThere, StoreMade, FindLate, BindValue, BindPlace, CallLate, LetLate, SetLate, ItemAlong, WriteThrough, LetElement, SetElement, ElementAlong, LateField, PlaceOf, Same, IsType, Library, BoundAt, Fit, FitObject, Drop, Lend, Pack, Reorder, Lift, Call, CallOf, Store, SetAt, StoreDefault, StoreMember, StoreItem, SetMember, RaiseEvent, ShowText, Show, Throw, LoopOff, LoopOn, NextRound, EachOff, EachOn, NextItem, Keep, Selected, IfFits, IfBetween, Redim, EraseAt, KeepPath, DropKept, PutReturn, TakeReturn, SetPolicy, HandlerOff, ErrOff, Again, Behind, Resumes, Finish, Branch, Halt, StopHere, Leave, Code, next_statement, entry_of}
 use Rattle.pcode.specs.Machine.{After, Goes-on, Return, Back-to, Back, Caller, Delivering, Within, Config, Move, Goes, Ends, Sticks, Tells, Turns, at, failing, letting, lets, lets_all, finishes, raised, done_then, then_at, then_push, then_push_path, then_let_go, then_test, then_jump, then_branch, pops, pops_path, take_args, pushed, calls_handler, delivers, tells_change, uses_member, enters, enter_by, calls, initializes, then_statement, then_changes, left_as, follows, base_below, Choices, act}
 use Rattle.object_counts.specs.Gains.{gains_behind, entered_gains}
 use Rattle.object_counts.specs.Counting.{for_value, for_path, for_args, call_gains, initialize_gains, handler_gains, delivery_gains, change_gains, changed_gains, uses_member_gains, next_gains, use_gains, act_gains}
@@ -29,8 +29,8 @@ use Rattle.object_counts.proofs.Looks.{grown}
 use Rattle.object_counts.proofs.Variables.{alike, operated_law, operated_alone_law, set_object_law, fitted_law, plain_law, plain_if_any_law, condition_law, compared_law, typed_as_law, object_there_law, field_in_law, show_value_law, read_path_law, own_object_law, selected_law, keep_law, set_at_law, loop_on_law, next_round_law, loop_off_law, fits_law, fits_between_law, lent_law, unlent_grows, printed_law, gone_sub_law, returned_sub_law, err_off_law, policy_on_law, handler_off_law, resumed_law, stop_here_law, library_law, bound_at_law, made_law, made_for_law, stored_made_law}
 use Rattle.object_counts.proofs.Loops.{part_of_law, redimmed_law, erased_law, keep_path_law, block_over_law, dot_at_law, each_off_law, each_begun_law, each_next_law}
 use Rattle.object_counts.proofs.Hosts.{first_sheet_law, written_default_law, item_law, member_there_law, named_there_law, member_called_law, object_member_law, error_given_law, place_at_law, assigned_at_law, item_assigned_law, member_assigned_law, member_not_set_law}
-use Rattle.object_counts.proofs.Uses.{counted_operand_law, counted_if_any_law, index_along_law, write_along_law}
-use Rattle.object_counts.proofs.LateUses.{late_there_law, value_bound_law, place_copied_law, late_called_law, let_element_law, late_let_law, late_set_law}
+use Rattle.object_counts.proofs.Uses.{counted_operand_law, counted_if_any_law, enumerator_law, index_along_law, element_by_law, item_along_law, write_along_law}
+use Rattle.object_counts.proofs.LateUses.{late_there_law, public_variable_law, value_bound_law, place_copied_law, late_called_law, let_element_law, element_set_law, late_let_law, late_set_law}
 
 module _ (bound : ℕ) where
   -- wherever the move leads, these references are there once more
@@ -278,6 +278,7 @@ module _ (bound : ℕ) where
         writes (pc + 1) st4 bs s (member_assigned_law code.declared name (slot_values xs) w x v s.memory)))))
     act_adds by (Some PlainIfAny) pc st bs s =
         on_value st (λ v st1. either (is_counted v) (use_adds false most_calls (pc + 1) st1 bs s (counted_if_any_law code.declared v s.memory)) (does bs s (plain_if_any_law v s.memory) (pushes (pc + 1) st1 bs)))
+    act_adds by (Some Enumerate) pc st bs s = on_value st (λ v st1. use_adds false most_calls (pc + 1) st1 bs s (enumerator_law code.declared v s.memory))
     act_adds by (Some (FindLate aim name how gs)) pc st bs s =
         on_value st (λ v st1. use_adds false most_calls (pc + 1) (value v ∷ st1) bs s (late_there_law code.declared aim name how gs v s.memory))
     act_adds by (Some (BindValue aim name how gs i)) pc st bs s =
@@ -295,7 +296,7 @@ module _ (bound : ℕ) where
         use_adds false most_calls (pc + 1) st4 bs s (late_let_law code.declared name how gs w x (map received xs) v s.memory)))))
     act_adds by (Some (SetLate name how gs)) pc st bs s =
         on_args (length gs) st [] (λ xs st1. on_value st1 (λ x st2. on_value st2 (λ w st3. on_value st3 (λ v st4.
-        use_adds false most_calls (pc + 1) st4 bs s (late_set_law code.declared name how gs w (map received xs) v s.memory)))))
+        use_adds false most_calls (pc + 1) st4 bs s (late_set_law code.declared name how gs w x (map received xs) v s.memory)))))
     act_adds by (Some (ItemAlong k)) pc st bs s =
         on_args k st [] (λ xs st1. on_value st1 (λ v st2. use_adds false most_calls (pc + 1) st2 bs s (index_along_law code.declared most_passed (slot_values xs) v s.memory)))
     act_adds by (Some WriteThrough) pc st bs s =
@@ -303,6 +304,15 @@ module _ (bound : ℕ) where
     act_adds by (Some (LetElement k)) pc st bs s =
         on_args k st [] (λ xs st1. on_path st1 (λ q st2. on_value st2 (λ v st3.
         use_adds false most_calls (pc + 1) st3 bs s (let_element_law code.declared q (slot_values xs) v s.memory))))
+    act_adds by (Some (SetElement k)) pc st bs s =
+        on_args k st [] (λ xs st1. on_path st1 (λ q st2. on_value st2 (λ v st3.
+        use_adds false most_calls (pc + 1) st3 bs s (element_set_law code.declared q (slot_values xs) v s.memory))))
+    act_adds by (Some (ElementAlong k)) pc st bs s =
+        on_args k st [] (λ xs st1. on_path st1 (λ q st2.
+        either (has_array q s.memory) (does bs s (element_by_law q (slot_values xs) s.memory) (pushes_path (pc + 1) st2 bs))
+        (use_adds true most_calls (pc + 1) st2 bs s (item_along_law code.declared q (slot_values xs) s.memory))))
+    act_adds by (Some (LateField name)) pc st bs s = a_value st (λ v st1. does bs s (public_variable_law code.declared name v s.memory) (pushes_path (pc + 1) st1 bs))
+    act_adds by (Some PlaceOf) pc st bs s = a_value st (λ v st1. goes (at (pc + 1) (path (path_to v) ∷ st1) bs s) (same s.memory))
     act_adds by (Some (Library f text_form compare base k)) pc st bs s =
         on_args k st [] (λ xs st1. does bs s (library_law code.declared f text_form compare base (slot_values xs) s.memory) (pushes (pc + 1) st1 bs))
     act_adds by (Some (BoundAt upper z)) pc st bs s = a_path st (λ q st1. does bs s (bound_at_law upper z q s.memory) (pushes (pc + 1) st1 bs))

@@ -25,7 +25,7 @@ nothing = e type.object (constant (object Nothing))
 abbrev stored_twice : Project
 stored_twice =
     let pr : Project = program [] ((sub (a_class ∷ a_class ∷ []), flat 0 (set (variable (x 1)) (e a_class (new_object 1)) ∷ set (variable (x 2)) (v (x 1)) ∷ set (variable (x 1)) nothing ∷ set (variable (x 2)) nothing ∷ [])) ∷ []) in
-    record pr { declared = record pr.declared { classes = record { name = no_name; fields = []; initialize = None; terminate = None; members = []; default = None; events = []; with_events = []; handlers = [] } ∷ [] } }
+    record pr { declared = record pr.declared { classes = record { name = no_name; fields = []; initialize = None; terminate = None; members = []; default = None; enumerator = None; events = []; with_events = []; handlers = [] } ∷ [] } }
 
 abbrev counts_in : Outcome → List ℕ
 counts_in (Running counts c) = counts
@@ -62,7 +62,7 @@ used name a = evaluate (e type.variant (host_member (v any) name (also a no_expr
 abbrev collected : Project
 collected =
     let pr : Project = program [] ((sub (type.variant ∷ []), flat 0 (set (variable any) (e type.collection (new_object 0)) ∷ used (codes "add") (e a_class (new_object 1)) ∷ used (codes "remove") (n 1) ∷ [])) ∷ []) in
-    record pr { declared = record pr.declared { classes = record { name = no_name; fields = []; initialize = None; terminate = None; members = []; default = None; events = []; with_events = []; handlers = [] } ∷ [] } }
+    record pr { declared = record pr.declared { classes = record { name = no_name; fields = []; initialize = None; terminate = None; members = []; default = None; enumerator = None; events = []; with_events = []; handlers = [] } ∷ [] } }
 
 -- the counts of the Collection and of its item
 abbrev both_after : (steps : ℕ) → List ℕ

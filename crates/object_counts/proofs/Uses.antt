@@ -1,21 +1,23 @@
 -- What uses of objects raise along default members.
-use Rattle.std.proofs.Common.{ℕ, zero, suc, List, [], ◌∷◌, map, Option, Some, None}
+use Rattle.std.proofs.Common.{ℕ, zero, suc, List, [], ◌∷◌, ◌++◌, map, Option, Some, None}
 use Rattle.std.specs.Prelude.{◌&&◌, if◌then◌else◌}
 use Rattle.vba_values.specs.Types.{Declared}
-use Rattle.vba_values.specs.Val.{Val, empty, object}
+use Rattle.vba_values.specs.Types as type
+use Rattle.vba_values.specs.Val.{Val, empty, missing, object}
 use Rattle.bound_project.specs.Project.{Declarations, Parameter, Member, is_variable, is_procedure, is_property, procedure_at}
 use Rattle.vba_meaning.specs.Paths.{Path}
-use Rattle.vba_meaning.specs.Memory.{Memory}
-use Rattle.vba_meaning.specs.Effects.{Effect, Fine, on_fine, slot_left_out}
+use Rattle.vba_meaning.specs.Memory.{Memory, value_at}
+use Rattle.vba_meaning.specs.Effects.{Effect, Fine, on_fine, done, set_object, slot_left_out}
 use Rattle.vba_meaning.specs.Objects.{initialize_of}
-use Rattle.vba_meaning.specs.Host.{is_counted, item_by, item_assigned}
-use Rattle.vba_meaning.specs.Defaults.{Spot, in_variable, by_let, in_range, in_member, Task, as_operand, no_object, give_way, fit_to, index_by, write, let_item, put_in, read_made, Next, gives, then_call, over_with, goes_by, after_use, is_instance, class_of_value, variable_of, parameters_of, must_be_given, any_must, without_last, last_type, is_object_type, can_be_object, is_sub_kind, has_parameters, has_default_alone, read_by, read_made_by, read_variable, read_member, read_default, no_object_here, counted_operand, counted_if_any, operand_of, given_to, slots_from, index_default, index_member, index_once, index_along, takes_itself, nothing_more, put_value, put, takes_value, write_host, write_default, write_member, write_once, write_along, reader_of, let_by_reader, let_setter, let_default, let_member, let_item_of, let_once, let_along, most_passed, task_next, followed, tasks_next, use_then}
-use Rattle.object_counts.specs.Gains.{given_gains}
-use Rattle.object_counts.specs.UseGains.{goes_gains, after_gains, read_made_gains, read_variable_gains, read_member_gains, read_default_gains, counted_operand_gains, counted_if_any_gains, operand_gains, index_default_gains, index_member_gains, index_once_gains, index_along_gains, put_value_gains, put_gains, write_host_gains, write_default_gains, write_member_gains, write_once_gains, write_along_gains, let_by_reader_gains, let_default_gains, let_member_gains, let_item_gains, let_once_gains, let_along_gains, task_gains, tasks_gains}
+use Rattle.vba_meaning.specs.Host.{is_counted, item_by}
+use Rattle.vba_meaning.specs.Defaults.{Spot, in_variable, by_let, in_range, in_member, Task, as_operand, no_object, give_way, walked, fit_to, index_by, write, let_item, set_item, put_in, read_made, Next, gives, then_call, over_with, goes_by, after_use, is_instance, class_of_value, variable_of, parameters_of, any_must, without_last, last_type, is_object_type, can_be_object, is_sub_kind, has_parameters, has_default_alone, read_by, read_made_by, read_variable, read_member, read_default, no_object_here, counted_operand, counted_if_any, has_items, collection_here, enumerator_of, operand_of, given_to, slots_from, slot_given, slots_in, too_many, too_few, index_default, index_member, index_once, index_along, has_array, element_by, item_along, in_place, leads_on, takes_itself, nothing_more, put_value, put, let_at, takes_value, write_host, write_default, write_member, write_once, write_along, reader_of, let_by_reader, let_setter, let_default, let_member, let_item_of, let_once, let_along, set_called_with, set_by_reader, setter_of, set_default, set_by_member, element_of, set_item_of, set_once, set_along, most_passed, task_next, followed, tasks_next, use_then}
+use Rattle.object_counts.specs.Gains.{given_gains, gains_behind}
+use Rattle.object_counts.specs.UseGains.{goes_gains, after_gains, read_made_gains, read_variable_gains, read_member_gains, read_default_gains, counted_operand_gains, counted_if_any_gains, enumerator_gains, operand_gains, index_default_gains, index_member_gains, index_once_gains, index_along_gains, item_along_gains, in_place_gains, leads_gains, put_value_gains, put_gains, write_host_gains, write_default_gains, write_member_gains, write_once_gains, write_along_gains, written_gains, let_at_gains, let_by_reader_gains, let_default_gains, let_member_gains, let_item_gains, let_once_gains, let_along_gains, set_by_reader_gains, set_default_gains, set_by_member_gains, set_once_gains, set_along_gains, task_gains, tasks_gains}
 use Rattle.object_counts.proofs.Looks.{same}
 use Rattle.object_counts.proofs.Chains.{Law, fine, bad, then_law, then_still, after_still, either, both}
-use Rattle.object_counts.proofs.Variables.{plain_law, fitted_law, read_path_law, made_for_law, stored_made_law, assigned_law}
-use Rattle.object_counts.proofs.Hosts.{item_law, item_assigned_law, written_default_law, member_assigned_law}
+use Rattle.object_counts.proofs.Variables.{plain_law, fitted_law, set_object_law, read_path_law, made_for_law, stored_made_law, assigned_law, set_at_law}
+use Rattle.object_counts.proofs.Loops.{element_in_law}
+use Rattle.object_counts.proofs.Hosts.{item_law, plains_law, written_default_law, member_assigned_law}
 
 -- ---- one after another
 
@@ -83,11 +85,17 @@ operand_law d v m = either (is_counted v) (counted_operand_law d v m) (over_law 
 given_to_law : (of : Declared) (v : Val) (m : Memory) → Law m [] (given_to of v m)
 given_to_law of v m = both (can_be_object of) (fitted_law of v m) (then_still (plain_law v m) (λ w m1. fitted_law of w m1))
 
+slot_law : (q : Parameter) (v : Val) (m : Memory) → Law m [] (slot_given q v m)
+slot_law q missing m = fine _ (same m)
+slot_law q v m = then_still (given_to_law q.of v m) (λ w m1. fine _ (same m1))
+
+slots_in_law : (qs : List Parameter) (vs : List Val) (m : Memory) → Law m [] (slots_in qs vs m)
+slots_in_law [] vs m = fine [] (same m)
+slots_in_law (q ∷ qs) [] m = then_still (slots_in_law qs [] m) (λ xs m1. fine _ (same m1))
+slots_in_law (q ∷ qs) (v ∷ vs) m = both q.many (fine _ (same m)) (then_still (slot_law q v m) (λ x m1. then_still (slots_in_law qs vs m1) (λ xs m2. fine _ (same m2))))
+
 slots_law : (qs : List Parameter) (vs : List Val) (m : Memory) → Law m [] (slots_from qs vs m)
-slots_law [] [] m = fine [] (same m)
-slots_law [] (v ∷ vs) m = bad 450 (same m)
-slots_law (q ∷ qs) [] m = both (must_be_given q) (bad 449 (same m)) (then_still (slots_law qs [] m) (λ xs m1. fine _ (same m1)))
-slots_law (q ∷ qs) (v ∷ vs) m = then_still (given_to_law q.of v m) (λ w m1. then_still (slots_law qs vs m1) (λ xs m2. fine _ (same m2)))
+slots_law qs vs m = both (too_many qs vs) (bad 450 (same m)) (both (too_few qs vs) (bad 449 (same m)) (slots_in_law qs vs m))
 
 -- of what passes a default member
 abbrev Passes : (Member → Memory → List ℕ) → (Member → Memory → Effect Next) → Type 0
@@ -116,6 +124,25 @@ index_once_law d w vs k m = either (is_instance w m) (index_member_law d w vs (c
 pub index_along_law : (d : Declarations) (k : ℕ) (vs : List Val) (w : Val) (m : Memory) → Law m (index_along_gains d k vs w m) (index_along d k vs w m)
 index_along_law d zero vs w m = index_once_law d w vs (λ x m1. bad 450 (same m1)) m
 index_along_law d (suc k) vs w m = index_once_law d w vs (λ x m1. after_law (index_by k vs) (read_member_law d w x m1) (λ u m2. index_along_law d k vs u m2)) m
+
+-- ---- arguments behind a place
+
+pub element_by_law : (q : Path) (vs : List Val) (m : Memory) → Law m [] (element_by q vs m)
+element_by_law q vs m = then_still (plains_law vs m) (λ ws m1. element_in_law q (value_at m1 q) ws m1)
+
+pub item_along_law : (d : Declarations) (q : Path) (vs : List Val) (m : Memory) → Law m (item_along_gains d q vs m) (item_along d q vs m)
+item_along_law d q vs m = after_law (index_by most_passed vs) (read_variable_law d q m) (λ w m1. index_along_law d most_passed vs w m1)
+
+pub in_place_law : (d : Declarations) (q : Path) (vs : List Val) (t : Task) {h : Path → Memory → List ℕ} {f : Path → Memory → Effect Next} {h1 : Val → Memory → List ℕ} {f1 : Val → Memory → Effect Next}
+    → ((p : Path) (m : Memory) → Law m (h p m) (f p m)) → ((v : Val) (m : Memory) → Law m (h1 v m) (f1 v m)) → (m : Memory) → Law m (in_place_gains d q vs h h1 m) (in_place d q vs f t f1 m)
+in_place_law d q vs t k k1 m = either (has_array q m) (after_still (element_by_law q vs m) k) (after_law t (read_variable_law d q m) k1)
+
+leads_law : (d : Declarations) (self : Val) (vs : List Val) (t : Task) {h : Path → Memory → List ℕ} {f : Path → Memory → Effect Next} {h1 : Val → Memory → List ℕ} {f1 : Val → Memory → Effect Next}
+    → ((p : Path) (m : Memory) → Law m (h p m) (f p m)) → ((v : Val) (m : Memory) → Law m (h1 v m) (f1 v m)) → (x : Member) (m : Memory)
+    → Law m (leads_gains d self vs h h1 x m) (leads_on d self vs f t f1 x m)
+leads_law d self vs t k k1 (is_variable i makes) m = in_place_law d (variable_of d self i makes m) vs t k k1 m
+leads_law d self vs t k k1 (is_procedure p) m = after_law t (read_member_law d self (is_procedure p) m) k1
+leads_law d self vs t k k1 (is_property reads lets sets) m = after_law t (read_member_law d self (is_property reads lets sets) m) k1
 
 -- ---- a value is put where it goes
 
@@ -157,6 +184,12 @@ write_along_law d (suc k) v w m = write_once_law d v w (λ x m1. after_law (writ
 
 -- ---- what arguments lead to takes a value
 
+pub written_law : (d : Declarations) (v : Val) {m : Memory} {gs : List ℕ} {e : Effect Next} → Law m gs e → Law m (written_gains d v gs e) (after_use e (write most_passed v) (λ w m1. write_along d most_passed v w m1))
+written_law d v a = after_law (write most_passed v) a (λ w m1. write_along_law d most_passed v w m1)
+
+pub let_at_law : (d : Declarations) (q : Path) (v : Val) (m : Memory) → Law m (let_at_gains d q v m) (let_at d q v m)
+let_at_law d q v m = either (is_object_type q.of) (written_law d v (read_variable_law d q m)) (put_law d (in_variable q) v m)
+
 let_by_reader_law : (d : Declarations) (v : Val) (vs : List Val) (self : Val) (x : Member) (o : Option ℕ) {h : Member → Memory → List ℕ} {f : Member → Memory → Effect Next} → Passes h f → (m : Memory)
     → Law m (let_by_reader_gains d x o h m) (let_by_reader d v vs self x o f m)
 let_by_reader_law d v vs self x None k m = k x m
@@ -174,8 +207,9 @@ let_member_law : (d : Declarations) (v : Val) (vs : List Val) (self : Val) (x : 
 let_member_law d v vs self None k m = bad 438 (same m)
 let_member_law d v vs self (Some x) k m = let_default_law d v vs self x (let_setter x) k m
 
-other_item : (d : Declarations) (v : Val) (vs : List Val) (w : Val) (m : Memory) → Law m (given_gains (item_by w vs m)) (nothing_more (item_assigned w vs v m))
-other_item d v vs w m = nothing_law (item_assigned_law w vs v m)
+other_item : (d : Declarations) (v : Val) (vs : List Val) (w : Val) (m : Memory)
+    → Law m (given_gains (item_by w vs m) ++ gains_behind (item_by w vs m) (λ u m1. operand_gains d v m1)) (on_fine (item_by w vs m) (λ u m1. operand_of d v m1))
+other_item d v vs w m = then_law (item_law w vs m) (λ u m1. operand_law d v m1)
 
 let_item_law : (d : Declarations) (v : Val) (vs : List Val) (w : Val) (m : Memory) → Law m (let_item_gains d v vs w m) (let_item_of d v vs w m)
 let_item_law d v vs (object o) m = after_law (write most_passed v) (over_law (item_law (object o) vs m)) (λ w m1. write_along_law d most_passed v w m1)
@@ -187,7 +221,56 @@ let_once_law d v vs w k m = either (is_instance w m) (let_member_law d v vs w (c
 
 pub let_along_law : (d : Declarations) (k : ℕ) (vs : List Val) (v w : Val) (m : Memory) → Law m (let_along_gains d k vs v w m) (let_along d k vs v w m)
 let_along_law d zero vs v w m = let_once_law d v vs w (λ x m1. bad 450 (same m1)) m
-let_along_law d (suc k) vs v w m = let_once_law d v vs w (λ x m1. after_law (let_item k vs v) (read_member_law d w x m1) (λ u m2. let_along_law d k vs v u m2)) m
+let_along_law d (suc k) vs v w m =
+    let_once_law d v vs w (λ x m1. leads_law d w vs (let_item k vs v) (λ p m2. let_at_law d p v m2) (λ u m2. let_along_law d k vs v u m2) x m1) m
+
+-- ---- what arguments lead to is set
+
+set_called_law : (d : Declarations) (v : Val) (vs : List Val) (self : Val) (p : ℕ) (m : Memory) → Law m [] (set_called_with d v vs self p m)
+set_called_law d v vs self p m =
+    then_still (slots_law (without_last (parameters_of d p)) vs m) (λ xs m1. then_still (set_object_law (last_type (parameters_of d p)) v m1) (λ w m2. fine _ (same m2)))
+
+set_by_reader_law : (d : Declarations) (x : Member) (o : Option ℕ) {h : Member → Memory → List ℕ} {f : Member → Memory → Effect Next} → Passes h f → (m : Memory)
+    → Law m (set_by_reader_gains d x o h m) (set_by_reader d x o f m)
+set_by_reader_law d x None k m = k x m
+set_by_reader_law d x (Some p) k m = either (has_parameters (parameters_of d p)) (bad 438 (same m)) (k x m)
+
+set_default_law : (d : Declarations) (v : Val) (vs : List Val) (self : Val) (x : Member) (o : Option ℕ) {h : Member → Memory → List ℕ} {f : Member → Memory → Effect Next} → Passes h f → (m : Memory)
+    → Law m (set_default_gains d x o h m) (set_default d v vs self x o f m)
+set_default_law d v vs self x None k m = set_by_reader_law d x (reader_of x) k m
+set_default_law d v vs self x (Some p) k m = either (has_parameters (without_last (parameters_of d p))) (set_called_law d v vs self p m) (set_by_reader_law d x (reader_of x) k m)
+
+set_by_member_law : (d : Declarations) (v : Val) (vs : List Val) (self : Val) (x : Option Member) {h : Member → Memory → List ℕ} {f : Member → Memory → Effect Next} → Passes h f → (m : Memory)
+    → Law m (set_by_member_gains d x h m) (set_by_member d v vs self x f m)
+set_by_member_law d v vs self None k m = bad 438 (same m)
+set_by_member_law d v vs self (Some x) k m = set_default_law d v vs self x (setter_of x) k m
+
+other_set : (v : Val) (vs : List Val) (w : Val) (m : Memory) → Law m (given_gains (item_by w vs m)) (nothing_more (on_fine (item_by w vs m) (λ u m1. on_fine (set_object (element_of w) v m1) (λ x m2. done m2))))
+other_set v vs w m = nothing_law (then_still (item_law w vs m) (λ u m1. then_still (set_object_law (element_of w) v m1) (λ x m2. fine tt (same m2))))
+
+set_item_law : (v : Val) (vs : List Val) (w : Val) (m : Memory) → Law m (given_gains (item_by w vs m)) (set_item_of v vs w m)
+set_item_law v vs (object o) m = then_still (item_law (object o) vs m) (λ w m1. then_still (set_object_law type.variant v m1) (λ x m2. bad 438 (same m2)))
+set_item_law v vs w m = other_set v vs w m
+
+set_once_law : (d : Declarations) (v : Val) (vs : List Val) (w : Val) {h : Member → Memory → List ℕ} {f : Member → Memory → Effect Next} → Passes h f → (m : Memory)
+    → Law m (set_once_gains d vs w h m) (set_once d v vs w f m)
+set_once_law d v vs w k m = either (is_instance w m) (set_by_member_law d v vs w (class_of_value d w m).default k m) (set_item_law v vs w m)
+
+pub set_along_law : (d : Declarations) (k : ℕ) (vs : List Val) (v w : Val) (m : Memory) → Law m (set_along_gains d k vs v w m) (set_along d k vs v w m)
+set_along_law d zero vs v w m = set_once_law d v vs w (λ x m1. bad 450 (same m1)) m
+set_along_law d (suc k) vs v w m =
+    set_once_law d v vs w (λ x m1. leads_law d w vs (set_item k vs v) (λ p m2. nothing_law (set_at_law p v m2)) (λ u m2. set_along_law d k vs v u m2) x m1) m
+
+-- ---- For Each over an object of a class
+
+collection_law : (v : Val) (m : Memory) → Law m [] (collection_here v m)
+collection_law v m = both (has_items v m) (fine _ (same m)) (bad 438 (same m))
+
+walked_law : (d : Declarations) (v : Val) (x : Option Member) (m : Memory) → Law m (read_default_gains d v x m) (after_use (read_default d v x m) walked collection_here)
+walked_law d v x m = then_still (read_default_law d v x m) (goes_still walked collection_law)
+
+pub enumerator_law : (d : Declarations) (v : Val) (m : Memory) → Law m (enumerator_gains d v m) (enumerator_of d v m)
+enumerator_law d v m = either (is_instance v m) (walked_law d v (class_of_value d v m).enumerator m) (fine _ (same m))
 
 -- ---- tasks
 
@@ -195,10 +278,12 @@ task_law : (d : Declarations) (t : Task) (v : Val) (m : Memory) → Law m (task_
 task_law d as_operand v m = operand_law d v m
 task_law d no_object v m = no_object_law v m
 task_law d give_way v m = either (is_instance v m) (operand_law d v m) (fine _ (same m))
+task_law d walked v m = collection_law v m
 task_law d (fit_to of) v m = over_law (fitted_law of v m)
 task_law d (index_by k vs) v m = index_along_law d k vs v m
 task_law d (write k w) v m = write_along_law d k w v m
 task_law d (let_item k vs w) v m = let_along_law d k vs w v m
+task_law d (set_item k vs w) v m = set_along_law d k vs w v m
 task_law d (put_in spot) v m = put_value_law d spot v m
 task_law d (read_made q w) v m = read_made_law q w None m
 

@@ -19,14 +19,14 @@ use Rattle.vba_meaning.specs.Objects.{made, own_object, made_for, initialize_of}
 use Rattle.vba_meaning.specs.Host.{is_counted, is_raise, item_by, assigned_at, item_assigned, member_assigned, member_called, written_default}
 use Rattle.vba_meaning.specs.Library.{library_called}
 use Rattle.vba_meaning.specs.ByName.{in_parameter_order}
-use Rattle.vba_meaning.specs.Defaults.{Next, gives, then_call, is_instance, counted_operand, counted_if_any, index_along, write_along, tasks_next, most_passed, most_calls}
-use Rattle.vba_meaning.specs.LateBound.{late_there, value_bound, lends_place, place_copied, late_called, host_arguments, let_element, late_let, late_set}
+use Rattle.vba_meaning.specs.Defaults.{Next, gives, then_call, is_instance, counted_operand, counted_if_any, enumerator_of, index_along, has_array, item_along, write_along, tasks_next, most_passed, most_calls}
+use Rattle.vba_meaning.specs.LateBound.{late_there, value_bound, lends_place, place_copied, late_called, host_arguments, let_element, element_set, late_let, late_set}
 use Rattle.vba_meaning.specs.Meaning.{State}
-use Rattle.pcode.specs.Instructions.{Instr, ReadThrough, ElementOf, ElementIn, Index, PartOf, Plain, PlainIfAny, FindLate, BindValue, BindPlace, CallLate, LetLate, SetLate, ItemAlong, WriteThrough, LetElement, MemberOf, NamedOf, PushThis, New, MakeThere, StoreMade, Library, Call, CallOf, Store, SetAt, StoreDefault, StoreMember, StoreItem, RaiseEvent, LoopOn, NextRound, EachOn, NextItem, Keep, KeepPath, Selected, Redim, EraseAt, Code}
+use Rattle.pcode.specs.Instructions.{Instr, ReadThrough, ElementOf, ElementIn, Index, PartOf, Plain, PlainIfAny, Enumerate, FindLate, BindValue, BindPlace, CallLate, LetLate, SetLate, ItemAlong, WriteThrough, LetElement, SetElement, ElementAlong, MemberOf, NamedOf, PushThis, New, MakeThere, StoreMade, Library, Call, CallOf, Store, SetAt, StoreDefault, StoreMember, StoreItem, RaiseEvent, LoopOn, NextRound, EachOn, NextItem, Keep, KeepPath, Selected, Redim, EraseAt, Code}
 use Rattle.pcode.specs.Machine.{Return, Pass, Close, Mode, At, Letting, Back, Caller, EndOf, Delivering, Within, Config, Move, Goes, Ends, Sticks, Tells, Turns, Choices, base_below, step_by, first_move}
 use Rattle.object_counts.specs.Counts.{count_of, raise_all, lower_all}
 use Rattle.object_counts.specs.Gains.{gains_behind, given_gains, assigned_at_gains, set_at_gains, counted_gains, next_round_gains, each_begun_gains, each_next_gains, redimmed_gains, erased_gains, object_member_gains, member_gains, member_assigned_gains, place_at_gains, made_gains, made_for_gains, stored_made_gains, entered_gains}
-use Rattle.object_counts.specs.UseGains.{counted_operand_gains, counted_if_any_gains, index_along_gains, write_along_gains, tasks_gains, late_there_gains, value_bound_gains, place_copied_gains, late_called_gains, let_element_gains, late_let_gains, late_set_gains}
+use Rattle.object_counts.specs.UseGains.{counted_operand_gains, counted_if_any_gains, enumerator_gains, index_along_gains, item_along_gains, write_along_gains, tasks_gains, late_there_gains, value_bound_gains, place_copied_gains, late_called_gains, let_element_gains, element_set_gains, late_let_gains, late_set_gains}
 
 -- the test for the last reference: the stored count is 0
 abbrev pub by_counts : List ℕ → Choices
@@ -135,6 +135,7 @@ act_gains code (Some (Library f text_form compare base k)) st m =
     for_args k st [] (λ xs st1. given_gains (library_called code.declared f text_form compare base (slot_values xs) m))
 act_gains code (Some Plain) st m = for_value st (λ v st1. if is_counted v then use_gains code most_calls (counted_operand_gains code.declared v m) (counted_operand code.declared v m) else [])
 act_gains code (Some PlainIfAny) st m = for_value st (λ v st1. if is_counted v then use_gains code most_calls (counted_if_any_gains code.declared v m) (counted_if_any code.declared v m) else [])
+act_gains code (Some Enumerate) st m = for_value st (λ v st1. use_gains code most_calls (enumerator_gains code.declared v m) (enumerator_of code.declared v m))
 act_gains code (Some (FindLate aim name by gs)) st m =
     for_value st (λ v st1. use_gains code most_calls (late_there_gains code.declared aim name by gs v m) (late_there code.declared aim name by gs v m))
 act_gains code (Some (BindValue aim name by gs i)) st m =
@@ -152,7 +153,7 @@ act_gains code (Some (LetLate name by gs)) st m =
     use_gains code most_calls (late_let_gains code.declared name by gs w x (map received xs) v m) (late_let code.declared name by gs w x (map received xs) v m)))))
 act_gains code (Some (SetLate name by gs)) st m =
     for_args (length gs) st [] (λ xs st1. for_value st1 (λ x st2. for_value st2 (λ w st3. for_value st3 (λ v st4.
-    use_gains code most_calls (late_set_gains code.declared name by gs w (map received xs) v m) (late_set code.declared name by gs w (map received xs) v m)))))
+    use_gains code most_calls (late_set_gains code.declared name by gs w x (map received xs) v m) (late_set code.declared name by gs w x (map received xs) v m)))))
 act_gains code (Some (ItemAlong k)) st m =
     for_args k st [] (λ xs st1. for_value st1 (λ v st2.
     use_gains code most_calls (index_along_gains code.declared most_passed (slot_values xs) v m) (index_along code.declared most_passed (slot_values xs) v m)))
@@ -161,6 +162,12 @@ act_gains code (Some WriteThrough) st m =
 act_gains code (Some (LetElement k)) st m =
     for_args k st [] (λ xs st1. for_path st1 (λ q st2. for_value st2 (λ v st3.
     use_gains code most_calls (let_element_gains code.declared q (slot_values xs) v m) (let_element code.declared q (slot_values xs) v m))))
+act_gains code (Some (SetElement k)) st m =
+    for_args k st [] (λ xs st1. for_path st1 (λ q st2. for_value st2 (λ v st3.
+    use_gains code most_calls (element_set_gains code.declared q (slot_values xs) v m) (element_set code.declared q (slot_values xs) v m))))
+act_gains code (Some (ElementAlong k)) st m =
+    for_args k st [] (λ xs st1. for_path st1 (λ q st2.
+    if has_array q m then [] else use_gains code most_calls (item_along_gains code.declared q (slot_values xs) m) (item_along code.declared q (slot_values xs) m)))
 act_gains code (Some PushThis) st m = given_gains (own_object m)
 act_gains code (Some (Selected i)) st m = given_gains (selected i m)
 act_gains code (Some (Keep i)) st m = for_value st (λ v st1. objects_in v)

@@ -2,19 +2,18 @@
 -- that are found in the run.
 use Rattle.std.specs.Prelude.{ℕ, zero, suc, ◌&&◌, List, [], ◌∷◌, ◌++◌, map, Bool, Option, Some, None, if◌then◌else◌}
 use Rattle.vba_values.specs.declared.object.ObjRef.TheVariants.{Heap}
-use Rattle.vba_values.specs.Val.{Val, missing, object, array}
+use Rattle.vba_values.specs.Val.{Val, missing, object}
 use Rattle.bound_project.specs.Expressions.{ByName}
 use Rattle.bound_project.specs.Project.{Declarations, Member, is_variable, is_procedure, is_property, procedure_at}
 use Rattle.vba_meaning.specs.Paths.{Path}
-use Rattle.vba_meaning.specs.Memory.{Slot, Memory, value_at}
+use Rattle.vba_meaning.specs.Memory.{Slot, Memory}
 use Rattle.vba_meaning.specs.Effects.{Effect, read_path, slot_values, slot_left_out}
-use Rattle.vba_meaning.specs.Arrays.{element_at}
 use Rattle.vba_meaning.specs.Objects.{made_for, initialize_of, stored_made}
 use Rattle.vba_meaning.specs.Collections.{CollectionMember, is_item, found_or, collection_member, item_found}
-use Rattle.vba_meaning.specs.Host.{is_counted, as_given, item_by, place_at}
-use Rattle.vba_meaning.specs.Defaults.{Spot, in_variable, by_let, in_range, in_member, Task, as_operand, no_object, give_way, fit_to, index_by, write, let_item, put_in, read_made, Next, gives, then_call, over_with, is_instance, class_of_value, variable_of, parameters_of, any_must, without_last, is_object_type, is_sub_kind, has_parameters, has_default_alone, read_variable, read_member, reader_of, let_setter, slots_from, operand_of, takes_itself, takes_value, task_next, most_passed}
+use Rattle.vba_meaning.specs.Host.{is_counted, as_given, item_by}
+use Rattle.vba_meaning.specs.Defaults.{Spot, in_variable, by_let, in_range, in_member, Task, as_operand, no_object, give_way, walked, fit_to, index_by, write, let_item, set_item, put_in, read_made, Next, gives, then_call, over_with, is_instance, class_of_value, variable_of, parameters_of, any_must, without_last, is_object_type, is_sub_kind, has_parameters, has_default_alone, read_variable, read_member, reader_of, let_setter, setter_of, slots_from, has_array, element_by, operand_of, takes_itself, takes_value, task_next, most_passed}
 use Rattle.vba_meaning.specs.LateBound.{Use, reading, assigning, setting, Way, by_variable, by_call, by_setter, arranged, way_by_name, indexes, argument_tasks, host_arguments}
-use Rattle.object_counts.specs.Gains.{gains_behind, given_gains, assigned_gains, made_for_gains, stored_made_gains, member_assigned_gains, place_at_gains, set_at_gains}
+use Rattle.object_counts.specs.Gains.{gains_behind, given_gains, assigned_gains, made_for_gains, stored_made_gains, member_assigned_gains, set_at_gains}
 
 -- behind a use that is over
 abbrev pub goes_gains : (Val → Memory → List ℕ) → Next → Memory → List ℕ
@@ -73,6 +72,18 @@ abbrev pub index_along_gains : Declarations → (left : ℕ) → List Val → Va
 index_along_gains d zero vs w m = index_once_gains d w vs (λ x m1. []) m
 index_along_gains d (suc k) vs w m = index_once_gains d w vs (λ x m1. after_gains (read_member_gains d w x m1) (read_member d w x m1) (λ u m2. index_along_gains d k vs u m2)) m
 
+-- what is at a place, unless that is an array, is read and indexed
+abbrev pub item_along_gains : Declarations → Path → List Val → Memory → List ℕ
+item_along_gains d q vs m = after_gains (read_variable_gains d q m) (read_variable d q m) (λ w m1. index_along_gains d most_passed vs w m1)
+
+-- arguments lead from a place, and from a default member that takes none
+abbrev pub in_place_gains : Declarations → Path → List Val → (store : Path → Memory → List ℕ) → (go : Val → Memory → List ℕ) → Memory → List ℕ
+in_place_gains d q vs store go m = if has_array q m then gains_behind (element_by q vs m) store else after_gains (read_variable_gains d q m) (read_variable d q m) go
+
+abbrev pub leads_gains : Declarations → (self : Val) → List Val → (store : Path → Memory → List ℕ) → (go : Val → Memory → List ℕ) → Member → Memory → List ℕ
+leads_gains d self vs store go (is_variable i makes) m = in_place_gains d (variable_of d self i makes m) vs store go m
+leads_gains d self vs store go x m = after_gains (read_member_gains d self x m) (read_member d self x m) go
+
 -- ---- a value is put where it goes, and a default member is written
 
 abbrev pub put_value_gains : Spot → Val → Memory → List ℕ
@@ -112,6 +123,13 @@ write_along_gains d (suc k) v w m = write_once_gains d v w (λ x m1. after_gains
 
 -- ---- what arguments lead to takes a value
 
+-- the default member of what a use gives is written
+abbrev pub written_gains : Declarations → Val → List ℕ → Effect Next → List ℕ
+written_gains d v gs e = after_gains gs e (λ w m. write_along_gains d most_passed v w m)
+
+abbrev pub let_at_gains : Declarations → Path → Val → Memory → List ℕ
+let_at_gains d q v m = if is_object_type q.of then written_gains d v (read_variable_gains d q m) (read_variable d q m) else put_gains d (in_variable q) v m
+
 abbrev pub let_by_reader_gains : Declarations → Member → Option ℕ → (pass : Member → Memory → List ℕ) → Memory → List ℕ
 let_by_reader_gains d x None pass m = pass x m
 let_by_reader_gains d x (Some p) pass m = if has_parameters (parameters_of d p) then [] else pass x m
@@ -128,14 +146,42 @@ let_member_gains d v vs self (Some x) pass m = let_default_gains d v vs self x (
 
 abbrev pub let_item_gains : Declarations → Val → List Val → (target : Val) → Memory → List ℕ
 let_item_gains d v vs (object o) m = after_gains (given_gains (item_by (object o) vs m)) (over_with (item_by (object o) vs m)) (λ w m1. write_along_gains d most_passed v w m1)
-let_item_gains d v vs w m = given_gains (item_by w vs m)
+let_item_gains d v vs w m = given_gains (item_by w vs m) ++ gains_behind (item_by w vs m) (λ u m1. operand_gains d v m1)
 
 abbrev pub let_once_gains : Declarations → Val → List Val → (target : Val) → (pass : Member → Memory → List ℕ) → Memory → List ℕ
 let_once_gains d v vs w pass m = if is_instance w m then let_member_gains d v vs w (class_of_value d w m).default pass m else let_item_gains d v vs w m
 
 abbrev pub let_along_gains : Declarations → (left : ℕ) → List Val → Val → (target : Val) → Memory → List ℕ
 let_along_gains d zero vs v w m = let_once_gains d v vs w (λ x m1. []) m
-let_along_gains d (suc k) vs v w m = let_once_gains d v vs w (λ x m1. after_gains (read_member_gains d w x m1) (read_member d w x m1) (λ u m2. let_along_gains d k vs v u m2)) m
+let_along_gains d (suc k) vs v w m =
+    let_once_gains d v vs w (λ x m1. leads_gains d w vs (λ p m2. let_at_gains d p v m2) (λ u m2. let_along_gains d k vs v u m2) x m1) m
+
+-- ---- what arguments lead to is set
+
+abbrev pub set_by_reader_gains : Declarations → Member → Option ℕ → (pass : Member → Memory → List ℕ) → Memory → List ℕ
+set_by_reader_gains d x None pass m = pass x m
+set_by_reader_gains d x (Some p) pass m = if has_parameters (parameters_of d p) then [] else pass x m
+
+abbrev pub set_default_gains : Declarations → Member → Option ℕ → (pass : Member → Memory → List ℕ) → Memory → List ℕ
+set_default_gains d x None pass m = set_by_reader_gains d x (reader_of x) pass m
+set_default_gains d x (Some p) pass m = if has_parameters (without_last (parameters_of d p)) then [] else set_by_reader_gains d x (reader_of x) pass m
+
+abbrev pub set_by_member_gains : Declarations → Option Member → (pass : Member → Memory → List ℕ) → Memory → List ℕ
+set_by_member_gains d None pass m = []
+set_by_member_gains d (Some x) pass m = set_default_gains d x (setter_of x) pass m
+
+abbrev pub set_once_gains : Declarations → List Val → (target : Val) → (pass : Member → Memory → List ℕ) → Memory → List ℕ
+set_once_gains d vs w pass m = if is_instance w m then set_by_member_gains d (class_of_value d w m).default pass m else given_gains (item_by w vs m)
+
+abbrev pub set_along_gains : Declarations → (left : ℕ) → List Val → Val → (target : Val) → Memory → List ℕ
+set_along_gains d zero vs v w m = set_once_gains d vs w (λ x m1. []) m
+set_along_gains d (suc k) vs v w m =
+    set_once_gains d vs w (λ x m1. leads_gains d w vs (λ p m2. set_at_gains p v m2) (λ u m2. set_along_gains d k vs v u m2) x m1) m
+
+-- ---- For Each over an object of a class
+
+abbrev pub enumerator_gains : Declarations → Val → Memory → List ℕ
+enumerator_gains d v m = if is_instance v m then read_default_gains d v (class_of_value d v m).enumerator m else []
 
 -- ---- tasks
 
@@ -143,10 +189,12 @@ abbrev pub task_gains : Declarations → Task → Val → Memory → List ℕ
 task_gains d as_operand v m = operand_gains d v m
 task_gains d no_object v m = []
 task_gains d give_way v m = if is_instance v m then operand_gains d v m else []
+task_gains d walked v m = []
 task_gains d (fit_to of) v m = []
 task_gains d (index_by k vs) v m = index_along_gains d k vs v m
 task_gains d (write k w) v m = write_along_gains d k w v m
 task_gains d (let_item k vs w) v m = let_along_gains d k vs w v m
+task_gains d (set_item k vs w) v m = set_along_gains d k vs w v m
 task_gains d (put_in spot) v m = put_value_gains spot v m
 task_gains d (read_made q w) v m = read_made_gains q w None m
 
@@ -188,23 +236,15 @@ call_way_gains d by gs begun xs w m = if indexes d by gs w then index_along_gain
 abbrev pub late_called_gains : Declarations → (name : List ℕ) → ByName → List Bool → (base begun : Val) → List Slot → Memory → List ℕ
 late_called_gains d name by gs base begun xs m = way_gains d reading name gs base (call_way_gains d by gs begun xs) m
 
--- the default member of what a use gives is written
-abbrev pub written_gains : Declarations → Val → List ℕ → Effect Next → List ℕ
-written_gains d v gs e = after_gains gs e (λ w m. write_along_gains d most_passed v w m)
-
 abbrev pub let_element_gains : Declarations → Path → List Val → Val → Memory → List ℕ
-let_element_gains d q vs v m = at (value_at m q)
-  where
-    at : Option Val → List ℕ
-    at (Some (array bounds of items)) = gains_behind (element_at q vs m) (λ p m1. put_gains d (in_variable p) v m1)
-    at other = after_gains (read_variable_gains d q m) (read_variable d q m) (λ w m1. let_along_gains d most_passed vs v w m1)
+let_element_gains d q vs v m = in_place_gains d q vs (λ p m1. let_at_gains d p v m1) (λ w m1. let_along_gains d most_passed vs v w m1) m
 
 abbrev pub let_indexed_gains : Declarations → (begun : Val) → List Val → Val → Way → Memory → List ℕ
 let_indexed_gains d begun vs v (by_variable q) m = let_element_gains d q vs v m
 let_indexed_gains d begun vs v w m = let_along_gains d most_passed vs v begun m
 
 abbrev pub let_plain_gains : Declarations → ByName → (base : Val) → List Slot → Val → Way → Memory → List ℕ
-let_plain_gains d by base xs v (by_variable q) m = if is_object_type q.of then written_gains d v (read_variable_gains d q m) (read_variable d q m) else put_gains d (in_variable q) v m
+let_plain_gains d by base xs v (by_variable q) m = let_at_gains d q v m
 let_plain_gains d by base xs v (by_call p property) m = []
 let_plain_gains d by base xs v (by_setter p) m = put_gains d (by_let p base (arranged (without_last (parameters_of d p)) by xs)) v m
 
@@ -223,11 +263,13 @@ abbrev pub late_let_gains : Declarations → (name : List ℕ) → ByName → Li
 late_let_gains d name by gs base begun xs v m =
     if is_instance base m then way_gains d assigning name gs base (let_way_gains d by gs base begun xs v) m else host_let_gains d name (host_arguments base name by xs) base begun v m
 
-abbrev pub set_way_gains : Declarations → ByName → List Bool → List Slot → Val → Way → Memory → List ℕ
-set_way_gains d by gs xs v (by_variable q) m =
-    if indexes d by gs (by_variable q) then place_at_gains q (slot_values xs) m ++ gains_behind (place_at q (slot_values xs) m) (λ p m1. set_at_gains p v m1) else set_at_gains q v m
-set_way_gains d by gs xs v (by_setter p) m = []
-set_way_gains d by gs xs v (by_call p property) m = []
+abbrev pub element_set_gains : Declarations → Path → List Val → Val → Memory → List ℕ
+element_set_gains d q vs v m = in_place_gains d q vs (λ p m1. set_at_gains p v m1) (λ w m1. set_along_gains d most_passed vs v w m1) m
 
-abbrev pub late_set_gains : Declarations → (name : List ℕ) → ByName → List Bool → (base : Val) → List Slot → Val → Memory → List ℕ
-late_set_gains d name by gs base xs v m = if is_instance base m then way_gains d setting name gs base (set_way_gains d by gs xs v) m else []
+abbrev pub set_way_gains : Declarations → ByName → List Bool → (begun : Val) → List Slot → Val → Way → Memory → List ℕ
+set_way_gains d by gs begun xs v (by_variable q) m = if indexes d by gs (by_variable q) then element_set_gains d q (slot_values xs) v m else set_at_gains q v m
+set_way_gains d by gs begun xs v (by_setter p) m = []
+set_way_gains d by gs begun xs v (by_call p property) m = if indexes d by gs (by_call p property) then set_along_gains d most_passed (slot_values xs) v begun m else []
+
+abbrev pub late_set_gains : Declarations → (name : List ℕ) → ByName → List Bool → (base begun : Val) → List Slot → Val → Memory → List ℕ
+late_set_gains d name by gs base begun xs v m = if is_instance base m then way_gains d setting name gs base (set_way_gains d by gs begun xs v) m else []

@@ -9,7 +9,7 @@ use Rattle.vba_meaning.specs.Memory.{Why, Slot, Memory, top}
 use Rattle.vba_meaning.specs.Effects.{Event, Effect, Fine, Bad-at, Out, Tell, on_fine, answered}
 use Rattle.vba_meaning.specs.Defaults.{Spot, Task, Next}
 use Rattle.object_lives.proofs.Values.{in_then, Refers, OkIn}
-use Rattle.object_lives.proofs.Held.{Values, PathIn, SlotIn, Slots, SpotIn, Tasks, NextIn, values_more, root_more, slots_more, spot_more, tasks_more}
+use Rattle.object_lives.proofs.Held.{Values, PathIn, SlotIn, Slots, SpotIn, Tasks, NextIn, values_more, root_more, slot_more, slots_more, spot_more, tasks_more}
 use Rattle.object_lives.proofs.Marks.{Silent, silent_marks}
 use Rattle.object_lives.proofs.Near.{Near, near_same, near_ready, reach, wider, Ready, Later, later_same, later_then}
 
@@ -53,6 +53,9 @@ module _ {Sure : Type 0} {m m1 : Memory} (n : Sure → Near m m1) where
 
   pub still_path : (q : Path) → (Sure → GivenPath m q) → Sure → GivenPath m1 q
   still_path q h s = root_more (wider (n s)) q.root (h s)
+
+  pub still_slot : (x : Slot) → (Sure → GivenSlot m x) → Sure → GivenSlot m1 x
+  still_slot x h s = slot_more (wider (n s)) x (h s)
 
   pub still_slots : (xs : List Slot) → (Sure → GivenSlots m xs) → Sure → GivenSlots m1 xs
   still_slots xs h s = slots_more (wider (n s)) xs (h s)

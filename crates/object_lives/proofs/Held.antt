@@ -1,12 +1,12 @@
 -- What operands refer to is held by the statement that evaluates them.
-use Rattle.std.proofs.Common.{◌≡◌, ℕ, zero, suc, ◌≤◌, List, [], ◌∷◌, ◌++◌, arith}
+use Rattle.std.proofs.Common.{◌≡◌, ℕ, zero, suc, ◌≤◌, List, [], ◌∷◌, ◌++◌, map, arith}
 use Rattle.std.specs.Prelude.{slice_index_or, take, drop}
 use Rattle.vba_values.specs.Val.{Val, missing}
 use Rattle.vba_meaning.specs.Paths.{Root, in_frame, in_project, in_fields, in_block, in_object, in_item, Path}
 use Rattle.vba_meaning.specs.Memory.{Slot, value, path}
 use Rattle.vba_meaning.specs.References.{objects_in, objects_in_values, objects_of_reference}
 use Rattle.vba_meaning.specs.Effects.{slot_value, slot_values, packed, reordered}
-use Rattle.vba_meaning.specs.Defaults.{Spot, in_variable, by_let, in_range, in_member, Task, as_operand, no_object, give_way, fit_to, index_by, write, let_item, put_in, read_made, Next, gives, then_call}
+use Rattle.vba_meaning.specs.Defaults.{Spot, in_variable, by_let, in_range, in_member, Task, as_operand, no_object, give_way, walked, fit_to, index_by, write, let_item, set_item, put_in, read_made, Next, gives, then_call}
 use Rattle.object_lives.proofs.Values.{In, none_in, in_then, in_both, Refers, vals_in}
 
 -- what a frame refers to and leads to: the objects that it holds, and frames from one on, by their numbers
@@ -63,6 +63,7 @@ abbrev pub TaskIn : Reach → Task → Type 0
 TaskIn hs (index_by k vs) = Values hs.held vs
 TaskIn hs (write k v) = Refers hs.held v
 TaskIn hs (let_item k vs v) = Values hs.held vs × Refers hs.held v
+TaskIn hs (set_item k vs v) = Values hs.held vs × Refers hs.held v
 TaskIn hs (put_in spot) = SpotIn hs spot
 TaskIn hs (read_made q v) = PathIn hs q × Refers hs.held v
 TaskIn hs task = Unit {0}
@@ -108,11 +109,13 @@ module _ {hs ks : Reach} (i : Wider hs ks) where
   task_more (index_by k vs) h = values_more i.held vs h
   task_more (write k v) h = in_then h i.held
   task_more (let_item k vs v) h = (values_more i.held vs h.0, in_then h.1 i.held)
+  task_more (set_item k vs v) h = (values_more i.held vs h.0, in_then h.1 i.held)
   task_more (put_in spot) h = spot_more spot h
   task_more (read_made q v) h = (root_more q.root h.0, in_then h.1 i.held)
   task_more as_operand h = tt
   task_more no_object h = tt
   task_more give_way h = tt
+  task_more walked h = tt
   task_more (fit_to of) h = tt
 
   pub tasks_more : (ts : List Task) → Tasks hs ts → Tasks ks ts
@@ -163,6 +166,10 @@ nth_slot hs (x ∷ xs) (suc i) d h k = nth_slot hs xs i d h.1 k
 
 pub packed_in : (hs : Reach) (xs : List Slot) → Slots hs xs → Refers hs.held (packed xs)
 packed_in hs xs h = vals_in (slot_values xs) (values_in hs.held (slot_values xs) (values_of_slots hs xs h))
+
+pub slots_of_values : (hs : Reach) (vs : List Val) → Values hs.held vs → Slots hs (map value vs)
+slots_of_values hs [] h = tt
+slots_of_values hs (v ∷ vs) h = (h.0, slots_of_values hs vs h.1)
 
 pub reordered_in : (hs : Reach) (order : List ℕ) (xs : List Slot) → Slots hs xs → Slots hs (reordered order xs)
 reordered_in hs [] xs h = tt

@@ -226,7 +226,7 @@ module _ (Sure : Type 0) where
   can_index_safe (object o) k m h = bad 438 m
   can_index_safe v k m h = bad 450 m
 
-  plains_safe : (vs : List Val) (m : Memory) → Safe Sure Any m (plains vs m)
+  pub plains_safe : (vs : List Val) (m : Memory) → Safe Sure Any m (plains vs m)
   plains_safe [] m = fine (λ s. tt)
   plains_safe (v ∷ vs) m = then_next (plain_any Sure v m) (λ w m1 n1 q1. then_next (plains_safe vs m1) (λ ws m2 n2 q2. fine (λ s. tt)))
 

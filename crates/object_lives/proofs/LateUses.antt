@@ -1,27 +1,26 @@
 -- Uses of members that are found in the run.
-use Rattle.std.proofs.Common.{◌≡◌, ℕ, suc, Bool, true, false, List, [], ◌∷◌, drop, take, Option, Some, None, refl}
+use Rattle.std.proofs.Common.{ℕ, suc, Bool, true, false, List, [], ◌∷◌, drop, take, Option, Some, None}
 use Rattle.std.specs.Prelude.{◌==◌, not, ◌||◌, if◌then◌else◌, slice_index_or}
-use Rattle.vba_values.specs.declared.object.ObjRef.TheVariants.{Heap}
-use Rattle.vba_values.specs.Val.{Val, missing, object, array}
+use Rattle.vba_values.specs.declared.object.ObjRef.TheVariants.{Nothing, Heap}
+use Rattle.vba_values.specs.Val.{Val, missing, object}
 use Rattle.bound_project.specs.Expressions.{ByName}
 use Rattle.bound_project.specs.Project.{Declarations, Parameter, Member, is_variable, is_procedure, is_property, procedure_at}
 use Rattle.vba_meaning.specs.Paths.{Path}
-use Rattle.vba_meaning.specs.Memory.{Slot, value, path, Memory, top, value_at}
+use Rattle.vba_meaning.specs.Memory.{Slot, value, path, Memory, top}
 use Rattle.vba_meaning.specs.Effects.{Effect, on_fine, slot_values, slot_left_out, packed}
 use Rattle.vba_meaning.specs.Collections.{CollectionMember, is_item, found_or}
 use Rattle.vba_meaning.specs.Host.{as_given, member_there, member_assigned}
 use Rattle.vba_meaning.specs.ByName.{named_there, value_given, values_given, names_of_member, in_parameter_order}
-use Rattle.vba_meaning.specs.Defaults.{in_variable, by_let, in_member, as_operand, give_way, fit_to, write, let_item, Next, over_with, after_use, is_instance, class_of_value, parameters_of, without_last, last_type, is_object_type, can_be_object, nothing_more, put, write_along, most_passed}
-use Rattle.vba_meaning.specs.LateBound.{Use, reading, assigning, setting, Way, by_variable, by_call, by_setter, all_taken, given_twice, any_lacks, arguments_fit, argument_of, slot_or_left, slot_of, arranged_from, arranged, member_named, get_for_object, assigned_way, way_of, found_way, way_by_name, taken_by_way, has_names, indexes, what_is_indexed, way_there, host_there, late_there, how_many, tasks_for, parameter_for, keeps_object, argument_tasks, value_bound, place_copied, call_way, late_called, host_arguments, let_element, let_indexed, let_plain, let_way, item_let, host_let, late_let, set_way, late_set}
+use Rattle.vba_meaning.specs.Defaults.{by_let, in_member, as_operand, give_way, fit_to, let_item, set_item, Next, over_with, is_instance, class_of_value, parameters_of, without_last, last_type, can_be_object, nothing_more, put, most_passed}
+use Rattle.vba_meaning.specs.LateBound.{Use, reading, assigning, setting, Way, by_variable, by_call, by_setter, all_taken, given_twice, any_lacks, arguments_fit, argument_of, slot_or_left, slot_of, arranged_from, arranged, member_named, variable_named, public_variable, get_for_object, assigned_way, get_alone, set_by, way_of, found_way, way_by_name, taken_by_way, has_names, indexes, what_is_indexed, way_there, host_there, late_there, how_many, tasks_for, parameter_for, keeps_object, argument_tasks, value_bound, place_copied, call_way, late_called, host_arguments, let_element, element_set, let_indexed, let_plain, let_way, item_let, host_let, late_let, set_way, late_set}
 use Rattle.object_lives.proofs.Values.{none_in, in_then, Refers}
 use Rattle.object_lives.proofs.Held.{Reach, bare_from, Values, PathIn, SlotIn, Slots, Tasks, slots_append, nth_slot, packed_in, slots_taken, slots_dropped, values_append, values_taken, values_dropped, values_of_slots}
 use Rattle.object_lives.proofs.Near.{Near, reach, Ready}
 use Rattle.object_lives.proofs.Chains.{Any, Given, GivenAll, GivenPath, GivenSlots, still, still_all, still_slots, Safe, fine, bad, then_next, then_safe, both}
 use Rattle.object_lives.proofs.Variables.{set_object_safe, set_at_safe}
-use Rattle.object_lives.proofs.Arrays.{element_in_safe}
 use Rattle.object_lives.proofs.Items.{collection_member_safe, item_found_safe}
-use Rattle.object_lives.proofs.Hosts.{member_there_safe, named_there_safe, place_at_safe, member_assigned_safe, member_not_set_safe}
-use Rattle.object_lives.proofs.Uses.{Bare, bare_but_last, Uses, over_safe, nothing_safe, after_safe, read_variable_safe, index_along_safe, put_safe, write_along_safe, let_along_safe, tasks_safe, use_then_safe}
+use Rattle.object_lives.proofs.Hosts.{member_there_safe, named_there_safe, member_assigned_safe, member_not_set_safe}
+use Rattle.object_lives.proofs.Uses.{Bare, bare_but_last, Uses, over_safe, nothing_safe, read_variable_safe, in_place_safe, index_along_safe, put_safe, written_safe, let_at_safe, let_along_safe, set_along_safe, tasks_safe, use_then_safe}
 
 -- ---- arguments in the order of the parameters
 
@@ -108,6 +107,14 @@ assigned_found hs d k v (is_procedure p) m = if_found hs _ None (Some (by_call p
 assigned_found hs d k v (is_property reads (Some p) sets) m = if_found hs _ (get_for_object d reads) (Some (by_setter p)) (get_found hs d reads) tt
 assigned_found hs d k v (is_property reads None sets) m = get_found hs d reads
 
+alone_found : (hs : Reach) (d : Declarations) (k : ℕ) (p : Option ℕ) → Found hs (get_alone d k p)
+alone_found hs d k None = tt
+alone_found hs d k (Some p) = if_found hs _ (get_for_object d (Some p)) None (get_found hs d (Some p)) tt
+
+set_found : (hs : Reach) (d : Declarations) (k : ℕ) (reads sets : Option ℕ) → Found hs (set_by d k reads sets)
+set_found hs d k reads None = alone_found hs d k reads
+set_found hs d k reads (Some p) = if_found hs _ (get_alone d k reads) (Some (by_setter p)) (alone_found hs d k reads) tt
+
 way_found : (hs : Reach) (d : Declarations) (aim : Use) (k : ℕ) (v : Val) (x : Member) (m : Memory) → Found hs (way_of d aim k v x m)
 way_found hs d reading k v (is_variable i makes) m = tt
 way_found hs d reading k v (is_procedure p) m = tt
@@ -115,8 +122,8 @@ way_found hs d reading k v (is_property (Some p) lets sets) m = tt
 way_found hs d reading k v (is_property None lets sets) m = tt
 way_found hs d assigning k v x m = assigned_found hs d k v x m
 way_found hs d setting k v (is_variable i makes) m = tt
-way_found hs d setting k v (is_property reads lets (Some p)) m = tt
-way_found hs d setting k v x m = tt
+way_found hs d setting k v (is_procedure p) m = tt
+way_found hs d setting k v (is_property reads lets sets) m = set_found hs d k reads sets
 
 found_way_in : (hs : Reach) (d : Declarations) (aim : Use) (k : ℕ) (v : Val) (x : Option Member) (m : Memory) → Found hs (found_way d aim k v x m)
 found_way_in hs d aim k v None m = tt
@@ -129,6 +136,19 @@ module _ (Sure : Type 0) where
   way_safe : (n : ℕ) (x : Option Way) (m : Memory) → Found (reach m) x → Safe Sure GivenWay m (found_or n x m)
   way_safe n None m h = bad n m
   way_safe n (Some w) m h = fine (λ s. h)
+
+  -- ---- the place of a public variable
+
+  variable_named_safe : (d : Declarations) (v : Val) (x : Option Member) (m : Memory) → Safe Sure GivenPath m (variable_named d v x m)
+  variable_named_safe d v None m = bad 438 m
+  variable_named_safe d v (Some (is_variable i makes)) m = fine (λ s. tt)
+  variable_named_safe d v (Some (is_procedure p)) m = bad 438 m
+  variable_named_safe d v (Some (is_property reads lets sets)) m = bad 438 m
+
+  pub public_variable_safe : (d : Declarations) (name : List ℕ) (v : Val) (m : Memory) → Safe Sure GivenPath m (public_variable d name v m)
+  public_variable_safe d name (object Nothing) m = bad 91 m
+  public_variable_safe d name (object o) m = variable_named_safe d (object o) (if is_instance (object o) m then member_named (class_of_value d (object o) m).members name else None) m
+  public_variable_safe d name v m = bad 424 m
 
   module _ (d : Declarations) (bare : Sure → (p : ℕ) → Bare (parameters_of d p)) where
     -- what is found by a name, and then
@@ -199,17 +219,10 @@ module _ (Sure : Type 0) where
 
     -- ---- a member is assigned to
 
-    written_safe : (v : Val) {m : Memory} {e : Effect Next} → (Sure → Ready m) → (Sure → Given m v) → Uses Sure m e → Uses Sure m (after_use e (write most_passed v) (λ w m1. write_along d most_passed v w m1))
-    written_safe v r h a = after_safe Sure (write most_passed v) r a h (λ w m1 r1 n1 q1. write_along_safe Sure d bare most_passed v w m1 r1 (still n1 v h) q1)
-
-    element_by : (q : Path) (vs : List Val) (v : Val) (m : Memory) (x : Option Val) → value_at m q ≡ x → (Sure → Ready m) → (Sure → GivenPath m q) → (Sure → GivenAll m vs) → (Sure → Given m v) → Uses Sure m (let_element d q vs v m)
-    element_by q vs v m (Some (array bounds of items)) e r g k h =
-        rw e (then_safe r (element_in_safe Sure q (value_at m q) vs m g) (λ p m1 r1 n1 q1. put_safe Sure d bare (in_variable p) v m1 r1 (still n1 v h) q1))
-    element_by q vs v m x e r g k h =
-        rw e (after_safe Sure (let_item most_passed vs v) r (read_variable_safe Sure d bare q m r g) (λ s. (k s, h s)) (λ w m1 r1 n1 q1. let_along_safe Sure d bare most_passed vs v w m1 r1 (still n1 v h) (still_all n1 vs k) q1))
-
     pub let_element_safe : (q : Path) (vs : List Val) (v : Val) (m : Memory) → (Sure → Ready m) → (Sure → GivenPath m q) → (Sure → GivenAll m vs) → (Sure → Given m v) → Uses Sure m (let_element d q vs v m)
-    let_element_safe q vs v m r g k h = element_by q vs v m (value_at m q) refl r g k h
+    let_element_safe q vs v m r g k h =
+        in_place_safe Sure d bare q vs (let_item most_passed vs v) m r g (λ s. (k s, h s)) (λ p m1 r1 n1 q1. let_at_safe Sure d bare p v m1 r1 q1 (still n1 v h))
+        (λ w m1 r1 n1 q1. let_along_safe Sure d bare most_passed vs v w m1 r1 (still n1 v h) (still_all n1 vs k) q1)
 
     let_indexed_safe : (begun : Val) (vs : List Val) (v : Val) (w : Way) (m : Memory) → (Sure → Ready m) → (Sure → Given m begun) → (Sure → GivenAll m vs) → (Sure → Given m v) → (Sure → GivenWay m w) → Uses Sure m (let_indexed d begun vs v w m)
     let_indexed_safe begun vs v (by_variable q) m r i k h g = let_element_safe q vs v m r g k h
@@ -218,7 +231,7 @@ module _ (Sure : Type 0) where
 
     let_plain_safe : (by : ByName) (base : Val) (xs : List Slot) (v : Val) (w : Way) (m : Memory) → (Sure → Ready m) → (Sure → Given m base) → (Sure → GivenSlots m xs) → (Sure → Given m v) → (Sure → GivenWay m w)
         → Uses Sure m (let_plain d by base xs v w m)
-    let_plain_safe by base xs v (by_variable q) m r i k h g = both (is_object_type q.of) (written_safe v r h (read_variable_safe Sure d bare q m r g)) (put_safe Sure d bare (in_variable q) v m r h g)
+    let_plain_safe by base xs v (by_variable q) m r i k h g = let_at_safe Sure d bare q v m r g h
     let_plain_safe by base xs v (by_call p property) m r i k h g = fine (λ s. (i s, arranged_in (reach m) (parameters_of d p) by xs (bare s p) (k s), (h s, tt)))
     let_plain_safe by base xs v (by_setter p) m r i k h g =
         put_safe Sure d bare (by_let p base (arranged (without_last (parameters_of d p)) by xs)) v m r h (λ s. (i s, arranged_in (reach m) (without_last (parameters_of d p)) by xs (bare_but_last (parameters_of d p) (bare s p)) (k s)))
@@ -229,7 +242,7 @@ module _ (Sure : Type 0) where
         both (indexes d by gs w) (let_indexed_safe begun (slot_values xs) v w m r j (λ s. values_of_slots (reach m) xs (k s)) h g) (let_plain_safe by base xs v w m r i k h g)
 
     item_let_safe : (o : ℕ) (how : CollectionMember) (vs : List Val) (v : Val) (m : Memory) → (Sure → Ready m) → (Sure → Given m v) → Uses Sure m (item_let d o how vs v m)
-    item_let_safe o is_item vs v m r h = written_safe v r h (over_safe Sure (item_found_safe Sure o vs m r))
+    item_let_safe o is_item vs v m r h = written_safe Sure d bare v r h (over_safe Sure (item_found_safe Sure o vs m r))
     item_let_safe o member vs v m r h = bad 438 m
 
     other_let : (name : List ℕ) (vs : List Val) (base begun v : Val) (m : Memory) → (Sure → Ready m) → (Sure → GivenAll m vs) → (Sure → Given m base) → (Sure → Given m begun) → (Sure → Given m v)
@@ -252,17 +265,24 @@ module _ (Sure : Type 0) where
 
     -- ---- a member is set
 
-    set_way_safe : (by : ByName) (gs : List Bool) (base : Val) (xs : List Slot) (v : Val) (w : Way) (m : Memory) → (Sure → Ready m) → (Sure → Given m base) → (Sure → GivenSlots m xs) → (Sure → Given m v) → (Sure → GivenWay m w)
-        → Uses Sure m (set_way d by gs base xs v w m)
-    set_way_safe by gs base xs v (by_variable q) m r i k h g =
-        both (indexes d by gs (by_variable q)) (then_safe r (place_at_safe Sure q (slot_values xs) m r g) (λ p m1 r1 n1 q1. nothing_safe Sure (set_at_safe Sure p v m1 r1 q1 (still n1 v h)))) (nothing_safe Sure (set_at_safe Sure q v m r g h))
-    set_way_safe by gs base xs v (by_setter p) m r i k h g =
+    pub element_set_safe : (q : Path) (vs : List Val) (v : Val) (m : Memory) → (Sure → Ready m) → (Sure → GivenPath m q) → (Sure → GivenAll m vs) → (Sure → Given m v) → Uses Sure m (element_set d q vs v m)
+    element_set_safe q vs v m r g k h =
+        in_place_safe Sure d bare q vs (set_item most_passed vs v) m r g (λ s. (k s, h s)) (λ p m1 r1 n1 q1. nothing_safe Sure (set_at_safe Sure p v m1 r1 q1 (still n1 v h)))
+        (λ w m1 r1 n1 q1. set_along_safe Sure d bare most_passed vs v w m1 r1 (still n1 v h) (still_all n1 vs k) q1)
+
+    set_way_safe : (by : ByName) (gs : List Bool) (base begun : Val) (xs : List Slot) (v : Val) (w : Way) (m : Memory) → (Sure → Ready m) → (Sure → Given m base) → (Sure → Given m begun) → (Sure → GivenSlots m xs) → (Sure → Given m v) → (Sure → GivenWay m w)
+        → Uses Sure m (set_way d by gs base begun xs v w m)
+    set_way_safe by gs base begun xs v (by_variable q) m r i j k h g =
+        both (indexes d by gs (by_variable q)) (element_set_safe q (slot_values xs) v m r g (λ s. values_of_slots (reach m) xs (k s)) h) (nothing_safe Sure (set_at_safe Sure q v m r g h))
+    set_way_safe by gs base begun xs v (by_setter p) m r i j k h g =
         then_next (set_object_safe Sure (last_type (parameters_of d p)) v m h) (λ w m1 n1 q1.
         fine (λ s. (still n1 base i s, slots_append (reach m1) (arranged (without_last (parameters_of d p)) by xs) (value w ∷ []) (arranged_in (reach m1) (without_last (parameters_of d p)) by xs (bare_but_last (parameters_of d p) (bare s p)) (still_slots n1 xs k s)) (q1 s, tt), tt)))
-    set_way_safe by gs base xs v (by_call p property) m r i k h g = bad 438 m
+    set_way_safe by gs base begun xs v (by_call p property) m r i j k h g =
+        both (indexes d by gs (by_call p property)) (set_along_safe Sure d bare most_passed (slot_values xs) v begun m r h (λ s. values_of_slots (reach m) xs (k s)) j) (bad 438 m)
 
-    pub late_set_safe : (name : List ℕ) (by : ByName) (gs : List Bool) (base : Val) (xs : List Slot) (v : Val) (m : Memory) → (Sure → Ready m) → (Sure → Given m base) → (Sure → GivenSlots m xs) → (Sure → Given m v)
-        → Uses Sure m (late_set d name by gs base xs v m)
-    late_set_safe name by gs base xs v m r i k h =
-        both (is_instance base m) (found_safe setting name gs base m r (λ w m1 r1 n1 q1. set_way_safe by gs base xs v w m1 r1 (still n1 base i) (still_slots n1 xs k) (still n1 v h) q1))
+    pub late_set_safe : (name : List ℕ) (by : ByName) (gs : List Bool) (base begun : Val) (xs : List Slot) (v : Val) (m : Memory) → (Sure → Ready m) → (Sure → Given m base) → (Sure → Given m begun) → (Sure → GivenSlots m xs) → (Sure → Given m v)
+        → Uses Sure m (late_set d name by gs base begun xs v m)
+    late_set_safe name by gs base begun xs v m r i j k h =
+        both (is_instance base m)
+        (found_safe setting name gs base m r (λ w m1 r1 n1 q1. set_way_safe by gs base begun xs v w m1 r1 (still n1 base i) (still n1 begun j) (still_slots n1 xs k) (still n1 v h) q1))
         (nothing_safe Sure (member_not_set_safe Sure base m))

@@ -15,12 +15,12 @@ use Rattle.vba_meaning.specs.References.{objects_in, objects_in_slots, times, lo
 use Rattle.vba_meaning.specs.Effects.{Event, Raised, Effect, Fine, Bad-at, Out, Tell, unlent, slot_values, packed, reordered, raised_by, err_of, failed_statement}
 use Rattle.vba_meaning.specs.Events.{source_of, sinks, due, lent_again, raise_over, change, sheet_of, target_of, no_change}
 use Rattle.vba_meaning.specs.Objects.{initialize_of, made_at}
-use Rattle.vba_meaning.specs.Host.{is_counted, is_raise}
+use Rattle.vba_meaning.specs.Host.{is_counted, is_raise, path_to}
 use Rattle.vba_meaning.specs.ByName.{in_parameter_order}
-use Rattle.vba_meaning.specs.Defaults.{Next, gives, then_call, is_instance, parameters_of, most_passed, most_calls}
+use Rattle.vba_meaning.specs.Defaults.{Next, gives, then_call, is_instance, parameters_of, has_array, most_passed, most_calls}
 use Rattle.vba_meaning.specs.LateBound.{lends_place, host_arguments}
 use Rattle.vba_meaning.specs.Meaning.{State, with_memory, turned}
-use Rattle.pcode.specs.Instructions.{Instr, Begin, Push, LoadErr, PathOf, ReadThrough, ElementOf, ElementIn, FieldOf, Dot, Index, PartOf, Operate, OperateAlone, Plain, PlainIfAny, PushHost, FirstSheet, MemberThere, MemberOf, NamedThere, NamedOf, PushThis, New, ObjectThere, FieldIn, AsNew, MakeThere, StoreMade, FindLate, BindValue, BindPlace, CallLate, LetLate, SetLate, ItemAlong, WriteThrough, LetElement, Same, IsType, Library, BoundAt, Fit, FitObject, Drop, Lend, Pack, Reorder, Lift, Call, CallOf, Store, SetAt, StoreDefault, StoreMember, StoreItem, SetMember, RaiseEvent, ShowText, Show, Throw, LoopOff, LoopOn, NextRound, EachOff, EachOn, NextItem, Keep, Selected, IfFits, IfBetween, Redim, EraseAt, KeepPath, DropKept, PutReturn, TakeReturn, SetPolicy, HandlerOff, ErrOff, Again, Behind, Resumes, Finish, Branch, Halt, StopHere, Leave, Code, next_statement, entry_of}
+use Rattle.pcode.specs.Instructions.{Instr, Begin, Push, LoadErr, PathOf, ReadThrough, ElementOf, ElementIn, FieldOf, Dot, Index, PartOf, Operate, OperateAlone, Plain, PlainIfAny, Enumerate, PushHost, FirstSheet, MemberThere, MemberOf, NamedThere, NamedOf, PushThis, New, ObjectThere, FieldIn, AsNew, MakeThere, StoreMade, FindLate, BindValue, BindPlace, CallLate, LetLate, SetLate, ItemAlong, WriteThrough, LetElement, SetElement, ElementAlong, LateField, PlaceOf, Same, IsType, Library, BoundAt, Fit, FitObject, Drop, Lend, Pack, Reorder, Lift, Call, CallOf, Store, SetAt, StoreDefault, StoreMember, StoreItem, SetMember, RaiseEvent, ShowText, Show, Throw, LoopOff, LoopOn, NextRound, EachOff, EachOn, NextItem, Keep, Selected, IfFits, IfBetween, Redim, EraseAt, KeepPath, DropKept, PutReturn, TakeReturn, SetPolicy, HandlerOff, ErrOff, Again, Behind, Resumes, Finish, Branch, Halt, StopHere, Leave, Code, next_statement, entry_of}
 use Rattle.pcode.specs.Machine.{After, Goes-on, Return, Back-to, Back, Caller, Delivering, Within, Config, Move, Goes, Ends, Sticks, Tells, Turns, at, failing, letting, lets, lets_all, finishes, raised, done_then, then_push, then_push_path, then_let_go, then_test, then_jump, pops, pops_path, take_args, pushed, calls_handler, delivers, tells_change, uses_member, enters, enter_by, calls, initializes, then_changes, left_as, follows, base_below, looking, act}
 use Rattle.object_counts.specs.Gains.{entered_gains}
 use Rattle.object_counts.proofs.Indexed.{times-append}
@@ -35,8 +35,8 @@ use Rattle.object_lives.proofs.Variables.{unseen, outside_later, operated_safe, 
 use Rattle.object_lives.proofs.Arrays.{item_inside, part_of_safe, redimmed_safe, erased_safe, keep_path_safe, block_over_safe, dot_at_safe, each_off_safe, each_begun_safe, each_next_safe}
 use Rattle.object_lives.proofs.Items.{alone_there}
 use Rattle.object_lives.proofs.Hosts.{first_sheet_safe, written_default_safe, item_safe, member_there_safe, named_there_safe, member_called_safe, object_member_safe, error_given_safe, place_at_safe, assigned_at_safe, item_assigned_safe, member_assigned_safe, member_not_set_safe, path_to_in}
-use Rattle.object_lives.proofs.Uses.{Bare, Uses, counted_operand_safe, counted_if_any_safe, index_along_safe, write_along_safe}
-use Rattle.object_lives.proofs.LateUses.{in_order_in, host_arguments_in, late_there_safe, value_bound_safe, place_copied_safe, late_called_safe, let_element_safe, late_let_safe, late_set_safe}
+use Rattle.object_lives.proofs.Uses.{Bare, Uses, counted_operand_safe, counted_if_any_safe, enumerator_safe, index_along_safe, element_by_safe, item_along_safe, write_along_safe}
+use Rattle.object_lives.proofs.LateUses.{in_order_in, host_arguments_in, public_variable_safe, late_there_safe, value_bound_safe, place_copied_safe, late_called_safe, let_element_safe, element_set_safe, late_let_safe, late_set_safe}
 use Rattle.object_lives.proofs.Sinks.{due_there}
 use Rattle.object_lives.proofs.Places.{Spent, BackIn, IsCall, Calls, Rest, call_by, calls_top, calls_calling, Tight, Over, over_ready, Here, Kept, over_here, near_here, popped, pushed_on, with_operands}
 
@@ -480,6 +480,8 @@ module _ (Sure : Type 0) where
       act_good (Some PlainIfAny) pc st bs s is h =
           on_value st h (λ v st1 h1 g1.
           either (is_counted v) (use_good false most_calls (pc + 1) st1 bs s h1 (counted_if_any_safe Sure code.declared bare v s.memory (λ x. (h1 x).ready) g1)) (does st1 bs s h1 (plain_if_any_safe Sure v s.memory g1) (pushes (pc + 1) st1 bs)))
+      act_good (Some Enumerate) pc st bs s is h =
+          on_value st h (λ v st1 h1 g1. use_good false most_calls (pc + 1) st1 bs s h1 (enumerator_safe Sure code.declared bare v s.memory (λ x. (h1 x).ready) g1))
       act_good (Some (FindLate aim name how gs)) pc st bs s is h =
           on_value st h (λ v st1 h1 g1. use_good false most_calls (pc + 1) (value v ∷ st1) bs s (λ x. pushed_on (g1 x) (h1 x)) (late_there_safe Sure code.declared bare aim name how gs v s.memory (λ x. (h1 x).ready) g1))
       act_good (Some (BindValue aim name how gs i)) pc st bs s is h =
@@ -499,7 +501,7 @@ module _ (Sure : Type 0) where
           use_good false most_calls (pc + 1) st4 bs s h4 (late_let_safe Sure code.declared bare name how gs w x (map received xs) v s.memory (λ y. (h4 y).ready) g3 g2 (λ y. all_received (reach s.memory) xs (g1 y)) g4)))))
       act_good (Some (SetLate name how gs)) pc st bs s is h =
           on_args (length gs) st [] h (λ x. tt) (λ xs st1 h1 g1. on_value st1 h1 (λ x st2 h2 g2. on_value st2 h2 (λ w st3 h3 g3. on_value st3 h3 (λ v st4 h4 g4.
-          use_good false most_calls (pc + 1) st4 bs s h4 (late_set_safe Sure code.declared bare name how gs w (map received xs) v s.memory (λ y. (h4 y).ready) g3 (λ y. all_received (reach s.memory) xs (g1 y)) g4)))))
+          use_good false most_calls (pc + 1) st4 bs s h4 (late_set_safe Sure code.declared bare name how gs w x (map received xs) v s.memory (λ y. (h4 y).ready) g3 g2 (λ y. all_received (reach s.memory) xs (g1 y)) g4)))))
       act_good (Some (ItemAlong k)) pc st bs s is h =
           on_args k st [] h (λ x. tt) (λ xs st1 h1 g1. on_value st1 h1 (λ v st2 h2 g2.
           use_good false most_calls (pc + 1) st2 bs s h2 (index_along_safe Sure code.declared bare most_passed (slot_values xs) v s.memory (λ x. (h2 x).ready) g2 (λ x. values_of_slots (reach s.memory) xs (g1 x)))))
@@ -508,6 +510,15 @@ module _ (Sure : Type 0) where
       act_good (Some (LetElement k)) pc st bs s is h =
           on_args k st [] h (λ x. tt) (λ xs st1 h1 g1. on_path st1 h1 (λ q st2 h2 g2. on_value st2 h2 (λ v st3 h3 g3.
           use_good false most_calls (pc + 1) st3 bs s h3 (let_element_safe Sure code.declared bare q (slot_values xs) v s.memory (λ x. (h3 x).ready) g2 (λ x. values_of_slots (reach s.memory) xs (g1 x)) g3))))
+      act_good (Some (SetElement k)) pc st bs s is h =
+          on_args k st [] h (λ x. tt) (λ xs st1 h1 g1. on_path st1 h1 (λ q st2 h2 g2. on_value st2 h2 (λ v st3 h3 g3.
+          use_good false most_calls (pc + 1) st3 bs s h3 (element_set_safe Sure code.declared bare q (slot_values xs) v s.memory (λ x. (h3 x).ready) g2 (λ x. values_of_slots (reach s.memory) xs (g1 x)) g3))))
+      act_good (Some (ElementAlong k)) pc st bs s is h =
+          on_args k st [] h (λ x. tt) (λ xs st1 h1 g1. on_path st1 h1 (λ q st2 h2 g2.
+          either (has_array q s.memory) (does st2 bs s h2 (element_by_safe Sure code.declared bare q (slot_values xs) s.memory g2) (pushes_path (pc + 1) st2 bs))
+          (use_good true most_calls (pc + 1) st2 bs s h2 (item_along_safe Sure code.declared bare q (slot_values xs) s.memory (λ x. (h2 x).ready) g2 (λ x. values_of_slots (reach s.memory) xs (g1 x))))))
+      act_good (Some (LateField name)) pc st bs s is h = on_value st h (λ v st1 h1 g1. does st1 bs s h1 (public_variable_safe Sure code.declared name v s.memory) (pushes_path (pc + 1) st1 bs))
+      act_good (Some PlaceOf) pc st bs s is h = on_value st h (λ v st1 h1 g1. on (pc + 1) (path (path_to v) ∷ st1) bs s (λ x. pushed_on (path_to_in (reach s.memory) v (g1 x)) (h1 x)))
       act_good (Some (Library f text_form compare base k)) pc st bs s is h =
           on_args k st [] h (λ x. tt) (λ xs st1 h1 g1. does st1 bs s h1 (library_safe Sure code.declared f text_form compare base (slot_values xs) s.memory (λ x. (h1 x).ready) (λ x. values_of_slots (reach s.memory) xs (g1 x))) (pushes (pc + 1) st1 bs))
       act_good (Some (BoundAt upper z)) pc st bs s is h = on_path st h (λ q st1 h1 g1. does st1 bs s h1 (bound_at_safe Sure upper z q s.memory) (pushes (pc + 1) st1 bs))

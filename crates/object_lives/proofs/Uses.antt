@@ -2,20 +2,22 @@
 use Rattle.std.proofs.Common.{ℕ, zero, suc, List, [], ◌∷◌, map, Option, Some, None}
 use Rattle.std.specs.Prelude.{◌&&◌, if◌then◌else◌}
 use Rattle.vba_values.specs.Types.{Declared}
-use Rattle.vba_values.specs.Val.{Val, object}
+use Rattle.vba_values.specs.Types as type
+use Rattle.vba_values.specs.Val.{Val, missing, object}
 use Rattle.bound_project.specs.Project.{Declarations, Parameter, Member, is_variable, is_procedure, is_property, procedure_at}
 use Rattle.vba_meaning.specs.Paths.{Path}
-use Rattle.vba_meaning.specs.Memory.{value, Memory, top}
-use Rattle.vba_meaning.specs.Effects.{Effect, Fine, Bad-at, on_fine, slot_left_out}
-use Rattle.vba_meaning.specs.Objects.{initialize_of}
-use Rattle.vba_meaning.specs.Host.{is_counted, item_assigned}
-use Rattle.vba_meaning.specs.Defaults.{Spot, in_variable, by_let, in_range, in_member, Task, as_operand, no_object, give_way, fit_to, index_by, write, let_item, put_in, read_made, Next, gives, then_call, over_with, goes_by, after_use, is_instance, class_of_value, variable_of, parameters_of, must_be_given, any_must, without_last, last_type, is_object_type, can_be_object, is_sub_kind, has_parameters, has_default_alone, read_by, read_made_by, read_variable, read_member, read_default, no_object_here, counted_operand, counted_if_any, operand_of, given_to, slots_from, index_default, index_member, index_once, index_along, takes_itself, nothing_more, put_value, put, takes_value, write_host, write_default, write_member, write_once, write_along, reader_of, let_by_reader, let_setter, let_default, let_member, let_item_of, let_once, let_along, most_passed, task_next, followed, tasks_next, use_then}
+use Rattle.vba_meaning.specs.Memory.{value, Memory, top, value_at}
+use Rattle.vba_meaning.specs.Effects.{Effect, Fine, Bad-at, on_fine, done, set_object, slot_left_out}
+use Rattle.vba_meaning.specs.Objects.{initialize_of, set_at}
+use Rattle.vba_meaning.specs.Host.{is_counted, item_by}
+use Rattle.vba_meaning.specs.Defaults.{Spot, in_variable, by_let, in_range, in_member, Task, as_operand, no_object, give_way, walked, fit_to, index_by, write, let_item, set_item, put_in, read_made, Next, gives, then_call, over_with, goes_by, after_use, is_instance, class_of_value, variable_of, parameters_of, any_must, without_last, last_type, is_object_type, can_be_object, is_sub_kind, has_parameters, has_default_alone, read_by, read_made_by, read_variable, read_member, read_default, no_object_here, counted_operand, counted_if_any, has_items, collection_here, enumerator_of, operand_of, given_to, slots_from, slot_given, slots_in, too_many, too_few, index_default, index_member, index_once, index_along, has_array, element_by, item_along, in_place, leads_on, takes_itself, nothing_more, put_value, put, let_at, takes_value, write_host, write_default, write_member, write_once, write_along, reader_of, let_by_reader, let_setter, let_default, let_member, let_item_of, let_once, let_along, set_called_with, set_by_reader, setter_of, set_default, set_by_member, element_of, set_item_of, set_once, set_along, most_passed, task_next, followed, tasks_next, use_then}
 use Rattle.object_lives.proofs.Values.{none_in, in_then}
-use Rattle.object_lives.proofs.Held.{Reach, bare_from, SlotIn, Slots, TaskIn, slots_append, tasks_append, task_more}
+use Rattle.object_lives.proofs.Held.{Reach, bare_from, SlotIn, Slots, TaskIn, packed_in, slots_append, slots_of_values, tasks_append, task_more}
 use Rattle.object_lives.proofs.Near.{Near, reach, wider, Ready}
-use Rattle.object_lives.proofs.Chains.{Any, Given, GivenAll, GivenPath, GivenSlots, GivenSpot, GivenTasks, GivenNext, still, still_all, still_path, still_slots, still_spot, still_tasks, Safe, fine, bad, then_next, then_safe, both}
-use Rattle.object_lives.proofs.Variables.{plain_safe, fitted_safe, read_path_safe, made_for_safe, stored_made_safe, assigned_safe}
-use Rattle.object_lives.proofs.Hosts.{item_safe, item_assigned_safe, written_default_safe, member_assigned_safe}
+use Rattle.object_lives.proofs.Chains.{Any, Given, GivenAll, GivenPath, GivenSlot, GivenSlots, GivenSpot, GivenTasks, GivenNext, still, still_all, still_path, still_slot, still_slots, still_spot, still_tasks, Safe, fine, bad, then_next, then_safe, both}
+use Rattle.object_lives.proofs.Variables.{plain_safe, fitted_safe, set_object_safe, read_path_safe, made_for_safe, stored_made_safe, assigned_safe, set_at_safe}
+use Rattle.object_lives.proofs.Arrays.{element_in_safe}
+use Rattle.object_lives.proofs.Hosts.{item_safe, plains_safe, written_default_safe, member_assigned_safe}
 
 -- ---- what parameters have to which nothing is given
 
@@ -98,15 +100,22 @@ module _ (Sure : Type 0) where
     given_to_safe : (of : Declared) (v : Val) (m : Memory) → (Sure → Given m v) → Safe Sure Given m (given_to of v m)
     given_to_safe of v m h = both (can_be_object of) (fitted_safe Sure of v m h) (then_next (plain_safe Sure v m h) (λ w m1 n1 q1. fitted_safe Sure of w m1 q1))
 
+    slot_safe : (q : Parameter) (v : Val) (m : Memory) → (Sure → SlotIn (bare_from 0) (slot_left_out q)) → (Sure → Given m v) → Safe Sure GivenSlot m (slot_given q v m)
+    slot_safe q missing m b h = fine (λ s. in_then (b s) (none_in (top m).held))
+    slot_safe q v m b h = then_next (given_to_safe q.of v m h) (λ w m1 n1 q1. fine q1)
+
+    -- a ParamArray has all further ones
+    slots_in_safe : (qs : List Parameter) (vs : List Val) (m : Memory) → (Sure → Bare qs) → (Sure → GivenAll m vs) → Safe Sure GivenSlots m (slots_in qs vs m)
+    slots_in_safe [] vs m b h = fine (λ s. tt)
+    slots_in_safe (q ∷ qs) [] m b h =
+        then_next (slots_in_safe qs [] m (λ s. (b s).1) (λ s. tt)) (λ xs m1 n1 q1. fine (λ s. (in_then (b s).0 (none_in (top m1).held), q1 s)))
+    slots_in_safe (q ∷ qs) (v ∷ vs) m b h =
+        both q.many (fine (λ s. (packed_in (reach m) (map value (v ∷ vs)) (slots_of_values (reach m) (v ∷ vs) (h s)), tt)))
+        (then_next (slot_safe q v m (λ s. (b s).0) (λ s. (h s).0)) (λ x m1 n1 q1.
+        then_next (slots_in_safe qs vs m1 (λ s. (b s).1) (still_all n1 vs (λ s. (h s).1))) (λ xs m2 n2 q2. fine (λ s. (still_slot n2 x q1 s, q2 s)))))
+
     pub slots_safe : (qs : List Parameter) (vs : List Val) (m : Memory) → (Sure → Bare qs) → (Sure → GivenAll m vs) → Safe Sure GivenSlots m (slots_from qs vs m)
-    slots_safe [] [] m b h = fine (λ s. tt)
-    slots_safe [] (v ∷ vs) m b h = bad 450 m
-    slots_safe (q ∷ qs) [] m b h =
-        both (must_be_given q) (bad 449 m)
-        (then_next (slots_safe qs [] m (λ s. (b s).1) (λ s. tt)) (λ xs m1 n1 q1. fine (λ s. (in_then (b s).0 (none_in (top m1).held), q1 s))))
-    slots_safe (q ∷ qs) (v ∷ vs) m b h =
-        then_next (given_to_safe q.of v m (λ s. (h s).0)) (λ w m1 n1 q1.
-        then_next (slots_safe qs vs m1 (λ s. (b s).1) (still_all n1 vs (λ s. (h s).1))) (λ xs m2 n2 q2. fine (λ s. (still n2 w q1 s, q2 s))))
+    slots_safe qs vs m b h = both (too_many qs vs) (bad 450 m) (both (too_few qs vs) (bad 449 m) (slots_in_safe qs vs m b h))
 
     -- of what passes a default member
     abbrev Passes : Memory → (Member → Memory → Effect Next) → Type 0
@@ -134,6 +143,32 @@ module _ (Sure : Type 0) where
     index_along_safe zero vs w m r h g = index_once_safe w vs (λ x m1. Bad-at 450 m1) m r h g (λ x. bad 450 m)
     index_along_safe (suc k) vs w m r h g =
         index_once_safe w vs (λ x m1. after_use (read_member d w x m1) (index_by k vs) (λ u m2. index_along d k vs u m2)) m r h g (λ x. after_safe (index_by k vs) r (read_member_safe w x m r h) g (λ u m2 r2 n2 q2. index_along_safe k vs u m2 r2 q2 (still_all n2 vs g)))
+
+    -- ---- arguments behind a place
+
+    pub element_by_safe : (q : Path) (vs : List Val) (m : Memory) → (Sure → GivenPath m q) → Safe Sure GivenPath m (element_by q vs m)
+    element_by_safe q vs m g = then_next (plains_safe Sure vs m) (λ ws m1 n1 q1. element_in_safe Sure q (value_at m1 q) ws m1 (still_path n1 q g))
+
+    pub item_along_safe : (q : Path) (vs : List Val) (m : Memory) → (Sure → Ready m) → (Sure → GivenPath m q) → (Sure → GivenAll m vs) → Uses m (item_along d q vs m)
+    item_along_safe q vs m r g h =
+        after_safe (index_by most_passed vs) r (read_variable_safe q m r g) h (λ w m1 r1 n1 q1. index_along_safe most_passed vs w m1 r1 q1 (still_all n1 vs h))
+
+    -- of what is done to a place, and with a value, in a later memory
+    abbrev pub Stores : Memory → (Path → Memory → Effect Next) → Type 0
+    Stores m f = (p : Path) (m1 : Memory) → (Sure → Ready m1) → (Sure → Near m m1) → (Sure → GivenPath m1 p) → Uses m1 (f p m1)
+
+    abbrev pub GoesOn : Memory → (Val → Memory → Effect Next) → Type 0
+    GoesOn m f = (v : Val) (m1 : Memory) → (Sure → Ready m1) → (Sure → Near m m1) → (Sure → Given m1 v) → Uses m1 (f v m1)
+
+    pub in_place_safe : (q : Path) (vs : List Val) (t : Task) {f : Path → Memory → Effect Next} {f1 : Val → Memory → Effect Next} (m : Memory) → (Sure → Ready m) → (Sure → GivenPath m q) → (Sure → TaskIn (reach m) t) → Stores m f → GoesOn m f1
+        → Uses m (in_place d q vs f t f1 m)
+    in_place_safe q vs t m r g i k k1 = both (has_array q m) (then_safe r (element_by_safe q vs m g) k) (after_safe t r (read_variable_safe q m r g) i k1)
+
+    leads_safe : (self : Val) (vs : List Val) (t : Task) {f : Path → Memory → Effect Next} {f1 : Val → Memory → Effect Next} (x : Member) (m : Memory) → (Sure → Ready m) → (Sure → Given m self) → (Sure → TaskIn (reach m) t) → Stores m f → GoesOn m f1
+        → Uses m (leads_on d self vs f t f1 x m)
+    leads_safe self vs t (is_variable i makes) m r h g k k1 = in_place_safe (variable_of d self i makes m) vs t m r (λ s. tt) g k k1
+    leads_safe self vs t (is_procedure p) m r h g k k1 = after_safe t r (read_member_safe self (is_procedure p) m r h) g k1
+    leads_safe self vs t (is_property reads lets sets) m r h g k k1 = after_safe t r (read_member_safe self (is_property reads lets sets) m r h) g k1
 
     -- ---- a value is put where it goes
 
@@ -178,6 +213,12 @@ module _ (Sure : Type 0) where
 
     -- ---- what arguments lead to takes a value
 
+    pub written_safe : (v : Val) {m : Memory} {e : Effect Next} → (Sure → Ready m) → (Sure → Given m v) → Uses m e → Uses m (after_use e (write most_passed v) (λ w m1. write_along d most_passed v w m1))
+    written_safe v r h a = after_safe (write most_passed v) r a h (λ w m1 r1 n1 q1. write_along_safe most_passed v w m1 r1 (still n1 v h) q1)
+
+    pub let_at_safe : (q : Path) (v : Val) (m : Memory) → (Sure → Ready m) → (Sure → GivenPath m q) → (Sure → Given m v) → Uses m (let_at d q v m)
+    let_at_safe q v m r g h = both (is_object_type q.of) (written_safe v r h (read_variable_safe q m r g)) (put_safe (in_variable q) v m r h g)
+
     let_by_reader_safe : (v : Val) (vs : List Val) (self : Val) (x : Member) (o : Option ℕ) (f : Member → Memory → Effect Next) (m : Memory) → (Sure → Given m v) → (Sure → GivenAll m vs) → (Sure → Given m self) → Passes m f
         → Uses m (let_by_reader d v vs self x o f m)
     let_by_reader_safe v vs self x None f m h g i k = k x
@@ -199,13 +240,13 @@ module _ (Sure : Type 0) where
     let_member_safe v vs self None f m r h g i k = bad 438 m
     let_member_safe v vs self (Some x) f m r h g i k = let_default_safe v vs self x (let_setter x) f m r h g i k
 
-    other_item : (v : Val) (vs : List Val) (w : Val) (m : Memory) → (Sure → Ready m) → (Sure → Given m w) → Uses m (nothing_more (item_assigned w vs v m))
-    other_item v vs w m r h = nothing_safe (item_assigned_safe Sure w vs v m r h)
+    other_item : (v : Val) (vs : List Val) (w : Val) (m : Memory) → (Sure → Ready m) → (Sure → Given m v) → (Sure → Given m w) → Uses m (on_fine (item_by w vs m) (λ u m1. operand_of d v m1))
+    other_item v vs w m r h i = then_safe r (item_safe Sure w vs m r i) (λ u m1 r1 n1 q1. operand_safe v m1 r1 (still n1 v h))
 
     let_item_safe : (v : Val) (vs : List Val) (w : Val) (m : Memory) → (Sure → Ready m) → (Sure → Given m v) → (Sure → Given m w) → Uses m (let_item_of d v vs w m)
     let_item_safe v vs (object o) m r h i =
         after_safe (write most_passed v) r (over_safe (item_safe Sure (object o) vs m r i)) h (λ w m1 r1 n1 q1. write_along_safe most_passed v w m1 r1 (still n1 v h) q1)
-    let_item_safe v vs w m r h i = other_item v vs w m r i
+    let_item_safe v vs w m r h i = other_item v vs w m r h i
 
     let_once_safe : (v : Val) (vs : List Val) (w : Val) (f : Member → Memory → Effect Next) (m : Memory) → (Sure → Ready m) → (Sure → Given m v) → (Sure → GivenAll m vs) → (Sure → Given m w) → Passes m f → Uses m (let_once d v vs w f m)
     let_once_safe v vs w f m r h g i k = both (is_instance w m) (let_member_safe v vs w (class_of_value d w m).default f m r h g i k) (let_item_safe v vs w m r h i)
@@ -213,7 +254,60 @@ module _ (Sure : Type 0) where
     pub let_along_safe : (k : ℕ) (vs : List Val) (v w : Val) (m : Memory) → (Sure → Ready m) → (Sure → Given m v) → (Sure → GivenAll m vs) → (Sure → Given m w) → Uses m (let_along d k vs v w m)
     let_along_safe zero vs v w m r h g i = let_once_safe v vs w (λ x m1. Bad-at 450 m1) m r h g i (λ x. bad 450 m)
     let_along_safe (suc k) vs v w m r h g i =
-        let_once_safe v vs w (λ x m1. after_use (read_member d w x m1) (let_item k vs v) (λ u m2. let_along d k vs v u m2)) m r h g i (λ x. after_safe (let_item k vs v) r (read_member_safe w x m r i) (λ s. (g s, h s)) (λ u m2 r2 n2 q2. let_along_safe k vs v u m2 r2 (still n2 v h) (still_all n2 vs g) q2))
+        let_once_safe v vs w (λ x m1. leads_on d w vs (λ p m2. let_at d p v m2) (let_item k vs v) (λ u m2. let_along d k vs v u m2) x m1) m r h g i (λ x.
+        leads_safe w vs (let_item k vs v) x m r i (λ s. (g s, h s)) (λ p m2 r2 n2 q2. let_at_safe p v m2 r2 q2 (still n2 v h)) (λ u m2 r2 n2 q2. let_along_safe k vs v u m2 r2 (still n2 v h) (still_all n2 vs g) q2))
+
+    -- ---- what arguments lead to is set
+
+    set_called_safe : (v : Val) (vs : List Val) (self : Val) (p : ℕ) (m : Memory) → (Sure → Given m v) → (Sure → GivenAll m vs) → (Sure → Given m self) → Uses m (set_called_with d v vs self p m)
+    set_called_safe v vs self p m h g i =
+        then_next (slots_safe (without_last (parameters_of d p)) vs m (λ s. bare_but_last (parameters_of d p) (bare s p)) g) (λ xs m1 n1 q1.
+        then_next (set_object_safe Sure (last_type (parameters_of d p)) v m1 (still n1 v h)) (λ w m2 n2 q2.
+        fine (λ s. (still n2 self (still n1 self i) s, slots_append (reach m2) xs (value w ∷ []) (still_slots n2 xs q1 s) (q2 s, tt), tt))))
+
+    set_by_reader_safe : (x : Member) (o : Option ℕ) (f : Member → Memory → Effect Next) (m : Memory) → Passes m f → Uses m (set_by_reader d x o f m)
+    set_by_reader_safe x None f m k = k x
+    set_by_reader_safe x (Some p) f m k = both (has_parameters (parameters_of d p)) (bad 438 m) (k x)
+
+    set_default_safe : (v : Val) (vs : List Val) (self : Val) (x : Member) (o : Option ℕ) (f : Member → Memory → Effect Next) (m : Memory) → (Sure → Given m v) → (Sure → GivenAll m vs) → (Sure → Given m self) → Passes m f
+        → Uses m (set_default d v vs self x o f m)
+    set_default_safe v vs self x None f m h g i k = set_by_reader_safe x (reader_of x) f m k
+    set_default_safe v vs self x (Some p) f m h g i k =
+        both (has_parameters (without_last (parameters_of d p))) (set_called_safe v vs self p m h g i) (set_by_reader_safe x (reader_of x) f m k)
+
+    set_by_member_safe : (v : Val) (vs : List Val) (self : Val) (x : Option Member) (f : Member → Memory → Effect Next) (m : Memory) → (Sure → Given m v) → (Sure → GivenAll m vs) → (Sure → Given m self) → Passes m f
+        → Uses m (set_by_member d v vs self x f m)
+    set_by_member_safe v vs self None f m h g i k = bad 438 m
+    set_by_member_safe v vs self (Some x) f m h g i k = set_default_safe v vs self x (setter_of x) f m h g i k
+
+    other_set : (v : Val) (vs : List Val) (w : Val) (m : Memory) → (Sure → Ready m) → (Sure → Given m v) → (Sure → Given m w)
+        → Uses m (nothing_more (on_fine (item_by w vs m) (λ u m1. on_fine (set_object (element_of w) v m1) (λ x m2. done m2))))
+    other_set v vs w m r h i =
+        nothing_safe {e = on_fine (item_by w vs m) (λ u m1. on_fine (set_object (element_of w) v m1) (λ x m2. done m2))}
+        (then_next (item_safe Sure w vs m r i) (λ u m1 n1 q1. then_next (set_object_safe Sure (element_of w) v m1 (still n1 v h)) (λ x m2 n2 q2. fine (λ s. tt))))
+
+    set_item_safe : (v : Val) (vs : List Val) (w : Val) (m : Memory) → (Sure → Ready m) → (Sure → Given m v) → (Sure → Given m w) → Uses m (set_item_of v vs w m)
+    set_item_safe v vs (object o) m r h i =
+        then_next (item_safe Sure (object o) vs m r i) (λ w m1 n1 q1. then_next (set_object_safe Sure type.variant v m1 (still n1 v h)) (λ x m2 n2 q2. bad 438 m2))
+    set_item_safe v vs w m r h i = other_set v vs w m r h i
+
+    set_once_safe : (v : Val) (vs : List Val) (w : Val) (f : Member → Memory → Effect Next) (m : Memory) → (Sure → Ready m) → (Sure → Given m v) → (Sure → GivenAll m vs) → (Sure → Given m w) → Passes m f → Uses m (set_once d v vs w f m)
+    set_once_safe v vs w f m r h g i k = both (is_instance w m) (set_by_member_safe v vs w (class_of_value d w m).default f m h g i k) (set_item_safe v vs w m r h i)
+
+    pub set_along_safe : (k : ℕ) (vs : List Val) (v w : Val) (m : Memory) → (Sure → Ready m) → (Sure → Given m v) → (Sure → GivenAll m vs) → (Sure → Given m w) → Uses m (set_along d k vs v w m)
+    set_along_safe zero vs v w m r h g i = set_once_safe v vs w (λ x m1. Bad-at 450 m1) m r h g i (λ x. bad 450 m)
+    set_along_safe (suc k) vs v w m r h g i =
+        set_once_safe v vs w (λ x m1. leads_on d w vs (λ p m2. nothing_more (set_at p v m2)) (set_item k vs v) (λ u m2. set_along d k vs v u m2) x m1) m r h g i (λ x.
+        leads_safe w vs (set_item k vs v) x m r i (λ s. (g s, h s)) (λ p m2 r2 n2 q2. nothing_safe (set_at_safe Sure p v m2 r2 q2 (still n2 v h))) (λ u m2 r2 n2 q2. set_along_safe k vs v u m2 r2 (still n2 v h) (still_all n2 vs g) q2))
+
+    -- ---- For Each over an object of a class
+
+    collection_safe : (v : Val) (m : Memory) → (Sure → Given m v) → Uses m (collection_here v m)
+    collection_safe v m h = both (has_items v m) (fine h) (bad 438 m)
+
+    pub enumerator_safe : (v : Val) (m : Memory) → (Sure → Ready m) → (Sure → Given m v) → Uses m (enumerator_of d v m)
+    enumerator_safe v m r h =
+        both (is_instance v m) (after_safe walked r (read_default_safe v (class_of_value d v m).enumerator m r h) (λ s. tt) (λ w m1 r1 n1 q1. collection_safe w m1 q1)) (fine h)
 
     -- ---- tasks
 
@@ -221,10 +315,12 @@ module _ (Sure : Type 0) where
     task_safe as_operand v m r g h = operand_safe v m r h
     task_safe no_object v m r g h = no_object_safe v m h
     task_safe give_way v m r g h = both (is_instance v m) (operand_safe v m r h) (fine h)
+    task_safe walked v m r g h = collection_safe v m h
     task_safe (fit_to of) v m r g h = over_safe (fitted_safe Sure of v m h)
     task_safe (index_by k vs) v m r g h = index_along_safe k vs v m r h g
     task_safe (write k w) v m r g h = write_along_safe k w v m r g h
     task_safe (let_item k vs w) v m r g h = let_along_safe k vs w v m r (λ s. (g s).1) (λ s. (g s).0) h
+    task_safe (set_item k vs w) v m r g h = set_along_safe k vs w v m r (λ s. (g s).1) (λ s. (g s).0) h
     task_safe (put_in spot) v m r g h = put_value_safe spot v m r h g
     task_safe (read_made q w) v m r g h = read_made_safe q w None m r (λ s. (g s).0) (λ s. (g s).1)
 

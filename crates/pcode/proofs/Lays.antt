@@ -5,7 +5,7 @@ use Rattle.std.proofs.Math.Seq.{get_or-append_seam}
 use Rattle.std.proofs.lemmas.Option.{slice_get-get_or}
 use Rattle.vba_values.specs.declared.types.Compare.{Compare}
 use Rattle.vba_values.specs.Types.{Declared}
-use Rattle.bound_project.specs.Statements.{Tests, no_tests, test_is, test_range, Action, assign, assign_item, set, assign_default, assign_member, set_member, assign_through, assign_element, assign_late, set_late, evaluate, let_property, set_property, let_method, set_method, raise_event, print, raise, test, go_to, for_to, next, for_each, next_each, exit_each, select, case_of, redim, erase, with_place, with_value, end_with, go_sub, return_sub, exit_to, on_error, end_handler, clear_err, resume_again, resume_next, resume_at, stop, end_run, Statement}
+use Rattle.bound_project.specs.Statements.{Tests, no_tests, test_is, test_range, Action, assign, assign_item, set, assign_default, assign_member, set_member, assign_through, assign_element, set_element, assign_late, set_late, evaluate, let_property, set_property, let_method, set_method, raise_event, print, raise, test, go_to, for_to, next, for_each, next_each, exit_each, select, case_of, redim, erase, with_place, with_value, end_with, go_sub, return_sub, exit_to, on_error, end_handler, clear_err, resume_again, resume_next, resume_at, stop, end_run, Statement}
 use Rattle.bound_project.specs.Project.{Project, Body, statements_or, next_or}
 use Rattle.vba_meaning.specs.LateBound.{assigning, setting, which_given}
 use Rattle.pcode.specs.Instructions.{Instr, Leave, list_or, number_or}
@@ -23,8 +23,8 @@ behind c a b h = length-append c a ∙ ap (λ k. length c + k) h ∙ sym (length
 len_tests : (entry : Entry) (ts : Tests) (header : ℕ) (of : Declared) (compare : Compare) (first other : ℕ)
     → length (tests_code entry ts header of compare first other) ≡ length (tests_code (λ i. 0) ts header of compare first other)
 len_tests entry no_tests header of compare first other = refl
-len_tests entry (test_is o e ts) header of compare first other = ap suc (ap suc (behind (expr_code e) _ _ (ap suc (len_tests entry ts header of compare first other))))
-len_tests entry (test_range a b ts) header of compare first other =
+len_tests entry (test_is o at e ts) header of compare first other = ap suc (ap suc (behind (expr_code e) _ _ (ap suc (len_tests entry ts header of compare first other))))
+len_tests entry (test_range a b a_at b_at ts) header of compare first other =
     ap suc (ap suc (behind (expr_code a) _ _ (behind (expr_code b) _ _ (ap suc (len_tests entry ts header of compare first other)))))
 
 len_action : (entry : Entry) (p i k : ℕ) (a : Action) → length (action_code entry p i k a) ≡ length (action_code (λ i. 0) 0 0 k a)
@@ -36,6 +36,7 @@ len_action entry p i k (assign_member base name es e) = behind (expr_code e) _ _
 len_action entry p i k (set_member base e) = behind (expr_code e) _ _ (behind (expr_code base) _ _ refl)
 len_action entry p i k (assign_through x e) = behind (expr_code e) _ _ (behind (expr_code x) _ _ refl)
 len_action entry p i k (assign_element x es e) = behind (expr_code e) _ _ (behind (place_code x) _ _ (behind (list_code es) _ _ refl))
+len_action entry p i k (set_element x es e) = behind (expr_code e) _ _ (behind (place_code x) _ _ (behind (list_code es) _ _ refl))
 len_action entry p i k (assign_late base name by given e) =
     behind (expr_code e) _ _ (behind (expr_code base) _ _ (ap suc (behind (given_code given assigning name by (which_given given) 0) _ _ refl)))
 len_action entry p i k (set_late base name by given e) =
@@ -50,7 +51,7 @@ len_action entry p i k (print ps ends) = behind (prints_code ps) _ _ refl
 len_action entry p i k (raise args) = refl
 len_action entry p i k (test sense e to other) = behind (expr_code e) _ _ refl
 len_action entry p i k (go_to to) = refl
-len_action entry p i k (for_to x compare a b c first other) = ap suc (behind (expr_code a) _ _ (behind (expr_code b) _ _ (behind (expr_code c) _ _ refl)))
+len_action entry p i k (for_to x compare a b c last_at step_at first other) = ap suc (behind (expr_code a) _ _ (behind (expr_code b) _ _ (behind (expr_code c) _ _ refl)))
 len_action entry p i k (next x header first) = refl
 len_action entry p i k (for_each x e first other) = ap suc (behind (expr_code e) _ _ refl)
 len_action entry p i k (next_each x header first) = refl

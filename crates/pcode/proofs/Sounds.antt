@@ -5,8 +5,8 @@ use Rattle.std.proofs.lemmas.List.{length-map}
 use Rattle.std.proofs.lemmas.Option.{same_Some}
 use Rattle.vba_values.specs.declared.types.Compare.{Compare}
 use Rattle.vba_values.specs.Types.{Declared}
-use Rattle.bound_project.specs.Expressions.{Expr, expr, Node, not_given, constant, load, load_made, element_value, field_value, unary, binary, call, err_value, default_of, default_if_any, same, is_type, library, bound_of, host_object, active_sheet, ByName, host_member, named_member, this, new_object, method, late_member, late_item, Lvalue, variable, item, element, field, kept_place, object_field, as_new, Args, no_args, by_place, by_copy, by_default, by_list, in_order, Given, none_given, place_given, expr_given, Exprs, no_exprs, also, Prints, no_prints, shown, zone}
-use Rattle.bound_project.specs.Statements.{Handling, passed_on, skipped, handled_at, Resizes, no_resizes, resize, Arrays, no_arrays, an_array, Tests, no_tests, test_is, test_range, Action, assign, assign_item, set, assign_default, assign_member, set_member, assign_through, assign_element, assign_late, set_late, evaluate, let_property, set_property, let_method, set_method, raise_event, print, raise, test, go_to, for_to, next, for_each, next_each, exit_each, select, case_of, redim, erase, with_place, with_value, end_with, go_sub, return_sub, exit_to, on_error, end_handler, clear_err, resume_again, resume_next, resume_at, stop, end_run, Statement}
+use Rattle.bound_project.specs.Expressions.{Expr, expr, Node, not_given, constant, load, load_made, element_value, field_value, unary, binary, call, err_value, default_of, default_if_any, enumerated, same, is_type, library, bound_of, host_object, active_sheet, ByName, host_member, named_member, this, new_object, method, late_member, late_item, Lvalue, variable, item, element, field, kept_place, object_field, as_new, element_along, late_field, value_place, Args, no_args, by_place, by_copy, by_default, by_list, in_order, Given, none_given, place_given, expr_given, Exprs, no_exprs, also, Prints, no_prints, shown, zone}
+use Rattle.bound_project.specs.Statements.{Handling, passed_on, skipped, handled_at, Resizes, no_resizes, resize, Arrays, no_arrays, an_array, Tests, no_tests, test_is, test_range, Action, assign, assign_item, set, assign_default, assign_member, set_member, assign_through, assign_element, set_element, assign_late, set_late, evaluate, let_property, set_property, let_method, set_method, raise_event, print, raise, test, go_to, for_to, next, for_each, next_each, exit_each, select, case_of, redim, erase, with_place, with_value, end_with, go_sub, return_sub, exit_to, on_error, end_handler, clear_err, resume_again, resume_next, resume_at, stop, end_run, Statement}
 use Rattle.bound_project.specs.Project.{Project, Body, statements_at, statements_or, next_or}
 use Rattle.bound_project.specs.Whole.{All, HasProcedure, HasStatement, HasTarget, argument_count, WholeExpr, WholeNode, WholePlace, WholeArgs, WholeGiven, WholeExprs, WholePrints, WholeTests, WholeResizes, WholeArrays, WholeHandling, WholeAction, WholeStatement, WholeBodies, IsWhole}
 use Rattle.vba_meaning.specs.Effects.{policy_of}
@@ -86,6 +86,7 @@ module _ (pr : Project) (p : ℕ) where
     node_sound (err_value member) h = (tt, tt)
     node_sound (default_of e) h = both (expr_code e) _ (expr_sound e h) (tt, tt)
     node_sound (default_if_any e) h = both (expr_code e) _ (expr_sound e h) (tt, tt)
+    node_sound (enumerated e) h = both (expr_code e) _ (expr_sound e h) (tt, tt)
     node_sound active_sheet h = (tt, tt)
     node_sound (named_member e name by es) h = both (expr_code e) _ (expr_sound e h.0) (tt, both (list_code es) _ (list_sound es h.1) (tt, tt))
     node_sound (host_member e name es) h = both (expr_code e) _ (expr_sound e h.0) (tt, both (list_code es) _ (list_sound es h.1) (tt, tt))
@@ -108,6 +109,9 @@ module _ (pr : Project) (p : ℕ) where
     place_sound (kept_place i) h = (statement_is i h, tt)
     place_sound (object_field e i of bounded) h = both (expr_code e) _ (expr_sound e h.0) (h.1, tt)
     place_sound (as_new c x) h = both (place_code x) _ (place_sound x h) (tt, tt)
+    place_sound (late_field e name) h = both (expr_code e) _ (expr_sound e h) (tt, tt)
+    place_sound (value_place e) h = both (expr_code e) _ (expr_sound e h) (tt, tt)
+    place_sound (element_along x es) h = both (place_code x) _ (place_sound x h.0) (both (list_code es) _ (list_sound es h.1) (tt, tt))
 
     args_sound : (args : Args) → WholeArgs pr p args → Sounds (args_code args)
     args_sound no_args h = tt
@@ -134,9 +138,9 @@ module _ (pr : Project) (p : ℕ) where
   tests_sound : (ts : Tests) (header : ℕ) (of : Declared) (compare : Compare) (most none : ℕ) → WholeTests pr p ts → HasStatement pr p header → HasTarget pr p most → HasTarget pr p none
       → Sounds (tests_code entry ts header of compare most none)
   tests_sound no_tests header of compare most none h a b c = (leads none c, tt)
-  tests_sound (test_is o e ts) header of compare most none h a b c =
+  tests_sound (test_is o at e ts) header of compare most none h a b c =
       (statement_is header a, (tt, both (expr_code e) _ (expr_sound e h.0) (leads most b, tests_sound ts header of compare most none h.1 a b c)))
-  tests_sound (test_range x y ts) header of compare most none h a b c =
+  tests_sound (test_range x y x_at y_at ts) header of compare most none h a b c =
       (statement_is header a, (tt, both (expr_code x) _ (expr_sound x h.0) (both (expr_code y) _ (expr_sound y h.1.0) (leads most b, tests_sound ts header of compare most none h.1.1 a b c))))
 
   resizes_sound : (preserve : Bool) (rs : Resizes) → WholeResizes pr p rs → Sounds (resizes_code preserve rs)
@@ -164,6 +168,8 @@ module _ (pr : Project) (p : ℕ) where
   action_sound (set_member base e) i k own on h = both (expr_code e) _ (expr_sound e h.0) (both (expr_code base) _ (expr_sound base h.1) (tt, (leads k on, tt)))
   action_sound (assign_through x e) i k own on h = both (expr_code e) _ (expr_sound e h.0) (both (expr_code x) _ (expr_sound x h.1) (tt, (tt, (leads k on, tt))))
   action_sound (assign_element x es e) i k own on h =
+      both (expr_code e) _ (expr_sound e h.0) (both (place_code x) _ (place_sound x h.1.0) (both (list_code es) _ (list_sound es h.1.1) (tt, (tt, (leads k on, tt)))))
+  action_sound (set_element x es e) i k own on h =
       both (expr_code e) _ (expr_sound e h.0) (both (place_code x) _ (place_sound x h.1.0) (both (list_code es) _ (list_sound es h.1.1) (tt, (tt, (leads k on, tt)))))
   action_sound (assign_late base name by given e) i k own on h =
       both (expr_code e) _ (expr_sound e h.0) (both (expr_code base) _ (expr_sound base h.1.0) (
@@ -197,7 +203,7 @@ module _ (pr : Project) (p : ℕ) where
   action_sound (raise args) i k own on h = both (args_code args) _ (args_sound args h) (tt, tt)
   action_sound (test sense e to other) i k own on h = both (expr_code e) _ (expr_sound e h.0) ((leads to h.1.0, leads other h.1.1), tt)
   action_sound (go_to to) i k own on h = (leads to h, tt)
-  action_sound (for_to x compare a b c most none) i k own on h = (
+  action_sound (for_to x compare a b c last_at step_at most none) i k own on h = (
     own,
     both (expr_code a) _ (expr_sound a h.0) (both (expr_code b) _ (expr_sound b h.1.0) (both (expr_code c) _ (expr_sound c h.1.1.0)
         ((h.1.1.1.0, own), ((leads most h.1.1.1.1.0, leads none h.1.1.1.1.1), tt)))),

@@ -21,15 +21,15 @@ use Rattle.vba_meaning.specs.References.{objects_in, objects_in_values, hold, he
 use Rattle.vba_meaning.specs.Effects.{Event, Effect, Fine, Bad-at, Out, Tell, plain, lent, slot_values, packed, reordered, printed, loop_off, keep, selected, gone_sub, policy_on, handler_off, err_off, stop_here, taken_by, err_of}
 use Rattle.vba_meaning.specs.Events.{source_of, sinks, due, lent_again, raise_over, change, sheet_of, target_of, no_change}
 use Rattle.vba_meaning.specs.Arrays.{each_off, block_over, keep_path}
-use Rattle.vba_meaning.specs.Host.{is_counted, object_member, is_raise, error_given, assigned_at, item_assigned, member_assigned, member_called, written_default}
+use Rattle.vba_meaning.specs.Host.{is_counted, object_member, is_raise, error_given, assigned_at, item_assigned, member_assigned, member_called, written_default, path_to}
 use Rattle.vba_meaning.specs.ByName.{in_parameter_order}
 use Rattle.vba_meaning.specs.Library.{plain_if_any}
-use Rattle.vba_meaning.specs.Defaults.{Next, gives, then_call, is_instance, counted_operand, counted_if_any, index_along, write_along, tasks_next, most_passed, most_calls}
-use Rattle.vba_meaning.specs.LateBound.{late_there, value_bound, lends_place, place_copied, late_called, host_arguments, let_element, late_let, late_set}
+use Rattle.vba_meaning.specs.Defaults.{Next, gives, then_call, is_instance, counted_operand, counted_if_any, enumerator_of, index_along, has_array, element_by, item_along, write_along, tasks_next, most_passed, most_calls}
+use Rattle.vba_meaning.specs.LateBound.{late_there, value_bound, lends_place, place_copied, late_called, host_arguments, let_element, element_set, late_let, late_set}
 use Rattle.vba_meaning.specs.Meaning.{State, with_memory, turned, left}
 use Rattle.vba_meaning.specs.Objects.{made, own_object, made_for, initialize_of, stored_made, made_at}
-use Rattle.pcode.specs.Instructions.{Instr, Begin, Push, PushHost, LoadErr, PathOf, ReadThrough, ElementOf, ElementIn, FieldOf, Dot, Index, PartOf, Operate, OperateAlone, Plain, PlainIfAny, FirstSheet, MemberThere, MemberOf, NamedThere, NamedOf, PushThis, New, ObjectThere, FieldIn, AsNew, MakeThere, StoreMade, FindLate, BindValue, BindPlace, CallLate, LetLate, SetLate, ItemAlong, WriteThrough, LetElement, Same, IsType, Library, BoundAt, Fit, FitObject, Drop, Lend, Pack, Reorder, Lift, Call, CallOf, Store, SetAt, StoreDefault, StoreMember, StoreItem, SetMember, RaiseEvent, ShowText, Show, Throw, LoopOff, LoopOn, NextRound, EachOff, EachOn, NextItem, Keep, Selected, IfFits, IfBetween, Redim, EraseAt, KeepPath, DropKept, PutReturn, TakeReturn, SetPolicy, HandlerOff, ErrOff, Again, Behind, Resumes, Finish, Branch, Halt, StopHere, Leave, Code, list_or, entry_of}
-use Rattle.pcode.specs.Machine.{After, Goes-on, Decide, Return, Back-to, Pass, Close, Back, Caller, EndOf, Delivering, Within, Config, Move, Goes, Ends, Tells, Turns, at, failing, letting, lets_all, finishes, raised, done_then, then_at, then_push, then_let_go, then_branch, pops, pops_path, take_args, pushed, left_as, follows, uses, base_below, uses_member, initializes, calls_handler, delivers, tells_change, then_changes, then_changes_push, looking, act, finished_by, terminates_by, ends_by, closing, returned_by, passed_on, next_by, takes, comes_by, step, Fin, Done, Unfinished, Stuck, tells, follow, machine, first_move, run_code}
+use Rattle.pcode.specs.Instructions.{Instr, Begin, Push, PushHost, LoadErr, PathOf, ReadThrough, ElementOf, ElementIn, FieldOf, Dot, Index, PartOf, Operate, OperateAlone, Plain, PlainIfAny, Enumerate, FirstSheet, MemberThere, MemberOf, NamedThere, NamedOf, PushThis, New, ObjectThere, FieldIn, AsNew, MakeThere, StoreMade, FindLate, BindValue, BindPlace, CallLate, LetLate, SetLate, ItemAlong, WriteThrough, LetElement, SetElement, ElementAlong, LateField, PlaceOf, Same, IsType, Library, BoundAt, Fit, FitObject, Drop, Lend, Pack, Reorder, Lift, Call, CallOf, Store, SetAt, StoreDefault, StoreMember, StoreItem, SetMember, RaiseEvent, ShowText, Show, Throw, LoopOff, LoopOn, NextRound, EachOff, EachOn, NextItem, Keep, Selected, IfFits, IfBetween, Redim, EraseAt, KeepPath, DropKept, PutReturn, TakeReturn, SetPolicy, HandlerOff, ErrOff, Again, Behind, Resumes, Finish, Branch, Halt, StopHere, Leave, Code, list_or, entry_of}
+use Rattle.pcode.specs.Machine.{After, Goes-on, Decide, Return, Back-to, Pass, Close, Back, Caller, EndOf, Delivering, Within, Config, Move, Goes, Ends, Tells, Turns, at, failing, letting, lets_all, finishes, raised, done_then, then_at, then_push, then_push_path, then_let_go, then_branch, pops, pops_path, take_args, pushed, left_as, follows, uses, base_below, uses_member, initializes, calls_handler, delivers, tells_change, then_changes, then_changes_push, looking, act, finished_by, terminates_by, ends_by, closing, returned_by, passed_on, next_by, takes, comes_by, step, Fin, Done, Unfinished, Stuck, tells, follow, machine, first_move, run_code}
 use Rattle.pcode.specs.WellFormed.{Kind, a_value, a_path, Way, no_way, brings, value_off, path_off, taken_off as kinds_off, kinds_pushed, kinds_reordered, along, along_rest, along_all, Leads, Sound, statement_count, first_address, WellFormed}
 use Rattle.pcode.specs.Steady.{HasEnded, Steady}
 use Rattle.pcode.proofs.OneEnd.{Final, one_end}
@@ -457,7 +457,7 @@ module _ (code : Code) (well : WellFormed code) (bound : ℕ) where
           uses_stops false (late_let code.declared name how gs w x (map received xs) v s.memory) (pc + 1) st4 s u good after e4 on))))
       acts (SetLate name how gs) pc st s u good after on e q h =
           off_stops (length gs) st [] _ _ u e (λ xs st1 e1. value_off_stops st1 _ _ u e1 (λ x st2 e2. value_off_stops st2 _ _ u e2 (λ w st3 e3. value_off_stops st3 _ _ u e3 (λ v st4 e4.
-          uses_stops false (late_set code.declared name how gs w (map received xs) v s.memory) (pc + 1) st4 s u good after e4 on))))
+          uses_stops false (late_set code.declared name how gs w x (map received xs) v s.memory) (pc + 1) st4 s u good after e4 on))))
       acts (ItemAlong k) pc st s u good after on e q h =
           off_stops k st [] _ _ u e (λ xs st1 e1. value_off_stops st1 _ _ u e1 (λ v st2 e2.
           uses_stops false (index_along code.declared most_passed (slot_values xs) v s.memory) (pc + 1) st2 s u good after e2 on))
@@ -466,6 +466,17 @@ module _ (code : Code) (well : WellFormed code) (bound : ℕ) where
       acts (LetElement k) pc st s u good after on e q h =
           off_stops k st [] _ _ u e (λ xs st1 e1. path_off_stops st1 _ _ u e1 (λ p st2 e2. value_off_stops st2 _ _ u e2 (λ v st3 e3.
           uses_stops false (let_element code.declared p (slot_values xs) v s.memory) (pc + 1) st3 s u good after e3 on)))
+      acts (SetElement k) pc st s u good after on e q h =
+          off_stops k st [] _ _ u e (λ xs st1 e1. path_off_stops st1 _ _ u e1 (λ p st2 e2. value_off_stops st2 _ _ u e2 (λ v st3 e3.
+          uses_stops false (element_set code.declared p (slot_values xs) v s.memory) (pc + 1) st3 s u good after e3 on)))
+      acts (ElementAlong k) pc st s u good after on e q h =
+          off_stops k st [] _ _ u e (λ xs st1 e1. path_off_stops st1 _ _ u e1 (λ p st2 e2.
+          either (has_array p s.memory)
+          (does (element_by p (slot_values xs) s.memory) bs s (then_push_path (pc + 1) st2 bs) l.good good (λ r s1 g1. on (path r ∷ st2) s1 g1 e2))
+          (uses_stops true (item_along code.declared p (slot_values xs) s.memory) (pc + 1) st2 s u good after e2 on)))
+      acts (LateField name) pc st s u good after on e q h = value_off_stops st _ _ u e (λ v st1 e1. does _ bs s _ l.good good (λ p s1 g1. on (path p ∷ st1) s1 g1 e1))
+      acts Enumerate pc st s u good after on e q h = value_off_stops st _ _ u e (λ v st1 e1. uses_stops false (enumerator_of code.declared v s.memory) (pc + 1) st1 s u good after e1 on)
+      acts PlaceOf pc st s u good after on e q h = value_off_stops st _ _ u e (λ v st1 e1. on (path (path_to v) ∷ st1) s good e1)
       acts PushThis pc st s u good after on e q h = does (own_object s.memory) bs s (then_push (pc + 1) st bs) l.good good (λ v s1 g1. on (value v ∷ st) s1 g1 e)
       acts (New c) pc st s u good after on e q h =
           does (made code.declared c s.memory) bs s (λ v s1. initializes code (class_at code.declared c).initialize v (pc + 1) st bs s1) l.good good (λ v s1 g1. initial_stops (class_at code.declared c).initialize v (pc + 1) st s1 (after ∙ sym e) g1 (on (value empty ∷ value v ∷ st) s1 g1 e))

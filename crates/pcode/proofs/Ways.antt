@@ -3,8 +3,8 @@ use Rattle.std.proofs.Common.{◌≡◌, ℕ, suc, ◌+◌, Bool, List, [], ◌�
 use Rattle.std.proofs.lemmas.List.{append-nil}
 use Rattle.vba_values.specs.declared.types.Compare.{Compare}
 use Rattle.vba_values.specs.Types.{Declared}
-use Rattle.bound_project.specs.Expressions.{Expr, expr, Node, not_given, constant, load, load_made, element_value, field_value, unary, binary, call, err_value, default_of, default_if_any, same, is_type, library, bound_of, host_object, active_sheet, ByName, host_member, named_member, this, new_object, method, late_member, late_item, Lvalue, variable, item, element, field, kept_place, object_field, as_new, Args, no_args, by_place, by_copy, by_default, by_list, in_order, Given, none_given, place_given, expr_given, Exprs, no_exprs, also, Prints, no_prints, shown, zone}
-use Rattle.bound_project.specs.Statements.{Resizes, no_resizes, resize, Arrays, no_arrays, an_array, Tests, no_tests, test_is, test_range, Action, assign, assign_item, set, assign_default, assign_member, set_member, assign_through, assign_element, assign_late, set_late, evaluate, let_property, set_property, let_method, set_method, raise_event, print, raise, test, go_to, for_to, next, for_each, next_each, exit_each, select, case_of, redim, erase, with_place, with_value, end_with, go_sub, return_sub, exit_to, on_error, end_handler, clear_err, resume_again, resume_next, resume_at, stop, end_run, Statement}
+use Rattle.bound_project.specs.Expressions.{Expr, expr, Node, not_given, constant, load, load_made, element_value, field_value, unary, binary, call, err_value, default_of, default_if_any, enumerated, same, is_type, library, bound_of, host_object, active_sheet, ByName, host_member, named_member, this, new_object, method, late_member, late_item, Lvalue, variable, item, element, field, kept_place, object_field, as_new, element_along, late_field, value_place, Args, no_args, by_place, by_copy, by_default, by_list, in_order, Given, none_given, place_given, expr_given, Exprs, no_exprs, also, Prints, no_prints, shown, zone}
+use Rattle.bound_project.specs.Statements.{Resizes, no_resizes, resize, Arrays, no_arrays, an_array, Tests, no_tests, test_is, test_range, Action, assign, assign_item, set, assign_default, assign_member, set_member, assign_through, assign_element, set_element, assign_late, set_late, evaluate, let_property, set_property, let_method, set_method, raise_event, print, raise, test, go_to, for_to, next, for_each, next_each, exit_each, select, case_of, redim, erase, with_place, with_value, end_with, go_sub, return_sub, exit_to, on_error, end_handler, clear_err, resume_again, resume_next, resume_at, stop, end_run, Statement}
 use Rattle.bound_project.specs.Project.{Project, Body}
 use Rattle.vba_meaning.specs.LateBound.{Use, reading, assigning, setting, which_given}
 use Rattle.pcode.specs.Instructions.{Instr, Plain, Fit, FitObject, Call, CallOf, Drop, Finish}
@@ -117,6 +117,7 @@ mutual
   node_gives (err_value member) ks = record { by = λ rest. refl }
   node_gives (default_of e) ks = then_gives (expr_code e) _ (expr_gives e ks) (record { by = λ rest. refl })
   node_gives (default_if_any e) ks = then_gives (expr_code e) _ (expr_gives e ks) (record { by = λ rest. refl })
+  node_gives (enumerated e) ks = then_gives (expr_code e) _ (expr_gives e ks) (record { by = λ rest. refl })
   node_gives active_sheet ks = record { by = λ rest. refl }
   node_gives (named_member e name by es) ks =
       then_gives (expr_code e) _ (expr_gives e ks) (record { by = λ rest. (then_gives (list_code es) _ (list_gives es (a_value ∷ a_value ∷ ks)) (record { by = λ more. counts (list_kinds es) _ _ _ more _ (lists_count es) refl })).by rest })
@@ -147,6 +148,10 @@ mutual
   place_gives (kept_place i) ks = record { by = λ rest. refl }
   place_gives (object_field e i of bounded) ks = then_gives (expr_code e) _ (expr_gives e ks) (record { by = λ rest. refl })
   place_gives (as_new c x) ks = then_gives (place_code x) _ (place_gives x ks) (record { by = λ rest. refl })
+  place_gives (late_field e name) ks = then_gives (expr_code e) _ (expr_gives e ks) (record { by = λ rest. refl })
+  place_gives (value_place e) ks = then_gives (expr_code e) _ (expr_gives e ks) (record { by = λ rest. refl })
+  place_gives (element_along x es) ks =
+      then_gives (place_code x) _ (place_gives x ks) (then_gives (list_code es) _ (list_gives es (a_path ∷ ks)) (record { by = λ rest. counts (list_kinds es) _ _ _ rest _ (lists_count es) refl }))
 
   args_give : (args : Args) (ks : List Kind) → Gives (args_code args) ks (kinds_pushed (args_kinds args) ks)
   args_give no_args ks = record { by = λ rest. refl }
@@ -173,9 +178,9 @@ prints_give (zone ps) ks = record { by = λ rest. (prints_give ps (a_value ∷ k
 
 tests_close : (entry : Entry) (ts : Tests) (header : ℕ) (of : Declared) (compare : Compare) (most none : ℕ) → Closes (tests_code entry ts header of compare most none) []
 tests_close entry no_tests header of compare most none = record { by = λ rest. refl }
-tests_close entry (test_is o e ts) header of compare most none =
+tests_close entry (test_is o at e ts) header of compare most none =
     record { by = λ rest. (then_closes (expr_code e) _ (expr_gives e (a_value ∷ [])) (record { by = λ rest. (tests_close entry ts header of compare most none).by rest })).by rest }
-tests_close entry (test_range a b ts) header of compare most none =
+tests_close entry (test_range a b a_at b_at ts) header of compare most none =
     record { by = λ rest. (then_closes (expr_code a) _ (expr_gives a (a_value ∷ [])) (then_closes (expr_code b) _ (expr_gives b (a_value ∷ a_value ∷ [])) (record { by = λ rest. (tests_close entry ts header of compare most none).by rest }))).by rest }
 
 resizes_give : (preserve : Bool) (rs : Resizes) → Gives (resizes_code preserve rs) [] []
@@ -202,6 +207,9 @@ action_closes entry p i k (assign_member base name es e) =
 action_closes entry p i k (set_member base e) = then_closes (expr_code e) _ (expr_gives e []) (then_closes (expr_code base) _ (expr_gives base (a_value ∷ [])) (record { by = λ rest. refl }))
 action_closes entry p i k (assign_through x e) = then_closes (expr_code e) _ (expr_gives e []) (then_closes (expr_code x) _ (expr_gives x (a_value ∷ [])) (record { by = λ rest. refl }))
 action_closes entry p i k (assign_element x es e) =
+    then_closes (expr_code e) _ (expr_gives e []) (then_closes (place_code x) _ (place_gives x (a_value ∷ [])) (then_closes (list_code es) _ (list_gives es (a_path ∷ a_value ∷ []))
+    (record { by = λ rest. counts (list_kinds es) _ _ _ (Drop ∷ Finish (entry k) ∷ rest) _ (lists_count es) refl })))
+action_closes entry p i k (set_element x es e) =
     then_closes (expr_code e) _ (expr_gives e []) (then_closes (place_code x) _ (place_gives x (a_value ∷ [])) (then_closes (list_code es) _ (list_gives es (a_path ∷ a_value ∷ []))
     (record { by = λ rest. counts (list_kinds es) _ _ _ (Drop ∷ Finish (entry k) ∷ rest) _ (lists_count es) refl })))
 action_closes entry p i k (assign_late base name how given e) =
@@ -236,7 +244,7 @@ action_closes entry p i k (print ps ends) = then_closes (prints_code ps) _ (prin
 action_closes entry p i k (raise args) = then_closes (args_code args) _ (args_give args []) (record { by = λ rest. counts (args_kinds args) _ _ _ rest _ (args_count args) refl })
 action_closes entry p i k (test sense e to other) = then_closes (expr_code e) _ (expr_gives e []) (record { by = λ rest. refl })
 action_closes entry p i k (go_to to) = record { by = λ rest. refl }
-action_closes entry p i k (for_to x compare a b c most none) =
+action_closes entry p i k (for_to x compare a b c last_at step_at most none) =
     record { by = λ rest. (then_closes (expr_code a) _ (expr_gives a []) (then_closes (expr_code b) _ (expr_gives b (a_value ∷ [])) (then_closes (expr_code c) _ (expr_gives c (a_value ∷ a_value ∷ [])) (record { by = λ rest. refl })))).by rest }
 action_closes entry p i k (next x header most) = record { by = λ rest. refl }
 action_closes entry p i k (for_each x e most none) = record { by = λ rest. (then_closes (expr_code e) _ (expr_gives e []) (record { by = λ rest. refl })).by rest }

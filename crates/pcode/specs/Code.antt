@@ -3,11 +3,11 @@ use Rattle.std.specs.Prelude.{ℕ, suc, Bool, true, List, [], ◌∷◌, ◌++�
 use Rattle.vba_values.specs.declared.types.Compare.{Compare}
 use Rattle.vba_values.specs.Types.{Declared}
 use Rattle.vba_values.specs.Val.{missing, empty}
-use Rattle.bound_project.specs.Expressions.{Expr, expr, Node, not_given, constant, load, load_made, element_value, field_value, unary, binary, call, err_value, default_of, default_if_any, same, is_type, library, bound_of, host_object, active_sheet, ByName, host_member, named_member, this, new_object, method, late_member, late_item, Lvalue, variable, item, element, field, kept_place, object_field, as_new, Args, no_args, by_place, by_copy, by_default, by_list, in_order, Given, none_given, place_given, expr_given, Exprs, no_exprs, also, given_count, Prints, no_prints, shown, zone, operand_type}
-use Rattle.bound_project.specs.Statements.{Resizes, no_resizes, resize, Arrays, no_arrays, an_array, Tests, no_tests, test_is, test_range, Action, assign, assign_item, set, assign_default, assign_member, set_member, assign_through, assign_element, assign_late, set_late, evaluate, let_property, set_property, let_method, set_method, raise_event, print, raise, test, go_to, for_to, next, for_each, next_each, exit_each, select, case_of, redim, erase, with_place, with_value, end_with, go_sub, return_sub, exit_to, on_error, end_handler, clear_err, resume_again, resume_next, resume_at, stop, end_run, Statement}
+use Rattle.bound_project.specs.Expressions.{Expr, expr, Node, not_given, constant, load, load_made, element_value, field_value, unary, binary, call, err_value, default_of, default_if_any, enumerated, same, is_type, library, bound_of, host_object, active_sheet, ByName, host_member, named_member, this, new_object, method, late_member, late_item, Lvalue, variable, item, element, field, kept_place, object_field, as_new, element_along, late_field, value_place, Args, no_args, by_place, by_copy, by_default, by_list, in_order, Given, none_given, place_given, expr_given, Exprs, no_exprs, also, given_count, Prints, no_prints, shown, zone, operand_type}
+use Rattle.bound_project.specs.Statements.{Resizes, no_resizes, resize, Arrays, no_arrays, an_array, Tests, no_tests, test_is, test_range, Action, assign, assign_item, set, assign_default, assign_member, set_member, assign_through, assign_element, set_element, assign_late, set_late, evaluate, let_property, set_property, let_method, set_method, raise_event, print, raise, test, go_to, for_to, next, for_each, next_each, exit_each, select, case_of, redim, erase, with_place, with_value, end_with, go_sub, return_sub, exit_to, on_error, end_handler, clear_err, resume_again, resume_next, resume_at, stop, end_run, Statement}
 use Rattle.vba_meaning.specs.Effects.{policy_of}
 use Rattle.vba_meaning.specs.LateBound.{Use, reading, assigning, setting, which_given}
-use Rattle.pcode.specs.Instructions.{Instr, Begin, Push, LoadErr, PathOf, ReadThrough, ElementOf, ElementIn, FieldOf, Dot, Index, PartOf, Operate, OperateAlone, Plain, PlainIfAny, PushHost, FirstSheet, MemberThere, MemberOf, NamedThere, NamedOf, PushThis, New, ObjectThere, FieldIn, AsNew, MakeThere, StoreMade, FindLate, BindValue, BindPlace, CallLate, LetLate, SetLate, ItemAlong, WriteThrough, LetElement, Same, IsType, Library, BoundAt, Fit, FitObject, Drop, Lend, Pack, Reorder, Lift, Call, CallOf, Store, SetAt, StoreDefault, StoreMember, StoreItem, SetMember, RaiseEvent, ShowText, Show, Throw, LoopOff, LoopOn, NextRound, EachOff, EachOn, NextItem, Keep, Selected, IfFits, IfBetween, Redim, EraseAt, KeepPath, DropKept, PutReturn, TakeReturn, SetPolicy, HandlerOff, ErrOff, Again, Behind, Resumes, Finish, Branch, Halt, StopHere}
+use Rattle.pcode.specs.Instructions.{Instr, Begin, Push, LoadErr, PathOf, ReadThrough, ElementOf, ElementIn, FieldOf, Dot, Index, PartOf, Operate, OperateAlone, Plain, PlainIfAny, Enumerate, PushHost, FirstSheet, MemberThere, MemberOf, NamedThere, NamedOf, PushThis, New, ObjectThere, FieldIn, AsNew, MakeThere, StoreMade, FindLate, BindValue, BindPlace, CallLate, LetLate, SetLate, ItemAlong, WriteThrough, LetElement, SetElement, ElementAlong, LateField, PlaceOf, Same, IsType, Library, BoundAt, Fit, FitObject, Drop, Lend, Pack, Reorder, Lift, Call, CallOf, Store, SetAt, StoreDefault, StoreMember, StoreItem, SetMember, RaiseEvent, ShowText, Show, Throw, LoopOff, LoopOn, NextRound, EachOff, EachOn, NextItem, Keep, Selected, IfFits, IfBetween, Redim, EraseAt, KeepPath, DropKept, PutReturn, TakeReturn, SetPolicy, HandlerOff, ErrOff, Again, Behind, Resumes, Finish, Branch, Halt, StopHere}
 
 -- how many slots arguments are
 abbrev pub count : Args → ℕ
@@ -44,6 +44,7 @@ abbrev mutual
   node_code (err_value member) = LoadErr member ∷ []
   node_code (default_of e) = expr_code e ++ Plain ∷ []
   node_code (default_if_any e) = expr_code e ++ PlainIfAny ∷ []
+  node_code (enumerated e) = expr_code e ++ Enumerate ∷ []
   node_code (host_object reference) = PushHost reference ∷ []
   node_code active_sheet = FirstSheet ∷ []
   node_code (named_member e name by es) = expr_code e ++ NamedThere name by (given_count es) ∷ (list_code es ++ NamedOf name by (list_count es) ∷ [])
@@ -67,6 +68,9 @@ abbrev mutual
   place_code (kept_place i) = Dot i ∷ []
   place_code (object_field e i of bounded) = expr_code e ++ FieldIn i of bounded ∷ []
   place_code (as_new c x) = place_code x ++ AsNew c ∷ []
+  place_code (late_field e name) = expr_code e ++ LateField name ∷ []
+  place_code (value_place e) = expr_code e ++ PlaceOf ∷ []
+  place_code (element_along x es) = place_code x ++ (list_code es ++ ElementAlong (list_count es) ∷ [])
 
   pub args_code : Args → List Instr
   args_code no_args = []
@@ -96,9 +100,9 @@ Entry = ℕ → ℕ
 
 abbrev pub tests_code : Entry → Tests → (header : ℕ) → Declared → Compare → (first other : ℕ) → List Instr
 tests_code entry no_tests header of compare first other = Finish (entry other) ∷ []
-tests_code entry (test_is o e ts) header of compare first other =
+tests_code entry (test_is o at e ts) header of compare first other =
     Selected header ∷ Plain ∷ (expr_code e ++ IfFits o compare of (operand_type e) (entry first) ∷ tests_code entry ts header of compare first other)
-tests_code entry (test_range a b ts) header of compare first other =
+tests_code entry (test_range a b a_at b_at ts) header of compare first other =
     Selected header ∷ Plain ∷ (expr_code a ++ (expr_code b ++ IfBetween compare of (operand_type a) (operand_type b) (entry first) ∷ tests_code entry ts header of compare first other))
 
 abbrev pub resizes_code : Bool → Resizes → List Instr
@@ -120,6 +124,7 @@ action_code entry p i k (assign_member base name es e) =
 action_code entry p i k (set_member base e) = expr_code e ++ (expr_code base ++ (SetMember ∷ Finish (entry k) ∷ []))
 action_code entry p i k (assign_through x e) = expr_code e ++ (expr_code x ++ (WriteThrough ∷ Drop ∷ Finish (entry k) ∷ []))
 action_code entry p i k (assign_element x es e) = expr_code e ++ (place_code x ++ (list_code es ++ (LetElement (list_count es) ∷ Drop ∷ Finish (entry k) ∷ [])))
+action_code entry p i k (set_element x es e) = expr_code e ++ (place_code x ++ (list_code es ++ (SetElement (list_count es) ∷ Drop ∷ Finish (entry k) ∷ [])))
 action_code entry p i k (assign_late base name by given e) =
     expr_code e ++ (expr_code base ++ FindLate assigning name by (which_given given) ∷
     (given_code given assigning name by (which_given given) 0 ++ (LetLate name by (which_given given) ∷ Drop ∷ Finish (entry k) ∷ [])))
@@ -138,7 +143,7 @@ action_code entry p i k (print ps ends) = prints_code ps ++ (Show ends (prints_c
 action_code entry p i k (raise args) = args_code args ++ Throw (count args) ∷ []
 action_code entry p i k (test sense e to other) = expr_code e ++ Branch sense (entry to) (entry other) ∷ []
 action_code entry p i k (go_to to) = Finish (entry to) ∷ []
-action_code entry p i k (for_to x compare a b c first behind) =
+action_code entry p i k (for_to x compare a b c last_at step_at first behind) =
     LoopOff i ∷ (expr_code a ++ (expr_code b ++ (expr_code c ++ (LoopOn x i compare (operand_type b) (operand_type c) ∷ Branch true (entry first) (entry behind) ∷ []))))
 action_code entry p i k (next x header first) = NextRound x header ∷ Branch true (entry first) (entry k) ∷ []
 action_code entry p i k (for_each x e first behind) = EachOff i ∷ (expr_code e ++ (EachOn i ∷ NextItem x i ∷ Branch true (entry first) (entry behind) ∷ []))

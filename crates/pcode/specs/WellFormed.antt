@@ -4,7 +4,7 @@ use Rattle.std.specs.Prelude.{◌≡◌, ℕ, zero, suc, ◌<◌, ◌≤◌, Lis
 use Rattle.error_frames.specs.declared.frame.Policy.{Policy}
 use Rattle.error_frames.specs.declared.frame.Policy.TheVariants as policy
 use Rattle.bound_project.specs.Whole.{All, IfThere, IsConstant, HasType, HasVariable, HasProcedure, WholeClass}
-use Rattle.pcode.specs.Instructions.{Instr, Begin, Push, PushHost, LoadErr, PathOf, ReadThrough, ElementOf, ElementIn, FieldOf, Dot, Index, PartOf, Operate, OperateAlone, Plain, PlainIfAny, FirstSheet, MemberThere, MemberOf, NamedThere, NamedOf, PushThis, New, ObjectThere, FieldIn, AsNew, MakeThere, StoreMade, FindLate, BindValue, BindPlace, CallLate, LetLate, SetLate, ItemAlong, WriteThrough, LetElement, Same, IsType, Library, BoundAt, Fit, FitObject, Drop, Lend, Pack, Reorder, Lift, Call, CallOf, Store, SetAt, StoreDefault, StoreMember, StoreItem, SetMember, RaiseEvent, ShowText, Show, Throw, LoopOff, LoopOn, NextRound, EachOff, EachOn, NextItem, Keep, Selected, IfFits, IfBetween, Redim, EraseAt, KeepPath, DropKept, PutReturn, TakeReturn, SetPolicy, Again, Behind, Resumes, Finish, Branch, Halt, Leave, Code, list_or, entry_of, next_statement}
+use Rattle.pcode.specs.Instructions.{Instr, Begin, Push, PushHost, LoadErr, PathOf, ReadThrough, ElementOf, ElementIn, FieldOf, Dot, Index, PartOf, Operate, OperateAlone, Plain, PlainIfAny, Enumerate, FirstSheet, MemberThere, MemberOf, NamedThere, NamedOf, PushThis, New, ObjectThere, FieldIn, AsNew, MakeThere, StoreMade, FindLate, BindValue, BindPlace, CallLate, LetLate, SetLate, ItemAlong, WriteThrough, LetElement, SetElement, ElementAlong, LateField, PlaceOf, Same, IsType, Library, BoundAt, Fit, FitObject, Drop, Lend, Pack, Reorder, Lift, Call, CallOf, Store, SetAt, StoreDefault, StoreMember, StoreItem, SetMember, RaiseEvent, ShowText, Show, Throw, LoopOff, LoopOn, NextRound, EachOff, EachOn, NextItem, Keep, Selected, IfFits, IfBetween, Redim, EraseAt, KeepPath, DropKept, PutReturn, TakeReturn, SetPolicy, Again, Behind, Resumes, Finish, Branch, Halt, Leave, Code, list_or, entry_of, next_statement}
 
 -- ---- operands
 
@@ -69,6 +69,7 @@ behind (Operate o compare l r) ks = value_off ks (λ js. value_off js brings_val
 behind (OperateAlone o of) ks = value_off ks brings_value
 behind Plain ks = value_off ks brings_value
 behind PlainIfAny ks = value_off ks brings_value
+behind Enumerate ks = value_off ks brings_value
 behind Same ks = value_off ks (λ js. value_off js brings_value)
 behind PushThis ks = brings_value ks
 behind (New c) ks = brings_value (a_value ∷ ks)
@@ -86,6 +87,10 @@ behind (SetLate name by gs) ks = taken_off (length gs) ks [] (λ xs js. value_of
 behind (ItemAlong n) ks = taken_off n ks [] (λ xs js. value_off js brings_value)
 behind WriteThrough ks = value_off ks (λ js. value_off js brings_value)
 behind (LetElement n) ks = taken_off n ks [] (λ xs js. path_off js (λ is. value_off is brings_value))
+behind (SetElement n) ks = taken_off n ks [] (λ xs js. path_off js (λ is. value_off is brings_value))
+behind (ElementAlong n) ks = taken_off n ks [] (λ xs js. path_off js brings_path)
+behind (LateField name) ks = value_off ks brings_path
+behind PlaceOf ks = value_off ks brings_path
 behind (IsType of) ks = value_off ks brings_value
 behind FirstSheet ks = brings_value ks
 behind (MemberThere name n) ks = value_off ks (λ js. brings_value (a_value ∷ js))

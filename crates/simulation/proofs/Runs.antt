@@ -6,8 +6,8 @@ use Rattle.vba_values.specs.declared.types.Compare.{Compare}
 use Rattle.vba_values.specs.Types.{Declared}
 use Rattle.vba_values.specs.Val.{Val, boolean, empty, missing, object}
 use Rattle.error_frames.specs.declared.frame.ResumeKind.TheVariants as kind
-use Rattle.bound_project.specs.Expressions.{Expr, expr, Node, not_given, constant, load, load_made, element_value, field_value, unary, binary, call, err_value, default_of, default_if_any, same, is_type, library, bound_of, host_object, active_sheet, ByName, host_member, named_member, this, new_object, method, late_member, late_item, Lvalue, variable, item, element, field, kept_place, object_field, as_new, Args, no_args, by_place, by_copy, by_default, by_list, in_order, Given, none_given, place_given, expr_given, Exprs, no_exprs, also, given_count, Prints, no_prints, shown, zone, operand_type}
-use Rattle.bound_project.specs.Statements.{Resizes, no_resizes, resize, Arrays, no_arrays, an_array, Tests, no_tests, test_is, test_range, Action, assign, assign_item, set, assign_default, assign_member, set_member, assign_through, assign_element, assign_late, set_late, evaluate, let_property, set_property, let_method, set_method, raise_event, print, raise, test, go_to, for_to, next, for_each, next_each, exit_each, select, case_of, redim, erase, with_place, with_value, end_with, go_sub, return_sub, exit_to, on_error, end_handler, clear_err, resume_again, resume_next, resume_at, stop, end_run}
+use Rattle.bound_project.specs.Expressions.{Expr, expr, Node, not_given, constant, load, load_made, element_value, field_value, unary, binary, call, err_value, default_of, default_if_any, enumerated, same, is_type, library, bound_of, host_object, active_sheet, ByName, host_member, named_member, this, new_object, method, late_member, late_item, Lvalue, variable, item, element, field, kept_place, object_field, as_new, element_along, late_field, value_place, Args, no_args, by_place, by_copy, by_default, by_list, in_order, Given, none_given, place_given, expr_given, Exprs, no_exprs, also, given_count, Prints, no_prints, shown, zone, operand_type}
+use Rattle.bound_project.specs.Statements.{Resizes, no_resizes, resize, Arrays, no_arrays, an_array, Tests, no_tests, test_is, test_range, Action, assign, assign_item, set, assign_default, assign_member, set_member, assign_through, assign_element, set_element, assign_late, set_late, evaluate, let_property, set_property, let_method, set_method, raise_event, print, raise, test, go_to, for_to, next, for_each, next_each, exit_each, select, case_of, redim, erase, with_place, with_value, end_with, go_sub, return_sub, exit_to, on_error, end_handler, clear_err, resume_again, resume_next, resume_at, stop, end_run}
 use Rattle.vba_events.specs.declared.linked.Linked.{Linked}
 use Rattle.sheet_host.specs.declared.area.Area.{Area}
 use Rattle.bound_project.specs.Project.{Declarations, Project, class_at, next_of}
@@ -20,11 +20,11 @@ use Rattle.vba_meaning.specs.Objects.{compared, typed_as, set_at, made, own_obje
 use Rattle.vba_meaning.specs.Host.{first_sheet, item_by, place_at, assigned_at, member_there, member_called, is_counted, object_member, is_raise, error_given, item_assigned, member_not_set, written_default, member_assigned, path_to}
 use Rattle.vba_meaning.specs.ByName.{named_there, in_parameter_order}
 use Rattle.vba_meaning.specs.Library.{library_called, bound_at, plain_if_any}
-use Rattle.vba_meaning.specs.Defaults.{Task, Next, gives, then_call, is_instance, counted_operand, counted_if_any, index_along, write_along, tasks_next, most_passed, most_calls}
-use Rattle.vba_meaning.specs.LateBound.{Use, reading, assigning, setting, which_given, late_there, value_bound, lends_place, place_copied, late_called, host_arguments, let_element, late_let, late_set}
-use Rattle.vba_meaning.specs.Meaning.{State, Res, Got, ◌>>=◌, with_memory, raise_error, perform, Callee, initialized, eval, eval_node, eval_place, evals, eval_list, eval_prints, tested, cases, resizes, erases, exec, handled, delivered, change_told, changes, member_used, goes_on, used, operand_value, operand_if_any, late_used, place_bound, eval_given}
-use Rattle.pcode.specs.Instructions.{Instr, Push, LoadErr, PathOf, ReadThrough, ElementOf, ElementIn, FieldOf, Dot, Index, PartOf, Operate, OperateAlone, Plain, PlainIfAny, PushHost, FirstSheet, MemberThere, MemberOf, NamedThere, NamedOf, PushThis, New, ObjectThere, FieldIn, AsNew, MakeThere, StoreMade, FindLate, BindValue, BindPlace, CallLate, LetLate, SetLate, ItemAlong, WriteThrough, LetElement, Same, IsType, Library, BoundAt, Fit, FitObject, Drop, Lend, Pack, Reorder, Lift, Call, CallOf, Store, SetAt, StoreDefault, StoreMember, StoreItem, SetMember, RaiseEvent, ShowText, Show, Throw, LoopOff, LoopOn, NextRound, EachOff, EachOn, NextItem, Keep, Selected, IfFits, IfBetween, Redim, EraseAt, KeepPath, DropKept, PutReturn, TakeReturn, SetPolicy, HandlerOff, ErrOff, Again, Behind, Resumes, Finish, Branch, Halt, StopHere, Code}
-use Rattle.pcode.specs.Machine.{After, Back-to, Back, Delivering, Within, Move, Goes, at, letting, finishes, raised, done_then, then_at, then_let_go, then_test, then_jump, then_branch, pushed, enter_by, calls, initializes, then_statement, looking, act, comes_by, calls_handler, delivers, tells_change, then_changes, then_changes_push, uses_member, left_as, follows, resumes, uses, gives_way, gives_way_if_any, base_below, binds_place, calls_late}
+use Rattle.vba_meaning.specs.Defaults.{Task, Next, gives, then_call, is_instance, counted_operand, counted_if_any, enumerator_of, index_along, has_array, element_by, item_along, write_along, tasks_next, most_passed, most_calls}
+use Rattle.vba_meaning.specs.LateBound.{Use, reading, assigning, setting, which_given, public_variable, late_there, value_bound, lends_place, place_copied, late_called, host_arguments, let_element, element_set, late_let, late_set}
+use Rattle.vba_meaning.specs.Meaning.{State, Res, Got, ◌>>=◌, with_memory, raise_error, perform, Callee, initialized, eval, eval_node, eval_place, evals, eval_list, eval_prints, tested, cases, resizes, erases, exec, handled, delivered, change_told, changes, member_used, goes_on, used, operand_value, operand_if_any, late_used, place_bound, place_along, eval_given}
+use Rattle.pcode.specs.Instructions.{Instr, Push, LoadErr, PathOf, ReadThrough, ElementOf, ElementIn, FieldOf, Dot, Index, PartOf, Operate, OperateAlone, Plain, PlainIfAny, Enumerate, PushHost, FirstSheet, MemberThere, MemberOf, NamedThere, NamedOf, PushThis, New, ObjectThere, FieldIn, AsNew, MakeThere, StoreMade, FindLate, BindValue, BindPlace, CallLate, LetLate, SetLate, ItemAlong, WriteThrough, LetElement, SetElement, ElementAlong, LateField, PlaceOf, Same, IsType, Library, BoundAt, Fit, FitObject, Drop, Lend, Pack, Reorder, Lift, Call, CallOf, Store, SetAt, StoreDefault, StoreMember, StoreItem, SetMember, RaiseEvent, ShowText, Show, Throw, LoopOff, LoopOn, NextRound, EachOff, EachOn, NextItem, Keep, Selected, IfFits, IfBetween, Redim, EraseAt, KeepPath, DropKept, PutReturn, TakeReturn, SetPolicy, HandlerOff, ErrOff, Again, Behind, Resumes, Finish, Branch, Halt, StopHere, Code}
+use Rattle.pcode.specs.Machine.{After, Back-to, Back, Delivering, Within, Move, Goes, at, letting, finishes, raised, done_then, then_at, then_let_go, then_test, then_jump, then_branch, pushed, enter_by, calls, initializes, then_statement, looking, act, comes_by, calls_handler, delivers, tells_change, then_changes, then_changes_push, uses_member, left_as, follows, resumes, uses, gives_way, gives_way_if_any, base_below, binds_place, places_along, calls_late}
 use Rattle.pcode.specs.Code.{count, prints_count, expr_code, node_code, place_code, args_code, list_code, prints_code, resizes_code, erases_code, given_code, Entry, tests_code, action_code}
 use Rattle.pcode.specs.Layout.{Laid}
 use Rattle.pcode.proofs.Stands.{UpTo, up_split}
@@ -165,6 +165,13 @@ module _ (pr : Project) (code : Code) (bound n : ℕ) (callee : Callee) (known :
       (bind (used callee pr (place_copied pr.declared aim name by gs i (base_below i st) q) s) (used_runs true (place_copied pr.declared aim name by gs i (base_below i st) q) pc st bs s good) (λ v s1 g1.
       here {got = on_path st bs pc} (path_to v) s1 g1)))
 
+  -- what arguments lead to from a place
+  along_runs : (q : Path) (vs : List Val) (pc : ℕ) (st : List Slot) (bs : List Back) (s : State) → Enough bound n s
+      → Runs code bound n (places_along code q vs pc st bs s) (on_path st bs pc) (failed bs) (place_along callee pr q vs s)
+  along_runs q vs pc st bs s good =
+      either (has_array q s.memory) (performs {got = on_path st bs pc} (element_by q vs) bs s good)
+      (bind (used callee pr (item_along pr.declared q vs) s) (uses_run true (λ d m. item_along d q vs m) pc st bs s good) (λ v s1 g1. here {got = on_path st bs pc} (path_to v) s1 g1))
+
   -- a member is used, Err raises an error, or an item leaves a Collection
   member_runs : (name : List ℕ) (v w : Val) (vs : List Val) (pc : ℕ) (st : List Slot) (bs : List Back) (s : State) → Enough bound n s
       → Runs code bound n (uses_member code name v w vs pc st bs s) (on_value st bs pc) (failed bs) (member_used callee pr name v w vs s)
@@ -247,6 +254,9 @@ module _ (pr : Project) (code : Code) (bound n : ℕ) (callee : Callee) (known :
     node_runs (default_if_any e) pc to st bs s has good =
         first (on_value st bs) (eval e callee pr s) (expr_code e) _ pc to _ has (λ mid h. expr_runs e pc mid st bs s h good) (λ v s1 g1 i h.
         instr PlainIfAny i (value v ∷ st) bs s1 h.0 (ends_at (on_value st bs) h.1 (if_any_runs v (i + 1) st bs s1 g1)))
+    node_runs (enumerated e) pc to st bs s has good =
+        first (on_value st bs) (eval e callee pr s) (expr_code e) _ pc to _ has (λ mid h. expr_runs e pc mid st bs s h good) (λ v s1 g1 i h.
+        instr Enumerate i (value v ∷ st) bs s1 h.0 (ends_at (on_value st bs) h.1 (uses_run false (λ d m. enumerator_of d v m) (i + 1) st bs s1 g1)))
     node_runs (library f text_form es compare base) pc to st bs s has good =
         first_each (on_args st bs) (eval_list es callee pr s) (list_code es) _ pc to _ has (list_counts es callee pr s) (λ mid h. list_runs es pc mid st bs s h good) (λ xs s1 len g1 j h.
         instr (Library f text_form compare base (length xs)) j (pushed xs st) bs s1 (h.0 ∙ ap (λ m. Some (Library f text_form compare base m)) (sym len))
@@ -344,6 +354,20 @@ module _ (pr : Project) (code : Code) (bound n : ℕ) (callee : Callee) (known :
     place_runs (as_new c x) pc to st bs s has good =
         first (on_path st bs) (eval_place x callee pr s) (place_code x) _ pc to _ has (λ mid h. place_runs x pc mid st bs s h good) (λ q s1 g1 j h.
         instr (AsNew c) j (path q ∷ st) bs s1 h.0 (ends_at (on_path st bs) h.1 (here (made_at c q) s1 g1)))
+    place_runs (late_field e name) pc to st bs s has good =
+        first (on_value st bs) (eval e callee pr s) (expr_code e) _ pc to _ has (λ mid h. expr_runs e pc mid st bs s h good) (λ v s1 g1 j h.
+        instr (LateField name) j (value v ∷ st) bs s1 h.0
+        (subst (λ d. Runs code bound n (done_then (public_variable d name v s1.memory) bs s1 (on_path st bs (j + 1))) (on_path st bs to) (failed bs) (perform (public_variable pr.declared name v) s1)) (sym tables)
+        (ends_at (on_path st bs) h.1 (performs (public_variable pr.declared name v) bs s1 g1))))
+    place_runs (value_place e) pc to st bs s has good =
+        first (on_value st bs) (eval e callee pr s) (expr_code e) _ pc to _ has (λ mid h. expr_runs e pc mid st bs s h good) (λ v s1 g1 j h.
+        instr PlaceOf j (value v ∷ st) bs s1 h.0 (ends_at (on_path st bs) h.1 (here (path_to v) s1 g1)))
+    place_runs (element_along x es) pc to st bs s has good =
+        first (on_path st bs) (eval_place x callee pr s) (place_code x) _ pc to _ has (λ mid h. place_runs x pc mid st bs s h good) (λ q s1 g1 i h1.
+        first_each (on_args (path q ∷ st) bs) (eval_list es callee pr s1) (list_code es) _ i to _ h1 (list_counts es callee pr s1) (λ mid h. list_runs es i mid (path q ∷ st) bs s1 h g1) (λ xs s2 len g2 j h2.
+        instr (ElementAlong (length xs)) j (pushed xs (path q ∷ st)) bs s2 (h2.0 ∙ ap (λ m. Some (ElementAlong m)) (sym len))
+        (subst (λ m. Runs code bound n m (on_path st bs to) (failed bs) (place_along callee pr q (slot_values xs) s2)) (sym (all_taken xs (path q ∷ st) _))
+        (ends_at (on_path st bs) h2.1 (along_runs q (slot_values xs) (j + 1) st bs s2 g2)))))
 
     pub args_runs : (args : Args) (pc to : ℕ) (st : List Slot) (bs : List Back) (s : State) → UpTo code.instrs pc (args_code args) to → Enough bound n s
         → Runs code bound n (Goes (at pc st bs s)) (on_args st bs to) (failed bs) (evals args callee pr s)
@@ -512,12 +536,12 @@ module _ (pr : Project) (code : Code) (entry : ℕ → Entry) (laid : Laid pr en
   cases_runs : (ts : Tests) (header : ℕ) (of : Declared) (compare : Compare) (most none pc to : ℕ) (bs : List Back) (s : State) → UpTo code.instrs pc (tests_code (entry p) ts header of compare most none) to → Enough bound n s
       → Ends-well pc [] bs s (cases ts callee pr header of compare most none s)
   cases_runs no_tests header of compare most none pc to bs s has good = ends_here none pc bs s has.0 good
-  cases_runs (test_is o e ts) header of compare most none pc to bs s has good =
+  cases_runs (test_is o at e ts) header of compare most none pc to bs s has good =
       then_tested header pc bs s has.0 has.1.0 good (λ v s1 g1.
       then_value pr code bound n callee known laid.declared e _ (pc + 1 + 1) to (value v ∷ []) bs s1 has.1.1 g1 (λ w s2 g2 mid h.
       instr (IfFits o compare of (operand_type e) (entry p most)) mid (value w ∷ value v ∷ []) bs s2 h.0
       (jumps (fits o compare of (operand_type e) v w) most (mid + 1) bs s2 (λ s3. cases ts callee pr header of compare most none s3) g2 (λ s3 g3. cases_runs ts header of compare most none (mid + 1) to bs s3 h.1 g3))))
-  cases_runs (test_range a b ts) header of compare most none pc to bs s has good =
+  cases_runs (test_range a b a_at b_at ts) header of compare most none pc to bs s has good =
       then_tested header pc bs s has.0 has.1.0 good (λ v s1 g1.
       then_value pr code bound n callee known laid.declared a _ (pc + 1 + 1) to (value v ∷ []) bs s1 has.1.1 g1 (λ x s2 g2 i h1.
       then_value pr code bound n callee known laid.declared b _ i to (value x ∷ value v ∷ []) bs s2 h1 g2 (λ y s3 g3 mid h.
@@ -613,6 +637,14 @@ module _ (pr : Project) (code : Code) (entry : ℕ → Entry) (laid : Laid pr en
       instr (LetElement (length xs)) j (pushed xs (path q ∷ value v ∷ [])) bs s3 (h.0 ∙ ap (λ m. Some (LetElement m)) (sym len))
       (subst (λ m. Runs code bound n m (with_end (entry p) bs) (failed bs) (used callee pr (let_element pr.declared q (slot_values xs) v) s3 >>= λ u s4. Got k s4)) (sym (all_taken xs (path q ∷ value v ∷ []) _))
       (then_dropped (λ d m. let_element d q (slot_values xs) v m) k (j + 1) bs s3 h.1.0 h.1.1.0 g3)))))
+  action_runs (set_element x es e) i k pc to bs s has good =
+      then_value pr code bound n callee known laid.declared e _ pc to [] bs s has good (λ v s1 g1 i1 h1.
+      then_place pr code bound n callee known laid.declared x _ i1 to (value v ∷ []) bs s1 h1 g1 (λ q s2 g2 i2 h2.
+      first_each pr code bound n callee known laid.declared (on_args (path q ∷ value v ∷ []) bs) (eval_list es callee pr s2) (list_code es) _ i2 to _ h2 (list_counts es callee pr s2)
+      (λ mid h. list_runs pr code bound n callee known laid.declared es i2 mid (path q ∷ value v ∷ []) bs s2 h g2) (λ xs s3 len g3 j h.
+      instr (SetElement (length xs)) j (pushed xs (path q ∷ value v ∷ [])) bs s3 (h.0 ∙ ap (λ m. Some (SetElement m)) (sym len))
+      (subst (λ m. Runs code bound n m (with_end (entry p) bs) (failed bs) (used callee pr (element_set pr.declared q (slot_values xs) v) s3 >>= λ u s4. Got k s4)) (sym (all_taken xs (path q ∷ value v ∷ []) _))
+      (then_dropped (λ d m. element_set d q (slot_values xs) v m) k (j + 1) bs s3 h.1.0 h.1.1.0 g3)))))
   action_runs (assign_late base name by given e) i k pc to bs s has good =
       let gs = which_given given in
       then_value pr code bound n callee known laid.declared e _ pc to [] bs s has good (λ v s1 g1 i1 h1.
@@ -633,8 +665,8 @@ module _ (pr : Project) (code : Code) (entry : ℕ → Entry) (laid : Laid pr en
       first_each pr code bound n callee known laid.declared (on_args (value x ∷ value w ∷ value v ∷ []) bs) (eval_given given setting name by gs 0 w callee pr s3) (given_code given setting name by gs 0) _ (i2 + 1) to _ h2.1 (given_counts given setting name by gs 0 w callee pr s3)
       (λ mid h. given_runs pr code bound n callee known laid.declared given setting name by gs 0 (i2 + 1) mid (value x ∷ value w ∷ value v ∷ []) bs s3 h g3) (λ xs s4 len g4 j h.
       instr (SetLate name by gs) j (pushed xs (value x ∷ value w ∷ value v ∷ [])) bs s4 h.0
-      (subst (λ m. Runs code bound n m (with_end (entry p) bs) (failed bs) (used callee pr (late_set pr.declared name by gs w (map received xs) v) s4 >>= λ u s5. Got k s5)) (sym (counted_taken xs (value x ∷ value w ∷ value v ∷ []) (length gs) _ len))
-      (then_dropped (λ d m. late_set d name by gs w (map received xs) v m) k (j + 1) bs s4 h.1.0 h.1.1.0 g4)))))))
+      (subst (λ m. Runs code bound n m (with_end (entry p) bs) (failed bs) (used callee pr (late_set pr.declared name by gs w x (map received xs) v) s4 >>= λ u s5. Got k s5)) (sym (counted_taken xs (value x ∷ value w ∷ value v ∷ []) (length gs) _ len))
+      (then_dropped (λ d m. late_set d name by gs w x (map received xs) v m) k (j + 1) bs s4 h.1.0 h.1.1.0 g4)))))))
   action_runs (evaluate e) i k pc to bs s has good =
       then_value pr code bound n callee known laid.declared e _ pc to [] bs s has good (λ v s1 g1 mid h.
       instr Drop mid (value v ∷ []) bs s1 h.0 (ends_here k (mid + 1) bs s1 h.1.0 g1))
@@ -705,7 +737,7 @@ module _ (pr : Project) (code : Code) (entry : ℕ → Entry) (laid : Laid pr en
       then_value pr code bound n callee known laid.declared e _ pc to [] bs s has good (λ v s1 g1 mid h.
       instr (Branch sense (entry p x) (entry p y)) mid (value v ∷ []) bs s1 h.0 (answered_way (condition sense v) x y bs s1 g1))
   action_runs (go_to x) i k pc to bs s has good = ends_here x pc bs s has.0 good
-  action_runs (for_to x compare a b c most none) i k pc to bs s has good =
+  action_runs (for_to x compare a b c last_at step_at most none) i k pc to bs s has good =
       instr (LoopOff i) pc [] bs s has.0
       (bind (perform (loop_off i) s) (performs {got = then_at (pc + 1) [] bs} (loop_off i) bs s good) (λ u s1 g1.
       then_value pr code bound n callee known laid.declared a _ (pc + 1) to [] bs s1 has.1 g1 (λ start s2 g2 mid2 h2.

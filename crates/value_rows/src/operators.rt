@@ -104,6 +104,8 @@ fn operator(word: &str) -> Answer<OpKind>
         "*" => Ok(OpKind::Mul),
         "\\" => Ok(OpKind::IntDiv),
         "Mod" => Ok(OpKind::Mod),
+        "/" => Ok(OpKind::Divide),
+        "^" => Ok(OpKind::Power),
         "&" => Ok(OpKind::Join),
         "=" => Ok(OpKind::Eq),
         "<>" => Ok(OpKind::Ne),

@@ -89,11 +89,11 @@ module _ (command : Command) (l : Named) (bytes : List ℕ) (xs : List (List ℕ
 
 -- ---- performing behind the sources
 
-went : (command : Command) (l : Named) (bytes : List ℕ) (xs : List (List ℕ)) (answer : bind.Answer) (result : Status) (old : World) (first last : FilesAt) (new : World)
+went : (command : Command) (l : Named) (bytes : List ℕ) (xs : List (List ℕ)) (answer : (left : Option Place) → bind.Answer) (result : Status) (old : World) (first last : FilesAt) (new : World)
     → ReadInOrder (path_in command ∷ l.modules) 0 0 (Ok (bytes ∷ xs)) first last
     → RanSources command l.sheets (suc (length l.modules)) (length bytes + total xs) answer result (with_files old last) new
     → ((left : Option Place) → IfSome first.told
-    (λ told. shown_of_command left told.files (Some command) ≡ shown_of_source left command l.sheets (book_of told.files (suc (length l.modules)) (length bytes + total xs) l.sheets) answer))
+    (λ told. shown_of_command left told.files (Some command) ≡ shown_of_source command l.sheets (book_of told.files (suc (length l.modules)) (length bytes + total xs) l.sheets) (answer left)))
     → IsAlone (Some command) l → IfSome first.told (λ told. l ≡ what_is_named told.files (Some command)) → Performs (Some command) l result (with_files old first) new
 went command l bytes xs answer result old first last new sources ran shown alone named =
     let d = ran.does in
@@ -105,18 +105,18 @@ went command l bytes xs answer result old first last new sources ran shown alone
       leaves = leaves_before result (with_files old first) last new sources.write_faults d.leaves;
       meets =
           map_both first.told (λ told is m. subst (λ s. Meets s result old.out new.out) (sym is) m) (shown ran.left)
-          (told_back (λ f. Meets (shown_of_source ran.left command l.sheets (book_of f number taken l.sheets) answer) result old.out new.out) base 0 0 sources.count (Ok (bytes ∷ xs)) first.told last.told
+          (told_back (λ f. Meets (shown_of_source command l.sheets (book_of f number taken l.sheets) (answer ran.left)) result old.out new.out) base 0 0 sources.count (Ok (bytes ∷ xs)) first.told last.told
           sources.told d.meets);
       alone = alone;
       listed = map_told first.told (λ told same. named_as result l (what_is_named told.files (Some command)) same) named;
       mid = d.mid;
       read = reads_for command l bytes xs first last d.mid sources result d.read;
       written =
-          writes_as result (λ told. (shown_of_source ran.left command l.sheets (book_of told.files number taken l.sheets) answer).saves)
+          writes_as result (λ told. (shown_of_source command l.sheets (book_of told.files number taken l.sheets) (answer ran.left)).saves)
           (λ told. (shown_of_command ran.left told.files (Some command)).saves) last.told first.told d.mid (files_in new)
           (λ saves h.
           map_both first.told (λ told is same. same ∙ sym (ap (λ (s : Shown). s.saves) is)) (shown ran.left)
-          (told_back (λ f. saves ≡ (shown_of_source ran.left command l.sheets (book_of f number taken l.sheets) answer).saves) base 0 0 sources.count (Ok (bytes ∷ xs)) first.told last.told sources.told h))
+          (told_back (λ f. saves ≡ (shown_of_source command l.sheets (book_of f number taken l.sheets) (answer ran.left)).saves) base 0 0 sources.count (Ok (bytes ∷ xs)) first.told last.told sources.told h))
           d.written;
       usage = λ none. absurd cc;
     }
@@ -138,16 +138,16 @@ first_told command bytes count (Some told) new p = first_is bytes (first_file to
 
 -- what a command shows of a file that is one standard module, or a list
 shown_alone : (left : Option Place) (command : Command) (files : FileMap) (bytes : List ℕ) → ends_in_bas (path_in command) ≡ true → first_file files command ≡ Ok bytes
-    → shown_of_command left files (Some command) ≡ shown_of_source left command [] (Ok []) (program_of None (standard_module bytes ∷ []))
+    → shown_of_command left files (Some command) ≡ shown_of_source command [] (Ok []) (program_of None (standard_module bytes ∷ []) left)
 shown_alone left command files bytes bas is =
     ap (shown_of_first left command files) is
-    ∙ ap (λ b. if b then shown_of_source left command [] (Ok []) (program_of None (standard_module bytes ∷ [])) else shown_of_plan left command files (length bytes) (plan_of (decoded bytes))) bas
+    ∙ ap (λ b. if b then shown_of_source command [] (Ok []) (program_of None (standard_module bytes ∷ []) left) else shown_of_plan left command files (length bytes) (plan_of (decoded bytes))) bas
 
 shown_listed : (left : Option Place) (command : Command) (files : FileMap) (bytes : List ℕ) (plan : Plan) → ends_in_bas (path_in command) ≡ false → plan_of (decoded bytes) ≡ plan
     → first_file files command ≡ Ok bytes → shown_of_command left files (Some command) ≡ shown_of_plan left command files (length bytes) plan
 shown_listed left command files bytes plan list planned is =
     ap (shown_of_first left command files) is
-    ∙ ap (λ b. if b then shown_of_source left command [] (Ok []) (program_of None (standard_module bytes ∷ [])) else shown_of_plan left command files (length bytes) (plan_of (decoded bytes))) list
+    ∙ ap (λ b. if b then shown_of_source command [] (Ok []) (program_of None (standard_module bytes ∷ []) left) else shown_of_plan left command files (length bytes) (plan_of (decoded bytes))) list
     ∙ ap (shown_of_plan left command files (length bytes)) planned
 
 named_alone : (command : Command) (files : FileMap) (bytes : List ℕ) → ends_in_bas (path_in command) ≡ true → first_file files command ≡ Ok bytes
@@ -337,8 +337,8 @@ module _ (command : Command) (bytes : List ℕ) (taken : ℕ) (modules : List Mo
       (λ t held all.
       shown_files left t held
       ∙ ap (shown_of_files left command t.files taken modules sheets start) all
-      ∙ ap (λ k. shown_of_source left command sheets (book_of t.files (suc k) (taken + total xs) sheets) (program_of (Some start) (module_files modules xs))) size
-      ∙ ap (λ k. shown_of_source left command sheets (book_of t.files (suc (length paths)) k sheets) (program_of (Some start) (module_files modules xs))) size_now)
+      ∙ ap (λ k. shown_of_source command sheets (book_of t.files (suc k) (taken + total xs) sheets) (program_of (Some start) (module_files modules xs) left)) size
+      ∙ ap (λ k. shown_of_source command sheets (book_of t.files (suc (length paths)) k sheets) (program_of (Some start) (module_files modules xs) left)) size_now)
       there meant)
       not_alone
       (map_told first.told (λ t held. named_listed command t.files bytes (project_at modules sheets start) is.list is.planned held) there)

@@ -85,27 +85,25 @@ book_silent : (turns : ℕ) (shows : Shows) (save : Option (List ℕ)) (sheets :
 book_silent turns shows save sheets (Err reason) pr = inl refl
 book_silent turns shows save sheets (Ok book) pr = saved_silent save (meant_outcome pr book turns) sheets (meant_book pr book turns)
 
-program_silent : (left : Option Place) (shown : Project → Shown) (answer : bind.Answer) → ((pr : Project) → Silent (shown pr)) → Silent (shown_of_program left shown answer)
-program_silent left shown (bind.refused refusal) h = inl refl
-program_silent (Some place) shown (bind.not_built_at other) h = inl refl
-program_silent (Some place) shown (bind.bound_as pr) h = inl refl
-program_silent None shown (bind.not_built_at place) h = inl refl
-program_silent None shown (bind.bound_as pr) h = h pr
+program_silent : (shown : Project → Shown) (answer : bind.Answer) → ((pr : Project) → Silent (shown pr)) → Silent (shown_of_program shown answer)
+program_silent shown (bind.refused refusal) h = inl refl
+program_silent shown (bind.not_built_at place) h = inl refl
+program_silent shown (bind.bound_as pr) h = h pr
 
 check_silent : (answer : bind.Answer) → Silent (shown_of_check answer)
 check_silent (bind.refused refusal) = inl refl
 check_silent (bind.not_built_at place) = inl refl
 check_silent (bind.bound_as pr) = inl refl
 
-source_silent : (left : Option Place) (command : Command) (sheets : List SheetAt) (b : Result Sheets BookStop) (answer : bind.Answer) → Silent (shown_of_source left command sheets b answer)
-source_silent left (run path turns trace save) sheets b answer = program_silent left _ answer (λ pr. book_silent turns _ save sheets b pr)
-source_silent left (check path) sheets b answer = check_silent answer
-source_silent left (code path) sheets b answer = program_silent left shown_of_code answer (λ pr. inl refl)
+source_silent : (command : Command) (sheets : List SheetAt) (b : Result Sheets BookStop) (answer : bind.Answer) → Silent (shown_of_source command sheets b answer)
+source_silent (run path turns trace save) sheets b answer = program_silent _ answer (λ pr. book_silent turns _ save sheets b pr)
+source_silent (check path) sheets b answer = check_silent answer
+source_silent (code path) sheets b answer = program_silent shown_of_code answer (λ pr. inl refl)
 
 files_silent : (left : Option Place) (command : Command) (files : FileMap) (taken : ℕ) (modules : List ModuleAt) (sheets : List SheetAt) (start : Start) (r : Result (List (List ℕ)) ReadStop)
     → Silent (shown_of_files left command files taken modules sheets start r)
 files_silent left command files taken modules sheets start (Err reason) = inl refl
-files_silent left command files taken modules sheets start (Ok sources) = source_silent left command sheets _ _
+files_silent left command files taken modules sheets start (Ok sources) = source_silent command sheets _ _
 
 plan_silent : (left : Option Place) (command : Command) (files : FileMap) (taken : ℕ) (plan : Plan) → Silent (shown_of_plan left command files taken plan)
 plan_silent left command files taken (bad_line line) = inl refl
@@ -119,7 +117,7 @@ if_silent false one other h k = k
 first_silent : (left : Option Place) (command : Command) (files : FileMap) (r : Result (List ℕ) ReadStop) → Silent (shown_of_first left command files r)
 first_silent left command files (Err reason) = inl refl
 first_silent left command files (Ok bytes) =
-    if_silent (ends_in_bas (path_in command)) _ _ (source_silent left command [] (Ok []) _) (plan_silent left command files (length bytes) _)
+    if_silent (ends_in_bas (path_in command)) _ _ (source_silent command [] (Ok []) _) (plan_silent left command files (length bytes) _)
 
 command_silent : (left : Option Place) (files : FileMap) (command : Option Command) → Silent (shown_of_command left files command)
 command_silent left files None = inl refl

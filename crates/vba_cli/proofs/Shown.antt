@@ -1,5 +1,5 @@
 -- What programs show.
-use Rattle.std.proofs.Common.{◌≡◌, ℕ, List, [], refl, sym, ap, subst}
+use Rattle.std.proofs.Common.{◌≡◌, ℕ, List, [], refl, ap}
 use Rattle.std.specs.Prelude.{Option, Some, None, Ok}
 use Rattle.vba_base.proofs.Causes.{adds_none, adds_prefix_none}
 use Rattle.vba_base.specs.declared.fault.OrMemory.TheVariants.{NoMemory}
@@ -13,36 +13,22 @@ use Rattle.command_words.specs.Words.{check, code}
 use Rattle.vba_cli.specs.declared.status.Status.{Status}
 use Rattle.vba_cli.specs.declared.status.Status.TheVariants as status
 use Rattle.vba_cli.specs.Answer.{Shown, all_right, shown_of_check, shown_of_code, shown_of_program, refused as refused_as}
-use Rattle.vba_cli.specs.Programs.{IsProgram, IsUnbroken}
+use Rattle.vba_cli.specs.Programs.{IsProgram, IsRefused}
 use Rattle.vba_cli.specs.Steps.{PutsShown, Ran, RanAlone}
 
 -- ---- programs that break a rule, or have a part that isn't built
 
 -- a broken rule shows that alone
-pub shown_refused : (left : Option Place) (shown : Project → Shown) (answer : Answer) (refusal : Refusal) → answer ≡ refused refusal → shown_of_program left shown answer ≡ refused_as (status.Refused refusal)
-shown_refused None shown answer refusal is = ap (shown_of_program None shown) is
-shown_refused (Some place) shown answer refusal is = ap (shown_of_program (Some place) shown) is
+pub shown_refused : (shown : Project → Shown) (answer : Answer) (refusal : Refusal) → answer ≡ refused refusal → shown_of_program shown answer ≡ refused_as (status.Refused refusal)
+shown_refused shown answer refusal is = ap (shown_of_program shown) is
 
 -- what isn't built yet shows that alone
-pub shown_left : (shown : Project → Shown) (answer : Answer) (place : Place) → IsUnbroken answer → shown_of_program (Some place) shown answer ≡ refused_as (status.NotBuilt place)
-shown_left shown (refused refusal) place h = absurd h
-shown_left shown (not_built_at other) place h = refl
-shown_left shown (bound_as pr) place h = refl
+pub shown_left : (shown : Project → Shown) (answer : Answer) (place : Place) → answer ≡ not_built_at place → shown_of_program shown answer ≡ refused_as (status.NotBuilt place)
+shown_left shown answer place is = ap (shown_of_program shown) is
 
 -- a project that is whole shows what it does
-pub shown_bound : (shown : Project → Shown) (answer : Answer) (pr : Project) → answer ≡ bound_as pr → shown_of_program None shown answer ≡ shown pr
-shown_bound shown answer pr is = ap (shown_of_program None shown) is
-
--- a check of what breaks no rule shows that all is right
-all_right_of : (answer : Answer) → IsUnbroken answer → shown_of_check answer ≡ all_right
-all_right_of (refused refusal) h = absurd h
-all_right_of (not_built_at place) h = refl
-all_right_of (bound_as pr) h = refl
-
--- of a project that is read no rule is broken
-read_unbroken : (answer : Answer) (b : Bound) → IsProgram answer (Ok b) → IsUnbroken answer
-read_unbroken answer (bound.NotBuilt place) h = h
-read_unbroken answer (bound.Runs pr) h = subst IsUnbroken (sym h.1) tt
+pub shown_bound : (shown : Project → Shown) (answer : Answer) (pr : Project) → answer ≡ bound_as pr → shown_of_program shown answer ≡ shown pr
+shown_bound shown answer pr is = ap (shown_of_program shown) is
 
 -- ---- commands that touch no file
 
@@ -67,25 +53,33 @@ put_ran shown (status.NotBuilt place) old new fo fn puts = absurd puts
 pub want_ran : (meant : Shown) (out : Option (List ℕ)) (faults : ℕ) → Ran meant status.NoMemory out out faults faults
 want_ran meant out faults = record { leaves = refl; meets = adds_prefix_none out meant.out }
 
-module _ (path : List ℕ) (answer : Answer) where
+module _ (path : List ℕ) (answer : (left : Option Place) → Answer) where
   -- what a check showed of a source that breaks no rule
   pub checked : (b : Bound) (result : Status) (old new : Option (List ℕ)) (faults_old faults_new : ℕ) → IsProgram answer (Ok b) → Ran all_right result old new faults_old faults_new
       → RanAlone (check path) answer result old new faults_old faults_new
-  checked b result old new fo fn h ran = record {
+  checked (bound.NotBuilt place) result old new fo fn h ran = record {
+    left = Some place;
+    shown = all_right;
+    is_shown = λ sheets book. ap shown_of_check h;
+    saves = refl;
+    none_read = λ sheets. refl;
+    ran = ran;
+  }
+  checked (bound.Runs pr) result old new fo fn h ran = record {
     left = None;
     shown = all_right;
-    is_shown = λ sheets book. all_right_of answer (read_unbroken answer b h);
+    is_shown = λ sheets book. ap shown_of_check h.1;
     saves = refl;
     none_read = λ sheets. refl;
     ran = ran;
   }
 
   -- what it showed of one that breaks a rule
-  pub check_refused : (refusal : Refusal) (out : Option (List ℕ)) (faults : ℕ) → answer ≡ refused refusal → RanAlone (check path) answer (status.Refused refusal) out out faults faults
-  check_refused refusal out faults is = record {
-    left = None;
+  pub check_refused : (refusal : Refusal) (out : Option (List ℕ)) (faults : ℕ) → IsRefused answer refusal → RanAlone (check path) answer (status.Refused refusal) out out faults faults
+  check_refused refusal out faults h = record {
+    left = h.told;
     shown = refused_as (status.Refused refusal);
-    is_shown = λ sheets book. ap shown_of_check is;
+    is_shown = λ sheets book. ap shown_of_check h.is;
     saves = refl;
     none_read = λ sheets. refl;
     ran = record { leaves = (refl, refl); meets = (refl, adds_none out) };
@@ -100,46 +94,46 @@ module _ (path : List ℕ) (answer : Answer) where
   pub check_wanted : (out : Option (List ℕ)) (faults : ℕ) → RanAlone (check path) answer status.NoMemory out out faults faults
   check_wanted out faults = record {
     left = None;
-    shown = shown_of_check answer;
+    shown = shown_of_check (answer None);
     is_shown = λ sheets book. refl;
-    saves = check_saves answer;
+    saves = check_saves (answer None);
     none_read = λ sheets. refl;
-    ran = want_ran (shown_of_check answer) out faults;
+    ran = want_ran (shown_of_check (answer None)) out faults;
   }
 
   -- a project was listed
-  pub listed : (pr : Project) (result : Status) (old new : Option (List ℕ)) (faults_old faults_new : ℕ) → answer ≡ bound_as pr
+  pub listed : (pr : Project) (result : Status) (old new : Option (List ℕ)) (faults_old faults_new : ℕ) → answer None ≡ bound_as pr
       → Ran (shown_of_code pr) result old new faults_old faults_new → RanAlone (code path) answer result old new faults_old faults_new
   listed pr result old new fo fn is ran = record {
     left = None;
     shown = shown_of_code pr;
-    is_shown = λ sheets book. shown_bound shown_of_code answer pr is;
+    is_shown = λ sheets book. shown_bound shown_of_code (answer None) pr is;
     saves = refl;
     none_read = λ sheets. refl;
     ran = ran;
   }
 
-  pub code_left : (place : Place) (out : Option (List ℕ)) (faults : ℕ) → IsUnbroken answer → RanAlone (code path) answer (status.NotBuilt place) out out faults faults
-  code_left place out faults h = record {
+  pub code_left : (place : Place) (out : Option (List ℕ)) (faults : ℕ) → answer (Some place) ≡ not_built_at place → RanAlone (code path) answer (status.NotBuilt place) out out faults faults
+  code_left place out faults is = record {
     left = Some place;
     shown = refused_as (status.NotBuilt place);
-    is_shown = λ sheets book. shown_left shown_of_code answer place h;
+    is_shown = λ sheets book. shown_left shown_of_code (answer (Some place)) place is;
     saves = refl;
     none_read = λ sheets. refl;
     ran = record { leaves = (refl, refl); meets = (refl, adds_none out) };
   }
 
-  pub code_refused : (refusal : Refusal) (out : Option (List ℕ)) (faults : ℕ) → answer ≡ refused refusal → RanAlone (code path) answer (status.Refused refusal) out out faults faults
-  code_refused refusal out faults is = record {
-    left = None;
+  pub code_refused : (refusal : Refusal) (out : Option (List ℕ)) (faults : ℕ) → IsRefused answer refusal → RanAlone (code path) answer (status.Refused refusal) out out faults faults
+  code_refused refusal out faults h = record {
+    left = h.told;
     shown = refused_as (status.Refused refusal);
-    is_shown = λ sheets book. shown_refused None shown_of_code answer refusal is;
+    is_shown = λ sheets book. shown_refused shown_of_code (answer h.told) refusal h.is;
     saves = refl;
     none_read = λ sheets. refl;
     ran = record { leaves = (refl, refl); meets = (refl, adds_none out) };
   }
 
-  code_saves : (answer : Answer) → (shown_of_program None shown_of_code answer).saves ≡ []
+  code_saves : (answer : Answer) → (shown_of_program shown_of_code answer).saves ≡ []
   code_saves (refused refusal) = refl
   code_saves (not_built_at place) = refl
   code_saves (bound_as pr) = refl
@@ -147,9 +141,9 @@ module _ (path : List ℕ) (answer : Answer) where
   pub code_wanted : (out : Option (List ℕ)) (faults : ℕ) → RanAlone (code path) answer status.NoMemory out out faults faults
   code_wanted out faults = record {
     left = None;
-    shown = shown_of_program None shown_of_code answer;
+    shown = shown_of_program shown_of_code (answer None);
     is_shown = λ sheets book. refl;
-    saves = code_saves answer;
+    saves = code_saves (answer None);
     none_read = λ sheets. refl;
-    ran = want_ran (shown_of_program None shown_of_code answer) out faults;
+    ran = want_ran (shown_of_program shown_of_code (answer None)) out faults;
   }

@@ -29,7 +29,7 @@ use Rattle.vba_cli.specs.declared.status.Status.{Status}
 use Rattle.vba_cli.specs.declared.status.Status.TheVariants.{Ended, Faulted, Usage, Refused, Stopped, Going, ReadFault, WriteFault, BadList, TooLong, BadBook, NotBuilt, NoMemory}
 use Rattle.vba_cli.specs.Answer.{Shown, no_book, refused, shown_of_book, shown_of_program, saved_by, shown_of_source, shows_of, status_of}
 use Rattle.vba_cli.specs.Contract.{World, book_paths}
-use Rattle.vba_cli.specs.Programs.{IsUnbroken}
+use Rattle.vba_cli.specs.Programs.{IsRefused}
 use Rattle.vba_cli.specs.Steps.{Does, EndsSaved, IsOfRun, Leaves, LeavesOut, Meets, RanAlone, RanOver, RanProject, RanSources, ReadsTo, Stores, WritesFor, files_in, with_files}
 use Rattle.vba_cli.proofs.Shown.{shown_bound, shown_left, shown_refused}
 
@@ -290,57 +290,57 @@ ran_saved save sheets o left meant_left text (NotBuilt place) old new ends is ad
 
 module _ (shown : Told → Project → Shown) (answer : bind.Answer) (names : List (List ℕ)) (number taken : ℕ) where
   bound_does : (pr : Project) (result : Status) (old new : World) → answer ≡ bind.bound_as pr → Does (λ told. shown told pr) names number taken result old new
-      → Does (λ told. shown_of_program None (shown told) answer) names number taken result old new
+      → Does (λ told. shown_of_program (shown told) answer) names number taken result old new
   bound_does pr result old new is d =
-      does_as (λ told. shown told pr) (λ told. shown_of_program None (shown told) answer) names number taken result old new (λ told. sym (shown_bound (shown told) answer pr is)) d
+      does_as (λ told. shown told pr) (λ told. shown_of_program (shown told) answer) names number taken result old new (λ told. sym (shown_bound (shown told) answer pr is)) d
 
-  left_does : (place : Place) (old : World) → IsUnbroken answer → Does (λ told. shown_of_program (Some place) (shown told) answer) names number taken (NotBuilt place) old old
-  left_does place old h =
-      does_left (λ told. shown_of_program (Some place) (shown told) answer) names number taken place old (λ told. sym (shown_left (shown told) answer place h))
+  left_does : (place : Place) (old : World) → answer ≡ bind.not_built_at place → Does (λ told. shown_of_program (shown told) answer) names number taken (NotBuilt place) old old
+  left_does place old is =
+      does_left (λ told. shown_of_program (shown told) answer) names number taken place old (λ told. sym (shown_left (shown told) answer place is))
 
-  refused_does : (refusal : Refusal) (old : World) → answer ≡ bind.refused refusal → Does (λ told. shown_of_program None (shown told) answer) names number taken (Refused refusal) old old
+  refused_does : (refusal : Refusal) (old : World) → answer ≡ bind.refused refusal → Does (λ told. shown_of_program (shown told) answer) names number taken (Refused refusal) old old
   refused_does refusal old is =
-      does_refused (λ told. shown_of_program None (shown told) answer) names number taken refusal old (λ told. sym (shown_refused None (shown told) answer refusal is))
+      does_refused (λ told. shown_of_program (shown told) answer) names number taken refusal old (λ told. sym (shown_refused (shown told) answer refusal is))
 
-module _ (path : List ℕ) (turns : ℕ) (trace : Bool) (save : Option (List ℕ)) (sheets : List SheetAt) (number taken : ℕ) (answer : bind.Answer) where
+module _ (path : List ℕ) (turns : ℕ) (trace : Bool) (save : Option (List ℕ)) (sheets : List SheetAt) (number taken : ℕ) (answer : (left : Option Place) → bind.Answer) where
   abbrev shown_by : Told → Project → Shown
   shown_by told pr = shown_of_book turns (shows_of trace) save sheets (book_of told.files number taken sheets) pr
 
   -- a project that the sources are was run
-  pub sources_ran : (pr : Project) (result : Status) (old new : World) → answer ≡ bind.bound_as pr → RanProject turns (shows_of trace) save sheets number taken pr result old new
+  pub sources_ran : (pr : Project) (result : Status) (old new : World) → answer None ≡ bind.bound_as pr → RanProject turns (shows_of trace) save sheets number taken pr result old new
       → RanSources (run path turns trace save) sheets number taken answer result old new
   sources_ran pr result old new is d = record {
     left = None;
-    does = bound_does shown_by answer (sheet_paths sheets) number taken pr result old new is d;
+    does = bound_does shown_by (answer None) (sheet_paths sheets) number taken pr result old new is d;
   }
 
-  pub sources_left : (place : Place) (old : World) → IsUnbroken answer → RanSources (run path turns trace save) sheets number taken answer (NotBuilt place) old old
-  sources_left place old h = record {
+  pub sources_left : (place : Place) (old : World) → answer (Some place) ≡ bind.not_built_at place → RanSources (run path turns trace save) sheets number taken answer (NotBuilt place) old old
+  sources_left place old is = record {
     left = Some place;
-    does = left_does shown_by answer (sheet_paths sheets) number taken place old h;
+    does = left_does shown_by (answer (Some place)) (sheet_paths sheets) number taken place old is;
   }
 
-  pub sources_refused : (refusal : Refusal) (old : World) → answer ≡ bind.refused refusal → RanSources (run path turns trace save) sheets number taken answer (Refused refusal) old old
-  sources_refused refusal old is = record {
-    left = None;
-    does = refused_does shown_by answer (sheet_paths sheets) number taken refusal old is;
+  pub sources_refused : (refusal : Refusal) (old : World) → IsRefused answer refusal → RanSources (run path turns trace save) sheets number taken answer (Refused refusal) old old
+  sources_refused refusal old h = record {
+    left = h.told;
+    does = refused_does shown_by (answer h.told) (sheet_paths sheets) number taken refusal old h.is;
   }
 
   pub sources_wanting : (old : World) → RanSources (run path turns trace save) sheets number taken answer NoMemory old old
   sources_wanting old = record {
     left = None;
-    does = does_wanting (λ told. shown_of_program None (shown_by told) answer) (sheet_paths sheets) number taken old;
+    does = does_wanting (λ told. shown_of_program (shown_by told) (answer None)) (sheet_paths sheets) number taken old;
   }
 
 -- a world whose `out` changed
 abbrev pub put_on : World → Option (List ℕ) → ℕ → World
 put_on w out out_faults = record w { out = out; out_faults = out_faults }
 
-module _ (command : Command) (sheets : List SheetAt) (number taken : ℕ) (answer : bind.Answer) (old : World) (out : Option (List ℕ)) (out_faults : ℕ) where
+module _ (command : Command) (sheets : List SheetAt) (number taken : ℕ) (answer : (left : Option Place) → bind.Answer) (old : World) (out : Option (List ℕ)) (out_faults : ℕ) where
   abbrev meant_alone : Option Place → Told → Shown
-  meant_alone left told = shown_of_source left command sheets (book_of told.files number taken sheets) answer
+  meant_alone left told = shown_of_source command sheets (book_of told.files number taken sheets) (answer left)
 
-  none_stored : (left : Option Place) (shown : Shown) → ((book : Result Sheets BookStop) → shown_of_source left command sheets book answer ≡ shown) → shown.saves ≡ []
+  none_stored : (left : Option Place) (shown : Shown) → ((book : Result Sheets BookStop) → shown_of_source command sheets book (answer left) ≡ shown) → shown.saves ≡ []
       → Stores (λ told. (meant_alone left told).saves) old.told (Ok tt) (files_in old) (files_in old)
   none_stored left shown is none = record {
     saves = [];
@@ -348,7 +348,7 @@ module _ (command : Command) (sheets : List SheetAt) (number taken : ℕ) (answe
     written = none_written tt (files_in old);
   }
 
-  alone_by : (result : Status) (left : Option Place) (shown : Shown) → ((book : Result Sheets BookStop) → shown_of_source left command sheets book answer ≡ shown) → shown.saves ≡ []
+  alone_by : (result : Status) (left : Option Place) (shown : Shown) → ((book : Result Sheets BookStop) → shown_of_source command sheets book (answer left) ≡ shown) → shown.saves ≡ []
       → book_paths command sheets ≡ [] → LeavesOut result old.out out old.out_faults out_faults → Meets shown result old.out out
       → Does (meant_alone left) (book_paths command sheets) number taken result old (put_on old out out_faults)
   alone_by Ended left shown is none names l m = record {

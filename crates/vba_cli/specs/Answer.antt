@@ -102,14 +102,11 @@ abbrev pub shown_of_book : (turns : ℕ) → Shows → (save : Option (List ℕ)
 shown_of_book turns shows save sheets (Err reason) pr = refused (no_book reason)
 shown_of_book turns shows save sheets (Ok book) pr = shown_of_run turns shows save sheets book pr
 
--- a source that breaks a rule is refused; where vbarun tells that a part isn't built yet, it shows nothing else; any other shows
--- what its project does
-abbrev pub shown_of_program : (left : Option Place) → (Project → Shown) → bind.Answer → Shown
-shown_of_program left shown (bind.refused refusal) = refused (status.Refused refusal)
-shown_of_program (Some place) shown (bind.not_built_at other) = refused (status.NotBuilt place)
-shown_of_program (Some place) shown (bind.bound_as pr) = refused (status.NotBuilt place)
-shown_of_program None shown (bind.not_built_at place) = refused (status.NotBuilt place)
-shown_of_program None shown (bind.bound_as pr) = shown pr
+-- a source that breaks a rule is refused; where a part isn't built yet, that alone is told; any other shows what its project does
+abbrev pub shown_of_program : (Project → Shown) → bind.Answer → Shown
+shown_of_program shown (bind.refused refusal) = refused (status.Refused refusal)
+shown_of_program shown (bind.not_built_at place) = refused (status.NotBuilt place)
+shown_of_program shown (bind.bound_as pr) = shown pr
 
 -- a check shows `ok` and a line end where no rule is broken
 abbrev pub all_right : Shown
@@ -124,18 +121,17 @@ abbrev pub shown_of_code : Project → Shown
 shown_of_code pr = record { status = status.Ended; out = listing_of (code_of pr); saves = [] }
 
 -- what a command shows of sources, where its list names these sheets, and this comes of reading them
-abbrev pub shown_of_source : (left : Option Place) → Command → List SheetAt → Result Sheets BookStop → bind.Answer → Shown
-shown_of_source left (run path turns trace save) sheets book answer =
-    shown_of_program left (shown_of_book turns (shows_of trace) save sheets book) answer
-shown_of_source left (check path) sheets book answer = shown_of_check answer
-shown_of_source left (code path) sheets book answer = shown_of_program left shown_of_code answer
+abbrev pub shown_of_source : Command → List SheetAt → Result Sheets BookStop → bind.Answer → Shown
+shown_of_source (run path turns trace save) sheets book answer = shown_of_program (shown_of_book turns (shows_of trace) save sheets book) answer
+shown_of_source (check path) sheets book answer = shown_of_check answer
+shown_of_source (code path) sheets book answer = shown_of_program shown_of_code answer
 
 -- what a command shows of the files of the modules of its list, with its sheets and its startup, where the list has so
 -- many bytes
 abbrev pub shown_of_files : (left : Option Place) → Command → FileMap → (taken : ℕ) → List ModuleAt → List SheetAt → Start → Result (List (List ℕ)) ReadStop → Shown
 shown_of_files left command files taken modules sheets start (Err reason) = refused (unread reason)
 shown_of_files left command files taken modules sheets start (Ok sources) =
-    shown_of_source left command sheets (book_of files (suc (length sources)) (taken + total sources) sheets) (program_of (Some start) (module_files modules sources))
+    shown_of_source command sheets (book_of files (suc (length sources)) (taken + total sources) sheets) (program_of (Some start) (module_files modules sources) left)
 
 -- what a command shows of its list, which has so many bytes
 abbrev pub shown_of_plan : (left : Option Place) → Command → FileMap → (taken : ℕ) → Plan → Shown
@@ -150,7 +146,7 @@ standard_module bytes = record { is_class = false; bytes = bytes }
 -- the file that a command names: one standard module, or a list
 abbrev pub shown_of_bytes : (left : Option Place) → Command → FileMap → List ℕ → Shown
 shown_of_bytes left command files bytes =
-    if ends_in_bas (path_in command) then shown_of_source left command [] (Ok []) (program_of None (standard_module bytes ∷ []))
+    if ends_in_bas (path_in command) then shown_of_source command [] (Ok []) (program_of None (standard_module bytes ∷ []) left)
     else shown_of_plan left command files (length bytes) (plan_of (decoded bytes))
 
 abbrev pub shown_of_first : (left : Option Place) → Command → FileMap → Result (List ℕ) ReadStop → Shown

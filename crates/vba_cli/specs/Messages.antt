@@ -64,6 +64,7 @@ rule_word rule =
     else if rule == 21 then codes "recursive type"
     else if rule == 22 then codes "bad WithEvents"
     else if rule == 23 then codes "outside type"
+    else if rule == 24 then codes "Double result"
     else if rule == 31 then codes "property signatures differ"
     else if rule == 32 then codes "event signature"
     else if rule == 33 then codes "startup"

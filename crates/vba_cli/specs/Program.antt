@@ -1,8 +1,9 @@
 -- What the files of modules are: a project that runs, or why they are none. The rules come in phases: those of tokens and
 -- directives for all modules, then those of lines and modules for all, then those of names, then the startup, what the
--- language leaves out and signatures.
-use Rattle.std.specs.Prelude.{ℕ, suc, Bool, List, [], ◌∷◌, codes, Option, Some, None, Result, Ok, Err, nat_lt, if◌then◌else◌}
+-- language leaves out, Double results and signatures.
+use Rattle.std.specs.Prelude.{ℕ, suc, Bool, List, [], ◌∷◌, codes, Option, Some, None, option_map, Result, Ok, Err, nat_lt, if◌then◌else◌}
 use Rattle.vba_base.specs.Decode.{decoded}
+use Rattle.vba_base.specs.declared.place.Place.{Place}
 use Rattle.vba_base.specs.declared.place.Refusal.{Refusal}
 use Rattle.vba_lexer.specs.Lexed.{LexedLine, lexed}
 use Rattle.cond_compile.specs.Selection.{selected}
@@ -10,6 +11,8 @@ use Rattle.vba_module.specs.Parts.{parts_of_lines}
 use Rattle.vba_module.specs.Verdict.{trees_of}
 use Rattle.module_parser.specs.Parsed.{verdict, read_lexed}
 use Rattle.refusal_order.specs.Least.{least_of_both}
+use Rattle.bound_project.specs.Project.{Project}
+use Rattle.static_rules.specs.Doubles.{least_double}
 use Rattle.binder.specs.Sources.{Source, given_name, name_or}
 use Rattle.binder.specs.Options.{or_else}
 use Rattle.binder.specs.Scopes.{Space, spaces_from}
@@ -83,30 +86,42 @@ first_of_two (Some l) (Some r) =
     else if nat_lt r.place.«module» l.place.«module» then Some r
     else least_of_both (Some l) (Some r)
 
--- what is asked where names and types are found: the macro to begin with, which is told at the front of the project and
--- so before all else; then the first of what the language leaves out (S23) and of signatures that differ (S31, S32)
-abbrev pub static_rule : List Space → Startup → Option Refusal
-static_rule spaces st = or_else (startup_fault the_outside spaces st) (first_of_two (first_left_out the_outside spaces) (first_signature the_outside spaces))
+-- the first rule of names and types that modules break, or else that the macro to begin with isn't there (S33), which is
+-- told at the front of the project and so before all else
+abbrev pub named_rule : List Source → Startup → Option Refusal
+named_rule ms st = or_else (names.verdict the_outside ms) (startup_fault the_outside (spaces_from 0 ms) st)
 
--- the first rule that modules break: of names and types in their modules, and then the first of the others
-abbrev pub broken_rule : List Source → Startup → Option Refusal
-broken_rule ms st = or_else (names.verdict the_outside ms) (static_rule (spaces_from 0 ms) st)
+-- S24, by the least place of a project that has a Double result; where a part isn't built, it isn't asked
+abbrev pub double_rule : (left : Option Place) → Option Project → Option Refusal
+double_rule None (Some pr) = option_map (λ place. record { rule = 24; place = place }) (least_double pr)
+double_rule left pr = None
 
--- a project of these modules
-abbrev pub bound_modules : Option Start → List Source → Answer
-bound_modules start ms = answer_by (broken_rule ms (begins_at start ms)) (not_built the_outside ms) (project_of the_outside ms (begins_at start ms))
+-- what is asked where all these are found: the first of what the language leaves out (S23), of signatures that differ
+-- (S31, S32) and of Double results
+abbrev pub static_rule : List Space → (double : Option Refusal) → Option Refusal
+static_rule spaces double = first_of_two (first_of_two (first_left_out the_outside spaces) (first_signature the_outside spaces)) double
+
+-- modules that break this rule of names, or none: the first rule that they break, the first part that isn't built, or
+-- their project
+abbrev pub judged_by : (named : Option Refusal) → List Source → (left : Option Place) → Option Project → Answer
+judged_by named ms left pr = answer_by (or_else named (static_rule (spaces_from 0 ms) (double_rule left pr))) left pr
+
+-- a project of these modules, where vbarun tells that a part isn't built yet, or tells none
+abbrev pub bound_modules : Option Start → List Source → (told : Option Place) → Answer
+bound_modules start ms told =
+    let st = begins_at start ms in judged_by (named_rule ms st) ms (or_else told (not_built the_outside ms)) (project_of the_outside ms st)
 
 -- ---- all phases
 
-abbrev pub bound_sources : Option Start → Result (List Source) Refusal → Answer
-bound_sources start (Err refusal) = refused refusal
-bound_sources start (Ok ms) = bound_modules start ms
+abbrev pub bound_sources : Option Start → Result (List Source) Refusal → (told : Option Place) → Answer
+bound_sources start (Err refusal) told = refused refusal
+bound_sources start (Ok ms) told = bound_modules start ms told
 
-abbrev pub bound_kept : Option Start → Result (List Kept) Refusal → Answer
-bound_kept start (Err refusal) = refused refusal
-bound_kept start (Ok ks) = bound_sources start (each module_of 1 ks)
+abbrev pub bound_kept : Option Start → Result (List Kept) Refusal → (told : Option Place) → Answer
+bound_kept start (Err refusal) told = refused refusal
+bound_kept start (Ok ks) told = bound_sources start (each module_of 1 ks) told
 
--- what the files of modules are bound to, in the order of the project: a project, the place of the first part that has no
--- meaning yet, or the first rule that is broken
-unfoldable pub program_of : Option Start → List ModuleFile → Answer
+-- what the files of modules are bound to, in the order of the project, where vbarun tells that a part isn't built yet, or
+-- tells none: a project, the place of that part or of the first that has no meaning yet, or the first rule that is broken
+unfoldable pub program_of : Option Start → List ModuleFile → (told : Option Place) → Answer
 program_of start files = bound_kept start (each kept_of 1 files)

@@ -1,11 +1,12 @@
 -- Serves the code: what reading files as a program gives.
-use Rattle.std.specs.Prelude.{◌≡◌, ℕ, List, [], ◌∷◌, map, Result, Ok, Err, Vec}
+use Rattle.std.specs.Prelude.{◌≡◌, ℕ, List, [], ◌∷◌, map, Option, Some, None, Result, Ok, Err, Vec}
 use Rattle.std.specs.declared.alloc.Global.{Global}
 use Rattle.vba_base.specs.declared.fault.OrMemory.{OrMemory}
 use Rattle.vba_base.specs.declared.fault.OrMemory.TheVariants.{Fault, NoMemory}
+use Rattle.vba_base.specs.declared.place.Place.{Place}
 use Rattle.vba_base.specs.declared.place.Refusal.{Refusal}
 use Rattle.bound_project.specs.Bodies.{Fits, project_view}
-use Rattle.binder.specs.Bind.{Answer, refused, bound_as}
+use Rattle.binder.specs.Bind.{Answer, refused, not_built_at, bound_as}
 use Rattle.bind_project.specs.declared.bound.Bound.{Bound}
 use Rattle.bind_project.specs.declared.bound.Bound.TheVariants as bound
 use Rattle.binder.specs.Scopes.{Space}
@@ -15,16 +16,33 @@ use Rattle.vba_lexer.specs.Lexed.{lines_view}
 use Rattle.vba_cli.specs.declared.kept.Kept.{Kept}
 use Rattle.vba_cli.specs.declared.modules.ReadModule.{ReadModule}
 use Rattle.vba_cli.specs.Program as program
+use Rattle.vba_cli.specs.Program.{double_rule}
 
--- no rule is broken
-abbrev pub IsUnbroken : Answer → Type 0
-IsUnbroken (refused refusal) = ⊥
-IsUnbroken answer = Unit {0}
+-- a project that is bound fits
+abbrev pub IsFitted : Bound → Type 0
+IsFitted (bound.NotBuilt place) = Unit {0}
+IsFitted (bound.Runs pr) = Fits pr
 
-abbrev pub IsProgram : Answer → Result Bound (OrMemory Refusal) → Type 0
-IsProgram answer (Ok (bound.NotBuilt place)) = IsUnbroken answer
-IsProgram answer (Ok (bound.Runs pr)) = Fits pr × (answer ≡ bound_as (project_view pr))
-IsProgram answer (Err (Fault refusal)) = answer ≡ refused refusal
+-- S24 of what was bound
+abbrev pub double_of : Bound → Option Refusal
+double_of (bound.NotBuilt place) = None
+double_of (bound.Runs pr) = double_rule None (Some (project_view pr))
+
+-- what was bound, unless a rule is broken
+abbrev pub unless_refused : Option Refusal → Bound → Result Bound (OrMemory Refusal)
+unless_refused None b = Ok b
+unless_refused (Some refusal) b = Err (Fault refusal)
+
+-- a rule is broken, whether or not vbarun tells a part that isn't built yet
+pub record IsRefused (answer : (told : Option Place) → Answer) (refusal : Refusal) : Type 0 where
+  pub told : Option Place
+  pub is : answer told ≡ refused refusal
+
+-- reading gives the answer, by the part that it tells not to be built yet
+abbrev pub IsProgram : (answer : (told : Option Place) → Answer) → Result Bound (OrMemory Refusal) → Type 0
+IsProgram answer (Ok (bound.NotBuilt place)) = answer (Some place) ≡ not_built_at place
+IsProgram answer (Ok (bound.Runs pr)) = Fits pr × (answer None ≡ bound_as (project_view pr))
+IsProgram answer (Err (Fault refusal)) = IsRefused answer refusal
 IsProgram answer (Err NoMemory) = Unit {0}
 
 -- a module behind the rules of tokens and directives

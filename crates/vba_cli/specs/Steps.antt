@@ -123,10 +123,10 @@ pub record Ran (meant : Shown) (result : Status) (old new : Option (List ℕ)) (
   pub meets : Meets meant result old new
 
 -- a source was checked or listed; what is shown of it saves nothing, whatever its sheets are
-pub record RanAlone (command : Command) (program : bind.Answer) (result : Status) (old new : Option (List ℕ)) (faults_old faults_new : ℕ) : Type 0 where
+pub record RanAlone (command : Command) (program : (left : Option Place) → bind.Answer) (result : Status) (old new : Option (List ℕ)) (faults_old faults_new : ℕ) : Type 0 where
   pub left : Option Place
   pub shown : Shown
-  pub is_shown : (sheets : List SheetAt) (book : Result Sheets BookStop) → shown_of_source left command sheets book program ≡ shown
+  pub is_shown : (sheets : List SheetAt) (book : Result Sheets BookStop) → shown_of_source command sheets book (program left) ≡ shown
   pub saves : shown.saves ≡ []
   pub none_read : (sheets : List SheetAt) → book_paths command sheets ≡ []
   pub ran : Ran shown result old new faults_old faults_new
@@ -164,10 +164,10 @@ pub record Does (meant : Told → Shown) (names : List (List ℕ)) (number taken
   pub written : WritesFor result (λ told. (meant told).saves) old.told mid (files_in new)
 
 -- a program was run, checked or listed, or a part of it isn't built yet; its list has these sheets, whose files begin with this number
-pub record RanSources (command : Command) (sheets : List SheetAt) (number taken : ℕ) (program : bind.Answer) (result : Status) (old new : World) : Type 0 where
+pub record RanSources (command : Command) (sheets : List SheetAt) (number taken : ℕ) (program : (left : Option Place) → bind.Answer) (result : Status) (old new : World) : Type 0 where
   pub left : Option Place
   pub does :
-      Does (λ told. shown_of_source left command sheets (book_of told.files number taken sheets) program) (book_paths command sheets) number taken result old new
+      Does (λ told. shown_of_source command sheets (book_of told.files number taken sheets) (program left)) (book_paths command sheets) number taken result old new
 
 -- a project was run over the sheets of its list
 abbrev pub RanProject : (turns : ℕ) → Shows → (save : Option (List ℕ)) → List SheetAt → (number taken : ℕ) → Project → Status → World → World → Type 0

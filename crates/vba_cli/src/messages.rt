@@ -108,6 +108,7 @@ fn rule_word(rule: u8) -> &'static str
         21 => "recursive type",
         22 => "bad WithEvents",
         23 => "outside type",
+        24 => "Double result",
         31 => "property signatures differ",
         32 => "event signature",
         33 => "startup",

@@ -13,8 +13,10 @@ ghost use Rattle.list_file.specs.View.{start_view};
 ghost use Rattle.bind_project.specs.Bound.{IsBound};
 ghost use Rattle.project_tables.specs.Startups.{startup_view};
 ghost use Rattle.signature_rules.specs.Signatures.{first_signature as plain_signature};
-ghost use Rattle.vba_cli.specs.Program.{begins_at, bound_modules, first_of_two, program_of, static_rule};
-ghost use Rattle.vba_cli.specs.Programs.{IsProgram, first_fold, module_view};
+ghost use Rattle.binder.specs.Bind.{not_built, project_of};
+ghost use Rattle.binder.specs.Options.{or_else};
+ghost use Rattle.vba_cli.specs.Program.{begins_at, bound_modules, first_of_two, judged_by, program_of};
+ghost use Rattle.vba_cli.specs.Programs.{IsFitted, IsProgram, double_of, first_fold, module_view, unless_refused};
 
 use crate::modules::ReadModule;
 use crate::phases::{keep_all, read_all};
@@ -24,6 +26,7 @@ use list_file::{ModuleBytes, Startup};
 use name_rules::{first_left_out, verdict};
 use refusal_order::note_both;
 use signature_rules::first_signature;
+use static_rules::first_double;
 use std::alloc::Global;
 use vba_base::{NoMemory, OrMemory, Place, Refusal};
 
@@ -31,7 +34,8 @@ use vba_base::{NoMemory, OrMemory, Place, Refusal};
 /// the startup of their list, or else at Main of the first module. The fault is the first rule that is broken: the
 /// first of the rules of tokens and directives, in the order of the modules, else the first of those of lines and
 /// modules, else the first of those of names; else that the startup isn't there, else the first of what the language
-/// leaves out and of signatures that differ. No file has more than 67108864 bytes.
+/// leaves out, of signatures that differ and, where each part is built, of Double results. No file has more than
+/// 67108864 bytes.
 #[tactic(auto, unfolding(crate::specs::Program::program_of))]
 pub fn program(
     alloc: Global,
@@ -123,9 +127,9 @@ fn judge(
     judged(alloc, Modules { spaces, start })
 }
 
-// The modules of a project: refused by the first rule of names that they break, or by the first that is asked behind
-// it, or else bound.
-#[tactic(auto, using(crate::proofs::Bound::modules_broken, crate::proofs::Bound::modules_faulty, crate::proofs::Bound::modules_bound))]
+// The modules of a project: refused by the first rule of names that they break, or because the macro to begin with
+// isn't there (S33), or else asked the rules behind these.
+#[tactic(auto, using(crate::proofs::Bound::modules_broken, crate::proofs::Bound::modules_faulty, crate::proofs::Bound::modules_named))]
 fn judged<'a>(alloc: Global, modules: Modules<'a>) -> Result<Bound, OrMemory<Refusal>>
     requires { AreNumbered (map space_view modules.spaces.now) }
     ensures { (ms : List PlainSource) → map space_view modules.entry.spaces.now ≡ spaces_from 0 ms → IsProgram (bound_modules (option_map (λ s. start_view s.now) modules.entry.start) ms) result }
@@ -133,24 +137,47 @@ fn judged<'a>(alloc: Global, modules: Modules<'a>) -> Result<Bound, OrMemory<Ref
     if let Some(refusal) = verdict(alloc, modules.spaces)? {
         return Err(OrMemory::Fault(refusal));
     }
-    match static_fault(alloc, modules.spaces, modules.start)? {
+    match fault_at(modules.spaces, modules.start)? {
         Some(refusal) => Err(OrMemory::Fault(refusal)),
-        None => Ok(bind_at(alloc, modules.spaces, modules.start)?),
+        None => asked(alloc, modules),
     }
 }
 
-// What is asked where names and types are found: S33, and then S23, S31 and S32.
-fn static_fault<'a>(
-    alloc: Global,
-    spaces: &'a [Space<'a>],
-    start: Option<&'a Startup>,
-) -> Result<Option<Refusal>, NoMemory>
-    requires { AreNumbered (map space_view spaces.now) }
-    ensures { (ms : List PlainSource) → map space_view spaces.now ≡ spaces_from 0 ms → IfOk result (λ fault. fault ≡ static_rule (map space_view spaces.now) (begins_at (option_map (λ s. start_view s.now) start.entry) ms)) }
+// Modules in which names, types and the macro to begin with are found: refused by the first of S23, S24, S31 and S32,
+// or else bound. S24 is asked of the project that is bound.
+#[tactic(auto, using(crate::proofs::Bound::modules_asked))]
+fn asked<'a>(alloc: Global, modules: Modules<'a>) -> Result<Bound, OrMemory<Refusal>>
+    requires { AreNumbered (map space_view modules.spaces.now) }
+    ensures { (ms : List PlainSource) → map space_view modules.entry.spaces.now ≡ spaces_from 0 ms → let st = begins_at (option_map (λ s. start_view s.now) modules.entry.start) ms in
+        IsProgram (λ told. judged_by None ms (or_else told (not_built the_outside ms)) (project_of the_outside ms st)) result }
 {
-    match fault_at(spaces, start)? {
-        Some(refusal) => Ok(Some(refusal)),
-        None => first_fault(alloc, spaces),
+    let fault = first_fault(alloc, modules.spaces)?;
+    let bound = bind_at(alloc, modules.spaces, modules.start)?;
+    let first = first_of_two(fault, double_in(&bound));
+    unless_refused(bound, first)
+}
+
+// S24 of what was bound.
+fn double_in(bound: &Bound) -> Option<Refusal>
+    requires { IsFitted bound.now }
+    ensures { result ≡ double_of bound.now }
+{
+    match bound {
+        Bound::NotBuilt(_) => None,
+        Bound::Runs(project) => {
+            let place = first_double(project)?;
+            Some(Refusal { rule: 24, place })
+        }
+    }
+}
+
+// What was bound, unless a rule is broken.
+fn unless_refused(bound: Bound, first: Option<Refusal>) -> Result<Bound, OrMemory<Refusal>>
+    ensures { result ≡ unless_refused first bound }
+{
+    match first {
+        Some(refusal) => Err(OrMemory::Fault(refusal)),
+        None => Ok(bound),
     }
 }
 
@@ -217,7 +244,8 @@ fn bind_at<'a>(
     start: Option<&'a Startup>,
 ) -> Result<Bound, NoMemory>
     requires { AreNumbered (map space_view spaces.now) }
-    ensures { (ms : List PlainSource) → map space_view spaces.now ≡ spaces_from 0 ms → IfOk result (IsBound the_outside (map space_view spaces.now) (begins_at (option_map (λ s. start_view s.now) start.entry) ms)) }
+    ensures fits { IfOk result IsFitted }
+    ensures bound { (ms : List PlainSource) → map space_view spaces.now ≡ spaces_from 0 ms → IfOk result (IsBound the_outside (map space_view spaces.now) (begins_at (option_map (λ s. start_view s.now) start.entry) ms)) }
 {
     match class_front(spaces) {
         Some(place) => Ok(Bound::NotBuilt(place)),

@@ -28,6 +28,7 @@ handler_class = record {
   terminate = None;
   members = [];
   default = None;
+  enumerator = None;
   events = [];
   with_events = 0 ∷ [];
   handlers = record { field = 0; event = 0; procedure = 1 } ∷ [];

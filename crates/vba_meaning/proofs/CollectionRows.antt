@@ -15,7 +15,7 @@ use Rattle.vba_values.specs.Val.{object}
 use Rattle.vba_lib.specs.declared.function.LibraryFunction.TheVariants as function
 use Rattle.bound_project.specs.Expressions.{Variable, Expr, not_given, constant, load, load_made, call, new_object, default_of, host_member, named_member, same, is_type, library, Lvalue, variable, item, element, object_field, as_new, Exprs, no_exprs, also, no_args, no_prints, shown}
 use Rattle.bound_project.specs.Statements.{Action, set, assign, assign_member, evaluate, print, for_to, next, for_each, next_each, test, with_place, end_with, skipped, passed_on, on_error}
-use Rattle.bound_project.specs.Project.{Project}
+use Rattle.bound_project.specs.Project.{Project, nowhere}
 use Rattle.vba_meaning.specs.Memory.{Ended}
 use Rattle.vba_meaning.specs.Effects.{Raised, Init, Term}
 use Rattle.vba_meaning.proofs.Programs.{meaning, e, n, words, two, long, any, v, err, show, becomes, declare, sub, flat, jumping, program, main, told, line, fault, of_type}
@@ -251,7 +251,7 @@ row_text = e type.text (library function.CStr false (one (v (long 3))) Binary (p
 abbrev summed : Project
 summed = with_class (a_class (declare type.text ∷ declare type.currency ∷ []) None None) (program [] ((
   sub (type.collection ∷ type.class 1 ∷ type.long ∷ type.object ∷ []),
-  jumping 1 (set (variable (of_type 4 type.object)) nothing) ∷ jumping 2 (set (variable (of_type 4 type.object)) nothing) ∷ jumping 3 (for_to (long 3) Binary (n 2) (n 3) (n 1) 3 13) ∷
+  jumping 1 (set (variable (of_type 4 type.object)) nothing) ∷ jumping 2 (set (variable (of_type 4 type.object)) nothing) ∷ jumping 3 (for_to (long 3) Binary (n 2) (n 3) (n 1) nowhere None 3 13) ∷
       jumping 4 (set (variable customer) nothing) ∷ jumping 5 (on_error skipped) ∷ jumping 6 (set (variable customer) (item_in found row_text)) ∷ jumping 7 (on_error passed_on) ∷
       jumping 8 (test true (e type.boolean (same (v customer) nothing)) 8 11) ∷ jumping 9 (set (variable customer) new_instance) ∷ jumping 10 (assign (field_of 0 type.text) row_text) ∷
       jumping 11 (add found (pair (v customer) id_of)) ∷ jumping 12 (assign (field_of 1 type.currency) (two op.Add type.currency total_of (v (long 3)))) ∷ jumping 13 (next (long 3) 2 3) ∷

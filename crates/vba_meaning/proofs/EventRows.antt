@@ -31,6 +31,7 @@ source_class parameters = record {
   terminate = None;
   members = [];
   default = None;
+  enumerator = None;
   events = record { name = no_name; parameters = parameters } ∷ [];
   with_events = [];
   handlers = [];
@@ -44,6 +45,7 @@ sink_class terminate = record {
   terminate = terminate;
   members = [];
   default = None;
+  enumerator = None;
   events = [];
   with_events = 0 ∷ [];
   handlers = record { field = 0; event = 0; procedure = 2 } ∷ [];

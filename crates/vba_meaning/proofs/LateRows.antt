@@ -12,36 +12,36 @@ use Rattle.vba_meaning.specs.Effects.{Raised, Init, Term}
 use Rattle.vba_meaning.proofs.Programs.{meaning, e, n, two, err, v, show, declare, sub, flat, program, told, line, of_type}
 use Rattle.vba_meaning.proofs.ObjectRows.{a_class, with_class, new, nothing, x}
 
-abbrev named : List ℕ → Member → Named
+abbrev pub named : List ℕ → Member → Named
 named name member = record { fold = name; member = member }
 
 -- a class with these public members and this default member
-abbrev of_members : List Declaration → List Named → Option Member → Class
+abbrev pub of_members : List Declaration → List Named → Option Member → Class
 of_members fields members default = record (a_class fields None None) { members = members; default = default }
 
-abbrev takes : List ℕ → Declared → (by_reference : Bool) → Parameter
+abbrev pub takes : List ℕ → Declared → (by_reference : Bool) → Parameter
 takes name of by_reference = record { name = record { spelling = name; fold = name }; of = of; by_reference = by_reference; default = None; many = false }
 
-abbrev procedure_of : Procedure → List Parameter → Declared → Procedure
+abbrev pub procedure_of : Procedure → List Parameter → Declared → Procedure
 procedure_of p qs of = record p { parameters = qs; result = declare of }
 
 -- an object in a variable of type Object, and a call of its member
-abbrev o : Variable
+abbrev pub o : Variable
 o = of_type 1 type.object
 
-abbrev call_late : List ℕ → Given → ℕ → List (List ℕ) → Expr
+abbrev pub call_late : List ℕ → Given → ℕ → List (List ℕ) → Expr
 call_late name given before names = e type.variant (late_member (v o) name (record { before = before; names = names }) given)
 
-abbrev do_late : List ℕ → Given → ℕ → Action
+abbrev pub do_late : List ℕ → Given → ℕ → Action
 do_late name given before = evaluate (call_late name given before [])
 
-abbrev operand : Expr → Expr
+abbrev pub operand : Expr → Expr
 operand a = e type.variant (default_of a)
 
-abbrev item_of : Expr → ℕ → Expr
+abbrev pub item_of : Expr → ℕ → Expr
 item_of a k = e type.variant (late_item a (also (n k) no_exprs))
 
-abbrev my : Declared → Variable
+abbrev pub my : Declared → Variable
 my of = record { storage = own 0; of = of; bounded = false }
 
 -- Class Q: Public Sub Act(ByVal n As Long). o.Nope ¶ o.Act ¶ o.Act 1, 2, each behind On Error Resume Next

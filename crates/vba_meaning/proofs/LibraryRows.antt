@@ -18,7 +18,7 @@ use Rattle.vba_lib.specs.declared.function.LibraryFunction.{LibraryFunction}
 use Rattle.vba_lib.specs.declared.function.LibraryFunction.TheVariants as function
 use Rattle.bound_project.specs.Expressions.{Variable, Expr, not_given, constant, default_if_any, same, is_type, library, bound_of, host_object, variable, item, no_args, by_place, no_exprs, also, Exprs, kept_place, no_prints, shown}
 use Rattle.bound_project.specs.Statements.{Action, skipped, assign, set, assign_default, set_property, print, redim, no_resizes, resize, with_place, end_with, for_to, next, on_error}
-use Rattle.bound_project.specs.Project.{Project}
+use Rattle.bound_project.specs.Project.{Project, nowhere}
 use Rattle.vba_meaning.specs.Memory.{Ended, Stopped, outside}
 use Rattle.vba_meaning.specs.Effects.{Event, Raised}
 use Rattle.vba_meaning.proofs.Programs.{meaning, e, n, words, two, byte, any, v, err, show, becomes, declare, sub, flat, jumping, program, main, told, line, fault, longs, shared_longs, of_type, one, redim_to, do_call, with_types}
@@ -46,7 +46,7 @@ widened_is = refl
 -- Dim b As Byte ¶ For b = 0 To 255 ¶ Debug.Print b ¶ Next b: the Next behind the last line raises 6
 abbrev bytes : Project
 bytes = main (type.byte ∷ []) (
-    jumping 1 (for_to (byte 1) Binary (n 0) (n 255) (n 1) 1 3) ∷ jumping 2 (show (v (byte 1))) ∷ jumping 3 (next (byte 1) 0 1) ∷ [])
+    jumping 1 (for_to (byte 1) Binary (n 0) (n 255) (n 1) nowhere None 1 3) ∷ jumping 2 (show (v (byte 1))) ∷ jumping 3 (next (byte 1) 0 1) ∷ [])
 
 abbrev lines_from : (first count : ℕ) → List Event
 lines_from first zero = []

@@ -13,7 +13,7 @@ use Rattle.vba_meaning.specs.Effects.{Raised, Init, Term}
 use Rattle.vba_meaning.proofs.Programs.{meaning, e, n, words, err, v, show, do_call, declare, sub, flat, program, told, line, of_type}
 
 abbrev pub a_class : List Declaration → (initialize terminate : Option ℕ) → Class
-a_class fields initialize terminate = record { name = no_name; fields = fields; initialize = initialize; terminate = terminate; members = []; default = None; events = []; with_events = []; handlers = [] }
+a_class fields initialize terminate = record { name = no_name; fields = fields; initialize = initialize; terminate = terminate; members = []; default = None; enumerator = None; events = []; with_events = []; handlers = [] }
 
 -- a project with one class
 abbrev pub with_class : Class → Project → Project

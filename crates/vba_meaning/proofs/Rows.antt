@@ -1,5 +1,5 @@
 -- Worked rows: what small programs tell.
-use Rattle.std.specs.Prelude.{◌≡◌, pos, [], ◌∷◌, codes, true, false, refl, Some}
+use Rattle.std.specs.Prelude.{◌≡◌, pos, [], ◌∷◌, codes, true, false, refl, Some, None}
 use Rattle.std.specs.Fmt.{digits}
 use Rattle.vba_values.specs.Arithmetic.{division}
 use Rattle.vba_values.specs.declared.types.OpKind.TheVariants as op
@@ -11,7 +11,7 @@ use Rattle.vba_values.specs.Types as type
 use Rattle.vba_values.specs.Val.{null, whole, missing}
 use Rattle.bound_project.specs.Expressions.{constant, call, err_value, err_source, err_description, variable, no_args, by_place, by_copy, by_default, no_prints, shown, zone}
 use Rattle.bound_project.specs.Statements.{no_tests, test_is, test_range, skipped, handled_at, evaluate, print, raise, test, go_to, for_to, next, select, case_of, go_sub, return_sub, exit_to, on_error, resume_again, stop, end_run}
-use Rattle.bound_project.specs.Project.{Project, no_name}
+use Rattle.bound_project.specs.Project.{Project, no_name, nowhere}
 use Rattle.vba_meaning.specs.Memory.{Ended, Stopped, Going, stop_said, outside}
 use Rattle.vba_meaning.specs.Effects.{Raised}
 use Rattle.vba_meaning.proofs.Programs.{meaning, e, n, words, two, plus, half, long, byte, any, global, v, err, show, becomes, declare, sub, flat, jumping, program, main, told, line, fault}
@@ -52,7 +52,7 @@ widened_is = refl
 -- Dim b As Byte ¶ For b = 254 To 255 ¶ Debug.Print b ¶ Next b
 abbrev bytes : Project
 bytes = main (type.byte ∷ []) (
-    jumping 1 (for_to (byte 1) Binary (n 254) (n 255) (n 1) 1 3) ∷ jumping 2 (show (v (byte 1))) ∷ jumping 3 (next (byte 1) 0 1) ∷ [])
+    jumping 1 (for_to (byte 1) Binary (n 254) (n 255) (n 1) nowhere None 1 3) ∷ jumping 2 (show (v (byte 1))) ∷ jumping 3 (next (byte 1) 0 1) ∷ [])
 
 pub bytes_is : told (meaning bytes 50) ≡ (fault 6 0 2, line (codes " 254 ") ∷ line (codes " 255 ") ∷ Raised (pos 6) ∷ [])
 unfolding digits
@@ -119,8 +119,8 @@ passed_is = refl
 abbrev chosen : Project
 chosen = main [] (
     jumping 6 (select (n 7) 1) ∷
-    jumping 2 (case_of (test_range (n 1) (n 3) (test_is op.Gt (n 8) no_tests)) 0 type.integer Binary 2 3) ∷ jumping 6 (show (n 1)) ∷
-    jumping 4 (case_of (test_is op.Eq (n 5) (test_is op.Eq (n 7) no_tests)) 0 type.integer Binary 4 5) ∷ jumping 6 (show (n 2)) ∷
+    jumping 2 (case_of (test_range (n 1) (n 3) nowhere nowhere (test_is op.Gt nowhere (n 8) no_tests)) 0 type.integer Binary 2 3) ∷ jumping 6 (show (n 1)) ∷
+    jumping 4 (case_of (test_is op.Eq nowhere (n 5) (test_is op.Eq nowhere (n 7) no_tests)) 0 type.integer Binary 4 5) ∷ jumping 6 (show (n 2)) ∷
     jumping 6 (show (n 3)) ∷ [])
 
 pub chosen_is : told (meaning chosen 50) ≡ (Ended, line (codes " 2 ") ∷ [])
@@ -142,7 +142,7 @@ stop_is = refl
 -- On Error Resume Next ¶ For i = 1 To 1 \ 0 ¶ Debug.Print 8 ¶ Next i ¶ Debug.Print Err.Number: the loop wasn't begun
 abbrev loop_failed : Project
 loop_failed = main (type.long ∷ []) (
-    jumping 1 (on_error skipped) ∷ jumping 2 (for_to (long 1) Binary (n 1) half (n 1) 2 4) ∷ jumping 3 (show (n 8)) ∷ jumping 4 (next (long 1) 1 2) ∷ jumping 5 (show err) ∷ [])
+    jumping 1 (on_error skipped) ∷ jumping 2 (for_to (long 1) Binary (n 1) half (n 1) nowhere None 2 4) ∷ jumping 3 (show (n 8)) ∷ jumping 4 (next (long 1) 1 2) ∷ jumping 5 (show err) ∷ [])
 
 pub loop_failed_is : told (meaning loop_failed 50) ≡ (Ended, Raised (pos 11) ∷ line (codes " 8 ") ∷ Raised (pos 92) ∷ line (codes " 92 ") ∷ [])
 unfolding division digits

@@ -6,14 +6,16 @@ use Rattle.vba_values.specs.declared.object.ObjRef.TheVariants.{Heap, Host}
 use Rattle.vba_values.specs.declared.value.Bound.{Bound}
 use Rattle.vba_values.specs.Types.{Declared}
 use Rattle.vba_values.specs.Types as type
-use Rattle.vba_values.specs.Val.{Val, empty, object}
+use Rattle.vba_values.specs.Val.{Val, empty, missing, object, array}
 use Rattle.sheet_host.specs.Books.{cell_limit}
 use Rattle.bound_project.specs.Project.{Declarations, Declaration, Parameter, ProcedureKind, is_sub, Class, Member, is_variable, is_procedure, is_property, no_class, no_declaration, class_at, procedure_at}
-use Rattle.vba_meaning.specs.Paths.{in_fields, Path}
-use Rattle.vba_meaning.specs.Memory.{Slot, value, Memory, number_of}
-use Rattle.vba_meaning.specs.Effects.{Effect, Fine, Bad-at, on_fine, class_of, is_collection, fitted, plain, read_path, assigned, slot_left_out}
-use Rattle.vba_meaning.specs.Objects.{made_for, initialize_of, stored_made}
-use Rattle.vba_meaning.specs.Host.{is_counted, item_by, item_assigned, written_default, member_assigned}
+use Rattle.vba_meaning.specs.Paths.{in_fields, Root, in_object, in_item, Path}
+use Rattle.vba_meaning.specs.Memory.{Slot, value, Memory, number_of, value_at}
+use Rattle.vba_meaning.specs.Effects.{Effect, Fine, Bad-at, on_fine, done, class_of, is_collection, set_object, fitted, plain, read_path, assigned, packed, slot_left_out}
+use Rattle.vba_meaning.specs.Arrays.{element_at}
+use Rattle.vba_meaning.specs.Objects.{made_for, initialize_of, stored_made, set_at}
+use Rattle.vba_meaning.specs.Collections.{is_given}
+use Rattle.vba_meaning.specs.Host.{is_counted, plains, item_by, written_default, member_assigned}
 
 -- where an assigned value goes at last
 pub data Spot : Type 0 where
@@ -31,6 +33,8 @@ pub data Task : Type 0 where
   no_object : Task
   -- an object of a class alone gives way
   give_way : Task
+  -- it must be a Collection
+  walked : Task
   -- it becomes one of this type
   fit_to : Declared → Task
   -- these arguments index it, and its default member is written: along default members, so many more at most
@@ -38,6 +42,8 @@ pub data Task : Type 0 where
   write : (left : ℕ) → Val → Task
   -- what these arguments lead to takes a value
   let_item : (left : ℕ) → List Val → Val → Task
+  -- what these arguments lead to is set
+  set_item : (left : ℕ) → List Val → Val → Task
   put_in : Spot → Task
   -- a Class_Initialize is over: what was made is stored, and read
   read_made : Path → Val → Task
@@ -145,7 +151,7 @@ read_member d v (is_procedure p) m = read_by d p v m
 read_member d v (is_property (Some p) lets sets) m = read_by d p v m
 read_member d v (is_property None lets sets) m = Bad-at 438 m
 
--- the default member: 438 where a class has none
+-- the default member, and the enumerator: 438 where a class has none
 abbrev pub read_default : Declarations → Val → Option Member → Memory → Effect Next
 read_default d v None m = Bad-at 438 m
 read_default d v (Some x) m = read_member d v x m
@@ -172,12 +178,36 @@ operand_of d v m = if is_counted v then counted_operand d v m else over_with (pl
 abbrev pub given_to : Declared → Val → Memory → Effect Val
 given_to of v m = if can_be_object of then fitted of v m else on_fine (plain v m) (λ w m1. fitted of w m1)
 
--- the arguments in their order, what is left out behind them, and 450 where there are too many
+-- a given argument has no parameter; a parameter has no argument that must be given
+abbrev pub any_given : List Val → Bool
+any_given [] = false
+any_given (v ∷ vs) = is_given v || any_given vs
+
+abbrev pub too_many : List Parameter → List Val → Bool
+too_many [] vs = any_given vs
+too_many (q ∷ qs) [] = false
+too_many (q ∷ qs) (v ∷ vs) = not q.many && too_many qs vs
+
+abbrev pub too_few : List Parameter → List Val → Bool
+too_few [] vs = false
+too_few (q ∷ qs) [] = any_must (q ∷ qs)
+too_few (q ∷ qs) (v ∷ vs) = (must_be_given q && not (is_given v)) || too_few qs vs
+
+-- what parameters have of these arguments, which become what each takes in their order: a ParamArray all further ones
+abbrev pub slot_given : Parameter → Val → Memory → Effect Slot
+slot_given q missing m = Fine (slot_left_out q) m
+slot_given q v m = on_fine (given_to q.of v m) (λ w m1. Fine (value w) m1)
+
+abbrev pub slots_in : List Parameter → List Val → Memory → Effect (List Slot)
+slots_in [] vs m = Fine [] m
+slots_in (q ∷ qs) [] m = on_fine (slots_in qs [] m) (λ xs m1. Fine (slot_left_out q ∷ xs) m1)
+slots_in (q ∷ qs) (v ∷ vs) m =
+    if q.many then Fine (value (packed (map value (v ∷ vs))) ∷ []) m
+    else on_fine (slot_given q v m) (λ x m1. on_fine (slots_in qs vs m1) (λ xs m2. Fine (x ∷ xs) m2))
+
+-- 450 comes before 449, and both before any argument becomes what its parameter takes
 abbrev pub slots_from : List Parameter → List Val → Memory → Effect (List Slot)
-slots_from [] [] m = Fine [] m
-slots_from [] (v ∷ vs) m = Bad-at 450 m
-slots_from (q ∷ qs) [] m = if must_be_given q then Bad-at 449 m else on_fine (slots_from qs [] m) (λ xs m1. Fine (slot_left_out q ∷ xs) m1)
-slots_from (q ∷ qs) (v ∷ vs) m = on_fine (given_to q.of v m) (λ w m1. on_fine (slots_from qs vs m1) (λ xs m2. Fine (value w ∷ xs) m2))
+slots_from qs vs m = if too_many qs vs then Bad-at 450 m else if too_few qs vs then Bad-at 449 m else slots_in qs vs m
 
 abbrev pub reader_of : Member → Option ℕ
 reader_of (is_variable i makes) = None
@@ -208,6 +238,39 @@ index_once d w vs pass m = if is_instance w m then index_member d w vs (class_of
 abbrev pub index_along : Declarations → (left : ℕ) → List Val → Val → Memory → Effect Next
 index_along d zero vs w m = index_once d w vs (λ x m1. Bad-at 450 m1) m
 index_along d (suc k) vs w m = index_once d w vs (λ x m1. after_use (read_member d w x m1) (index_by k vs) (λ u m2. index_along d k vs u m2)) m
+
+-- ---- arguments behind a place
+
+-- whether a variable has what is there, or a With block: what an index gave is no place
+abbrev pub is_variable_place : Root → Bool
+is_variable_place (in_object o) = false
+is_variable_place (in_item v) = false
+is_variable_place root = true
+
+-- whether there is an array, whose elements are places
+abbrev pub is_array : Option Val → Bool
+is_array (Some (array bounds of items)) = true
+is_array x = false
+
+abbrev pub has_array : Path → Memory → Bool
+has_array q m = is_variable_place q.root && is_array (value_at m q)
+
+-- the element with these numbers: an object among them gives way
+abbrev pub element_by : Path → List Val → Memory → Effect Path
+element_by q vs m = on_fine (plains vs m) (λ ws m1. element_at q ws m1)
+
+-- of anything else what is there is read, and the arguments index that
+abbrev pub item_along : Declarations → Path → List Val → Memory → Effect Next
+item_along d q vs m = after_use (read_variable d q m) (index_by most_passed vs) (λ w m1. index_along d most_passed vs w m1)
+
+-- the element is stored to, or what is there is read and the rest is done with that
+abbrev pub in_place : Declarations → Path → List Val → (store : Path → Memory → Effect Next) → Task → (go : Val → Memory → Effect Next) → Memory → Effect Next
+in_place d q vs store t go m = if has_array q m then on_fine (element_by q vs m) store else after_use (read_variable d q m) t go
+
+-- a default member that takes no arguments: those behind a variable lead to its place, those behind another to what it gives
+abbrev pub leads_on : Declarations → (self : Val) → List Val → (store : Path → Memory → Effect Next) → Task → (go : Val → Memory → Effect Next) → Member → Memory → Effect Next
+leads_on d self vs store t go (is_variable i makes) m = in_place d (variable_of d self i makes m) vs store t go m
+leads_on d self vs store t go x m = after_use (read_member d self x m) t go
 
 -- ---- a value is put where it goes
 
@@ -268,6 +331,10 @@ write_along d (suc k) v w m = write_once d v w (λ x m1. after_use (read_member 
 
 -- ---- what arguments lead to takes a value
 
+-- a place takes a value: one of an object type has the default member of its object written
+abbrev pub let_at : Declarations → Path → Val → Memory → Effect Next
+let_at d q v m = if is_object_type q.of then after_use (read_variable d q m) (write most_passed v) (λ u m1. write_along d most_passed v u m1) else put d (in_variable q) v m
+
 -- a Property Let of the default member takes the arguments and the value; a Get or Function that takes them gives an
 -- object, whose default member is written; and what takes none passes both on
 abbrev pub let_called_with : Declarations → Val → List Val → (self : Val) → (procedure : ℕ) → Memory → Effect Next
@@ -295,14 +362,72 @@ let_member d v vs self (Some x) pass m = let_default d v vs self x (let_setter x
 -- keeps takes the value for nothing
 abbrev pub let_item_of : Declarations → Val → List Val → (target : Val) → Memory → Effect Next
 let_item_of d v vs (object o) m = after_use (over_with (item_by (object o) vs m)) (write most_passed v) (λ w m1. write_along d most_passed v w m1)
-let_item_of d v vs w m = nothing_more (item_assigned w vs v m)
+let_item_of d v vs w m = on_fine (item_by w vs m) (λ u m1. operand_of d v m1)
 
 abbrev pub let_once : Declarations → Val → List Val → (target : Val) → (pass : Member → Memory → Effect Next) → Memory → Effect Next
 let_once d v vs w pass m = if is_instance w m then let_member d v vs w (class_of_value d w m).default pass m else let_item_of d v vs w m
 
 abbrev pub let_along : Declarations → (left : ℕ) → List Val → Val → (target : Val) → Memory → Effect Next
 let_along d zero vs v w m = let_once d v vs w (λ x m1. Bad-at 450 m1) m
-let_along d (suc k) vs v w m = let_once d v vs w (λ x m1. after_use (read_member d w x m1) (let_item k vs v) (λ u m2. let_along d k vs v u m2)) m
+let_along d (suc k) vs v w m =
+    let_once d v vs w (λ x m1. leads_on d w vs (λ p m2. let_at d p v m2) (let_item k vs v) (λ u m2. let_along d k vs v u m2) x m1) m
+
+-- ---- what arguments lead to is set ([MS-VBAL] 5.4.3.9)
+
+-- a Property Set of the default member takes the arguments, and the object by the test of Set
+abbrev pub set_called_with : Declarations → Val → List Val → (self : Val) → (procedure : ℕ) → Memory → Effect Next
+set_called_with d v vs self p m =
+    on_fine (slots_from (without_last (parameters_of d p)) vs m) (λ xs m1.
+    on_fine (set_object (last_type (parameters_of d p)) v m1) (λ w m2. Fine (then_call p self (xs ++ value w ∷ []) []) m2))
+
+-- what takes no arguments passes both on, and any other member can't be set
+abbrev pub set_by_reader : Declarations → Member → Option ℕ → (pass : Member → Memory → Effect Next) → Memory → Effect Next
+set_by_reader d x None pass m = pass x m
+set_by_reader d x (Some p) pass m = if has_parameters (parameters_of d p) then Bad-at 438 m else pass x m
+
+abbrev pub setter_of : Member → Option ℕ
+setter_of (is_property reads lets sets) = sets
+setter_of x = None
+
+abbrev pub set_default : Declarations → Val → List Val → (self : Val) → Member → Option ℕ → (pass : Member → Memory → Effect Next) → Memory → Effect Next
+set_default d v vs self x None pass m = set_by_reader d x (reader_of x) pass m
+set_default d v vs self x (Some p) pass m = if has_parameters (without_last (parameters_of d p)) then set_called_with d v vs self p m else set_by_reader d x (reader_of x) pass m
+
+abbrev pub set_by_member : Declarations → Val → List Val → (self : Val) → Option Member → (pass : Member → Memory → Effect Next) → Memory → Effect Next
+set_by_member d v vs self None pass m = Bad-at 438 m
+set_by_member d v vs self (Some x) pass m = set_default d v vs self x (setter_of x) pass m
+
+-- an element of an array that nothing keeps takes the object for nothing; no item of an object of the host or of a
+-- Collection can be set
+abbrev pub element_of : Val → Declared
+element_of (array bounds of items) = of
+element_of v = type.variant
+
+abbrev pub set_item_of : Val → List Val → (target : Val) → Memory → Effect Next
+set_item_of v vs (object o) m = on_fine (item_by (object o) vs m) (λ w m1. on_fine (set_object type.variant v m1) (λ x m2. Bad-at 438 m2))
+set_item_of v vs w m = nothing_more (on_fine (item_by w vs m) (λ u m1. on_fine (set_object (element_of w) v m1) (λ x m2. done m2)))
+
+abbrev pub set_once : Declarations → Val → List Val → (target : Val) → (pass : Member → Memory → Effect Next) → Memory → Effect Next
+set_once d v vs w pass m = if is_instance w m then set_by_member d v vs w (class_of_value d w m).default pass m else set_item_of v vs w m
+
+abbrev pub set_along : Declarations → (left : ℕ) → List Val → Val → (target : Val) → Memory → Effect Next
+set_along d zero vs v w m = set_once d v vs w (λ x m1. Bad-at 450 m1) m
+set_along d (suc k) vs v w m =
+    set_once d v vs w (λ x m1. leads_on d w vs (λ p m2. nothing_more (set_at p v m2)) (set_item k vs v) (λ u m2. set_along d k vs v u m2) x m1) m
+
+-- ---- For Each over an object of a class ([MS-VBAL] 5.4.2.4)
+
+-- what an enumerator gives must be a Collection
+abbrev pub has_items : Val → Memory → Bool
+has_items (object o) m = is_collection o m
+has_items v m = false
+
+abbrev pub collection_here : Val → Memory → Effect Next
+collection_here v m = if has_items v m then Fine (gives v) m else Bad-at 438 m
+
+-- an object of a class gives way to the Collection that its enumerator gives; anything else stays
+abbrev pub enumerator_of : Declarations → Val → Memory → Effect Next
+enumerator_of d v m = if is_instance v m then after_use (read_default d v (class_of_value d v m).enumerator m) walked collection_here else Fine (gives v) m
 
 -- ---- tasks
 
@@ -310,10 +435,12 @@ abbrev pub task_next : Declarations → Task → Val → Memory → Effect Next
 task_next d as_operand v m = operand_of d v m
 task_next d no_object v m = no_object_here v m
 task_next d give_way v m = if is_instance v m then operand_of d v m else Fine (gives v) m
+task_next d walked v m = collection_here v m
 task_next d (fit_to of) v m = over_with (fitted of v m)
 task_next d (index_by k vs) v m = index_along d k vs v m
 task_next d (write k w) v m = write_along d k w v m
 task_next d (let_item k vs w) v m = let_along d k vs w v m
+task_next d (set_item k vs w) v m = set_along d k vs w v m
 task_next d (put_in spot) v m = put_value d spot v m
 task_next d (read_made q w) v m = read_made_by q w None m
 

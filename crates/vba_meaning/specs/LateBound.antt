@@ -1,20 +1,19 @@
 -- Members that are found in the run, by the class of the object that is there ([MS-VBAL] 5.6.12, 5.3.1.11).
 use Rattle.std.specs.Prelude.{ℕ, zero, suc, ◌+◌, ◌-◌, nat_lt, ◌&&◌, ◌||◌, List, [], ◌∷◌, ◌++◌, length, codes, Bool, true, false, not, if◌then◌else◌, bytes_eq, Option, Some, None, is_some, slice_index_or, take, drop}
 use Rattle.std.specs.List.{list_any}
-use Rattle.vba_values.specs.declared.object.ObjRef.TheVariants.{Heap}
-use Rattle.vba_values.specs.Val.{Val, empty, missing, object, array}
+use Rattle.vba_values.specs.declared.object.ObjRef.TheVariants.{Nothing, Heap}
+use Rattle.vba_values.specs.Val.{Val, empty, missing, object}
 use Rattle.bound_project.specs.Expressions.{ByName, Expr, expr, not_given, Given, none_given, place_given, expr_given}
 use Rattle.bound_project.specs.Project.{Declarations, Parameter, Member, is_variable, is_procedure, is_property, Named, procedure_at}
-use Rattle.vba_meaning.specs.Paths.{Root, in_object, in_item, Path}
-use Rattle.vba_meaning.specs.Memory.{Slot, value, Memory, value_at}
+use Rattle.vba_meaning.specs.Paths.{Path}
+use Rattle.vba_meaning.specs.Memory.{Slot, value, Memory}
 use Rattle.vba_meaning.specs.Effects.{Effect, Fine, Bad-at, on_fine, done, set_object, slot_values, packed, slot_left_out}
 use Rattle.vba_values.specs.Coerce.{is_same_type}
-use Rattle.vba_meaning.specs.Arrays.{element_at}
 use Rattle.vba_meaning.specs.Objects.{set_at}
 use Rattle.vba_meaning.specs.Collections.{CollectionMember, is_item, found_or, collection_member, item_found}
-use Rattle.vba_meaning.specs.Host.{as_given, place_at, member_there, member_assigned, member_not_set}
+use Rattle.vba_meaning.specs.Host.{as_given, member_there, member_assigned, member_not_set}
 use Rattle.vba_meaning.specs.ByName.{named_there, in_parameter_order}
-use Rattle.vba_meaning.specs.Defaults.{in_variable, by_let, in_member, Task, as_operand, fit_to, write, let_item, give_way, Next, gives, then_call, over_with, after_use, is_instance, class_of_value, variable_of, parameters_of, must_be_given, without_last, last_type, is_object_type, can_be_object, is_sub_kind, has_parameters, read_variable, index_along, nothing_more, put, write_along, let_along, tasks_next, use_then, most_passed}
+use Rattle.vba_meaning.specs.Defaults.{by_let, in_member, Task, as_operand, fit_to, write, let_item, set_item, give_way, Next, gives, then_call, over_with, after_use, is_instance, is_variable_place, class_of_value, variable_of, parameters_of, must_be_given, without_last, last_type, can_be_object, is_sub_kind, has_parameters, read_variable, index_along, in_place, nothing_more, put, let_at, write_along, let_along, set_along, tasks_next, use_then, most_passed}
 
 -- what is done with a member: it is read or called, assigned to, or set
 pub data Use : Type 0 where
@@ -123,6 +122,16 @@ abbrev pub member_named : List Named → (name : List ℕ) → Option Member
 member_named [] name = None
 member_named (x ∷ xs) name = if bytes_eq x.fold name then Some x.member else member_named xs name
 
+-- the place of a public variable: no other member has one
+abbrev pub variable_named : Declarations → Val → Option Member → Memory → Effect Path
+variable_named d v (Some (is_variable i makes)) m = Fine (variable_of d v i makes m) m
+variable_named d v x m = Bad-at 438 m
+
+abbrev pub public_variable : Declarations → (name : List ℕ) → Val → Memory → Effect Path
+public_variable d name (object Nothing) m = Bad-at 91 m
+public_variable d name (object o) m = variable_named d (object o) (if is_instance (object o) m then member_named (class_of_value d (object o) m).members name else None) m
+public_variable d name v m = Bad-at 424 m
+
 -- a Get that may give an object is called for an assignment where no Let takes it
 abbrev pub get_for_object : Declarations → Option ℕ → Option Way
 get_for_object d None = None
@@ -134,6 +143,15 @@ assigned_way d k v (is_procedure p) m = if is_sub_kind (procedure_at d p).kind t
 assigned_way d k v (is_property reads (Some p) sets) m = if nat_lt 0 k && not (has_parameters (without_last (parameters_of d p))) then get_for_object d reads else Some (by_setter p)
 assigned_way d k v (is_property reads None sets) m = get_for_object d reads
 
+-- a property is set by its Set; arguments index what a Get gives that takes none
+abbrev pub get_alone : Declarations → (given : ℕ) → Option ℕ → Option Way
+get_alone d k None = None
+get_alone d k (Some p) = if nat_lt 0 k && not (has_parameters (parameters_of d p)) then get_for_object d (Some p) else None
+
+abbrev pub set_by : Declarations → (given : ℕ) → (reads sets : Option ℕ) → Option Way
+set_by d k reads (Some p) = if nat_lt 0 k && not (has_parameters (without_last (parameters_of d p))) then get_alone d k reads else Some (by_setter p)
+set_by d k reads None = get_alone d k reads
+
 abbrev pub way_of : Declarations → Use → (given : ℕ) → Val → Member → Memory → Option Way
 way_of d reading k v (is_variable i makes) m = Some (by_variable (variable_of d v i makes m))
 way_of d reading k v (is_procedure p) m = Some (by_call p false)
@@ -141,8 +159,8 @@ way_of d reading k v (is_property (Some p) lets sets) m = Some (by_call p true)
 way_of d reading k v (is_property None lets sets) m = None
 way_of d assigning k v x m = assigned_way d k v x m
 way_of d setting k v (is_variable i makes) m = Some (by_variable (variable_of d v i makes m))
-way_of d setting k v (is_property reads lets (Some p)) m = Some (by_setter p)
-way_of d setting k v x m = None
+way_of d setting k v (is_procedure p) m = None
+way_of d setting k v (is_property reads lets sets) m = set_by d k reads sets
 
 abbrev pub found_way : Declarations → Use → (given : ℕ) → Val → Option Member → Memory → Option Way
 found_way d aim k v None m = None
@@ -221,11 +239,6 @@ value_bound d aim name by gs i base missing m = Fine (gives missing) m
 value_bound d aim name by gs i base v m = tasks_next d (argument_tasks d aim name by gs i base m) v m
 
 -- a place is lent where the parameter is ByRef and has its type; any other parameter gets a copy
-abbrev pub is_variable_place : Root → Bool
-is_variable_place (in_object o) = false
-is_variable_place (in_item v) = false
-is_variable_place root = true
-
 abbrev pub takes_place : Option Parameter → Path → Bool
 takes_place None q = false
 takes_place (Some p) q = p.by_reference && not p.many && is_same_type p.of q.of && is_variable_place q.root
@@ -257,19 +270,14 @@ host_arguments base name by xs = if has_names by then in_parameter_order base na
 
 -- an element of an array takes the value in place; of any other value what the arguments lead to does
 abbrev pub let_element : Declarations → Path → List Val → Val → Memory → Effect Next
-let_element d q vs v m = at (value_at m q)
-  where
-    at : Option Val → Effect Next
-    at (Some (array bounds of items)) = on_fine (element_at q vs m) (λ p m1. put d (in_variable p) v m1)
-    at other = after_use (read_variable d q m) (let_item most_passed vs v) (λ w m1. let_along d most_passed vs v w m1)
+let_element d q vs v m = in_place d q vs (λ p m1. let_at d p v m1) (let_item most_passed vs v) (λ w m1. let_along d most_passed vs v w m1) m
 
 abbrev pub let_indexed : Declarations → (begun : Val) → List Val → Val → Way → Memory → Effect Next
 let_indexed d begun vs v (by_variable q) m = let_element d q vs v m
 let_indexed d begun vs v w m = let_along d most_passed vs v begun m
 
 abbrev pub let_plain : Declarations → ByName → (base : Val) → List Slot → Val → Way → Memory → Effect Next
-let_plain d by base xs v (by_variable q) m =
-    if is_object_type q.of then after_use (read_variable d q m) (write most_passed v) (λ u m1. write_along d most_passed v u m1) else put d (in_variable q) v m
+let_plain d by base xs v (by_variable q) m = let_at d q v m
 let_plain d by base xs v (by_call p property) m = Fine (then_call p base (arranged (parameters_of d p) by xs) (write most_passed v ∷ [])) m
 let_plain d by base xs v (by_setter p) m = put d (by_let p base (arranged (without_last (parameters_of d p)) by xs)) v m
 
@@ -292,14 +300,17 @@ late_let d name by gs base begun xs v m =
 
 -- ---- a member is set
 
-abbrev pub set_way : Declarations → ByName → List Bool → (base : Val) → List Slot → Val → Way → Memory → Effect Next
-set_way d by gs base xs v (by_variable q) m =
-    if indexes d by gs (by_variable q) then on_fine (place_at q (slot_values xs) m) (λ p m1. nothing_more (set_at p v m1)) else nothing_more (set_at q v m)
-set_way d by gs base xs v (by_setter p) m =
-    on_fine (set_object (last_type (parameters_of d p)) v m) (λ w m1. Fine (then_call p base (arranged (without_last (parameters_of d p)) by xs ++ value w ∷ []) []) m1)
-set_way d by gs base xs v (by_call p property) m = Bad-at 438 m
+-- an element of an array in place; of any other value the default member to which the arguments lead
+abbrev pub element_set : Declarations → Path → List Val → Val → Memory → Effect Next
+element_set d q vs v m = in_place d q vs (λ p m1. nothing_more (set_at p v m1)) (set_item most_passed vs v) (λ w m1. set_along d most_passed vs v w m1) m
 
-abbrev pub late_set : Declarations → (name : List ℕ) → ByName → List Bool → (base : Val) → List Slot → Val → Memory → Effect Next
-late_set d name by gs base xs v m =
-    if is_instance base m then on_fine (found_or 438 (way_by_name d setting name gs base m) m) (λ w m1. set_way d by gs base xs v w m1)
+abbrev pub set_way : Declarations → ByName → List Bool → (base begun : Val) → List Slot → Val → Way → Memory → Effect Next
+set_way d by gs base begun xs v (by_variable q) m = if indexes d by gs (by_variable q) then element_set d q (slot_values xs) v m else nothing_more (set_at q v m)
+set_way d by gs base begun xs v (by_setter p) m =
+    on_fine (set_object (last_type (parameters_of d p)) v m) (λ w m1. Fine (then_call p base (arranged (without_last (parameters_of d p)) by xs ++ value w ∷ []) []) m1)
+set_way d by gs base begun xs v (by_call p property) m = if indexes d by gs (by_call p property) then set_along d most_passed (slot_values xs) v begun m else Bad-at 438 m
+
+abbrev pub late_set : Declarations → (name : List ℕ) → ByName → List Bool → (base begun : Val) → List Slot → Val → Memory → Effect Next
+late_set d name by gs base begun xs v m =
+    if is_instance base m then on_fine (found_or 438 (way_by_name d setting name gs base m) m) (λ w m1. set_way d by gs base begun xs v w m1)
     else nothing_more (member_not_set base m)

@@ -9,8 +9,8 @@ use Rattle.vba_values.specs.Val.{Val, empty, missing, object}
 use Rattle.error_frames.specs.declared.frame.ResumeKind.TheVariants as kind
 use Rattle.error_frames.specs.declared.frame.Taken.{Taken}
 use Rattle.error_frames.specs.declared.frame.Taken.TheVariants as taken
-use Rattle.bound_project.specs.Expressions.{Expr, expr, Node, not_given, constant, load, load_made, element_value, field_value, unary, binary, call, err_value, default_of, default_if_any, same, is_type, library, bound_of, host_object, active_sheet, ByName, host_member, named_member, this, new_object, method, late_member, late_item, Lvalue, variable, item, element, field, kept_place, object_field, as_new, Args, no_args, by_place, by_copy, by_default, by_list, in_order, Given, none_given, place_given, expr_given, Exprs, no_exprs, also, given_count, Prints, no_prints, shown, zone, operand_type}
-use Rattle.bound_project.specs.Statements.{Resizes, no_resizes, resize, Arrays, no_arrays, an_array, Tests, no_tests, test_is, test_range, Action, assign, assign_item, set, assign_default, assign_member, set_member, assign_through, assign_element, assign_late, set_late, evaluate, let_property, set_property, let_method, set_method, raise_event, print, raise, test, go_to, for_to, next, for_each, next_each, exit_each, select, case_of, redim, erase, with_place, with_value, end_with, go_sub, return_sub, exit_to, on_error, end_handler, clear_err, resume_again, resume_next, resume_at, stop, end_run, Statement}
+use Rattle.bound_project.specs.Expressions.{Expr, expr, Node, not_given, constant, load, load_made, element_value, field_value, unary, binary, call, err_value, default_of, default_if_any, enumerated, same, is_type, library, bound_of, host_object, active_sheet, ByName, host_member, named_member, this, new_object, method, late_member, late_item, Lvalue, variable, item, element, field, kept_place, object_field, as_new, element_along, late_field, value_place, Args, no_args, by_place, by_copy, by_default, by_list, in_order, Given, none_given, place_given, expr_given, Exprs, no_exprs, also, given_count, Prints, no_prints, shown, zone, operand_type}
+use Rattle.bound_project.specs.Statements.{Resizes, no_resizes, resize, Arrays, no_arrays, an_array, Tests, no_tests, test_is, test_range, Action, assign, assign_item, set, assign_default, assign_member, set_member, assign_through, assign_element, set_element, assign_late, set_late, evaluate, let_property, set_property, let_method, set_method, raise_event, print, raise, test, go_to, for_to, next, for_each, next_each, exit_each, select, case_of, redim, erase, with_place, with_value, end_with, go_sub, return_sub, exit_to, on_error, end_handler, clear_err, resume_again, resume_next, resume_at, stop, end_run, Statement}
 use Rattle.sheet_host.specs.Books.{Sheets}
 use Rattle.vba_events.specs.declared.linked.Linked.{Linked}
 use Rattle.sheet_host.specs.declared.area.Area.{Area}
@@ -25,8 +25,8 @@ use Rattle.vba_meaning.specs.Objects.{compared, typed_as, set_at, made, own_obje
 use Rattle.vba_meaning.specs.Host.{first_sheet, item_by, member_there, member_called, is_counted, object_member, is_raise, error_given, written_default, place_at, assigned_at, item_assigned, member_assigned, member_not_set, path_to}
 use Rattle.vba_meaning.specs.ByName.{named_there, in_parameter_order}
 use Rattle.vba_meaning.specs.Library.{library_called, bound_at, plain_if_any}
-use Rattle.vba_meaning.specs.Defaults.{Next, gives, then_call, is_instance, counted_operand, counted_if_any, index_along, write_along, tasks_next, most_passed, most_calls}
-use Rattle.vba_meaning.specs.LateBound.{Use, reading, assigning, setting, which_given, late_there, value_bound, lends_place, place_copied, late_called, host_arguments, let_element, late_let, late_set}
+use Rattle.vba_meaning.specs.Defaults.{Next, gives, then_call, is_instance, counted_operand, counted_if_any, enumerator_of, index_along, has_array, element_by, item_along, write_along, tasks_next, most_passed, most_calls}
+use Rattle.vba_meaning.specs.LateBound.{Use, reading, assigning, setting, which_given, public_variable, late_there, value_bound, lends_place, place_copied, late_called, host_arguments, let_element, element_set, late_let, late_set}
 
 -- the memory, and how many turns were begun
 pub record State : Type 0 where
@@ -148,6 +148,11 @@ place_bound callee pr aim name by gs i base q s =
     if lends_place pr.declared aim name by gs i base q s.memory then (perform (lent q) s >>= λ u s1. Got q s1)
     else (used callee pr (place_copied pr.declared aim name by gs i base q) s >>= λ v s1. Got (path_to v) s1)
 
+-- what arguments lead to from a place: an element of an array, or what default members give, which no variable has
+abbrev pub place_along : Callee → Project → Path → List Val → State → Res Path
+place_along callee pr q vs s =
+    if has_array q s.memory then perform (element_by q vs) s else (used callee pr (item_along pr.declared q vs) s >>= λ v s1. Got (path_to v) s1)
+
 -- a new object is wholly made before it is there: its Class_Initialize has run
 abbrev pub initialized : Callee → Option ℕ → Val → State → Res Val
 initialized callee None v s = Got v s
@@ -175,6 +180,7 @@ abbrev mutual
   eval_node (err_value member) callee pr s = Got (err_of pr.declared member s.memory.err) s
   eval_node (default_of e) callee pr s = eval e callee pr s >>= λ v s1. operand_value callee pr v s1
   eval_node (default_if_any e) callee pr s = eval e callee pr s >>= λ v s1. operand_if_any callee pr v s1
+  eval_node (enumerated e) callee pr s = eval e callee pr s >>= λ v s1. used callee pr (enumerator_of pr.declared v) s1
   eval_node (host_object reference) callee pr s = Got (object (Host reference)) s
   eval_node active_sheet callee pr s = perform first_sheet s
   -- whether there is such a member is asked before its arguments are evaluated, and what they index is read
@@ -210,6 +216,9 @@ abbrev mutual
   eval_place (kept_place i) callee pr s = perform (dot_at i) s
   eval_place (object_field e i of bounded) callee pr s = eval e callee pr s >>= λ v s1. perform (field_in i of bounded v) s1
   eval_place (as_new c x) callee pr s = eval_place x callee pr s >>= λ q s1. Got (made_at c q) s1
+  eval_place (late_field e name) callee pr s = eval e callee pr s >>= λ v s1. perform (public_variable pr.declared name v) s1
+  eval_place (value_place e) callee pr s = eval e callee pr s >>= λ v s1. Got (path_to v) s1
+  eval_place (element_along x es) callee pr s = eval_place x callee pr s >>= λ q s1. eval_list es callee pr s1 >>= λ xs s2. place_along callee pr q (slot_values xs) s2
 
   -- arguments in the order of the text, each made what its parameter takes before the next ([MS-VBAL] 5.3.1.11)
   pub evals : Args → Callee → Project → State → Res (List Slot)
@@ -252,9 +261,9 @@ tested callee pr header s = perform (selected header) s >>= λ v s1. operand_val
 -- the tests of a Case in order, until one fits
 abbrev pub cases : Tests → Callee → Project → (header : ℕ) → Declared → Compare → (first other : ℕ) → State → Res ℕ
 cases no_tests callee pr header of compare first other s = Got other s
-cases (test_is o e ts) callee pr header of compare first other s =
+cases (test_is o at e ts) callee pr header of compare first other s =
     tested callee pr header s >>= λ v s1. eval e callee pr s1 >>= λ w s2. perform (fits o compare of (operand_type e) v w) s2 >>= λ b s3. if b then Got first s3 else cases ts callee pr header of compare first other s3
-cases (test_range a b ts) callee pr header of compare first other s =
+cases (test_range a b a_at b_at ts) callee pr header of compare first other s =
     tested callee pr header s >>= λ v s1. eval a callee pr s1 >>= λ x s2. eval b callee pr s2 >>= λ y s3.
     perform (fits_between compare of (operand_type a) (operand_type b) v x y) s3 >>= λ b s4. if b then Got first s4 else cases ts callee pr header of compare first other s4
 
@@ -284,12 +293,14 @@ exec (assign_through x e) callee pr p i k s =
     eval e callee pr s >>= λ v s1. eval x callee pr s1 >>= λ w s2. used callee pr (write_along pr.declared most_passed v w) s2 >>= λ u s3. Got k s3
 exec (assign_element x es e) callee pr p i k s =
     eval e callee pr s >>= λ v s1. eval_place x callee pr s1 >>= λ q s2. eval_list es callee pr s2 >>= λ xs s3. used callee pr (let_element pr.declared q (slot_values xs) v) s3 >>= λ u s4. Got k s4
+exec (set_element x es e) callee pr p i k s =
+    eval e callee pr s >>= λ v s1. eval_place x callee pr s1 >>= λ q s2. eval_list es callee pr s2 >>= λ xs s3. used callee pr (element_set pr.declared q (slot_values xs) v) s3 >>= λ u s4. Got k s4
 exec (assign_late base name by given e) callee pr p i k s =
     eval e callee pr s >>= λ v s1. eval base callee pr s1 >>= λ w s2. used callee pr (late_there pr.declared assigning name by (which_given given) w) s2 >>= λ x s3.
     eval_given given assigning name by (which_given given) 0 w callee pr s3 >>= λ xs s4. used callee pr (late_let pr.declared name by (which_given given) w x (map received xs) v) s4 >>= λ u s5. Got k s5
 exec (set_late base name by given e) callee pr p i k s =
     eval e callee pr s >>= λ v s1. eval base callee pr s1 >>= λ w s2. used callee pr (late_there pr.declared setting name by (which_given given) w) s2 >>= λ x s3.
-    eval_given given setting name by (which_given given) 0 w callee pr s3 >>= λ xs s4. used callee pr (late_set pr.declared name by (which_given given) w (map received xs) v) s4 >>= λ u s5. Got k s5
+    eval_given given setting name by (which_given given) 0 w callee pr s3 >>= λ xs s4. used callee pr (late_set pr.declared name by (which_given given) w x (map received xs) v) s4 >>= λ u s5. Got k s5
 exec (evaluate e) callee pr p i k s = eval e callee pr s >>= λ v s1. Got k s1
 exec (let_property q args e of) callee pr p i k s =
     eval e callee pr s >>= λ v s1. evals args callee pr s1 >>= λ xs s2. operand_value callee pr v s2 >>= λ w s3. perform (fitted of w) s3 >>= λ x s4. callee.call q empty (xs ++ value x ∷ []) s4 >>= λ r s5. Got k s5
@@ -307,7 +318,7 @@ exec (print ps ends) callee pr p i k s = eval_prints ps callee pr s >>= λ xs s1
 exec (raise args) callee pr p i k s = evals args callee pr s >>= λ xs s1. raise_error (raised_by xs s1.memory) s1
 exec (test sense e to other) callee pr p i k s = eval e callee pr s >>= λ v s1. perform (condition sense v) s1 >>= λ b s2. Got (if b then to else other) s2
 exec (go_to to) callee pr p i k s = Got to s
-exec (for_to x compare a b c first behind) callee pr p i k s =
+exec (for_to x compare a b c last_at step_at first behind) callee pr p i k s =
     perform (loop_off i) s >>= λ u s1. eval a callee pr s1 >>= λ start s2. eval b callee pr s2 >>= λ end s3. eval c callee pr s3 >>= λ by s4. perform (loop_on x i compare (operand_type b) (operand_type c) start end by) s4 >>= λ on s5. Got (if on then first else behind) s5
 exec (next x header first) callee pr p i k s = perform (next_round x header) s >>= λ on s1. Got (if on then first else k) s1
 exec (for_each x e first behind) callee pr p i k s =

@@ -1,5 +1,6 @@
 pub mod Rows
 pub mod OperatorRows
+pub mod OtherOperators
 pub mod Products
 pub mod SameTypes
 pub mod KindRanges

@@ -7,7 +7,7 @@ use Rattle.vba_values.specs.declared.fault.Bad.{Bad}
 use Rattle.vba_values.specs.declared.types.OpKind.{OpKind}
 use Rattle.vba_values.specs.declared.types.OpKind.TheVariants as op
 use Rattle.vba_values.specs.declared.types.Compare.{Compare}
-use Rattle.vba_values.specs.Arithmetic.{arithmetic, division, negated, joined}
+use Rattle.vba_values.specs.Arithmetic.{arithmetic, division, double_result, negated, joined}
 use Rattle.vba_values.specs.Coerce.{is_text, text_of}
 use Rattle.vba_values.specs.Comparison.{are_texts, comparison, is_variant}
 use Rattle.vba_values.specs.Errors.{type_mismatch}
@@ -64,13 +64,15 @@ may_take_memory op.Gt left ld right rd = is_text left || is_text right || are_te
 may_take_memory op.Ge left ld right rd = is_text left || is_text right || are_texts ld rd
 may_take_memory o left ld right rd = false
 
--- an operator of two operands, by their values and declared types
+-- an operator of two operands, by their values and declared types. / and ^ give a Double
 abbrev pub binary_of : OpKind → Val → Declared → Val → Declared → Compare → Result Val Bad
 binary_of op.Add left ld right rd compare = arithmetic op.Add (is_variant ld || is_variant rd) left right
 binary_of op.Sub left ld right rd compare = arithmetic op.Sub (is_variant ld || is_variant rd) left right
 binary_of op.Mul left ld right rd compare = arithmetic op.Mul (is_variant ld || is_variant rd) left right
 binary_of op.IntDiv left ld right rd compare = division op.IntDiv left right
 binary_of op.Mod left ld right rd compare = division op.Mod left right
+binary_of op.Divide left ld right rd compare = Err double_result
+binary_of op.Power left ld right rd compare = Err double_result
 binary_of op.Join left ld right rd compare = join left right
 binary_of op.And left ld right rd compare = logical op.And left right
 binary_of op.Or left ld right rd compare = logical op.Or left right

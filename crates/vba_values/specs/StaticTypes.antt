@@ -102,13 +102,16 @@ not_type declared =
     else if is_boolean declared then Some type.boolean
     else Some (kind_type (whole_kind declared type.boolean))
 
--- an operator's type; for the operators of one operand the left type is the operand's
+-- an operator's type; for the operators of one operand the left type is the operand's. / and ^ give a Double whatever their
+-- operands are
 abbrev pub static_of : OpKind → Declared → Declared → Option Declared
 static_of op.Add left right = arithmetic_type op.Add left right
 static_of op.Sub left right = arithmetic_type op.Sub left right
 static_of op.Mul left right = arithmetic_type op.Mul left right
 static_of op.IntDiv left right = division_type left right
 static_of op.Mod left right = division_type left right
+static_of op.Divide left right = None
+static_of op.Power left right = None
 static_of op.Join left right = join_type left right
 static_of op.And left right = logic_type left right
 static_of op.Or left right = logic_type left right

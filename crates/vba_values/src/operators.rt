@@ -71,6 +71,7 @@ fn by_tables(
             arithmetic(alloc, op, variant, left, right)
         }
         OpKind::IntDiv | OpKind::Mod => Ok(division(op, left, right)?),
+        OpKind::Divide | OpKind::Power => Err(OrMemory::Fault(Bad::DOUBLE_RESULT)),
         OpKind::Join => join(alloc, left, right),
         OpKind::Eq | OpKind::Ne | OpKind::Lt | OpKind::Le | OpKind::Gt | OpKind::Ge => {
             comparison(

@@ -14,6 +14,7 @@ pub fn static_type(op: OpKind, left: &VType, right: &VType) -> Option<VType>
     match op {
         OpKind::Add | OpKind::Sub | OpKind::Mul => arithmetic_type(op, left, right),
         OpKind::IntDiv | OpKind::Mod => division_type(left, right),
+        OpKind::Divide | OpKind::Power => None,
         OpKind::Join => join_type(left, right),
         OpKind::And | OpKind::Or | OpKind::Xor | OpKind::Eqv | OpKind::Imp => {
             logic_type(left, right)

@@ -37,6 +37,8 @@ pub enum OpKind {
     Mul,
     IntDiv,
     Mod,
+    Divide,
+    Power,
     Join,
     Eq,
     Ne,

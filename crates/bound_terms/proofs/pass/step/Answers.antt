@@ -46,7 +46,7 @@ returns-in-Parenthesised c =
     let d = draft_view c.args.draft.now in
     let xs = reverse c.args.stack.now.items in
     let A : ExpressionNode → Type 0 = λ k. Goes env d xs (draft_view c.step_parenthesised.new.draft) (reverse c.step_parenthesised.new.stack.items) (behind_node k) in
-    on_ok_weaker c.step_parenthesised.result (λ g. subst A (sym c.in-Parenthesised.is) (g env c.in-Parenthesised.right)) c.step_parenthesised.ensures
+    on_ok_weaker c.step_parenthesised.result (λ g. subst A (sym c.in-Parenthesised.is) (g env c.in-Parenthesised.left c.in-Parenthesised.right)) c.step_parenthesised.ensures
 
 pub returns-in-Unary : goal.returns-in-Unary
 returns-in-Unary c =
@@ -62,7 +62,7 @@ returns-in-Binary c =
     let d = draft_view c.args.draft.now in
     let xs = reverse c.args.stack.now.items in
     let A : ExpressionNode → Type 0 = λ k. Goes env d xs (draft_view c.step_binary.new.draft) (reverse c.step_binary.new.stack.items) (behind_node k) in
-    on_ok_weaker c.step_binary.result (λ g. subst A (sym c.in-Binary.is) (g env c.in-Binary.token c.args.env.compare_is)) c.step_binary.ensures
+    on_ok_weaker c.step_binary.result (λ g. subst A (sym c.in-Binary.is) (g env c.args.env.compare_is)) c.step_binary.ensures
 
 pub returns-in-NoArguments : goal.returns-in-NoArguments
 returns-in-NoArguments c =

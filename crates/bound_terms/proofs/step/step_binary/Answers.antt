@@ -15,4 +15,4 @@ returns-in-Is c =
     let xs = reverse c.args.stack.now.items in
     let ys = reverse c.step_same.new.stack.items in
     on_ok_weaker c.step_same.result
-    (λ g env token compare. (let A : BinaryOperator → Type 0 = λ o. Goes env d xs e ys (behind_node (node.Binary o token)) in subst A (sym c.in-Is.is) (g env token))) c.step_same.ensures
+    (λ g env compare. (let A : BinaryOperator → Type 0 = λ o. Goes env d xs e ys (behind_node (node.Binary o c.args.token)) in subst A (sym c.in-Is.is) (g env))) c.step_same.ensures

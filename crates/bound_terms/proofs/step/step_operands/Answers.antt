@@ -11,5 +11,5 @@ returns c =
     let xs = reverse c.take_operands.new.stack.items in
     let d = draft_view c.args.draft.now in
     let e = draft_view c.push_operand.new.draft in
-    λ env token compare. goes_binary env left c.in-Some.right c.args.operator token c.in_ok-of.of c.in_ok-term.term xs (reverse c.args.stack.now.items) (item.Operand left ∷ xs) (reverse c.put_item.new.stack.items) d e c.args.compare
+    λ env compare. goes_binary env left c.in-Some.right c.args.operator c.args.token c.in_ok-of.of c.in_ok-term.term xs (reverse c.args.stack.now.items) (item.Operand left ∷ xs) (reverse c.put_item.new.stack.items) d e c.args.compare
     (sym c.is_same.ensures ∙ c.if-is_same.false) c.if-left.false compare c.in-Some.ensures refl c.in_ok-put_item.ensures c.requires c.in_ok-of.ensures c.in_ok-term.ensures

@@ -15,5 +15,5 @@ returns c =
     let xs = reverse c.take_operands.new.stack.items in
     let d = draft_view c.args.draft.now in
     let e = draft_view c.push_reference.new.draft in
-    λ env token. goes_same_object env left c.in-Some-of._of c.in_ok-push_reference.field-0 c.in-Some.right token xs (reverse c.args.stack.now.items) (item.Operand left ∷ xs) (reverse c.put_item.new.stack.items) d e (referred left.is_reference c.if-not-left.false)
+    λ env. goes_same_object env left c.in-Some-of._of c.in_ok-push_reference.field-0 c.in-Some.right c.args.token xs (reverse c.args.stack.now.items) (item.Operand left ∷ xs) (reverse c.put_item.new.stack.items) d e (referred left.is_reference c.if-not-left.false)
     c.in-Some-of.is c.in-Some.ensures refl c.in_ok-put_item.ensures c.requires c.in_ok-push_reference.ensures

@@ -1,0 +1,10 @@
+pub mod Rows
+pub mod Stores
+pub mod Values
+pub mod Arrays
+pub mod Items
+pub mod Hosts
+pub mod Uses
+pub mod LateUses
+pub mod Moves
+pub mod Steps

@@ -1,0 +1,10 @@
+//! Rules that are asked of a bound project: where an operator's result would be a Double.
+#![tactic(auto)]
+
+mod doubles;
+mod laws;
+mod least;
+mod scan;
+
+pub use laws::least_places_are_found;
+pub use scan::first_double;
