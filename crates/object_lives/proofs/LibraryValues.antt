@@ -124,7 +124,7 @@ kind_in function.CStr v = coerced_in v (target_of function.CStr)
 kind_in function.CVar v = coerced_in v (target_of function.CVar)
 kind_in f v = tt
 
-one_in : (f : LibraryFunction) (v : Val) → OkIn (objects_in v) (of_one f v)
+pub one_in : (f : LibraryFunction) (v : Val) → OkIn (objects_in v) (of_one f v)
 one_in function.Len v = free_in (objects_in v) (len v) (of_text v _ (λ t. ranged_free kind.Long (pos (length t))))
 one_in function.UCase v = free_in (objects_in v) (u_case v) (of_text v _ (λ t. text_free _))
 one_in function.LCase v = free_in (objects_in v) (l_case v) (of_text v _ (λ t. text_free _))
@@ -149,7 +149,7 @@ one_in function.Hex v = free_in (objects_in v) (hex v) (bind_free (written_bits 
 one_in function.Oct v = free_in (objects_in v) (oct v) (bind_free (written_bits v) _ (λ bits. refl))
 one_in f v = kind_in f v
 
-two_free : (f : LibraryFunction) (compare : Compare) (v w : Val) → FreeOk (of_two f compare v w)
+pub two_free : (f : LibraryFunction) (compare : Compare) (v w : Val) → FreeOk (of_two f compare v w)
 two_free function.Left compare v w = of_text v _ (λ t. of_long w _ (λ z. first_free t z))
 two_free function.Right compare v w = of_text v _ (λ t. of_long w _ (λ z. last_free t z))
 two_free function.Mid compare v w = of_text v _ (λ t. of_long w _ (λ z. bind_free (from_place t z) _ (λ u. text_free u)))
@@ -176,16 +176,27 @@ if_in : {xs : List ℕ} (r : Result Val Bad) (v w : Val) → Refers xs v → Ref
 if_in (Ok truth) v w h k = kept_in (chosen_of truth v w) (chosen_in truth v w h k)
 if_in (Err bad) v w h k = tt
 
+pub mid_free : (v w x : Val) → FreeOk (mid_of_length v w x)
+mid_free v w x = of_text v _ (λ t. of_long w _ (λ z. of_long x _ (λ n. bind_free (from_place t z) _ (λ u. first_free u n))))
+
+pub in_str_free : (compare : Compare) (v w x : Val) → FreeOk (in_str_from compare v w x)
+in_str_free compare v w x = of_long v _ (λ z. of_text w _ (λ t. of_text x _ (λ u. place_free compare z t u)))
+
+pub replace_free : (v w x : Val) → FreeOk (replace v w x)
+replace_free v w x = of_text v _ (λ t. of_text w _ (λ u. of_text x _ (λ new. text_free _)))
+
+pub str_comp_free : (compare : Compare) (v w x : Val) → FreeOk (str_comp_by compare v w x)
+str_comp_free compare v w x = of_text v _ (λ t. of_text w _ (λ u. of_long x _ (λ n. refl)))
+
 three_in : {xs : List ℕ} (f : LibraryFunction) (compare : Compare) (v w x : Val) → Refers xs w → Refers xs x → OkIn xs (of_three f compare v w x)
-three_in {xs = xs} function.Mid compare v w x h k =
-    free_in xs (mid_of_length v w x) (of_text v _ (λ t. of_long w _ (λ z. of_long x _ (λ n. bind_free (from_place t z) _ (λ u. first_free u n)))))
-three_in {xs = xs} function.InStr compare v w x h k = free_in xs (in_str_from compare v w x) (of_long v _ (λ z. of_text w _ (λ t. of_text x _ (λ u. place_free compare z t u))))
-three_in {xs = xs} function.Replace compare v w x h k = free_in xs (replace v w x) (of_text v _ (λ t. of_text w _ (λ u. of_text x _ (λ new. text_free _))))
-three_in {xs = xs} function.StrComp compare v w x h k = free_in xs (str_comp_by compare v w x) (of_text v _ (λ t. of_text w _ (λ u. of_long x _ (λ n. refl))))
+three_in {xs = xs} function.Mid compare v w x h k = free_in xs (mid_of_length v w x) (mid_free v w x)
+three_in {xs = xs} function.InStr compare v w x h k = free_in xs (in_str_from compare v w x) (in_str_free compare v w x)
+three_in {xs = xs} function.Replace compare v w x h k = free_in xs (replace v w x) (replace_free v w x)
+three_in {xs = xs} function.StrComp compare v w x h k = free_in xs (str_comp_by compare v w x) (str_comp_free compare v w x)
 three_in function.IIf compare v w x h k = if_in (to_boolean v) w x h k
 three_in f compare v w x h k = tt
 
-four_free : (f : LibraryFunction) (compare : Compare) (v w x y : Val) → FreeOk (of_four f compare v w x y)
+pub four_free : (f : LibraryFunction) (compare : Compare) (v w x y : Val) → FreeOk (of_four f compare v w x y)
 four_free function.InStr compare v w x y = of_long v _ (λ z. of_text w _ (λ t. of_text x _ (λ u. of_long y _ (λ n. place_free _ z t u))))
 four_free f compare v w x y = tt
 
@@ -213,7 +224,7 @@ either_in : (xs : List ℕ) (b : Bool) (r q : Result Val Bad) → OkIn xs r → 
 either_in xs true r q h k = h
 either_in xs false r q h k = k
 
-null_free : (f : LibraryFunction) (text_form : Bool) → FreeOk (of_null f text_form)
+pub null_free : (f : LibraryFunction) (text_form : Bool) → FreeOk (of_null f text_form)
 null_free f text_form = if_free (gives_null f && not text_form) (Ok null) (Err _) refl tt
 
 pub library_in : (xs : List ℕ) (f : LibraryFunction) (text_form : Bool) (vs : List Val) (compare : Compare) (base : ℤ) → In (objects_in_values vs) xs → OkIn xs (library_of f text_form vs compare base)
