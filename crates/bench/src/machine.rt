@@ -18,6 +18,8 @@ pub enum Pattern {
     Elements,
     /// The same of an array of two dimensions.
     Grids,
+    /// A field of a variable, and one of an element, that are read and written.
+    Fields,
     /// A comparison and a sum.
     Tests,
     /// A text that grows by one unit.
@@ -37,6 +39,7 @@ impl Pattern {
             Pattern::Calls => "run calls",
             Pattern::Elements => "run elements",
             Pattern::Grids => "run grids",
+            Pattern::Fields => "run fields",
             Pattern::Tests => "run tests",
             Pattern::Texts => "run texts",
             Pattern::Cells => "run cells",
@@ -53,6 +56,10 @@ impl Pattern {
             }
             Pattern::Grids => {
                 "Sub Main()\nDim i As Long, k As Long, a(9, 9) As Long\nFor i = 1 To "
+            }
+            Pattern::Fields => {
+                "Type Part\na As Long\nb As Long\nEnd Type\n\
+                 Sub Main()\nDim i As Long, p As Part, t(9) As Part\nFor i = 1 To "
             }
             Pattern::Texts => "Sub Main()\nDim i As Long, s As String\nFor i = 1 To ",
             Pattern::Scans => {
@@ -76,6 +83,7 @@ impl Pattern {
             Pattern::Calls => "\ns = Up(s)\nNext\nEnd Sub\n",
             Pattern::Elements => "\na(i Mod 10) = a(i Mod 10) + 1\nNext\nEnd Sub\n",
             Pattern::Grids => "\nk = i Mod 10\na(k, 3) = a(3, k) + 1\nNext\nEnd Sub\n",
+            Pattern::Fields => "\np.a = i Mod 10\nt(p.a).b = t(p.a).b + 1\nNext\nEnd Sub\n",
             Pattern::Tests => "\nIf i Mod 3 = 0 Then s = s Xor i\nNext\nEnd Sub\n",
             Pattern::Texts => "\ns = s & \"a\"\nNext\nEnd Sub\n",
             Pattern::Scans => {
@@ -101,6 +109,7 @@ pub fn bench_machine(rt: &(impl Print + CpuClock + AllocGlobal), size: u32) -> i
         Pattern::Calls,
         Pattern::Elements,
         Pattern::Grids,
+        Pattern::Fields,
         Pattern::Tests,
         Pattern::Texts,
         Pattern::Cells,

@@ -19,3 +19,4 @@ pub mod NamedMoves
 pub mod NamedSteps
 pub mod Blind
 pub mod BlindRuns
+pub mod Rows

@@ -3,15 +3,7 @@ pub mod Shown
 pub mod Running
 pub mod Names
 pub mod Waiting
-pub mod Plainly
-pub mod Stepped
-pub mod Given
 pub mod Reached
-pub mod Loops
 pub mod Tops
-pub mod Apart
-pub mod Chained
-pub mod Placed
 pub mod Uses
 pub mod Appended
-pub mod Scanned

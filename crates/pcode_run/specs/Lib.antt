@@ -1,9 +1,4 @@
 pub mod Runs
 pub mod Moving
-pub mod AtOnce
-pub mod Appends
-pub mod Plain
 pub mod Reaching
 pub mod Chains
-pub mod Elements
-pub mod Scalars

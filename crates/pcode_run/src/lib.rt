@@ -2,23 +2,17 @@
 //! that are left, and the whole run with what it puts to its sink.
 #![tactic(auto)]
 
-mod appends;
+mod append_rows;
 mod chain_rows;
-mod chains;
-mod elements;
 mod frames;
 mod letting;
-mod operators;
 mod quick;
-mod rounds;
 mod rows;
 mod runs;
-mod scalars;
-mod scans;
+mod scan_rows;
 mod stack;
 mod steps;
 mod texts;
-mod variables;
 
 pub use runs::{Cut, run};
 pub use steps::step;
