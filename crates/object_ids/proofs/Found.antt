@@ -10,9 +10,10 @@ use Rattle.vba_meaning.specs.Memory.{Memory, Object, object_or, found, without}
 use Rattle.vba_meaning.specs.Effects.{is_with_events}
 use Rattle.vba_meaning.specs.Meaning.{meaning}
 use Rattle.vba_meaning.specs.Objects.{new_instance}
+use Rattle.memory_changes.specs.Among.{is_among}
 use Rattle.memory_changes.specs.Changes.{Change, aside, takes, connects, disconnects, has_items, makes, has_told, goes, lends, lends_none, lends_again, raise_ends, enters, empties, leaves, keeps, drops, Row, none, first}
 use Rattle.memory_changes.proofs.Steps.{meant_row}
-use Rattle.object_ids.specs.Stored.{Ids, in_use, is_among, GivesFree, with_id, was_made, with_id_if_gone, ids_after, ids_along, AreIds, AreFound, AreMeant}
+use Rattle.object_ids.specs.Stored.{Ids, in_use, GivesFree, with_id, was_made, with_id_if_gone, ids_after, ids_along, AreIds, AreFound, AreMeant}
 
 abbrev at_number : List (Option Object) → ℕ → Option Object
 at_number bs o = slice_index_or bs o None

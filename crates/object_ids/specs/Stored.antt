@@ -1,10 +1,11 @@
 -- Ids that are stored beside a memory for the numbers of its objects, and follow its changes. No number is given again; an id
 -- is, once its object has gone.
-use Rattle.std.specs.Prelude.{◌≡◌, ℕ, zero, suc, ◌==◌, ◌||◌, not, Bool, true, false, List, [], ◌∷◌, length, map, if◌then◌else◌, Option, Some, None, is_some, slice_index_or}
+use Rattle.std.specs.Prelude.{◌≡◌, ℕ, zero, suc, ◌||◌, not, Bool, true, false, List, [], ◌∷◌, length, map, if◌then◌else◌, Option, Some, None, is_some, slice_index_or}
 use Rattle.sheet_host.specs.Books.{Sheets}
 use Rattle.bound_project.specs.Project.{Declarations, Project}
 use Rattle.vba_meaning.specs.Memory.{Memory, Object, found, without, opening}
 use Rattle.vba_meaning.specs.Meaning.{meaning}
+use Rattle.memory_changes.specs.Among.{is_among}
 use Rattle.memory_changes.specs.Changes.{Change, has_items, makes, has_told, goes, Row, none, first}
 
 -- the numbers of objects, each with its id
@@ -18,10 +19,6 @@ abbrev pub in_use : Ids → List ℕ
 in_use ids = map (λ e. e.1) ids
 
 -- what an implementation chooses: the id of a new object, by those that are in use; one that isn't
-abbrev pub is_among : ℕ → List ℕ → Bool
-is_among i [] = false
-is_among i (j ∷ js) = (j == i) || is_among i js
-
 abbrev pub GivesFree : (List ℕ → ℕ) → Type 0
 GivesFree pick = (used : List ℕ) → is_among (pick used) used ≡ false
 

@@ -15,9 +15,10 @@ use Rattle.vba_meaning.specs.Effects.{is_collection, is_with_events, renumbered}
 use Rattle.vba_meaning.specs.Events.{source_of, links_in, links_from, links}
 use Rattle.vba_meaning.specs.Objects.{new_instance}
 use Rattle.vba_meaning.specs.Meaning.{meaning}
+use Rattle.memory_changes.specs.Among.{is_among}
 use Rattle.memory_changes.specs.Changes.{Change, aside, takes, connects, disconnects, has_items, makes, has_told, goes, lends, lends_none, lends_again, raise_ends, enters, empties, leaves, keeps, drops, Row, none, first}
 use Rattle.memory_changes.proofs.Steps.{meant_row}
-use Rattle.object_links.specs.Stored.{without_sink, object_id, linked_after, linked_along, linking, is_among, Once, NamesOnce, AreFound, AreMeant}
+use Rattle.object_links.specs.Stored.{without_sink, object_id, linked_after, linked_along, linking, Once, NamesOnce, AreFound, AreMeant}
 use Rattle.object_links.proofs.Lists.{at_number, own_links, AllLinks, apart_test, own_sinks, from_sinks, set_same, field_set, number_off, order_sourced}
 use Rattle.object_links.proofs.Connects.{OnceIn, IsBelow, NumbersBelow, new_link, Fits, AllFit, number_on}
 

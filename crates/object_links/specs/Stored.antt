@@ -1,5 +1,5 @@
 -- The links that are stored beside a memory, and follow its changes: which WithEvents variables have which source.
-use Rattle.std.specs.Prelude.{◌≡◌, ℕ, Bool, false, not, ◌==◌, ◌||◌, List, [], ◌∷◌, map, if◌then◌else◌, slice_index_or}
+use Rattle.std.specs.Prelude.{◌≡◌, ℕ, false, not, ◌==◌, List, [], ◌∷◌, map, if◌then◌else◌, slice_index_or}
 use Rattle.std.specs.List.{filter}
 use Rattle.vba_values.specs.declared.object.ObjId.{ObjId}
 use Rattle.vba_values.specs.declared.object.ObjRef.{ObjRef}
@@ -11,6 +11,7 @@ use Rattle.vba_meaning.specs.Memory.{Memory, object_at, opening}
 use Rattle.vba_meaning.specs.Events.{source_of, links}
 use Rattle.vba_meaning.specs.Meaning.{meaning}
 use Rattle.sheet_host.specs.Books.{Sheets}
+use Rattle.memory_changes.specs.Among.{is_among}
 use Rattle.memory_changes.specs.Changes.{Change, takes, connects, disconnects, goes, Row, none, first}
 
 -- the link of a variable has the source that the variable has now
@@ -46,15 +47,12 @@ linked_along (first m m1 m2 c row) l = linked_along row (linked_after m c l)
 abbrev pub linking : Memory → Linking
 linking m = record { links = links m; next = m.next_set }
 
--- each class names each of its WithEvents variables once
-abbrev pub is_among : ℕ → List ℕ → Bool
-is_among i [] = false
-is_among i (j ∷ js) = (j == i) || is_among i js
-
+-- no number stands twice
 abbrev pub Once : List ℕ → Type 0
 Once [] = Unit {0}
 Once (i ∷ is) = (is_among i is ≡ false) × Once is
 
+-- each class names each of its WithEvents variables once
 abbrev pub NamesOnce : Declarations → Type 0
 NamesOnce d = (c : ℕ) → Once (class_at d c).with_events
 
