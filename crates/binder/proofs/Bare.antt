@@ -1,6 +1,6 @@
 -- Statements without their places, to compare them.
 use Rattle.std.specs.Prelude.{List, [], ◌∷◌, option_map}
-use Rattle.bound_project.specs.Expressions.{Expr, expr, Node, not_given, constant, load, load_made, element_value, field_value, unary, binary, call, err_value, default_of, default_if_any, enumerated, host_object, active_sheet, host_member, named_member, this, new_object, method, late_member, late_item, same, is_type, library, bound_of, Lvalue, variable, item, element, field, kept_place, object_field, as_new, element_along, late_field, value_place, Args, no_args, by_place, by_copy, by_default, by_list, in_order, Given, none_given, place_given, expr_given, Exprs, no_exprs, also, Prints, no_prints, shown, zone}
+use Rattle.bound_project.specs.Expressions.{Expr, expr, Node, not_given, constant, load, load_made, element_value, field_value, unary, binary, call, err_value, default_of, default_if_any, enumerated, host_object, active_sheet, host_member, named_member, this, new_object, method, late_member, late_item, same, is_type, library, bound_of, Lvalue, variable, item, element, field, kept_place, object_field, as_new, element_along, late_field, value_place, Args, no_args, by_place, by_copy, by_default, by_list, in_order, Given, none_given, place_given, expr_given, Exprs, no_exprs, also, Prints, no_prints, shown, zone, marked}
 use Rattle.bound_project.specs.Statements.{Tests, no_tests, test_is, test_range, Action, assign, assign_item, set, assign_default, assign_member, set_member, assign_through, assign_element, set_element, assign_late, set_late, evaluate, let_property, let_method, set_method, raise_event, print, raise, test, for_to, for_each, select, case_of, with_place, with_value, Statement}
 use Rattle.bound_project.specs.Project.{nowhere}
 
@@ -33,6 +33,7 @@ abbrev mutual
   bare_node (late_item e es) = late_item (bare e) (bare_exprs es)
   bare_node (same a b) = same (bare a) (bare b)
   bare_node (is_type e of) = is_type (bare e) of
+  bare_node (marked broken es) = marked broken (bare_exprs es)
   bare_node (library f text_form es compare base) = library f text_form (bare_exprs es) compare base
   bare_node (bound_of upper x dimension) = bound_of upper (bare_place x) dimension
 

@@ -26,26 +26,26 @@ abbrev statements_of : Answer → List (List Statement)
 statements_of (bound_as pr) = statements_in pr.bodies
 statements_of answer = []
 
-bound_to : List ℕ → List (List Statement)
+unfoldable pub bound_to : List ℕ → List (List Statement)
 unfolding bound_of
 bound_to source = statements_of (bound_of (of_one source))
 
-abbrev e : Declared → Node → Expr
+abbrev pub e : Declared → Node → Expr
 e of node = expr node nowhere of of
 
-abbrev n : ℕ → Expr
+abbrev pub n : ℕ → Expr
 n k = e type.integer (constant (whole kind.Integer (pos k)))
 
-abbrev at : Declared → ℕ → Variable
+abbrev pub at : Declared → ℕ → Variable
 at of i = record { storage = local i; of = of; bounded = false }
 
-abbrev v : Variable → Expr
+abbrev pub v : Variable → Expr
 v x = e x.of (load (variable x))
 
-abbrev show : Expr → Action
+abbrev pub show : Expr → Action
 show a = print (shown a no_prints) true
 
-abbrev jumping : ℕ → Action → Statement
+abbrev pub jumping : ℕ → Action → Statement
 jumping k a = record { action = a; place = nowhere; next = k }
 
 -- a loop
@@ -80,12 +80,12 @@ by_reference : bound_to (codes "Dim g As Long\nSub Main()\nDebug.Print F(g, (g))
 unfolding bound_to folded caseless digits
 by_reference = refl
 
--- where binding stops: a variable of an object type, a library function without an argument that it needs, and a class
+-- where binding stops: a variable of an object type, a library function with a name behind its bracket, and a class
 left_variable : ran_all (of_one (codes "Sub Main()\nDebug.Print 1\nDim o As Collection\nEnd Sub")) ≡ left_at 1 3 1
 unfolding ran_all folded caseless digits
 left_variable = refl
 
-left_library : ran_all (of_one (codes "Dim s As String\nSub Main()\ns = Left(s)\nEnd Sub")) ≡ left_at 1 3 1
+left_library : ran_all (of_one (codes "Dim s As String\nSub Main()\ns = Left(s:=s)\nEnd Sub")) ≡ left_at 1 3 1
 unfolding ran_all folded caseless digits
 left_library = refl
 

@@ -3,5 +3,6 @@ mod Reading
 mod Bare
 mod RuleRows
 mod BoundRows
+mod BrokenRows
 mod ProgramRows
 mod HostRows

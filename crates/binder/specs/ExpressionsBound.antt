@@ -16,7 +16,8 @@ use Rattle.vba_lib.specs.declared.function.LibraryFunction.{LibraryFunction}
 use Rattle.vba_lib.specs.declared.function.LibraryFunction.TheVariants as function
 use Rattle.vba_lib.specs.Library.{arity_of, declared_of}
 use Rattle.vba_lib.specs.Names.{function_named}
-use Rattle.bound_project.specs.Expressions.{Storage, Variable, err_number, err_source, err_description, Node, constant, load, element_value, field_value, err_value, default_of, host_object, active_sheet, host_member, Lvalue, variable, item, element, field, kept_place, Exprs, no_exprs, also}
+use Rattle.vba_meaning.specs.ByName.{parameters_given}
+use Rattle.bound_project.specs.Expressions.{Storage, Variable, err_number, err_source, err_description, Node, constant, load, element_value, field_value, err_value, default_of, host_object, active_sheet, host_member, named_member, marked, ByName, Lvalue, variable, item, element, field, kept_place, Exprs, no_exprs, also}
 use Rattle.bound_project.specs.Expressions as bound
 use Rattle.vba_values.specs.declared.object.HostRef.{HostRef}
 use Rattle.vba_values.specs.declared.object.HostRef.TheVariants as host
@@ -29,7 +30,7 @@ use Rattle.binder.specs.Names.{scope_in}
 use Rattle.binder.specs.Types.{is_object, type_meant, meant_type}
 use Rattle.binder.specs.Constants.{is_variant, literal_meant, value_type, operator_kind, unary_kind, compare_in, meant_by, names_in, home}
 use Rattle.binder.specs.Storage.{parameter_type, result_type, parameters_of, own_declaration, declared_variable, user_types, module_storage, own_storage, procedure_number, gives_value}
-use Rattle.binder.specs.Terms.{Within, Env, HostMember, Term, a_place, a_value, a_routine, a_function, a_host_member, err_object, err_raise, err_clear, error_word, no_term, expression_of, value_with, Given, listed_values, bound_arguments, has_names}
+use Rattle.binder.specs.Terms.{Within, Env, HostMember, Term, a_place, a_value, a_routine, a_function, a_host_member, err_object, err_raise, err_clear, error_word, no_term, expression_of, value_with, Given, listed_values, bound_arguments, has_names, given_by_name}
 
 -- ---- places
 
@@ -201,6 +202,7 @@ may_be_object (element_value e es) = true
 may_be_object (field_value e i) = true
 may_be_object (bound.call procedure args) = true
 may_be_object (host_member e member_name es) = true
+may_be_object (named_member e member_name by es) = true
 may_be_object (bound.library f text_form es compare base) = may_give_object f
 may_be_object node = false
 
@@ -412,15 +414,23 @@ takes_count f count = at (arity_of f)
     at : ℕ × ℕ → Bool
     at (least, greatest) = nat_le least count && (greatest == 255 || nat_le count greatest)
 
-abbrev pub function_called : Env → LibraryFunction → (text_form : Bool) → (base : ℕ) → List Given → Term
-function_called env f text_form base gs =
-    if not (has_names gs) && takes_count f (length gs)
-    then if_there (option_map (λ es. a_value (bound.library f text_form es (compare_in env.scope) (pos base)) (declared_of f text_form)) (function_values env f 0 gs))
-    else no_term
+-- what breaks a static rule as a value
+abbrev pub broken_value : (rule : ℕ) → Place → Exprs → Term
+broken_value rule place es = a_value (marked (record { rule = rule; place = place }) es) type.variant
 
--- the arguments of a member, none by a name: one that isn't written is Missing
+-- what a function gives; S25 where it doesn't take so many arguments
+abbrev pub function_value : Env → Place → LibraryFunction → (text_form : Bool) → (base : ℕ) → (takes : Bool) → Exprs → Term
+function_value env place f text_form base true es = a_value (bound.library f text_form es (compare_in env.scope) (pos base)) (declared_of f text_form)
+function_value env place f text_form base false es = broken_value 25 place es
+
+abbrev pub function_called : Env → Place → LibraryFunction → (text_form : Bool) → (base : ℕ) → List Given → Term
+function_called env place f text_form base gs =
+    if has_names gs then no_term
+    else if_there (option_map (function_value env place f text_form base (takes_count f (length gs))) (function_values env f 0 gs))
+
+-- the arguments of a member: one that isn't written is Missing
 abbrev pub host_arguments : Env → List Given → Option Exprs
-host_arguments env gs = if has_names gs then None else listed_values (given_as env) gs
+host_arguments env gs = listed_values (given_as env) gs
 
 -- whether a member takes so many arguments; behind one that takes none they index what it gives
 abbrev pub takes_behind : Declared → ℕ → Bool
@@ -436,16 +446,40 @@ takes_arguments m count = at m.greatest
     at (Some zero) = takes_behind m.of count
     at (Some greatest) = nat_le m.least count && nat_le count greatest
 
+-- the names that parameters of a member have, by the greatest number of its arguments: of a sheet's Range the first one's
+-- alone, and of what takes two numbers both
+abbrev pub known_parameters : (fold : List ℕ) → (greatest : Option ℕ) → List (List ℕ)
+known_parameters fold None = []
+known_parameters fold (Some greatest) =
+    if greatest == 1 then codes "index" ∷ []
+    else if greatest == 2 && bytes_eq fold (codes "range") then codes "address" ∷ []
+    else if greatest == 2 then codes "r" ∷ codes "c" ∷ []
+    else []
+
+-- whether a member has parameters of these names, no one given twice; of one that is found in the run the run decides
+abbrev pub takes_names : HostMember → ByName → Bool
+takes_names m by = not (is_some m.greatest) || is_some (parameters_given (known_parameters m.name m.greatest) by.before by.names)
+
+-- how the arguments of a member are named
+abbrev pub names_taken : HostMember → List Given → Option ByName
+names_taken m gs = option_and_then (λ by. if takes_names m by then Some by else None) (given_by_name gs)
+
+abbrev pub named_called : Env → bound.Expr → HostMember → List Given → Option Node
+named_called env e m gs = from_two (λ by es. named_member e m.name by es) (names_taken m gs) (host_arguments env gs)
+
+-- a member with arguments, of which the last ones may have names
+abbrev pub member_called : Env → bound.Expr → HostMember → List Given → Option Node
+member_called env e m gs = if has_names gs then named_called env e m gs else option_map (λ es. host_member e m.name es) (host_arguments env gs)
+
 abbrev pub host_called : Env → bound.Expr → HostMember → List Given → Term
-host_called env e m gs =
-    if takes_arguments m (length gs) then if_there (option_map (λ es. a_value (host_member e m.name es) m.of) (host_arguments env gs)) else no_term
+host_called env e m gs = if takes_arguments m (length gs) then if_there (option_map (λ node. a_value node m.of) (member_called env e m gs)) else no_term
 
 -- what arguments in brackets make of a term
 abbrev pub indexed : Env → Place → Term → List Given → Term
 indexed env place (a_place x of bounded lends) gs = with_type (element_type of) (numbers_of (operand_of env) gs) (λ u es. a_place (element_place x es) u false lends)
 indexed env place (a_value node of) gs = indexed_value place node of (numbers_of (operand_of env) gs)
 indexed env place (a_routine space number p) gs = call_with (argument_of env) env place gs space number p
-indexed env place (a_function f text_form base) gs = function_called env f text_form base gs
+indexed env place (a_function f text_form base) gs = function_called env place f text_form base gs
 indexed env place (a_host_member e m) gs = host_called env e m gs
 indexed env place other gs = no_term
 

@@ -4,6 +4,7 @@ use Rattle.std.specs.List.{list_any}
 use Rattle.vba_base.specs.declared.place.Place.{Place}
 use Rattle.vba_values.specs.declared.types.OpKind.TheVariants as op
 use Rattle.vba_values.specs.declared.types.WholeKind.TheVariants as kind
+use Rattle.vba_values.specs.Comparison.{is_number}
 use Rattle.vba_values.specs.Types.{Declared}
 use Rattle.vba_values.specs.Types as type
 use Rattle.vba_values.specs.Val.{Val, missing, whole}
@@ -30,7 +31,7 @@ use Rattle.bound_project.specs.Expressions.{Variable, Node, constant, load, elem
 use Rattle.bound_project.specs.Expressions as bound
 use Rattle.bound_project.specs.Statements as to
 use Rattle.bound_project.specs.Statements.{Statement, Block, Action, Tests, no_tests, test_is, test_range, Handling, passed_on, skipped, handled_at, Resizes, no_resizes, resize, Arrays, no_arrays, an_array}
-use Rattle.bound_project.specs.Project.{Parameter}
+use Rattle.bound_project.specs.Project.{Parameter, nowhere}
 use Rattle.binder.specs.Sources.{base_of}
 use Rattle.binder.specs.Options.{or_else, from_two, from_three}
 use Rattle.binder.specs.Declarations.{Written}
@@ -41,8 +42,8 @@ use Rattle.binder.specs.Types.{written_type, is_object}
 use Rattle.binder.specs.Constants.{known_length}
 use Rattle.binder.specs.Numbering.{count, count_list, simple_count, part_count, here, an_arm, behind_block, behind_kind, Opened, Standing, sought_behind}
 use Rattle.binder.specs.Violations.{same_label_name}
-use Rattle.binder.specs.Terms.{Within, Env, HostMember, Term, a_place, a_value, a_routine, a_host_member, err_raise, err_clear, error_word, expression_of, Given, bound_arguments, has_names}
-use Rattle.binder.specs.ExpressionsBound.{writer, bare_call, parameters_in, given_as, argument_of, has_object, mark_members, item_of, host_arguments, takes_arguments, indexed, callee, term_of, givens, bound_reference, bound_as_given, bound_operand, place_told}
+use Rattle.binder.specs.Terms.{Within, Env, HostMember, Term, a_place, a_value, a_routine, a_host_member, err_raise, err_clear, error_word, expression_of, broken_rule, Given, bound_arguments, has_names}
+use Rattle.binder.specs.ExpressionsBound.{writer, bare_call, parameters_in, given_as, argument_of, has_object, mark_members, item_of, host_arguments, named_called, takes_arguments, indexed, callee, term_of, givens, bound_as_given, bound_operand, place_told}
 
 -- ---- the procedure round a statement
 
@@ -172,9 +173,18 @@ abbrev pub fits_written : HostMember → List Given → Bool
 fits_written m [] = m.least == 0
 fits_written m gs = takes_arguments m (length gs) && has_written_default m.of
 
-abbrev pub member_written : Env → bound.Expr → HostMember → List Given → bound.Expr → Option Action
-member_written env e m gs v =
-    if is_written_member m && fits_written m gs then option_map (λ es. to.assign_member e m.name es v) (host_arguments env gs) else None
+-- where arguments have names the default member of what the member gives is written; Err.Raise gives nothing
+abbrev pub named_written : Env → Place → bound.Expr → HostMember → List Given → bound.Expr → Option Action
+named_written env place e m gs v =
+    if bytes_eq m.name (codes "raise") then None
+    else option_map (λ node. to.assign_default (expression_of node place m.of) v) (named_called env e m gs)
+
+abbrev pub arguments_written : Env → Place → bound.Expr → HostMember → List Given → bound.Expr → Option Action
+arguments_written env place e m gs v =
+    if has_names gs then named_written env place e m gs v else option_map (λ es. to.assign_member e m.name es v) (host_arguments env gs)
+
+abbrev pub member_written : Env → Place → bound.Expr → HostMember → List Given → bound.Expr → Option Action
+member_written env place e m gs v = if is_written_member m && fits_written m gs then arguments_written env place e m gs v else None
 
 -- an item of a value that no variable has: of an array of objects the default member of the element is written, and else
 -- the run decides whether there is an array or an object; of another value the default member is written
@@ -187,7 +197,7 @@ value_written place v node of = if is_object of || has_object node of then defau
 abbrev pub assigned : Env → Place → bound.Expr → List Given → Term → Option Action
 assigned env place v gs (a_place x of bounded lends) = if is_object of then default_written (expression_of (load x) place of) of v else Some (to.assign x v)
 assigned env place v gs (a_routine space number p) = option_and_then (let_to env space gs v) (writer env.scope space p)
-assigned env place v gs (a_host_member e m) = member_written env e m gs v
+assigned env place v gs (a_host_member e m) = member_written env place e m gs v
 assigned env place v gs (a_value node of) = value_written place v node of
 assigned env place v gs other = None
 
@@ -223,12 +233,20 @@ is_given_with env e = takes_value env (term_of env e)
 abbrev pub value_for : Env → Expr → Expr → Option bound.Expr
 value_for env x e = if is_given_with env x then bound_as_given env e else bound_operand env e
 
+-- S28: Set is of what may be an object, at its word
+abbrev pub no_reference : (set_word : Place) → Exprs → Action
+no_reference set_word es = to.evaluate (broken_rule 28 set_word es)
+
+abbrev pub may_refer : Declared → Bool
+may_refer of = is_object of || is_variant of
+
 -- Set: a variable of an object type, or a Variant, is given a reference; of a member that is found in the run the run
 -- decides ([MS-VBAL] 5.4.3.9)
-abbrev pub set_to : Term → bound.Expr → Option Action
-set_to (a_place x of bounded lends) v = if is_object of || is_variant of then Some (to.set x v) else None
-set_to (a_host_member e m) v = if is_some m.greatest then None else Some (to.set_member e v)
-set_to other v = None
+abbrev pub set_to : (set_word : Place) → Term → bound.Expr → Option Action
+set_to set_word (a_place x of bounded lends) v =
+    if may_refer of then Some (to.set x v) else Some (no_reference set_word (also v (also (expression_of (load x) set_word of) no_exprs)))
+set_to set_word (a_host_member e m) v = if is_some m.greatest then None else Some (to.set_member e v)
+set_to set_word other v = None
 
 -- the target of a Set: of a member with arguments the member itself, since none that takes Set is found
 abbrev pub set_target : Env → Expr → Term
@@ -238,6 +256,11 @@ set_target env (index base left args right) = at (target_before env base)
     at (a_host_member e m) = if is_some m.greatest then indexed env (place_told base) (a_host_member e m) (givens env args) else a_host_member e m
     at t = indexed env (place_told base) t (givens env args)
 set_target env e = term_of env e
+
+-- a value that can't be an object breaks S28, whatever its target is
+abbrev pub set_given : Env → (set_word : Place) → Expr → bound.Expr → Option Action
+set_given env set_word x v =
+    if may_refer (bound.operand_type v) then set_to set_word (set_target env x) v else Some (no_reference set_word (also v no_exprs))
 
 -- ReDim: the base of the module where no low bound is written
 abbrev pub integer : Place → ℕ → bound.Expr
@@ -330,6 +353,38 @@ counter_of line = None
 abbrev pub loop_variable : Env → Identifier → Option Variable
 loop_variable env x = plain_variable (term_of env (name x))
 
+-- a statement that breaks a static rule, or else what it does
+abbrev pub if_broken : Bool → (rule : ℕ) → Place → Option Action → Option Action
+if_broken true rule place action = Some (to.evaluate (broken_rule rule place no_exprs))
+if_broken false rule place action = action
+
+-- S29: a For counts with a number or a Variant
+abbrev pub is_counting : Declared → Bool
+is_counting type.boolean = false
+is_counting of = is_variant of || is_number of
+
+abbrev pub cannot_count : Option Variable → Bool
+cannot_count None = false
+cannot_count (Some x) = not (is_counting x.of)
+
+-- a For Each goes over an array with a Variant, and over other things also with an object
+abbrev pub goes_over : (control group : Declared) → Bool
+goes_over control (type.array_of of) = is_variant control
+goes_over control group = is_variant control || is_object control
+
+abbrev pub for_each_of : Variable → Place → (first behind : ℕ) → bound.Expr → Action
+for_each_of x place first behind e =
+    if goes_over x.of (bound.operand_type e) then to.for_each x e first behind else to.evaluate (broken_rule 29 place (also e no_exprs))
+
+-- a name behind Next is that of the loop
+abbrev pub is_other_name : Option Identifier → Option Identifier → Bool
+is_other_name (Some x) (Some y) = not (bytes_eq x.name y.name)
+is_other_name x y = false
+
+abbrev pub name_place : Option Identifier → Place
+name_place None = nowhere
+name_place (Some x) = x.token.place
+
 -- a For without Step adds an Integer 1
 abbrev pub step_value : Env → Place → Option StepClause → Option bound.Expr
 step_value env place None = Some (integer place 1)
@@ -356,6 +411,11 @@ next_action env (o ∷ os) = option_and_then at (line_of o.line)
     at (for_line for_word x equal start to_word limit step) = option_map (λ v. to.next v o.header o.first) (loop_variable env x)
     at (for_each for_word each_word x in_word group) = option_map (λ v. to.next_each v o.header o.first) (loop_variable env x)
     at line = None
+
+-- the name of the loop that stands open
+abbrev pub loop_name : List Opened → Option Identifier
+loop_name [] = None
+loop_name (o ∷ os) = option_and_then counter_of (line_of o.line)
 
 abbrev pub header_of : List Opened → ℕ
 header_of [] = 0
@@ -417,11 +477,12 @@ block_action a s line = at line
     at (case_line case_word tests) =
         from_two (λ v ts. to.case_of ts (header_of s.around) (bound.operand_type v) (compare_in env.scope) first next_arm) (selected a s.around) (case_tests env (all_of tests))
     at (for_line for_word x equal start to_word limit step) =
-        for_action (loop_variable env x) env (bound_operand env start) (bound_operand env limit) (step_value env (place_of s.part) step)
-        (place_of_expression limit) (step_place step) first behind
+        if_broken (cannot_count (loop_variable env x)) 29 x.token.place
+        (for_action (loop_variable env x) env (bound_operand env start) (bound_operand env limit) (step_value env (place_of s.part) step)
+        (place_of_expression limit) (step_place step) first behind)
     at (for_each for_word each_word x in_word group) =
-        option_and_then (λ v. option_map (λ e. to.for_each v e first behind) (bound_as_given env group)) (loop_variable env x)
-    at (next_line next_word x) = next_action env s.around
+        option_and_then (λ v. option_map (for_each_of v x.token.place first behind) (bound_as_given env group)) (loop_variable env x)
+    at (next_line next_word x) = if_broken (is_other_name x (loop_name s.around)) 29 (name_place x) (next_action env s.around)
     at (do_line do_word c) = loop_action env c first behind
     at (loop_line loop_word c) = loop_action env c (header_of s.around) first
     at (while_line while_word e) = option_map (λ c. to.test true c first behind) (bound_operand env e)
@@ -434,7 +495,7 @@ block_action a s line = at line
 
 abbrev pub simple_action : Around → Standing → Simple → Option Action
 simple_action a s (assignment let_word x equal e) = option_and_then (assigned_to (env_at a s) x) (value_for (env_at a s) x e)
-simple_action a s (set_assignment set_word x equal e) = option_and_then (set_to (set_target (env_at a s) x)) (bound_reference (env_at a s) e)
+simple_action a s (set_assignment set_word x equal e) = option_and_then (set_given (env_at a s) set_word.place x) (bound_as_given (env_at a s) e)
 simple_action a s (call_place call_word e) = called_place (env_at a s) e
 simple_action a s (call e args) = called_with (env_at a s) e (givens (env_at a s) args)
 simple_action a s (re_dim redim_word preserve_word arrays) = option_map (to.redim (is_some preserve_word)) (redim_arrays (env_at a s) (all_of arrays))

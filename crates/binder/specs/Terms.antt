@@ -1,13 +1,13 @@
 -- Expressions by what they are: a place, a value, or a name of something else. What stands round an expression takes
 -- from that what it needs. What the bound project can't say yet is no term.
-use Rattle.std.specs.Prelude.{ℕ, suc, ◌==◌, Bool, true, false, ◌&&◌, ◌||◌, not, List, [], ◌∷◌, ◌++◌, Option, Some, None, is_some, option_map, option_and_then, bytes_eq, if◌then◌else◌}
+use Rattle.std.specs.Prelude.{ℕ, suc, ◌==◌, Bool, true, false, ◌&&◌, ◌||◌, not, List, [], ◌∷◌, ◌++◌, map, Option, Some, None, is_some, option_map, option_and_then, bytes_eq, if◌then◌else◌}
 use Rattle.std.specs.List.{list_any}
 use Rattle.vba_base.specs.declared.place.Place.{Place}
 use Rattle.vba_values.specs.Coerce.{is_same_type}
 use Rattle.vba_values.specs.Types.{Declared}
 use Rattle.vba_values.specs.Types as type
 use Rattle.vba_lib.specs.declared.function.LibraryFunction.{LibraryFunction}
-use Rattle.bound_project.specs.Expressions.{Storage, Variable, ErrMember, err_number, err_source, err_description, Node, not_given, constant, load, element_value, field_value, call, err_value, host_member, Lvalue, variable, item, element, field, kept_place, Exprs, no_exprs, also}
+use Rattle.bound_project.specs.Expressions.{Storage, Variable, ErrMember, err_number, err_source, err_description, Node, not_given, constant, load, element_value, field_value, call, err_value, host_member, marked, ByName, Lvalue, variable, item, element, field, kept_place, Exprs, no_exprs, also}
 use Rattle.bound_project.specs.Expressions as bound
 use Rattle.bound_project.specs.Project.{Parameter}
 use Rattle.binder.specs.Options.{from_two}
@@ -58,6 +58,10 @@ pub data Term : Type 0 where
 abbrev pub expression_of : Node → Place → Declared → bound.Expr
 expression_of node place of = bound.expr node place of of
 
+-- what breaks a static rule, with the values that it is written with
+abbrev pub broken_rule : (rule : ℕ) → Place → Exprs → bound.Expr
+broken_rule rule place es = expression_of (marked (record { rule = rule; place = place }) es) place type.variant
+
 -- a value of an object type is none: it is taken as a reference, or gives way to its default member's value
 abbrev pub typed_value : Node → Place → Declared → Option bound.Expr
 typed_value node place of = if is_object of then None else Some (expression_of node place of)
@@ -104,11 +108,15 @@ may_be_item x = false
 abbrev pub is_copied_to : Lvalue → (of parameter : Declared) → Bool
 is_copied_to x of parameter = (is_object of && is_object parameter) || may_be_item x
 
+-- S26: a variable of another type than the one that a ByRef parameter takes
+abbrev pub of_other_type : Lvalue → Declared → Place → bound.Expr
+of_other_type x of place = broken_rule 26 place (also (expression_of (load x) place of) no_exprs)
+
 abbrev pub by_reference : (Declared → Term → Place → Option bound.Expr) → Parameter → Term → Place → bound.Args → Option bound.Args
 by_reference value p (a_place x of bounded true) place rest =
     if is_lent_to of p.of then Some (bound.by_place x rest)
     else if is_copied_to x of p.of then by_copy value p (a_place x of bounded true) place rest
-    else None
+    else Some (bound.by_copy (of_other_type x of place) p.of rest)
 by_reference value p t place rest = by_copy value p t place rest
 
 abbrev pub not_given_to : Parameter → bound.Args → Option bound.Args
@@ -182,6 +190,19 @@ are_apart (i ∷ is) = not (list_any (λ (j : Item). j.parameter == i.parameter)
 
 abbrev pub has_names : List Given → Bool
 has_names gs = list_any (λ (g : Given). is_some g.name) gs
+
+-- the names of arguments that all have one
+abbrev pub all_named : List (Option (List ℕ)) → Option (List (List ℕ))
+all_named [] = Some []
+all_named (name ∷ names) = from_two (λ x xs. x ∷ xs) name (all_named names)
+
+-- how arguments are given: from the first one with a name on each has one
+abbrev pub by_name_from : (before : ℕ) → List (Option (List ℕ)) → Option ByName
+by_name_from before (None ∷ names) = by_name_from (suc before) names
+by_name_from before names = option_map (λ xs. record { before = before; names = xs }) (all_named names)
+
+abbrev pub given_by_name : List Given → Option ByName
+given_by_name gs = by_name_from 0 (map (λ (g : Given). g.name) gs)
 
 -- the arguments of a call, first those that are written, in their order
 abbrev pub bound_arguments : (Declared → Term → Place → Option bound.Expr) → List Parameter → List Given → Option bound.Args

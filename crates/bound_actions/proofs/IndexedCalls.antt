@@ -29,18 +29,15 @@ use Rattle.bound_calls.proofs.Growing.{grown_twice, tree_grows}
 use Rattle.bound_calls.proofs.Steps.{goes_as, goes_twice}
 use Rattle.bound_actions.specs.Assigning.{GivenPushed}
 use Rattle.bound_actions.specs.Called.{ActionIs, CallsTreeOn, Continues, Framed, args_on}
-use Rattle.bound_actions.specs.Heights.{AddsOne, GivesSome, bracket, brackets}
+use Rattle.bound_actions.specs.Heights.{AddsOne, GivesSome, bracket, brackets, is_argument}
 use Rattle.bound_actions.proofs.Called.{none_there}
 use Rattle.bound_actions.proofs.NodeTrees.{behind_both, behind_push, continues, only_tree}
 
 -- ---- nodes
 
-gives_some : (ns front : List ExpressionNode) (n : ExpressionNode) (comma : Option Token) → ns ≡ front ++ n ∷ [] → n ≡ node.PlainArgument comma → AddsOne ns → GivesSome ns
-gives_some ns front n comma ends is adds = record { front = front; comma = comma; ends = ends ∙ ap (λ (m : ExpressionNode). front ++ m ∷ []) is; adds = adds }
-
-pub some_if : (ns front : List ExpressionNode) (n : ExpressionNode) (comma : Option Token) (adds : Bool) → ns ≡ front ++ n ∷ [] → n ≡ node.PlainArgument comma → MatchBool adds (AddsOne ns) (Unit {0}) → MatchBool adds (GivesSome ns) (Unit {0})
-some_if ns front n comma true ends is adds = gives_some ns front n comma ends is adds
-some_if ns front n comma false ends is adds = tt
+pub some_if : (ns front : List ExpressionNode) (last : ExpressionNode) (adds : Bool) → ns ≡ front ++ last ∷ [] → is_argument last ≡ true → MatchBool adds (AddsOne ns) (Unit {0}) → MatchBool adds (GivesSome ns) (Unit {0})
+some_if ns front last true ends is adds = record { front = front; last = last; written = is; ends = ends; adds = adds }
+some_if ns front last false ends is adds = tt
 
 -- the arguments that the nodes are, whatever stands below
 abbrev args_in : (ns : List ExpressionNode) → GivesSome ns → Args
@@ -54,13 +51,23 @@ itself (nodes.tree e) xs items others h = absurd cc
 itself (nodes.arguments ys) xs items others h = refl
 
 -- the last node makes an argument
-last_is : (ns : List ExpressionNode) (g : GivesSome ns) (items : List nodes.Item) → behind_nodes items ns ≡ behind_node (node.PlainArgument g.comma) (behind_nodes items g.front)
-last_is ns g items = ap (λ (l : List ExpressionNode). behind_nodes items l) g.ends ∙ behind_push items g.front (node.PlainArgument g.comma)
+abbrev added_args : ExpressionNode → List nodes.Item → Args
+added_args (node.PlainArgument comma) items = Args.plain (last_arguments (rest items)) comma (last_tree items)
+added_args (node.NamedArgument comma name mark) items = Args.named (last_arguments (rest items)) comma name mark (last_tree items)
+added_args n items = Args.no_args
+
+makes_args : (n : ExpressionNode) (items : List nodes.Item) → is_argument n ≡ true → behind_node n items ≡ nodes.arguments (added_args n items) ∷ rest (rest items)
+makes_args (node.PlainArgument comma) items h = refl
+makes_args (node.NamedArgument comma name mark) items h = refl
+makes_args n items h = let e : false ≡ true = h in absurd cc
+
+last_is : (ns : List ExpressionNode) (g : GivesSome ns) (items : List nodes.Item) → behind_nodes items ns ≡ nodes.arguments (added_args g.last (behind_nodes items g.front)) ∷ rest (rest (behind_nodes items g.front))
+last_is ns g items = ap (λ (l : List ExpressionNode). behind_nodes items l) g.ends ∙ behind_push items g.front g.last ∙ makes_args g.last (behind_nodes items g.front) g.written
 
 added_is : (ns : List ExpressionNode) (g : GivesSome ns) → g.adds.added ≡ nodes.arguments (args_in ns g)
 added_is ns g =
     let before = behind_nodes [] g.front in
-    itself g.adds.added (as_arguments (nodes.arguments (Args.plain (last_arguments (rest before)) g.comma (last_tree before)))) [] (rest (rest before)) (sym (g.adds.is []) ∙ last_is ns g [])
+    itself g.adds.added (as_arguments (nodes.arguments (added_args g.last before))) [] (rest (rest before)) (sym (g.adds.is []) ∙ last_is ns g [])
 
 framed : (ns : List ExpressionNode) → GivesSome ns → Framed ns
 framed ns g items =
@@ -76,13 +83,19 @@ given_last : (gs : List Given) (g : Given) → SomeGiven (gs ++ g ∷ [])
 given_last [] g = record { first = g; others = []; is = refl }
 given_last (h ∷ gs) g = record { first = h; others = gs ++ g ∷ []; is = refl }
 
+some_added : (env : Env) (n : ExpressionNode) (items : List nodes.Item) → is_argument n ≡ true → SomeGiven (givens env (added_args n items))
+some_added env (node.PlainArgument comma) items h =
+    let e = last_tree items in given_last (givens env (last_arguments (rest items))) (record { name = None; term = Some (term_of env e); place = place_told e })
+some_added env (node.NamedArgument comma name mark) items h =
+    let e = last_tree items in given_last (givens env (last_arguments (rest items))) (record { name = Some name.name; term = Some (term_of env e); place = place_told e })
+some_added env n items h = let e : false ≡ true = h in absurd cc
+
 some_given : (env : Env) (ns : List ExpressionNode) (g : GivesSome ns) → SomeGiven (givens env (args_in ns g))
 some_given env ns g =
     let before = behind_nodes [] g.front in
-    let e = last_tree before in
     let P : Args → Type 0 = λ (xs : Args). SomeGiven (givens env xs) in
-    let same : args_in ns g ≡ Args.plain (last_arguments (rest before)) g.comma e = sym (as_added ns g []) ∙ ap last_arguments (last_is ns g []) in
-    subst P (sym same) (given_last (givens env (last_arguments (rest before))) (record { name = None; term = Some (term_of env e); place = place_told e }))
+    let same : args_in ns g ≡ added_args g.last before = sym (as_added ns g []) ∙ ap last_arguments (last_is ns g []) in
+    subst P (sym same) (some_added env g.last before g.written)
 
 -- ---- what is called
 

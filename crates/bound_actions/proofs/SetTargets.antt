@@ -8,22 +8,25 @@ use Rattle.vba_expression.specs.Tree.{Expr, Args, index}
 use Rattle.vba_expression.specs.Nodes.{tree_in}
 use Rattle.vba_expression.specs.declared.node.ExpressionNode.{ExpressionNode}
 use Rattle.bound_project.specs.declared.declared_type.DeclaredType.{DeclaredType}
+use Rattle.bound_project.specs.declared.declared_type.DeclaredType.TheVariants.{Plain}
+use Rattle.bound_project.specs.declared.declared_type.ElementType.TheVariants.{Variant}
 use Rattle.bound_project.specs.declared.node.NodeKind.{NodeKind}
+use Rattle.bound_project.specs.declared.node.NodeKind.TheVariants as node
 use Rattle.bound_project.specs.declared.statement.ActionKind.{ActionKind}
 use Rattle.bound_project.specs.declared.statement.ActionKind.TheVariants as action
 use Rattle.bound_project.specs.Bodies.{action_of}
 use Rattle.bound_project.specs.Drafts.{Drafted}
-use Rattle.bound_project.specs.Expressions.{Lvalue}
+use Rattle.bound_project.specs.Expressions.{Lvalue, no_exprs, also}
 use Rattle.bound_project.specs.Expressions as bound
 use Rattle.bound_project.specs.Pieces.{Piece, Tables, an_expr, put}
 use Rattle.bound_project.specs.Statements.{Action, set, set_member}
 use Rattle.bound_project.specs.View.{declared_view}
 use Rattle.binder.specs.Types.{is_object}
 use Rattle.binder.specs.Constants.{is_variant}
-use Rattle.binder.specs.Terms.{Env, Given, a_host_member, a_place, a_routine, a_value}
+use Rattle.binder.specs.Terms.{Env, Given, a_host_member, a_place, a_routine, a_value, expression_of}
 use Rattle.binder.specs.Terms as plain
-use Rattle.binder.specs.ExpressionsBound.{bound_reference, callee, givens, indexed, item_of, object_member, term_of, place_told}
-use Rattle.binder.specs.StatementsBound.{set_target, set_to, target_before}
+use Rattle.binder.specs.ExpressionsBound.{bound_as_given, callee, givens, indexed, item_of, object_member, term_of, place_told}
+use Rattle.binder.specs.StatementsBound.{may_refer, no_reference, set_given, set_target, set_to, target_before}
 use Rattle.bound_calls.specs.declared.term.HostMember.{HostMember}
 use Rattle.bound_calls.specs.declared.term.Term.{Term}
 use Rattle.bound_calls.specs.declared.term.Term.TheVariants as term
@@ -44,36 +47,64 @@ use Rattle.bound_actions.proofs.NodeTrees.{continued}
 
 -- ---- terms
 
-place_set : (y : plain.Term) (value : bound.Expr) (x : Lvalue) (of : Declared) (bounded lends : Bool) → y ≡ a_place x of bounded lends → (is_object of || is_variant of) ≡ true → set_to y value ≡ Some (set x value)
-place_set y value x of bounded lends e h = ap (λ (z : plain.Term). set_to z value) e ∙ ap (λ (b : Bool). if b then Some (set x value) else None) h
+place_set : (word : Place) (y : plain.Term) (value : bound.Expr) (x : Lvalue) (of : Declared) (bounded lends : Bool) → y ≡ a_place x of bounded lends → (is_object of || is_variant of) ≡ true → set_to word y value ≡ Some (set x value)
+place_set word y value x of bounded lends e h = ap (λ (z : plain.Term). set_to word z value) e ∙ ap (λ (b : Bool). if b then Some (set x value) else Some (no_reference word (also value (also (expression_of (bound.load x) word of) no_exprs)))) h
 
-pub sets_place : (kind : NodeKind) (of : DeclaredType) (place : Place) (d e : Drafted) → may_be_object of ≡ true → e ≡ record d { pieces = put d.tables (node_of kind place of) d.pieces }
-    → (bounded lends : Bool) → SetsTerm (term.Place kind of bounded lends) d e action.Set
-sets_place kind of place d e h eq bounded lends =
-    let P : Drafted → Type 0 = λ (z : Drafted). SetsTerm (term.Place kind of bounded lends) d z action.Set in
+pub sets_place : (word : Place) (kind : NodeKind) (of : DeclaredType) (place : Place) (d e : Drafted) → may_be_object of ≡ true → e ≡ record d { pieces = put d.tables (node_of kind place of) d.pieces }
+    → (bounded lends : Bool) → SetsTerm word (term.Place kind of bounded lends) d e action.Set
+sets_place word kind of place d e h eq bounded lends =
+    let P : Drafted → Type 0 = λ (z : Drafted). SetsTerm word (term.Place kind of bounded lends) d z action.Set in
     let n = node_of kind place of in
     subst P (sym eq) (record {
       grown = grown_pieces d (put d.tables n d.pieces);
       named = tt;
       stands = λ env y value k.
-          record { made = set k.at value; is = place_set y value k.at (declared_view of) bounded lends k.is h; fits = ap (λ (ps : List Piece). action_of d.tables action.Set ps) (k.ends n) };
+          record { made = set k.at value; is = place_set word y value k.at (declared_view of) bounded lends k.is h; fits = ap (λ (ps : List Piece). action_of d.tables action.Set ps) (k.ends n) };
     })
 
-sets_member : (m : HostMember) (d : Drafted) → is_some m.greatest ≡ false → SetsTerm (term.HostMember m) d d action.SetMember
-sets_member m d late = record {
+-- a place that can't have an object
+no_place_set : (word : Place) (y : plain.Term) (value : bound.Expr) (x : Lvalue) (of : Declared) (bounded lends : Bool) → y ≡ a_place x of bounded lends → (is_object of || is_variant of) ≡ false
+    → set_to word y value ≡ Some (no_reference word (also value (also (expression_of (bound.load x) word of) no_exprs)))
+no_place_set word y value x of bounded lends e h =
+    ap (λ (z : plain.Term). set_to word z value) e
+    ∙ ap (λ (b : Bool). if b then Some (set x value) else Some (no_reference word (also value (also (expression_of (bound.load x) word of) no_exprs)))) h
+
+pub sets_no_place : (word : Place) (kind : NodeKind) (of : DeclaredType) (place : Place) (d d1 d2 e : Drafted) → may_be_object of ≡ false → d1 ≡ record d { pieces = put d.tables (node_of kind place of) d.pieces }
+    → d2 ≡ record d1 { pieces = put d1.tables (node_of node.Load word of) d1.pieces } → e ≡ record d2 { pieces = put d2.tables (node_of (node.Marked (record { rule = 28; place = word }) 2) word (Plain Variant)) d2.pieces }
+    → (bounded lends : Bool) → SetsTerm word (term.Place kind of bounded lends) d e action.Evaluate
+sets_no_place word kind of place d d1 d2 e h a b c bounded lends =
+    let P : Drafted → Type 0 = λ (z : Drafted). SetsTerm word (term.Place kind of bounded lends) d z action.Evaluate in
+    let n = node_of kind place of in
+    let l = node_of node.Load word of in
+    let m = node_of (node.Marked (record { rule = 28; place = word }) 2) word (Plain Variant) in
+    let two : d2 ≡ record d { pieces = put d.tables l (put d.tables n d.pieces) } = b ∙ ap (λ (z : Drafted). record z { pieces = put z.tables l z.pieces }) a in
+    let three : e ≡ record d { pieces = put d.tables m (put d.tables l (put d.tables n d.pieces)) } = c ∙ ap (λ (z : Drafted). record z { pieces = put z.tables m z.pieces }) two in
+    subst P (sym three) (record {
+      grown = grown_pieces d (put d.tables m (put d.tables l (put d.tables n d.pieces)));
+      named = tt;
+      stands = λ env y value k.
+          record {
+            made = no_reference word (also value (also (expression_of (bound.load k.at) word (declared_view of)) no_exprs));
+            is = no_place_set word y value k.at (declared_view of) bounded lends k.is h;
+            fits = ap (λ (ps : List Piece). action_of d.tables action.Evaluate (put d.tables m (put d.tables l ps))) (k.ends n);
+          };
+    })
+
+sets_member : (word : Place) (m : HostMember) (d : Drafted) → is_some m.greatest ≡ false → SetsTerm word (term.HostMember m) d d action.SetMember
+sets_member word m d late = record {
   grown = grown_same d;
   named = tt;
   stands = λ env y value k.
       let done : Option Action = Some (set_member k.object value) in
       record {
         made = set_member k.object value;
-        is = ap (λ (z : plain.Term). set_to z value) k.is ∙ ap (λ (b : Bool). if b then None else done) late;
+        is = ap (λ (z : plain.Term). set_to word z value) k.is ∙ ap (λ (b : Bool). if b then None else done) late;
         fits = ap (λ (ps : List Piece). action_of d.tables action.SetMember ps) k.on_top;
       };
 }
 
-pub sets_late : (m : HostMember) (d : Drafted) → not (is_some m.greatest) ≡ true → SetsTerm (term.HostMember m) d d action.SetMember
-sets_late m d late = sets_member m d (none_there (is_some m.greatest) late)
+pub sets_late : (word : Place) (m : HostMember) (d : Drafted) → not (is_some m.greatest) ≡ true → SetsTerm word (term.HostMember m) d d action.SetMember
+sets_late word m d late = sets_member word m d (none_there (is_some m.greatest) late)
   where
     none_there : (b : Bool) → not b ≡ true → b ≡ false
     none_there true h = let e : false ≡ true = h in absurd cc
@@ -102,33 +133,33 @@ late_alone : (b : Bool) (x y : plain.Term) (v made : Action) → (if b then None
 late_alone true x y v made h = let k : None ≡ Some made = h in absurd cc
 late_alone false x y v made h = refl
 
-member_set : (env : Env) (place : Place) (gs : List Given) (e : bound.Expr) (m : plain.HostMember) (value : bound.Expr) (made : Action) → set_to (a_host_member e m) value ≡ Some made → set_with env place gs (a_host_member e m) ≡ a_host_member e m
-member_set env place gs e m value made h = late_alone (is_some m.greatest) (indexed env place (a_host_member e m) gs) (a_host_member e m) (set_member e value) made h
+member_set : (word : Place) (env : Env) (place : Place) (gs : List Given) (e : bound.Expr) (m : plain.HostMember) (value : bound.Expr) (made : Action) → set_to word (a_host_member e m) value ≡ Some made → set_with env place gs (a_host_member e m) ≡ a_host_member e m
+member_set word env place gs e m value made h = late_alone (is_some m.greatest) (indexed env place (a_host_member e m) gs) (a_host_member e m) (set_member e value) made h
 
 bare_target : (env : Env) (place : Expr) → IsBare place → set_target env place ≡ term_of env place
 bare_target env (index base left args right) h = absurd h
 bare_target env e h = refl
 
-pub sets_bare : (env : Env) (place : Expr) (x : Tree) (d f e : Drafted) (kind : ActionKind) → IsBare place → Leaves env place d f x → SetsTerm x.term f e kind → SetsTo env place d e kind
-sets_bare env place x d f e kind bare l s = record {
+pub sets_bare : (word : Place) (env : Env) (place : Expr) (x : Tree) (d f e : Drafted) (kind : ActionKind) → IsBare place → Leaves env place d f x → SetsTerm word x.term f e kind → SetsTo word env place d e kind
+sets_bare word env place x d f e kind bare l s = record {
   grown = grown_twice d f e l.grown s.grown;
   named = s.named;
   stands = λ value alone.
       let T : List Piece → Type 0 = λ (ps : List Piece). TermStands env f.tables x.term (term_of env place) f.pieces ps in
       let m = s.stands env (term_of env place) value (subst T alone l.stands.term_is) in
-      record { made = m.made; is = ap (λ (t : plain.Term). set_to t value) (bare_target env place bare) ∙ m.is; fits = m.fits };
+      record { made = m.made; is = ap (λ (t : plain.Term). set_to word t value) (bare_target env place bare) ∙ m.is; fits = m.fits };
 }
 
 -- a member with arguments
-pub sets_split_member : (env : Env) (split : Split) (all : List ExpressionNode) (x : Tree) (y : Term) (m : HostMember) (d f g h : Drafted) (kind : ActionKind) → SplitAt split all → AddsOne split.arguments.now → LeavesAlone env split.target.now d f x
-    → CalleeIs env x f g y → MakesItem x.place y g h (term.HostMember m) → SetsTerm (term.HostMember m) h h kind → SetsTo env (tree_in all) d h kind
-sets_split_member env split all x y m d f g h kind at one l c made s =
+pub sets_split_member : (word : Place) (env : Env) (split : Split) (all : List ExpressionNode) (x : Tree) (y : Term) (m : HostMember) (d f g h : Drafted) (kind : ActionKind) → SplitAt split all → AddsOne split.arguments.now → LeavesAlone env split.target.now d f x
+    → CalleeIs env x f g y → MakesItem x.place y g h (term.HostMember m) → SetsTerm word (term.HostMember m) h h kind → SetsTo word env (tree_in all) d h kind
+sets_split_member word env split all x y m d f g h kind at one l c made s =
     let base = tree_in split.target.now in
     let z = callee env base (term_of env base) in
     let at_index = index_at split all at l.alone one in
     let args = at_index.0 in
     let p = place_told base in
-    let P : Expr → Type 0 = λ (t : Expr). SetsTo env t d h kind in
+    let P : Expr → Type 0 = λ (t : Expr). SetsTo word env t d h kind in
     subst P (sym at_index.1) (record {
       grown = grown_twice d f h l.leaves.grown (grown_twice f g h c.grown made.grown);
       named = s.named;
@@ -139,10 +170,10 @@ sets_split_member env split all x y m d f g h kind at one l c made s =
           let there = subst A l.leaves.stands.place_is (made.stands env z (an_expr value ∷ []) (subst C alone (subst B (sym c.pieces) (c.stands base f.pieces d.pieces l.leaves.stands)))) in
           let done = s.stands env (target_before env base) value there in
           let M = a_host_member there.object (member_is h.tables m) in
-          let set_there : set_to M value ≡ Some done.made = sym (ap (λ (t : plain.Term). set_to t value) there.is) ∙ done.is in
+          let set_there : set_to word M value ≡ Some done.made = sym (ap (λ (t : plain.Term). set_to word t value) there.is) ∙ done.is in
           let same : set_with env p (givens env args) (target_before env base) ≡ M =
-          ap (λ (t : plain.Term). set_with env p (givens env args) t) there.is ∙ member_set env p (givens env args) there.object (member_is h.tables m) value done.made set_there in
-          record { made = done.made; is = ap (λ (t : plain.Term). set_to t value) (target_parts env base at.left at.right args ∙ same) ∙ set_there; fits = done.fits };
+          ap (λ (t : plain.Term). set_with env p (givens env args) t) there.is ∙ member_set word env p (givens env args) there.object (member_is h.tables m) value done.made set_there in
+          record { made = done.made; is = ap (λ (t : plain.Term). set_to word t value) (target_parts env base at.left at.right args ∙ same) ∙ set_there; fits = done.fits };
     })
 
 -- other arguments
@@ -167,9 +198,9 @@ no_member env t place term.ErrClear z ps below i h = other_kept place z plain.er
 no_member env t place term.ErrorWord z ps below i h = other_kept place z plain.error_word h.0 refl refl
 no_member env t place term.Nothing z ps below i h = other_kept place z plain.no_term h refl refl
 
-pub sets_split : (env : Env) (split : Split) (all : List ExpressionNode) (x more : Tree) (y : Term) (d f g h e : Drafted) (kind : ActionKind) → SplitAt split all → AddsOne split.arguments.now → LeavesAlone env split.target.now d f x
-    → CalleeIs env x f g y → takes_item y ≡ false → Continues env x split.closed.now g h more → SetsTerm more.term h e kind → SetsTo env (tree_in all) d e kind
-sets_split env split all x more y d f g h e kind at one l c item r s =
+pub sets_split : (word : Place) (env : Env) (split : Split) (all : List ExpressionNode) (x more : Tree) (y : Term) (d f g h e : Drafted) (kind : ActionKind) → SplitAt split all → AddsOne split.arguments.now → LeavesAlone env split.target.now d f x
+    → CalleeIs env x f g y → takes_item y ≡ false → Continues env x split.closed.now g h more → SetsTerm word more.term h e kind → SetsTo word env (tree_in all) d e kind
+sets_split word env split all x more y d f g h e kind at one l c item r s =
     let base = tree_in split.target.now in
     let z = callee env base (term_of env base) in
     let whole = continued env split.target.now split.closed.now all x more d f g h at.is l c.grown c.pieces r in
@@ -177,7 +208,7 @@ sets_split env split all x more y d f g h e kind at one l c item r s =
     let args = at_index.0 in
     let tree = index base at.left args at.right in
     let p = place_told base in
-    let P : Expr → Type 0 = λ (t : Expr). SetsTo env t d e kind in
+    let P : Expr → Type 0 = λ (t : Expr). SetsTo word env t d e kind in
     let L : Expr → Type 0 = λ (t : Expr). Leaves env t d h more in
     let leaves : Leaves env tree d h more = subst L at_index.1 whole in
     let none : is_member (target_before env base) ≡ false = no_member env g.tables p y z f.pieces d.pieces item (c.stands base f.pieces d.pieces l.leaves.stands) in
@@ -188,14 +219,21 @@ sets_split env split all x more y d f g h e kind at one l c item r s =
       stands = λ value alone.
           let T : List Piece → Type 0 = λ (ps : List Piece). TermStands env h.tables more.term (term_of env tree) h.pieces ps in
           let m = s.stands env (term_of env tree) value (subst T alone leaves.stands.term_is) in
-          record { made = m.made; is = ap (λ (t : plain.Term). set_to t value) same ∙ m.is; fits = m.fits };
+          record { made = m.made; is = ap (λ (t : plain.Term). set_to word t value) same ∙ m.is; fits = m.fits };
     })
 
 -- ---- the statement
 
-pub set_bound : (env : Env) (place value : Expr) (of : DeclaredType) (d e g : Drafted) (kind : ActionKind) → d.pieces ≡ [] → Binds (bound_reference env value) d e (Some of) → SetsTo env place e g kind
-    → ActionStands (Some kind) (option_and_then (set_to (set_target env place)) (bound_reference env value)) d g
-set_bound env place value of d e g kind none b a =
+-- what is given, by whether it may be an object
+given_may : (env : Env) (word : Place) (place : Expr) (v : bound.Expr) (of : DeclaredType) (may : Bool) → bound.operand_type v ≡ declared_view of → may_be_object of ≡ may
+    → set_given env word place v ≡ (if may then set_to word (set_target env place) v else Some (no_reference word (also v no_exprs)))
+given_may env word place v of may operand is =
+    let kept : Bool → Option Action = λ (b : Bool). if b then set_to word (set_target env place) v else Some (no_reference word (also v no_exprs)) in
+    ap kept (ap (λ (u : Declared). may_refer u) operand ∙ is)
+
+pub set_bound : (word : Place) (env : Env) (place value : Expr) (of : DeclaredType) (d e g : Drafted) (kind : ActionKind) → d.pieces ≡ [] → Binds (bound_as_given env value) d e (Some of) → may_be_object of ≡ true
+    → SetsTo word env place e g kind → ActionStands (Some kind) (option_and_then (set_given env word place) (bound_as_given env value)) d g
+set_bound word env place value of d e g kind none b may a =
     let made = b.pushed.made in
     let alone : e.pieces ≡ an_expr made ∷ [] = b.pushed.on_top ∙ ap (λ (ps : List Piece). an_expr made ∷ ps) none in
     let s = a.stands made alone in
@@ -205,6 +243,26 @@ set_bound env place value of d e g kind none b a =
       bodies = all.bodies;
       named = a.named;
       made = s.made;
-      is = ap (λ (o : Option bound.Expr). option_and_then (set_to (set_target env place)) o) b.pushed.is ∙ s.is;
+      is = ap (λ (o : Option bound.Expr). option_and_then (set_given env word place) o) b.pushed.is ∙ given_may env word place made of true b.pushed.operand may ∙ s.is;
       fits = s.fits;
     }
+
+-- a value that can't be an object
+pub set_broken : (word : Place) (env : Env) (place value : Expr) (of : DeclaredType) (d e g : Drafted) → d.pieces ≡ [] → Binds (bound_as_given env value) d e (Some of) → may_be_object of ≡ false
+    → g ≡ record e { pieces = put e.tables (node_of (node.Marked (record { rule = 28; place = word }) 1) word (Plain Variant)) e.pieces }
+    → ActionStands (Some action.Evaluate) (option_and_then (set_given env word place) (bound_as_given env value)) d g
+set_broken word env place value of d e g none b may eq =
+    let made = b.pushed.made in
+    let alone : e.pieces ≡ an_expr made ∷ [] = b.pushed.on_top ∙ ap (λ (ps : List Piece). an_expr made ∷ ps) none in
+    let n = node_of (node.Marked (record { rule = 28; place = word }) 1) word (Plain Variant) in
+    let all = grown_twice d e (record e { pieces = put e.tables n e.pieces }) b.grown (grown_pieces e (put e.tables n e.pieces)) in
+    let found = option_and_then (set_given env word place) (bound_as_given env value) in
+    let P : Drafted → Type 0 = λ (z : Drafted). ActionStands (Some action.Evaluate) found d z in
+    subst P (sym eq) (record {
+      statements = all.statements;
+      bodies = all.bodies;
+      named = tt;
+      made = no_reference word (also made no_exprs);
+      is = ap (λ (o : Option bound.Expr). option_and_then (set_given env word place) o) b.pushed.is ∙ given_may env word place made of false b.pushed.operand may;
+      fits = ap (λ (ps : List Piece). action_of e.tables action.Evaluate (put e.tables n ps)) alone;
+    })

@@ -1,7 +1,8 @@
 -- Members of objects that are assigned to.
-use Rattle.std.proofs.Common.{◌≡◌, ◌≢◌, ℕ, ◌==◌, Bool, true, false, ◌&&◌, ◌||◌, not, is_some, List, [], ◌∷◌, map, length, Option, Some, None, option_map, if◌then◌else◌, refl, sym, ap, subst, ◌∙◌, arith}
+use Rattle.std.proofs.Common.{◌≡◌, ◌≢◌, ℕ, ◌+◌, ◌==◌, Bool, true, false, ◌&&◌, ◌||◌, not, is_some, List, [], ◌∷◌, map, length, Option, Some, None, option_map, if◌then◌else◌, refl, sym, ap, subst, ◌∙◌, arith}
 use Rattle.std.specs.Prelude.{◌<◌, bytes_eq, codes}
 use Rattle.std.specs.List.{list_any}
+use Rattle.std.proofs.lemmas.List.{length-map}
 use Rattle.vba_base.specs.declared.place.Place.{Place}
 use Rattle.vba_lexer.specs.declared.token.Token.{Token}
 use Rattle.vba_words.specs.declared.identifier.Identifier.{Identifier}
@@ -10,23 +11,24 @@ use Rattle.vba_expression.specs.Nodes as nodes
 use Rattle.vba_expression.specs.Nodes.{behind_node, behind_nodes, last_tree}
 use Rattle.vba_expression.specs.declared.node.ExpressionNode.{ExpressionNode}
 use Rattle.vba_expression.specs.declared.node.ExpressionNode.TheVariants as node
+use Rattle.bound_project.specs.declared.node.ArgumentNames.{ArgumentNames}
 use Rattle.bound_project.specs.declared.node.NodeKind.TheVariants as kinds
 use Rattle.bound_project.specs.declared.statement.ActionKind.{ActionKind}
 use Rattle.bound_project.specs.declared.statement.ActionKind.TheVariants as action
 use Rattle.bound_project.specs.Bodies.{action_of, member_found}
-use Rattle.bound_project.specs.Expressions.{Exprs, no_exprs, given_count}
+use Rattle.bound_project.specs.Expressions.{Exprs, no_exprs, given_count, named_member}
 use Rattle.bound_project.specs.Expressions as bound
 use Rattle.bound_project.specs.Lists.{above, exprs_of}
 use Rattle.bound_project.proofs.Lists.{exprs_are, is_itself}
-use Rattle.bound_project.specs.Pieces.{Piece, Tables, a_member, an_expr, exprs_off, name_in, of_value, put}
+use Rattle.bound_project.specs.Pieces.{Piece, Tables, a_member, an_expr, by_name_in, expr_of, exprs_off, name_in, of_value, order_in, put}
 use Rattle.bound_project.specs.Drafts.{Drafted}
-use Rattle.bound_project.specs.Statements.{Action, assign_member}
+use Rattle.bound_project.specs.Statements.{Action, assign_default, assign_member}
 use Rattle.bound_project.specs.View.{declared_view}
 use Rattle.binder.specs.Types.{is_object}
-use Rattle.binder.specs.Terms.{Env, Given, a_host_member, listed_values}
+use Rattle.binder.specs.Terms.{Env, Given, a_host_member, expression_of, has_names}
 use Rattle.binder.specs.Terms as plain
-use Rattle.binder.specs.ExpressionsBound.{callee, given_as, givens, host_arguments, indexed, item_of, mark_members, takes_arguments, term_of, place_told}
-use Rattle.binder.specs.StatementsBound.{assigned, assigned_to, fits_written, has_written_default, is_given_with, is_variant_place, is_written_member, member_written, takes_value, target_before}
+use Rattle.binder.specs.ExpressionsBound.{callee, given_as, givens, host_arguments, indexed, item_of, mark_members, named_called, takes_arguments, term_of, place_told}
+use Rattle.binder.specs.StatementsBound.{arguments_written, assigned, assigned_to, fits_written, has_written_default, is_given_with, is_variant_place, is_written_member, member_written, named_written, takes_value, target_before}
 use Rattle.bound_calls.specs.declared.term.HostMember.{HostMember}
 use Rattle.bound_calls.specs.declared.term.MemberCall.{MemberCall}
 use Rattle.bound_calls.specs.declared.term.Item.{Item}
@@ -35,15 +37,17 @@ use Rattle.bound_calls.specs.declared.term.Term.{Term}
 use Rattle.bound_calls.specs.declared.term.Term.TheVariants as term
 use Rattle.bound_calls.specs.declared.term.Tree.{Tree}
 use Rattle.bound_calls.specs.Calls.{node_of}
-use Rattle.bound_calls.specs.Standing.{AllListed, MemberStands, Stands, TermStands, member_is, on_pieces}
+use Rattle.bound_calls.specs.Standing.{AllGiven, MemberNamed, MemberStands, NamesCame, Stands, TermStands, looked_for, member_is, names_told, on_pieces}
 use Rattle.bound_calls.specs.Taking.{PushesSheet, sheet_expression}
-use Rattle.bound_calls.proofs.Growing.{grown_pieces, grown_twice}
+use Rattle.bound_calls.proofs.Growing.{grown_pieces, grown_same, grown_twice}
 use Rattle.bound_calls.proofs.Taking.{sheet_stands}
-use Rattle.bound_members.proofs.Listing.{all_written, every_listed, listed_long, listed_nameless}
-use Rattle.bound_members.specs.MemberCalls.{OpensMember}
+use Rattle.bound_members.proofs.Listing.{all_written}
+use Rattle.bound_members.proofs.MemberSteps.{by_name_called, named_ends}
+use Rattle.bound_members.proofs.Naming.{given_listed, given_long, none_named}
+use Rattle.bound_members.specs.MemberCalls.{NamesFit, OpensMember}
 use Rattle.bound_terms.specs.Items.{MakesItem}
 use Rattle.bound_actions.specs.Called.{ActionIs}
-use Rattle.bound_actions.specs.Members.{AssignsItem, AssignsTerm, AssignsTree, GivesMember, NamedBy, ReadsOnto, WritesCall, is_written}
+use Rattle.bound_actions.specs.Members.{AssignsItem, AssignsTerm, AssignsTree, GivesMember, IsWritten, NamedBy, ReadsOnto, WritesCall, is_written}
 use Rattle.bound_actions.proofs.Assigned.{bare_assigned, bare_given}
 use Rattle.bound_actions.proofs.NodeTrees.{behind_push}
 
@@ -70,8 +74,8 @@ written_is (Some x) object m k h = ap (λ (n : List ℕ). is_written_member (rec
 
 -- ---- without arguments
 
-bare_written : (env : Env) (object : bound.Expr) (m : plain.HostMember) (value : bound.Expr) → is_written_member m ≡ true → m.least ≡ 0 → member_written env object m [] value ≡ Some (assign_member object m.name no_exprs value)
-bare_written env object m value w least =
+bare_written : (env : Env) (place : Place) (object : bound.Expr) (m : plain.HostMember) (value : bound.Expr) → is_written_member m ≡ true → m.least ≡ 0 → member_written env place object m [] value ≡ Some (assign_member object m.name no_exprs value)
+bare_written env place object m value w least =
     let done : Option Action = Some (assign_member object m.name no_exprs value) in
     ap (λ (b : Bool). if b && (m.least == 0) then done else None) w ∙ ap (λ (n : ℕ). if n == 0 then done else None) least
 
@@ -94,7 +98,7 @@ member_assigned m name place d e there least written eq =
           let N : plain.Term → Type 0 = λ (y : plain.Term). NamedBy name y in
           record {
             made = assign_member h.object M.name no_exprs value;
-            is = ap (λ (y : plain.Term). assigned env place value [] y) h.is ∙ bare_written env h.object M value (written_is name h.object M (subst N h.is k) written) least;
+            is = ap (λ (y : plain.Term). assigned env place value [] y) h.is ∙ bare_written env place h.object M value (written_is name h.object M (subst N h.is k) written) least;
             fits = ap (λ (ps : List Piece). action_of t (action.AssignMember m.name 0) (of_value (λ x. a_member x (name_in t m.name) 0) ps)) h.on_top ∙ bare_fits t m.name h.object value;
           };
     })
@@ -134,18 +138,30 @@ some_fit : (m : plain.HostMember) (gs : List Given) → length gs ≢ 0 → take
 some_fit m [] some takes k = absurd (some refl)
 some_fit m (g ∷ gs) some takes k = ap (λ (b : Bool). b && has_written_default m.of) takes ∙ k
 
-call_written : (env : Env) (object : bound.Expr) (m : plain.HostMember) (count : ℕ) (gs : List Given) (es : List bound.Expr) (value : bound.Expr) → count ≡ length es → count ≢ 0 → takes_arguments m count ≡ true → has_written_default m.of ≡ true
-    → (not (is_some m.greatest) || is_object m.of) ≡ true → AllListed (given_as env) gs es → member_written env object m gs value ≡ Some (assign_member object m.name (exprs_of es) value)
-call_written env object m count gs es value c some takes k late values =
-    let long : count ≡ length gs = omega (arith, c, listed_long (given_as env) gs es values) in
+-- a member with arguments is written with what these are
+is_arguments : (env : Env) (place : Place) (object : bound.Expr) (m : plain.HostMember) (count : ℕ) (gs : List Given) (value : bound.Expr) → count ≡ length gs → count ≢ 0 → takes_arguments m count ≡ true → has_written_default m.of ≡ true
+    → (not (is_some m.greatest) || is_object m.of) ≡ true → member_written env place object m gs value ≡ arguments_written env place object m gs value
+is_arguments env place object m count gs value long some takes k late =
     let N : ℕ → Type 0 = λ (n : ℕ). n ≢ 0 in
     let T : ℕ → Type 0 = λ (n : ℕ). takes_arguments m n ≡ true in
     let written : is_written_member m ≡ true =
     late_or_default (not (is_some m.greatest)) (bytes_eq m.name (codes "value")) (is_object m.of) (has_written_default m.of) (list_any (λ (w : plain.HostMember). bytes_eq m.name w.name) mark_members) late k in
     let fits : fits_written m gs ≡ true = some_fit m gs (subst N long some) (subst T long takes) k in
+    let done = arguments_written env place object m gs value in
+    ap (λ (b : Bool). if b && fits_written m gs then done else None) written ∙ ap (λ (b : Bool). if b then done else None) fits
+
+call_written : (env : Env) (place : Place) (object : bound.Expr) (m : plain.HostMember) (named : ℕ) (gs : List Given) (es : List bound.Expr) (value : bound.Expr) → NamesCame [] named gs → AllGiven (given_as env) gs es
+    → arguments_written env place object m gs value ≡ Some (assign_member object m.name (exprs_of es) value)
+call_written env place object m named gs es value came values =
     let done : Option Exprs → Option Action = λ (o : Option Exprs). option_map (λ (xs : Exprs). assign_member object m.name xs value) o in
-    ap (λ (b : Bool). if b && fits_written m gs then done (host_arguments env gs) else None) written ∙ ap (λ (b : Bool). if b then done (host_arguments env gs) else None) fits
-    ∙ ap (λ (b : Bool). done (if b then None else listed_values (given_as env) gs)) (listed_nameless (given_as env) gs es values) ∙ ap done (every_listed (given_as env) gs es values)
+    ap (λ (b : Bool). if b then named_written env place object m gs value else done (host_arguments env gs)) (none_named named gs came) ∙ ap done (given_listed (given_as env) gs es values)
+
+by_name_written : (env : Env) (place : Place) (object : bound.Expr) (m : plain.HostMember) (gs : List Given) (made : bound.Node) (value : bound.Expr) → bytes_eq m.name (codes "raise") ≡ false → named_called env object m gs ≡ Some made → has_names gs ≡ true
+    → arguments_written env place object m gs value ≡ Some (assign_default (expression_of made place m.of) value)
+by_name_written env place object m gs made value other called names =
+    let plainly : Option Action = option_map (λ (xs : Exprs). assign_member object m.name xs value) (host_arguments env gs) in
+    let done : Option bound.Node → Option Action = λ (o : Option bound.Node). option_map (λ (node : bound.Node). assign_default (expression_of node place m.of) value) o in
+    ap (λ (b : Bool). if b then named_written env place object m gs value else plainly) names ∙ ap (λ (b : Bool). if b then None else done (named_called env object m gs)) other ∙ ap done called
 
 call_fits : (t : Tables) (name given count : ℕ) (object value : bound.Expr) (es : List bound.Expr) (ps : List Piece) → count ≡ length es → given ≡ given_count (exprs_of es)
     → ps ≡ above (map an_expr es) (a_member object (name_in t name) given ∷ an_expr value ∷ []) → action_of t (action.AssignMember name count) ps ≡ Some (assign_member object (name_in t name) (exprs_of es) value)
@@ -160,50 +176,94 @@ indexed_given : (env : Env) (base : Expr) (left right : Token) (args : Args) (ob
 indexed_given env base left right args object m h = ap (λ (t : plain.Term). takes_value env t || is_variant_place t) h
 
 indexed_assigned : (env : Env) (base : Expr) (left right : Token) (args : Args) (object : bound.Expr) (m : plain.HostMember) (value : bound.Expr) → target_before env base ≡ a_host_member object m
-    → assigned_to env (index base left args right) value ≡ member_written env object m (givens env args) value
+    → assigned_to env (index base left args right) value ≡ member_written env (place_told base) object m (givens env args) value
 indexed_assigned env base left right args object m value h =
     let p = place_told base in
     ap (λ (t : plain.Term). if takes_value env t then assigned env p value (givens env args) t else assigned env p value [] (indexed env p t (givens env args))) h
 
--- a member with its arguments, at the end of nodes
-member_given : (env : Env) (x : MemberCall) (kind : ActionKind) (left right : Token) (t : Tables) (is : List nodes.Item) (ps below : List Piece) → WritesCall x kind → Stands env t (item.Member x ∷ []) is ps (on_pieces below)
-    → GivesMember env (last_tree (behind_node (node.Index left right) is)) kind t ps below
-member_given env x kind left right t [] ps below w h = absurd h
-member_given env x kind left right t (nodes.tree u ∷ is) ps below w h = absurd h
-member_given env x kind left right t (nodes.arguments args ∷ []) ps below w h = absurd h
-member_given env x kind left right t (nodes.arguments args ∷ nodes.arguments more ∷ is) ps below w h = absurd h
-member_given env x kind left right t (nodes.arguments args ∷ nodes.tree base ∷ is) ps below w h =
-    let s : MemberStands env t x base args ps h.0 = h.1.0 in
-    let M = member_is t x.member in
-    let K : ActionKind → Type 0 = λ (k : ActionKind). GivesMember env (index base left args right) k t ps below in
-    subst K (sym w.kind_is) (record {
-      given = indexed_given env base left right args s.object M s.is;
-      does = λ value alone.
-          let low : h.0 ≡ an_expr value ∷ [] = h.1.1.1 ∙ alone in
-          record {
-            made = assign_member s.object M.name (exprs_of s.made) value;
-            is = indexed_assigned env base left right args s.object M value s.is ∙ call_written env s.object M x.count (givens env args) s.made value s.count_is w.some (w.takes t) w.default w.written s.values;
-            fits = call_fits t x.member.name x.given x.count s.object value s.made ps s.count_is (w.given_is ∙ sym (all_written s.made x.written s.written_is))
-                (s.on_top ∙ ap (λ (qs : List Piece). above (map an_expr s.made) (a_member s.object (name_in t x.member.name) x.given ∷ qs)) low);
-          };
+-- an assignment to a member whose arguments have no names
+pub writes_plain : (x : MemberCall) (d : Drafted) → MemberNamed d.tables x → x.names ≡ None → IsWritten x → WritesCall x d d (action.AssignMember x.member.name x.count)
+writes_plain x d named none w = record {
+  grown = grown_same d;
+  named = named.0;
+  stands = λ env base args value s.
+      let t = d.tables in
+      let m = member_is t x.member in
+      let gs = givens env args in
+      let place = place_told base in
+      let N : Option ArgumentNames → Type 0 = λ (o : Option ArgumentNames). NamesCame (names_told t o) x.named gs in
+      let long : x.count ≡ length gs = omega (arith, s.count_is, given_long (given_as env) gs s.made s.values) in
+      record {
+        made = assign_member s.object m.name (exprs_of s.made) value;
+        is = is_arguments env place s.object m x.count gs value long w.some (w.takes t) w.default w.written ∙ call_written env place s.object m x.named gs s.made value (subst N none s.names) s.values;
+        fits = call_fits t x.member.name x.given x.count s.object value s.made d.pieces s.count_is (w.given_is ∙ sym (all_written s.made x.written s.written_is))
+            (s.on_top ∙ ap (λ (o : Option ArgumentNames). above (map an_expr s.made) (looked_for t x.member.name o x.given s.object ∷ an_expr value ∷ [])) none);
+      };
+}
+
+-- an assignment to what a member gives whose last arguments have names
+pub writes_named : (x : MemberCall) (by : ArgumentNames) (d e : Drafted) → x.names ≡ Some by → IsWritten x → bytes_eq (name_in d.tables x.member.name) (codes "raise") ≡ false → NamesFit d.tables x by
+    → e ≡ record d { pieces = put d.tables (node_of (kinds.NamedMember x.member.name by x.count) x.place x.member.of) d.pieces } → WritesCall x d e action.AssignDefault
+writes_named x by d e told w other fit eq =
+    let t = d.tables in
+    let n = node_of (kinds.NamedMember x.member.name by x.count) x.place x.member.of in
+    let P : Drafted → Type 0 = λ (z : Drafted). WritesCall x d z action.AssignDefault in
+    subst P (sym eq) (record {
+      grown = grown_pieces d (put t n d.pieces);
+      named = tt;
+      stands = λ env base args value s.
+          let m = member_is t x.member in
+          let gs = givens env args in
+          let how = by_name_in t by in
+          let N : Option ArgumentNames → Type 0 = λ (o : Option ArgumentNames). NamesCame (names_told t o) x.named gs in
+          let long : x.count ≡ length gs = omega (arith, s.count_is, given_long (given_as env) gs s.made s.values) in
+          let all : x.named ≡ length how.names = fit.all ∙ sym (length-map (order_in t by.order) (name_in t)) in
+          let count : length gs ≡ by.before + x.named = omega (arith, fit.count, long) in
+          let r = by_name_called env s.object m how x.named gs s.made fit.some all count fit.takes (subst N told s.names) s.values in
+          let made = named_member s.object (name_in t x.member.name) how (exprs_of s.made) in
+          let top : put t n d.pieces ≡ expr_of n made ∷ an_expr value ∷ [] =
+          named_ends t n x.member.name x.given x.count by s.object s.made d.pieces (an_expr value ∷ []) s.count_is (w.given_is ∙ sym (all_written s.made x.written s.written_is))
+          (s.on_top ∙ ap (λ (o : Option ArgumentNames). above (map an_expr s.made) (looked_for t x.member.name o x.given s.object ∷ an_expr value ∷ [])) told) in
+          let A : Place → Type 0 = λ (place : Place). ActionIs action.AssignDefault (member_written env place s.object m gs value) t (put t n d.pieces) in
+          subst A s.place_is (record {
+            made = assign_default (expression_of made x.place m.of) value;
+            is = is_arguments env x.place s.object m x.count gs value long w.some (w.takes t) w.default w.written ∙ by_name_written env x.place s.object m gs made value other r.0 r.1;
+            fits = ap (λ (ps : List Piece). action_of t action.AssignDefault ps) top;
+          });
     })
 
-pub item_assigned : (env : Env) (place : Place) (y : Term) (m : HostMember) (c x : MemberCall) (ns : List ExpressionNode) (kind : ActionKind) (d h i e : Drafted) → MakesItem place y d h (term.HostMember m) → OpensMember place m h i c
-    → ReadsOnto env c ns i e x → WritesCall x kind → AssignsItem env place y ns d e kind
-item_assigned env place y m c x ns kind d h i e made opened r w =
-    let N : ActionKind → Type 0 = λ (k : ActionKind). AssignsItem env place y ns d e k in
-    let L : List ExpressionNode → Type 0 = λ (l : List ExpressionNode). AssignsItem env place y l d e (action.AssignMember x.member.name x.count) in
-    subst N (sym w.kind_is) (subst L (sym r.is) (record {
-      grown = grown_twice d h e made.grown (grown_twice h i e opened.grown r.goes.grown);
-      named = r.goes.named.0;
+-- a member with its arguments, at the end of nodes
+member_given : (env : Env) (x : MemberCall) (kind : ActionKind) (left right : Token) (d e : Drafted) (is : List nodes.Item) (below : List Piece) → WritesCall x d e kind → Stands env d.tables (item.Member x ∷ []) is d.pieces (on_pieces below)
+    → GivesMember env (last_tree (behind_node (node.Index left right) is)) kind e.tables e.pieces below
+member_given env x kind left right d e [] below w h = absurd h
+member_given env x kind left right d e (nodes.tree u ∷ is) below w h = absurd h
+member_given env x kind left right d e (nodes.arguments args ∷ []) below w h = absurd h
+member_given env x kind left right d e (nodes.arguments args ∷ nodes.arguments more ∷ is) below w h = absurd h
+member_given env x kind left right d e (nodes.arguments args ∷ nodes.tree base ∷ is) below w h =
+    let s : MemberStands env d.tables x base args d.pieces h.0 = h.1.0 in
+    let M = member_is d.tables x.member in
+    let S : List Piece → Type 0 = λ (l : List Piece). MemberStands env d.tables x base args d.pieces l in
+    record {
+      given = indexed_given env base left right args s.object M s.is;
+      does = λ value alone.
+          let there : MemberStands env d.tables x base args d.pieces (an_expr value ∷ []) = subst S (h.1.1.1 ∙ alone) s in
+          let done = w.stands env base args value there in
+          record { made = done.made; is = indexed_assigned env base left right args there.object M value there.is ∙ done.is; fits = done.fits };
+    }
+
+pub item_assigned : (env : Env) (place : Place) (y : Term) (m : HostMember) (c x : MemberCall) (ns : List ExpressionNode) (kind : ActionKind) (d h i j e : Drafted) → MakesItem place y d h (term.HostMember m) → OpensMember place m h i c
+    → ReadsOnto env c ns i j x → WritesCall x j e kind → AssignsItem env place y ns d e kind
+item_assigned env place y m c x ns kind d h i j e made opened r w =
+    let L : List ExpressionNode → Type 0 = λ (l : List ExpressionNode). AssignsItem env place y l d e kind in
+    subst L (sym r.is) (record {
+      grown = grown_twice d h e made.grown (grown_twice h i e opened.grown (grown_twice i j e r.goes.grown w.grown));
+      named = w.named;
       stands = λ tree left right below at k.
           let A : Place → Type 0 = λ (p : Place). TermStands env h.tables (term.HostMember m) (item_of p (callee env tree (term_of env tree))) h.pieces below in
           let there = subst A at (made.stands env (callee env tree (term_of env tree)) below k) in
           let start = opened.stands env tree [] [] below (on_pieces below) at there (refl, refl) in
           let is = behind_nodes (nodes.arguments no_args ∷ nodes.tree tree ∷ []) r.behind in
-          let done = member_given env x (action.AssignMember x.member.name x.count) left right e.tables is e.pieces below
-          (record { kind_is = refl; given_is = w.given_is; some = w.some; takes = w.takes; default = w.default; written = w.written })
-          (r.goes.stands (nodes.arguments no_args ∷ nodes.tree tree ∷ []) (on_pieces below) start) in
-          let T : List nodes.Item → Type 0 = λ (l : List nodes.Item). GivesMember env (last_tree l) (action.AssignMember x.member.name x.count) e.tables e.pieces below in
+          let done = member_given env x kind left right j e is below w (r.goes.stands (nodes.arguments no_args ∷ nodes.tree tree ∷ []) (on_pieces below) start) in
+          let T : List nodes.Item → Type 0 = λ (l : List nodes.Item). GivesMember env (last_tree l) kind e.tables e.pieces below in
           subst T (sym (behind_push (nodes.tree tree ∷ []) (node.NoArguments ∷ r.behind) (node.Index left right))) done;
-    }))
+    })

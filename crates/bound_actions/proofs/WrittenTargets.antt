@@ -10,9 +10,9 @@ use Rattle.bound_project.specs.declared.node.Node.{Node}
 use Rattle.bound_project.specs.declared.statement.ActionKind.{ActionKind}
 use Rattle.bound_project.specs.declared.statement.ActionKind.TheVariants as action
 use Rattle.bound_project.specs.Bodies.{action_of, item_found}
-use Rattle.bound_project.specs.Expressions.{Exprs, Lvalue, no_exprs, expr, load, element_value, field_value, call, library, host_member, no_args, in_order}
+use Rattle.bound_project.specs.Expressions.{Exprs, Lvalue, no_exprs, expr, load, element_value, field_value, call, library, host_member, named_member, no_args, in_order}
 use Rattle.bound_project.specs.Expressions as bound
-use Rattle.bound_project.specs.Pieces.{Piece, Tables, a_place, an_expr, arguments_off, expr_of, exprs_off, misfit, name_in, of_place, of_value, of_value_found, order_in, put, put_kind}
+use Rattle.bound_project.specs.Pieces.{Piece, Tables, a_place, an_expr, arguments_off, expr_of, exprs_off, misfit, by_name_in, name_in, of_place, of_value, of_value_found, order_in, put, put_kind}
 use Rattle.bound_project.specs.Drafts.{Drafted}
 use Rattle.bound_project.specs.Statements.{assign, assign_default, assign_item}
 use Rattle.bound_project.specs.View.{base_view, declared_view}
@@ -28,7 +28,7 @@ use Rattle.bound_calls.specs.Calls.{node_of}
 use Rattle.bound_calls.specs.References.{EndingGives}
 use Rattle.bound_calls.specs.Standing.{ValueEnds}
 use Rattle.bound_calls.proofs.Growing.{grown_pieces, grown_same}
-use Rattle.bound_calls.proofs.LastNodes.{any_node, found_passes, member_found_passes, place_passes, value_passes}
+use Rattle.bound_calls.proofs.LastNodes.{any_node, found_passes, member_found_passes, named_found_passes, place_passes, value_passes}
 use Rattle.bound_actions.specs.Members.{AssignsTerm}
 use Rattle.bound_actions.specs.Targets.{AssignsIndexed, EndsItem, EndsObject, ends_value, gives_object}
 
@@ -109,6 +109,8 @@ no_element_there t n (kinds.Library f text_form count compare one) st h =
     found_passes none_on_top refl (λ es. expr_of n (library f text_form es compare (base_view one))) (λ es rest. refl) (exprs_off count st no_exprs)
 no_element_there t n (kinds.HostMember i count) st h =
     member_found_passes none_on_top refl (name_in t i) (λ e es. expr_of n (host_member e (name_in t i) es)) (λ e es rest. refl) (exprs_off count st no_exprs)
+no_element_there t n (kinds.NamedMember i by count) st h =
+    named_found_passes none_on_top refl (name_in t i) (by_name_in t by) (λ e es. expr_of n (named_member e (name_in t i) (by_name_in t by) es)) (λ e es rest. refl) (exprs_off count st no_exprs)
 no_element_there t n (kinds.HostObject reference) st h = refl
 no_element_there t n kinds.ActiveSheet st h = refl
 no_element_there t n k st h = let e : false ≡ true = h in absurd cc

@@ -1,5 +1,5 @@
 -- Serves the code: nodes that leave one more item, and those below as they are.
-use Rattle.std.specs.Prelude.{◌≡◌, ℕ, suc, List, [], ◌∷◌, ◌++◌, Option, Some, None, option_and_then}
+use Rattle.std.specs.Prelude.{◌≡◌, ℕ, suc, Bool, true, false, List, [], ◌∷◌, ◌++◌, Option, Some, None, option_and_then}
 use Rattle.vba_base.specs.declared.place.Place.{Place}
 use Rattle.vba_lexer.specs.declared.token.Token.{Token}
 use Rattle.vba_lexer.specs.declared.token.TokenKind.TheVariants as kind
@@ -42,11 +42,18 @@ pub record AddsOne (ns : List ExpressionNode) : Type 0 where
   pub added : Item
   pub is : (items : List Item) → behind_nodes items ns ≡ added ∷ items
 
+-- arguments that are written
+abbrev pub is_argument : ExpressionNode → Bool
+is_argument (node.PlainArgument comma) = true
+is_argument (node.NamedArgument comma identifier colon_equal) = true
+is_argument n = false
+
 -- arguments of which the last one is written
 pub record GivesSome (ns : List ExpressionNode) : Type 0 where
   pub front : List ExpressionNode
-  pub comma : Option Token
-  pub ends : ns ≡ front ++ node.PlainArgument comma ∷ []
+  pub last : ExpressionNode
+  pub written : is_argument last ≡ true
+  pub ends : ns ≡ front ++ last ∷ []
   pub adds : AddsOne ns
 
 -- brackets round arguments, which are no nodes of a statement

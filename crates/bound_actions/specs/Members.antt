@@ -4,13 +4,12 @@ use Rattle.vba_base.specs.declared.place.Place.{Place}
 use Rattle.vba_values.specs.Types.{Declared}
 use Rattle.vba_lexer.specs.declared.token.Token.{Token}
 use Rattle.vba_words.specs.declared.identifier.Identifier.{Identifier}
-use Rattle.vba_expression.specs.Tree.{Expr}
+use Rattle.vba_expression.specs.Tree.{Expr, Args}
 use Rattle.vba_expression.specs.Nodes as nodes
 use Rattle.vba_expression.specs.Nodes.{behind_nodes, last_tree}
 use Rattle.vba_expression.specs.declared.node.ExpressionNode.{ExpressionNode}
 use Rattle.vba_expression.specs.declared.node.ExpressionNode.TheVariants as node
 use Rattle.bound_project.specs.declared.statement.ActionKind.{ActionKind}
-use Rattle.bound_project.specs.declared.statement.ActionKind.TheVariants as action
 use Rattle.bound_project.specs.View.{declared_view}
 use Rattle.bound_project.specs.Drafts.{Drafted, ActionNamed}
 use Rattle.bound_project.specs.Expressions as bound
@@ -18,13 +17,13 @@ use Rattle.bound_project.specs.Pieces.{Piece, Tables, an_expr}
 use Rattle.binder.specs.Types.{is_object}
 use Rattle.binder.specs.Terms.{Env, a_host_member}
 use Rattle.binder.specs.Terms as plain
-use Rattle.binder.specs.ExpressionsBound.{callee, takes_arguments, term_of, place_told}
-use Rattle.binder.specs.StatementsBound.{assigned, assigned_to, has_written_default, is_given_with, is_written_member, takes_value}
+use Rattle.binder.specs.ExpressionsBound.{callee, givens, takes_arguments, term_of, place_told}
+use Rattle.binder.specs.StatementsBound.{assigned, assigned_to, has_written_default, is_given_with, is_written_member, member_written, takes_value}
 use Rattle.bound_calls.specs.declared.term.MemberCall.{MemberCall}
 use Rattle.bound_calls.specs.declared.term.Term.{Term}
 use Rattle.bound_calls.specs.declared.term.Tree.{Tree}
 use Rattle.bound_calls.specs.declared.term.Item.TheVariants as item
-use Rattle.bound_calls.specs.Standing.{TermStands, TreeStands, Grown, member_is}
+use Rattle.bound_calls.specs.Standing.{MemberStands, TermStands, TreeStands, Grown, member_is}
 use Rattle.bound_calls.specs.Steps.{Goes}
 use Rattle.bound_actions.specs.Called.{ActionIs, IsBare}
 
@@ -71,14 +70,20 @@ pub record ReadsOnto (env : Env) (x : MemberCall) (ns : List ExpressionNode) (d 
   pub is : ns ≡ node.NoArguments ∷ behind
   pub goes : Goes env d (item.Member x ∷ []) e (item.Member y ∷ []) (λ is. behind_nodes is behind)
 
--- a member that has all its arguments, some, is assigned the value below its object
-pub record WritesCall (x : MemberCall) (kind : ActionKind) : Type 0 where
-  pub kind_is : kind ≡ action.AssignMember x.member.name x.count
+-- a member has all its arguments, some, and what it gives is written
+pub record IsWritten (x : MemberCall) : Type 0 where
   pub given_is : x.given ≡ x.written
   pub some : x.count ≢ 0
   pub takes : (t : Tables) → takes_arguments (member_is t x.member) x.count ≡ true
   pub default : has_written_default (declared_view x.member.of) ≡ true
   pub written : (not (is_some x.member.greatest) || is_object (declared_view x.member.of)) ≡ true
+
+-- a member with its arguments is assigned the value below its object
+pub record WritesCall (x : MemberCall) (d e : Drafted) (kind : ActionKind) : Type 0 where
+  pub grown : Grown d e
+  pub named : ActionNamed e.tables kind
+  pub stands : (env : Env) (base : Expr) (args : Args) (value : bound.Expr) (s : MemberStands env d.tables x base args d.pieces (an_expr value ∷ []))
+      → ActionIs kind (member_written env (place_told base) s.object (member_is d.tables x.member) (givens env args) value) e.tables e.pieces
 
 -- an expression that is a member with arguments is assigned the value below its object
 pub record GivesMember (env : Env) (place : Expr) (kind : ActionKind) (t : Tables) (ps below : List Piece) : Type 0 where

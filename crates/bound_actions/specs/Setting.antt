@@ -1,5 +1,6 @@
 -- Serves the code: what is given a reference to an object.
 use Rattle.std.specs.Prelude.{◌≡◌, [], ◌∷◌}
+use Rattle.vba_base.specs.declared.place.Place.{Place}
 use Rattle.vba_expression.specs.Tree.{Expr}
 use Rattle.bound_project.specs.declared.statement.ActionKind.{ActionKind}
 use Rattle.bound_project.specs.Drafts.{ActionNamed, Drafted}
@@ -12,14 +13,14 @@ use Rattle.bound_calls.specs.declared.term.Term.{Term}
 use Rattle.bound_calls.specs.Standing.{Grown, TermStands}
 use Rattle.bound_actions.specs.Called.{ActionIs}
 
--- a term is set to the reference that was pushed below it
-pub record SetsTerm (x : Term) (d e : Drafted) (kind : ActionKind) : Type 0 where
+-- a term is set to the reference that was pushed below it, by a Set with its word at this place
+pub record SetsTerm (word : Place) (x : Term) (d e : Drafted) (kind : ActionKind) : Type 0 where
   pub grown : Grown d e
   pub named : ActionNamed e.tables kind
-  pub stands : (env : Env) (y : plain.Term) (value : bound.Expr) → TermStands env d.tables x y d.pieces (an_expr value ∷ []) → ActionIs kind (set_to y value) e.tables e.pieces
+  pub stands : (env : Env) (y : plain.Term) (value : bound.Expr) → TermStands env d.tables x y d.pieces (an_expr value ∷ []) → ActionIs kind (set_to word y value) e.tables e.pieces
 
 -- an expression is set to the reference that was pushed
-pub record SetsTo (env : Env) (place : Expr) (d e : Drafted) (kind : ActionKind) : Type 0 where
+pub record SetsTo (word : Place) (env : Env) (place : Expr) (d e : Drafted) (kind : ActionKind) : Type 0 where
   pub grown : Grown d e
   pub named : ActionNamed e.tables kind
-  pub stands : (value : bound.Expr) → d.pieces ≡ an_expr value ∷ [] → ActionIs kind (set_to (set_target env place) value) e.tables e.pieces
+  pub stands : (value : bound.Expr) → d.pieces ≡ an_expr value ∷ [] → ActionIs kind (set_to word (set_target env place) value) e.tables e.pieces

@@ -30,6 +30,7 @@ ends_value (kinds.Call p count) = true
 ends_value (kinds.CallInOrder p count order) = true
 ends_value (kinds.Library f text_form count compare one) = true
 ends_value (kinds.HostMember i count) = true
+ends_value (kinds.NamedMember i by count) = true
 ends_value (kinds.HostObject reference) = true
 ends_value kinds.ActiveSheet = true
 ends_value kind = false

@@ -3,7 +3,7 @@
 ghost use Rattle.std.specs.Prelude.{◌≡◌, ◌++◌, IfOk, MatchBool};
 ghost use Rattle.bound_project.specs.DraftView.{draft_view};
 ghost use Rattle.bound_actions.specs.Called.{CallsTreeOn, Continues};
-ghost use Rattle.bound_actions.specs.Heights.{GivesSome, brackets};
+ghost use Rattle.bound_actions.specs.Heights.{GivesSome, brackets, is_argument};
 ghost use Rattle.bound_calls.specs.Standing.{TermNamed};
 ghost use Rattle.bound_terms.specs.View.{EnvStands, env_view};
 
@@ -18,14 +18,28 @@ use vba_base::{NoMemory, OrMemory, Place};
 use vba_expression::ExpressionNode;
 use vba_lexer::{Token, TokenKind};
 
+/// Is a node an argument that is written?
+fn is_argument(node: &ExpressionNode) -> bool
+    ensures { result ≡ is_argument node.now }
+{
+    match node {
+        ExpressionNode::PlainArgument { .. } => true,
+        ExpressionNode::NamedArgument { .. } => true,
+        _ => false,
+    }
+}
+
 /// Are these nodes arguments, of which the last one is written?
 fn gives_some(nodes: &[ExpressionNode]) -> bool
     ensures { MatchBool result (GivesSome nodes.now) (Unit {0}) }
 {
-    match nodes.split_last() {
-        Some((ExpressionNode::PlainArgument { .. }, _)) => adds_one(nodes),
-        _ => false,
+    let Some((last, _front)) = nodes.split_last() else {
+        return false;
+    };
+    if !is_argument(last) {
+        return false;
     }
+    adds_one(nodes)
 }
 
 /// Brackets round arguments, which are no nodes of a statement.

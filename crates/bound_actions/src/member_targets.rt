@@ -1,23 +1,23 @@
 //! Members of objects that are assigned to.
 
-ghost use Rattle.std.specs.Prelude.{◌≡◌, ◌<◌, true, not, length, is_some, IfOk, bytes_eq, option_map};
+ghost use Rattle.std.specs.Prelude.{◌≡◌, ◌<◌, true, not, length, is_some, IfOk, MatchBool, Some, bytes_eq, option_map};
 ghost use Rattle.std.specs.List.{list_any};
 ghost use Rattle.bound_project.specs.DraftView.{draft_view};
 ghost use Rattle.bound_project.specs.View.{declared_view};
 ghost use Rattle.binder.specs.ExpressionsBound.{mark_members};
 ghost use Rattle.binder.specs.Terms as terms;
-ghost use Rattle.bound_actions.specs.Members.{AssignsItem, AssignsTerm, ReadsOnto, WritesCall, is_written};
+ghost use Rattle.bound_actions.specs.Members.{AssignsItem, AssignsTerm, IsWritten, ReadsOnto, WritesCall, is_written};
 ghost use Rattle.bound_calls.specs.declared.term.Term.TheVariants as term;
-ghost use Rattle.bound_calls.specs.Standing.{TermNamed};
+ghost use Rattle.bound_calls.specs.Standing.{MemberNamed, TermNamed};
 ghost use Rattle.bound_terms.specs.Items.{takes_item};
 ghost use Rattle.bound_terms.specs.View.{EnvStands, env_view};
 
 use crate::targets::has_written_default;
 use bound_calls::{HostMember, Item, MemberCall, Term, push_node, push_sheet, put_item, take_item};
 use bound_declarations::NotYet;
-use bound_members::{is_word, open_member, takes_arguments};
-use bound_project::{ActionKind, DeclaredType, Draft, NodeKind};
-use bound_terms::{Env, given_at, item_member, run};
+use bound_members::{is_word, names_fit, open_member, takes_arguments};
+use bound_project::{ActionKind, ArgumentNames, DeclaredType, Draft, NodeKind};
+use bound_terms::{Env, item_member, run};
 use declared_names::is_object;
 use std::alloc::Global;
 use vba_base::{OrMemory, Place};
@@ -94,14 +94,6 @@ pub fn assign_sheet(
     assign_member(draft, member, name, place)
 }
 
-/// How many arguments are to come in these nodes of arguments.
-fn given_in(nodes: &[ExpressionNode]) -> u32 {
-    match nodes.first() {
-        Some(first) => given_at(nodes, first, 0),
-        None => 0,
-    }
-}
-
 /// Reads arguments behind a member whose object was looked at.
 fn read_member<'a>(
     alloc: Global,
@@ -111,7 +103,7 @@ fn read_member<'a>(
     nodes: &'a [ExpressionNode],
 ) -> Result<MemberCall, OrMemory<NotYet>>
     requires env { EnvStands env }
-    requires named { call.member.name < length (draft_view draft.old).tables.constants }
+    requires named { MemberNamed (draft_view draft.old).tables call }
     ensures { IfOk result (λ more. ReadsOnto (env_view env.entry) call nodes.now (draft_view draft.old) (draft_view draft.new) more) }
 {
     let Some((ExpressionNode::NoArguments, nodes)) = nodes.split_first() else {
@@ -130,24 +122,64 @@ fn read_member<'a>(
     }
 }
 
-/// The assignment to a member whose arguments were read: to the default member of what it gives.
-fn written_call(call: MemberCall) -> Result<ActionKind, OrMemory<NotYet>>
-    ensures { IfOk result (λ kind. WritesCall call kind) }
+/// Is the default member written of what a member gives of the arguments that were read?
+fn is_written_call(call: MemberCall) -> bool
+    ensures { MatchBool result (IsWritten call) (Unit {0}) }
 {
     if call.written != call.given || call.count == 0 {
-        return Err(OrMemory::Fault(NotYet));
+        return false;
     }
     let member = call.member;
     if !takes_arguments(member, call.count) || !has_written_default(member.of) {
-        return Err(OrMemory::Fault(NotYet));
+        return false;
     }
     if !(is_late(member.greatest) || is_object(member.of)) {
+        return false;
+    }
+    true
+}
+
+/// The assignment to a member whose last arguments have names: what it gives is pushed. Err.Raise gives nothing.
+fn write_named(
+    draft: &mut Draft,
+    call: MemberCall,
+    names: ArgumentNames,
+) -> Result<ActionKind, OrMemory<NotYet>>
+    requires named { MemberNamed (draft_view draft.old).tables call }
+    requires told { call.names ≡ Some names }
+    requires written { IsWritten call }
+    ensures { IfOk result (λ kind. WritesCall call (draft_view draft.old) (draft_view draft.new) kind) }
+{
+    if is_word(draft.name(call.member.name), b"raise") {
         return Err(OrMemory::Fault(NotYet));
     }
-    Ok(ActionKind::AssignMember {
-        name: member.name,
+    if !names_fit(draft, call, names) {
+        return Err(OrMemory::Fault(NotYet));
+    }
+    let kind = NodeKind::NamedMember {
+        name: call.member.name,
+        names,
         arguments: call.count,
-    })
+    };
+    push_node(draft, kind, call.member.of, call.place)?;
+    Ok(ActionKind::AssignDefault)
+}
+
+/// The assignment to a member whose arguments were read: to the default member of what it gives.
+fn write_call(draft: &mut Draft, call: MemberCall) -> Result<ActionKind, OrMemory<NotYet>>
+    requires { MemberNamed (draft_view draft.old).tables call }
+    ensures { IfOk result (λ kind. WritesCall call (draft_view draft.old) (draft_view draft.new) kind) }
+{
+    if !is_written_call(call) {
+        return Err(OrMemory::Fault(NotYet));
+    }
+    match call.names {
+        Some(names) => write_named(draft, call, names),
+        None => Ok(ActionKind::AssignMember {
+            name: call.member.name,
+            arguments: call.count,
+        }),
+    }
 }
 
 /// What is called, which is a member of an object or has a default one, behind the value that it is given with these
@@ -166,7 +198,7 @@ pub fn assign_item<'a>(
     ensures { IfOk result (λ kind. AssignsItem (env_view env.entry) place term.entry nodes.now (draft_view draft.old) (draft_view draft.new) kind) }
 {
     let member = item_member(alloc, draft, place, term)?;
-    let opened = open_member(draft, place, member, given_in(nodes))?;
+    let opened = open_member(alloc, draft, place, member, nodes)?;
     let call = read_member(alloc, draft, env, opened, nodes)?;
-    written_call(call)
+    write_call(draft, call)
 }

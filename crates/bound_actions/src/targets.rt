@@ -60,6 +60,7 @@ fn ends_value(kind: NodeKind) -> bool
         NodeKind::CallInOrder { .. } => true,
         NodeKind::Library { .. } => true,
         NodeKind::HostMember { .. } => true,
+        NodeKind::NamedMember { .. } => true,
         NodeKind::HostObject(_) => true,
         NodeKind::ActiveSheet => true,
         _ => false,

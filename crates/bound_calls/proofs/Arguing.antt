@@ -1,5 +1,5 @@
 -- How arguments and calls are pushed.
-use Rattle.std.proofs.Common.{◌≡◌, T, ℕ, ◌<◌, ◌≤◌, ◌+◌, Bool, true, false, ◌&&◌, ◌||◌, List, [], ◌∷◌, ◌++◌, map, length, get_or, drop, Option, Some, None, option_map, is_some, if◌then◌else◌, refl, sym, ap, subst, ◌∙◌, arith, length-append, append-nil, append_assoc}
+use Rattle.std.proofs.Common.{◌≡◌, T, ℕ, ◌<◌, ◌≤◌, ◌+◌, Bool, true, false, ◌&&◌, ◌||◌, List, [], ◌∷◌, ◌++◌, map, length, get_or, drop, Option, Some, None, option_map, is_some, if◌then◌else◌, not, refl, sym, ap, subst, ◌∙◌, arith, length-append, append-nil, append_assoc}
 use Rattle.std.proofs.lemmas.List.{map_push, drop_more, drop_all}
 use Rattle.std.specs.Prelude.{unwrap_or}
 use Rattle.vba_base.specs.declared.place.Place.{Place}
@@ -11,6 +11,8 @@ use Rattle.vba_expression.specs.Tree.{Expr, Args, missing}
 use Rattle.vba_expression.specs.Tree as tree
 use Rattle.bound_project.specs.declared.declarations.Parameter.{Parameter}
 use Rattle.bound_project.specs.declared.declared_type.DeclaredType.{DeclaredType}
+use Rattle.bound_project.specs.declared.declared_type.DeclaredType.TheVariants.{Plain}
+use Rattle.bound_project.specs.declared.declared_type.ElementType.TheVariants.{Variant}
 use Rattle.bound_project.specs.declared.node.NodeKind.{NodeKind}
 use Rattle.bound_project.specs.declared.node.NodeKind.TheVariants as node
 use Rattle.bound_project.specs.View.{declared_view, parameter_view, variable_view}
@@ -35,9 +37,10 @@ use Rattle.bound_calls.specs.Passing.{Taken, AllTaken, NotGiven, AllLeft}
 use Rattle.bound_calls.specs.Standing.{PlaceEnds, TermStands, TermNamed, TreeStands, PassedStands, Grown, plain_given}
 use Rattle.bound_calls.specs.Steps.{AddsConstant, PushesOperand}
 use Rattle.bound_calls.specs.References.{PushesGiven}
-use Rattle.bound_calls.specs.Calls.{node_of, lent_in, may_be_item, is_copied, keeps_object, PushesArgument, Lends, Copies, TakenIs, PassesTree, PassesNone, PassesRest, PassesPlain, PassesMissing}
+use Rattle.bound_calls.specs.Calls.{node_of, lent_in, may_be_item, is_copied, keeps_object, PushesArgument, Lends, MarksOther, Copies, TakenIs, PassesTree, PassesNone, PassesRest, PassesPlain, PassesMissing}
 use Rattle.bound_calls.proofs.Growing.{grown_same, grown_twice, grown_pieces, grown_constant}
 use Rattle.bound_calls.proofs.LastNodes.{any_node, found_passes}
+use Rattle.bound_calls.proofs.PlaceNodes.{no_item}
 use Rattle.bound_calls.proofs.Passing.{taken_push}
 
 -- a draft with one more node
@@ -57,6 +60,27 @@ lent kind place of d d1 e a b =
     subst P (sym all) (record {
       grown = grown_twice d m (behind node.ByPlace place of m) (grown_behind kind place of d) (grown_behind node.ByPlace place of m);
       stands = λ x below h. ap (λ st. of_place (λ y. an_argument (place_lent y)) st) (h (node_of kind place of));
+    })
+
+abbrev variant : DeclaredType
+variant = Plain Variant
+
+pub marked_other : (lent : Ending) (parameter : DeclaredType) (place : Place) (d d1 d2 d3 e : Drafted) → d1 ≡ behind lent.kind place lent.of d → d2 ≡ behind node.Load place lent.of d1
+    → d3 ≡ behind (node.Marked (record { rule = 26; place = place }) 1) place variant d2 → e ≡ behind (node.ByCopy parameter) place parameter d3 → MarksOther lent parameter place d e
+marked_other lent parameter place d d1 d2 d3 e a b c f =
+    let m1 = behind lent.kind place lent.of d in
+    let m2 = behind node.Load place lent.of m1 in
+    let m3 = behind (node.Marked (record { rule = 26; place = place }) 1) place variant m2 in
+    let m4 = behind (node.ByCopy parameter) place parameter m3 in
+    let is2 : d2 ≡ m2 = b ∙ ap (λ x. behind node.Load place lent.of x) a in
+    let is3 : d3 ≡ m3 = c ∙ ap (λ x. behind (node.Marked (record { rule = 26; place = place }) 1) place variant x) is2 in
+    let is4 : e ≡ m4 = f ∙ ap (λ x. behind (node.ByCopy parameter) place parameter x) is3 in
+    let P : Drafted → Type 0 = λ x. MarksOther lent parameter place d x in
+    let after : List Piece → List Piece = λ st.
+    put d.tables (node_of (node.ByCopy parameter) place parameter) (put d.tables (node_of (node.Marked (record { rule = 26; place = place }) 1) place variant) (put d.tables (node_of node.Load place lent.of) st)) in
+    subst P (sym is4) (record {
+      grown = grown_pieces d m4.pieces;
+      stands = λ x below h. ap after (h (node_of lent.kind place lent.of));
     })
 
 pub copied : (of : DeclaredType) (x : Tree) (place : Place) (d d1 e : Drafted) → PushesArgument of x d d1 → e ≡ behind (node.ByCopy of) place of d1 → Copies of x d e
@@ -150,7 +174,10 @@ passed_anyway p x d e many reference n h =
 
 -- a place is lent
 abbrev by_place : Env → project.Parameter → Lvalue → Declared → Bool → Place → bound.Args → (lent copied : Bool) → Option bound.Args
-by_place env p at of bounded place rest lent copied = if lent then Some (bound.by_place at rest) else if copied then by_copy (argument_of env) p (a_place at of bounded true) place rest else None
+by_place env p at of bounded place rest lent copied =
+    if lent then Some (bound.by_place at rest)
+    else if copied then by_copy (argument_of env) p (a_place at of bounded true) place rest
+    else Some (bound.by_copy (plain.of_other_type at of place) p.of rest)
 
 reference_taken : (env : Env) (p : Parameter) (t : plain.Term) (at : Lvalue) (of : Declared) (bounded : Bool) (place : Place) (rest : bound.Args) (lent copied : Bool) → p.is_by_reference ≡ true → t ≡ a_place at of bounded true
     → is_lent_to of (declared_view p.of) ≡ lent → is_copied_to at of (declared_view p.of) ≡ copied
@@ -208,6 +235,36 @@ placed_copy p x kind of bounded d e many reference is fits copies h =
     reference_taken env p (term_of env tree) s.at (declared_view of) bounded place rest false true reference s.is fits (copied_to d.tables kind of p.of s.at d.pieces below copies s.ends)
     ∙ ap (λ y. by_copy (argument_of env) (parameter_view p) y place rest) (sym s.is))
 
+neither_holds : (a b c : Bool) → (b ≡ false → not c ≡ true) → (a || b) ≡ false → (a || c) ≡ false
+neither_holds true b c f h = h
+neither_holds false b true f h = let e : false ≡ true = f h in absurd cc
+neither_holds false b false f h = refl
+
+not_copied_to : (t : Tables) (kind : NodeKind) (of parameter : DeclaredType) (at : Lvalue) (ps below : List Piece) → is_copied kind of parameter ≡ false → PlaceEnds t kind at ps below
+    → is_copied_to at (declared_view of) (declared_view parameter) ≡ false
+not_copied_to t kind of parameter at ps below h ends =
+    neither_holds (is_object (declared_view of) && is_object (declared_view parameter)) (may_be_item kind) (plain.may_be_item at) (λ k. no_item t kind at ps below k ends) h
+
+placed_other : (p : Parameter) (x : Tree) (lent : Ending) (bounded : Bool) (d e : Drafted) → p.is_param_array ≡ false → p.is_by_reference ≡ true → x.term ≡ term.Place lent.kind lent.of bounded true
+    → is_lent_to (declared_view lent.of) (declared_view p.of) ≡ false → is_copied lent.kind lent.of p.of ≡ false → MarksOther lent p.of x.place d e → PassesTree p x d e
+placed_other p x lent bounded d e many reference is fits copies h = record {
+  grown = h.grown;
+  stands = λ env tree below k.
+      let A : Term → Type 0 = λ y. TermStands env d.tables y (term_of env tree) d.pieces below in
+      let s = subst A is k.term_is in
+      let marked = plain.of_other_type s.at (declared_view lent.of) (place_told tree) in
+      record {
+        made = value_copied marked (declared_view p.of);
+        taken = record {
+          no_name = refl;
+          no_list = many;
+          makes = λ rest. reference_taken env p (term_of env tree) s.at (declared_view lent.of) bounded (place_told tree) rest false false reference s.is fits (not_copied_to d.tables lent.kind lent.of p.of s.at d.pieces below copies s.ends);
+        };
+        on_top = h.stands s.at below s.ends
+            ∙ ap (λ place. an_argument (value_copied (plain.of_other_type s.at (declared_view lent.of) place) (declared_view p.of)) ∷ below) k.place_is;
+      };
+}
+
 some_of : (x y : Ending) → Some x ≡ Some y → x ≡ y
 some_of x y h = ap (λ o. unwrap_or o x) h
 
@@ -228,6 +285,10 @@ passed_lent p x lent d e many reference is fits h = let at = lent_is x.term lent
 pub passed_copied : (p : Parameter) (x : Tree) (lent : Ending) (d e : Drafted) → p.is_param_array ≡ false → p.is_by_reference ≡ true → lent_in x.term ≡ Some lent → is_lent_to (declared_view lent.of) (declared_view p.of) ≡ false
     → is_copied lent.kind lent.of p.of ≡ true → Copies p.of x d e → PassesTree p x d e
 passed_copied p x lent d e many reference is fits copies h = let at = lent_is x.term lent is in placed_copy p x lent.kind lent.of at.0 d e many reference at.1 fits copies h
+
+pub passed_other : (p : Parameter) (x : Tree) (lent : Ending) (d e : Drafted) → p.is_param_array ≡ false → p.is_by_reference ≡ true → lent_in x.term ≡ Some lent → is_lent_to (declared_view lent.of) (declared_view p.of) ≡ false
+    → is_copied lent.kind lent.of p.of ≡ false → MarksOther lent p.of x.place d e → PassesTree p x d e
+passed_other p x lent d e many reference is fits copies h = let at = lent_is x.term lent is in placed_other p x lent at.0 d e many reference at.1 fits copies h
 
 pub nothing_lent : (x : Term) → lent_in x ≡ None → no_lent x
 nothing_lent (term.Place kind of bounded true) h = none_of (record { kind = kind; of = of }) (sym h)

@@ -1,23 +1,24 @@
 -- What stands on a stack stands there still when the tables of the draft grow.
-use Rattle.std.proofs.Common.{◌≡◌, ℕ, ◌<◌, length, map, List, [], ◌∷◌, refl, sym, ap, ◌∙◌, arith}
+use Rattle.std.proofs.Common.{◌≡◌, ℕ, ◌<◌, length, map, List, [], ◌∷◌, Option, None, Some, refl, sym, ap, subst, ◌∙◌, arith}
 use Rattle.vba_values.specs.Val.{Val}
 use Rattle.vba_expression.specs.Tree.{Expr, Args, no_args, missing, plain, named}
 use Rattle.vba_expression.specs.Nodes as nodes
 use Rattle.bound_project.specs.declared.node.NodeKind.{NodeKind}
 use Rattle.bound_project.specs.declared.node.NodeKind.TheVariants as node
 use Rattle.bound_project.specs.declared.node.Node.{Node}
+use Rattle.bound_project.specs.declared.node.ArgumentNames.{ArgumentNames}
 use Rattle.bound_project.specs.Project.{nowhere}
-use Rattle.bound_project.specs.Expressions.{constant, call, active_sheet, host_member, in_order}
+use Rattle.bound_project.specs.Expressions.{constant, call, active_sheet, host_member, named_member, ByName, in_order}
 use Rattle.bound_project.specs.Expressions as bound
 use Rattle.bound_project.specs.Lists.{above}
 use Rattle.bound_project.specs.View.{declared_view}
-use Rattle.bound_project.specs.Pieces.{Piece, a_member, an_argument, an_expr, default_taken, Tables, arguments_off, exprs_off, name_in, name_of, of_found, of_member_found, of_value, expr_of, put_kind}
+use Rattle.bound_project.specs.Pieces.{Piece, a_member, a_named_member, an_argument, an_expr, default_taken, Tables, arguments_off, exprs_off, by_name_in, name_in, name_of, of_found, of_member_found, of_named_found, of_value, expr_of, put_kind}
 use Rattle.bound_project.specs.Drafts.{Drafted, NodeNamed, with_constant}
-use Rattle.bound_project.proofs.Drafts.{Extends, constant_extends}
+use Rattle.bound_project.proofs.Drafts.{Extends, by_name_same, constant_extends, names_named}
 use Rattle.vba_values.specs.Types as type
 use Rattle.binder.specs.Terms.{Env, a_host_member, expression_of}
 use Rattle.binder.specs.Terms as terms
-use Rattle.binder.specs.ExpressionsBound.{term_of}
+use Rattle.binder.specs.ExpressionsBound.{givens, term_of}
 use Rattle.bound_calls.specs.declared.term.Term.{Term}
 use Rattle.bound_calls.specs.declared.term.Term.TheVariants as term
 use Rattle.bound_calls.specs.declared.term.HostMember.{HostMember}
@@ -25,7 +26,7 @@ use Rattle.bound_calls.specs.declared.term.MemberCall.{MemberCall}
 use Rattle.bound_calls.specs.declared.term.Tree.{Tree}
 use Rattle.bound_calls.specs.declared.term.Item.{Item}
 use Rattle.bound_calls.specs.declared.term.Item.TheVariants as item
-use Rattle.bound_calls.specs.Standing.{TermStands, TreeStands, MemberStands, member_is, Stands, TermNamed, ItemNamed, AllNamed, Grown, Base}
+use Rattle.bound_calls.specs.Standing.{TermStands, TreeStands, MemberStands, NamesCame, looked_for, member_is, names_told, Stands, TermNamed, AreNamed, ItemNamed, MemberNamed, AllNamed, Grown, Base}
 
 pub extends_same : (t : Tables) → Extends t t
 extends_same t = record {
@@ -69,6 +70,13 @@ put_same t u e n (node.CallInOrder p count order) h st = ap (λ o. of_found (λ 
 put_same t u e n (node.MemberThere i given) h st = ap (λ v. of_value (λ x. a_member x (name_of v) given) st) (e.constant_is i h)
 put_same t u e n (node.HostMember i count) h st =
     ap (λ v. of_member_found (name_of v) (λ x es. expr_of n (host_member x (name_of v) es)) (exprs_off count st bound.no_exprs)) (e.constant_is i h)
+put_same t u e n (node.NamedThere i by given) h st =
+    ap (λ v. of_value (λ x. a_named_member x (name_of v) (by_name_in u by) given) st) (e.constant_is i h.0)
+    ∙ ap (λ how. of_value (λ x. a_named_member x (name_in t i) how given) st) (by_name_same t u e by h.1)
+put_same t u e n (node.NamedMember i by count) h st =
+    let found = exprs_off count st bound.no_exprs in
+    ap (λ v. of_named_found (name_of v) (by_name_in u by) (λ x es. expr_of n (named_member x (name_of v) (by_name_in u by) es)) found) (e.constant_is i h.0)
+    ∙ ap (λ how. of_named_found (name_in t i) how (λ x es. expr_of n (named_member x (name_in t i) how es)) found) (by_name_same t u e by h.1)
 put_same t u e n k h st = refl
 
 pub node_named : (t u : Tables) → Extends t u → (k : NodeKind) → NodeNamed t k → NodeNamed u k
@@ -77,6 +85,8 @@ node_named t u e (node.ByDefault i) h = omega (arith, e.constants_more)
 node_named t u e (node.CallInOrder p count order) h = omega (arith, e.orders_more)
 node_named t u e (node.MemberThere i given) h = omega (arith, e.constants_more)
 node_named t u e (node.HostMember i count) h = omega (arith, e.constants_more)
+node_named t u e (node.NamedThere i by given) h = (omega (arith, h.0, e.constants_more), names_named t u e by h.1)
+node_named t u e (node.NamedMember i by count) h = (omega (arith, h.0, e.constants_more), names_named t u e by h.1)
 node_named t u e k h = tt
 
 pub term_named : (t u : Tables) → Extends t u → (x : Term) → TermNamed t x → TermNamed u x
@@ -86,9 +96,13 @@ term_named t u e (term.HostMember m) h = omega (arith, e.constants_more)
 term_named t u e (term.SheetMember m) h = omega (arith, e.constants_more)
 term_named t u e x h = tt
 
+are_named : (t u : Tables) → Extends t u → (names : Option ArgumentNames) → AreNamed t names → AreNamed u names
+are_named t u e None h = tt
+are_named t u e (Some by) h = names_named t u e by h
+
 pub item_named : (t u : Tables) → Extends t u → (x : Item) → ItemNamed t x → ItemNamed u x
 item_named t u e (item.Tree x) h = term_named t u e x.term h
-item_named t u e (item.Member x) h = omega (arith, e.constants_more)
+item_named t u e (item.Member x) h = (omega (arith, h.0, e.constants_more), are_named t u e x.names h.1)
 item_named t u e x h = tt
 
 pub all_named : (t u : Tables) → Extends t u → (xs : List Item) → AllNamed t xs → AllNamed u xs
@@ -125,17 +139,31 @@ pub tree_grows : (env : Env) (t u : Tables) → Extends t u → (x : Tree) → T
 tree_grows env t u e x k tree ps below h =
     record { term_is = term_grows env t u e x.term k (term_of env tree) ps below h.term_is; place_is = h.place_is; name_is = h.name_is; qualifier_is = h.qualifier_is; leaf = h.leaf }
 
-pub member_grows : (env : Env) (t u : Tables) → Extends t u → (x : MemberCall) → x.member.name < length t.constants → (tree : Expr) (args : Args) (ps below : List Piece) → MemberStands env t x tree args ps below → MemberStands env u x tree args ps below
-member_grows env t u e x k tree args ps below h = record {
-  object = h.object;
-  is = h.is ∙ ap (λ z. a_host_member h.object z) (member_same t u e x.member k);
-  place_is = h.place_is;
-  made = h.made;
-  values = h.values;
-  written_is = h.written_is;
-  count_is = h.count_is;
-  on_top = h.on_top ∙ ap (λ (n : List ℕ). above (map an_expr h.made) (a_member h.object n x.given ∷ below)) (sym (name_same t u e x.member.name k));
-}
+-- so do the names of its arguments, and the object whose member was looked for
+pub told_same : (t u : Tables) → Extends t u → (names : Option ArgumentNames) → AreNamed t names → names_told u names ≡ names_told t names
+told_same t u e None h = refl
+told_same t u e (Some by) h = ap (λ (how : ByName). how.names) (by_name_same t u e by h)
+
+looked_same : (t u : Tables) → Extends t u → (name : ℕ) (names : Option ArgumentNames) (given : ℕ) (object : bound.Expr) → name < length t.constants → AreNamed t names
+    → looked_for u name names given object ≡ looked_for t name names given object
+looked_same t u e name None given object h k = ap (λ (n : List ℕ). a_member object n given) (name_same t u e name h)
+looked_same t u e name (Some by) given object h k =
+    ap (λ (n : List ℕ). a_named_member object n (by_name_in u by) given) (name_same t u e name h) ∙ ap (λ (how : ByName). a_named_member object (name_in t name) how given) (by_name_same t u e by k)
+
+pub member_grows : (env : Env) (t u : Tables) → Extends t u → (x : MemberCall) → MemberNamed t x → (tree : Expr) (args : Args) (ps below : List Piece) → MemberStands env t x tree args ps below → MemberStands env u x tree args ps below
+member_grows env t u e x k tree args ps below h =
+    let N : List (List ℕ) → Type 0 = λ (names : List (List ℕ)). NamesCame names x.named (givens env args) in
+    record {
+      object = h.object;
+      is = h.is ∙ ap (λ z. a_host_member h.object z) (member_same t u e x.member k.0);
+      place_is = h.place_is;
+      made = h.made;
+      values = h.values;
+      names = subst N (sym (told_same t u e x.names k.1)) h.names;
+      written_is = h.written_is;
+      count_is = h.count_is;
+      on_top = h.on_top ∙ ap (λ (p : Piece). above (map an_expr h.made) (p ∷ below)) (sym (looked_same t u e x.member.name x.names x.given h.object k.0 k.1));
+    }
 
 pub stands_grows : (env : Env) (t u : Tables) → Extends t u → (xs : List Item) → AllNamed t xs → (is : List nodes.Item) (ps : List Piece) (base : Base) → Stands env t xs is ps base → Stands env u xs is ps base
 stands_grows env t u e [] k is ps base h = h

@@ -6,9 +6,9 @@ use Rattle.bound_project.specs.declared.declared_type.ElementType.TheVariants as
 use Rattle.bound_project.specs.declared.node.Node.{Node}
 use Rattle.bound_project.specs.declared.node.NodeKind.{NodeKind}
 use Rattle.bound_project.specs.declared.node.NodeKind.TheVariants as node
-use Rattle.bound_project.specs.Expressions.{Expr, expr, load, element_value, field_value, unary, binary, call, same, library, host_member, no_args, in_order, Exprs, no_exprs, Lvalue}
+use Rattle.bound_project.specs.Expressions.{Expr, expr, load, element_value, field_value, unary, binary, call, same, library, host_member, named_member, ByName, no_args, in_order, Exprs, no_exprs, Lvalue, marked}
 use Rattle.bound_project.specs.Expressions as bound
-use Rattle.bound_project.specs.Pieces.{Piece, nothing, an_expr, a_place, a_member, an_argument, a_value_shown, a_zone, a_test_begun, a_test_is, a_test_range, a_resize, an_erased, Tables, arguments_off, as_operand, expr_of, exprs_off, is_member, misfit, name_in, of_both, of_found, of_member, of_member_found, of_place, of_value, of_value_found, order_in, put_kind}
+use Rattle.bound_project.specs.Pieces.{Piece, nothing, an_expr, a_place, a_member, a_named_member, an_argument, a_value_shown, a_zone, a_test_begun, a_test_is, a_test_range, a_resize, an_erased, Tables, arguments_off, as_operand, expr_of, exprs_off, is_member, is_named_member, misfit, by_name_in, name_in, of_both, of_found, of_member, of_member_found, of_named, of_named_found, of_place, of_value, of_value_found, order_in, put_kind}
 use Rattle.bound_project.specs.Project.{nowhere}
 use Rattle.bound_project.specs.View.{base_view, declared_view}
 use Rattle.binder.specs.Constants.{is_variant}
@@ -24,6 +24,7 @@ value_passes test m make h (nothing ∷ st) = m
 value_passes test m make h ((an_expr a) ∷ st) = h a st
 value_passes test m make h ((a_place a) ∷ st) = m
 value_passes test m make h ((a_member a b c) ∷ st) = m
+value_passes test m make h ((a_named_member a b c d) ∷ st) = m
 value_passes test m make h ((an_argument a) ∷ st) = m
 value_passes test m make h ((a_value_shown a) ∷ st) = m
 value_passes test m make h (a_zone ∷ st) = m
@@ -39,6 +40,7 @@ place_passes test m make h (nothing ∷ st) = m
 place_passes test m make h ((an_expr a) ∷ st) = m
 place_passes test m make h ((a_place a) ∷ st) = h a st
 place_passes test m make h ((a_member a b c) ∷ st) = m
+place_passes test m make h ((a_named_member a b c d) ∷ st) = m
 place_passes test m make h ((an_argument a) ∷ st) = m
 place_passes test m make h ((a_value_shown a) ∷ st) = m
 place_passes test m make h (a_zone ∷ st) = m
@@ -56,6 +58,7 @@ both_pass test m make h (an_expr y ∷ nothing ∷ st) = m
 both_pass test m make h (an_expr y ∷ (an_expr a) ∷ st) = h a y st
 both_pass test m make h (an_expr y ∷ (a_place a) ∷ st) = m
 both_pass test m make h (an_expr y ∷ (a_member a b c) ∷ st) = m
+both_pass test m make h (an_expr y ∷ (a_named_member a b c d) ∷ st) = m
 both_pass test m make h (an_expr y ∷ (an_argument a) ∷ st) = m
 both_pass test m make h (an_expr y ∷ (a_value_shown a) ∷ st) = m
 both_pass test m make h (an_expr y ∷ a_zone ∷ st) = m
@@ -66,6 +69,7 @@ both_pass test m make h (an_expr y ∷ (a_resize a b c) ∷ st) = m
 both_pass test m make h (an_expr y ∷ (an_erased a) ∷ st) = m
 both_pass test m make h ((a_place a) ∷ st) = m
 both_pass test m make h ((a_member a b c) ∷ st) = m
+both_pass test m make h ((a_named_member a b c d) ∷ st) = m
 both_pass test m make h ((an_argument a) ∷ st) = m
 both_pass test m make h ((a_value_shown a) ∷ st) = m
 both_pass test m make h (a_zone ∷ st) = m
@@ -95,6 +99,7 @@ member_passes test m name make h es (nothing ∷ st) = m
 member_passes test m name make h es ((an_expr a) ∷ st) = m
 member_passes test m name make h es ((a_place a) ∷ st) = m
 member_passes test m name make h es (a_member a other given ∷ st) = if_passes test m (is_member name other given es) (make a es ∷ st) (h a es st)
+member_passes test m name make h es (a_named_member a b c d ∷ st) = m
 member_passes test m name make h es ((an_argument a) ∷ st) = m
 member_passes test m name make h es ((a_value_shown a) ∷ st) = m
 member_passes test m name make h es (a_zone ∷ st) = m
@@ -108,6 +113,28 @@ pub member_found_passes : (test : List Piece → Bool) → test misfit ≡ true 
     → test (of_member_found name make o) ≡ true
 member_found_passes test m name make h None = m
 member_found_passes test m name make h (Some found) = member_passes test m name make h found.0 found.1
+
+named_passes : (test : List Piece → Bool) → test misfit ≡ true → (name : List ℕ) (by : ByName) (make : Expr → Exprs → Piece) → ((e : Expr) (es : Exprs) (st : List Piece) → test (make e es ∷ st) ≡ true) → (es : Exprs) (st : List Piece)
+    → test (of_named name by make es st) ≡ true
+named_passes test m name by make h es [] = m
+named_passes test m name by make h es (nothing ∷ st) = m
+named_passes test m name by make h es ((an_expr a) ∷ st) = m
+named_passes test m name by make h es ((a_place a) ∷ st) = m
+named_passes test m name by make h es ((a_member a b c) ∷ st) = m
+named_passes test m name by make h es (a_named_member a other how given ∷ st) = if_passes test m (is_named_member name other by how given es) (make a es ∷ st) (h a es st)
+named_passes test m name by make h es ((an_argument a) ∷ st) = m
+named_passes test m name by make h es ((a_value_shown a) ∷ st) = m
+named_passes test m name by make h es (a_zone ∷ st) = m
+named_passes test m name by make h es (a_test_begun ∷ st) = m
+named_passes test m name by make h es ((a_test_is a b c) ∷ st) = m
+named_passes test m name by make h es ((a_test_range a b c d) ∷ st) = m
+named_passes test m name by make h es ((a_resize a b c) ∷ st) = m
+named_passes test m name by make h es ((an_erased a) ∷ st) = m
+
+pub named_found_passes : (test : List Piece → Bool) → test misfit ≡ true → (name : List ℕ) (by : ByName) (make : Expr → Exprs → Piece) → ((e : Expr) (es : Exprs) (st : List Piece) → test (make e es ∷ st) ≡ true) → (o : Option (Exprs × List Piece))
+    → test (of_named_found name by make o) ≡ true
+named_found_passes test m name by make h None = m
+named_found_passes test m name by make h (Some found) = named_passes test m name by make h found.0 found.1
 
 -- ---- what may be an object
 
@@ -145,8 +172,12 @@ kind_agrees t n (node.CallInOrder p count order) st b h =
     found_passes (gives_on_top b) refl (λ args. expr_of n (call p (in_order (order_in t order) args))) (λ args rest. agree_same true b h) (arguments_off count st no_args)
 kind_agrees t n (node.HostMember i count) st b h =
     member_found_passes (gives_on_top b) refl (name_in t i) (λ e es. expr_of n (host_member e (name_in t i) es)) (λ e es rest. agree_same true b h) (exprs_off count st no_exprs)
+kind_agrees t n (node.NamedMember i by count) st b h =
+    named_found_passes (gives_on_top b) refl (name_in t i) (by_name_in t by) (λ e es. expr_of n (named_member e (name_in t i) (by_name_in t by) es)) (λ e es rest. agree_same true b h) (exprs_off count st no_exprs)
 kind_agrees t n (node.Library f text_form count compare one) st b h =
     found_passes (gives_on_top b) refl (λ es. expr_of n (library f text_form es compare (base_view one))) (λ es rest. agree_same (may_give_object f) b h) (exprs_off count st no_exprs)
+kind_agrees t n (node.Marked broken count) st b h =
+    found_passes (gives_on_top b) refl (λ es. expr_of n (marked broken es)) (λ es rest. agree_same false b h) (exprs_off count st no_exprs)
 kind_agrees t n (node.Constant i) st b h = agree_same false b h
 kind_agrees t n (node.Unary o of) st b h = value_passes (gives_on_top b) refl (λ a. expr_of n (unary o (as_operand of a))) (λ e rest. agree_same false b h) st
 kind_agrees t n (node.Binary o compare left right) st b h =
@@ -166,6 +197,7 @@ kind_agrees t n node.DefaultOf st b h = let e : None ≡ Some b = h in absurd cc
 kind_agrees t n node.DefaultIfAny st b h = let e : None ≡ Some b = h in absurd cc
 kind_agrees t n (node.IsType of) st b h = let e : None ≡ Some b = h in absurd cc
 kind_agrees t n (node.MemberThere i given) st b h = let e : None ≡ Some b = h in absurd cc
+kind_agrees t n (node.NamedThere i by given) st b h = let e : None ≡ Some b = h in absurd cc
 kind_agrees t n node.ByPlace st b h = let e : None ≡ Some b = h in absurd cc
 kind_agrees t n (node.ByCopy of) st b h = let e : None ≡ Some b = h in absurd cc
 kind_agrees t n (node.ByDefault i) st b h = let e : None ≡ Some b = h in absurd cc

@@ -1,6 +1,7 @@
 pub mod Growing
 pub mod Taking
 pub mod LastNodes
+pub mod PlaceNodes
 pub mod Referring
 pub mod Steps
 pub mod Passing

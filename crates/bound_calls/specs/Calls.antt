@@ -18,7 +18,7 @@ use Rattle.bound_project.specs.Project as project
 use Rattle.bound_project.specs.Drafts.{Drafted}
 use Rattle.binder.specs.Constants.{is_variant}
 use Rattle.binder.specs.Types.{is_object}
-use Rattle.binder.specs.Terms.{Env, Given}
+use Rattle.binder.specs.Terms.{Env, Given, of_other_type}
 use Rattle.binder.specs.ExpressionsBound.{argument_of, term_of, place_told}
 use Rattle.bound_calls.specs.declared.term.Ending.{Ending}
 use Rattle.bound_calls.specs.declared.term.Routine.{Routine}
@@ -41,6 +41,12 @@ node_of kind place of = record { kind = kind; place = place; of = of; operand = 
 pub record Lends (kind : NodeKind) (d e : Drafted) : Type 0 where
   pub grown : Grown d e
   pub stands : (x : Lvalue) (below : List Piece) → PlaceEnds d.tables kind x d.pieces below → e.pieces ≡ an_argument (place_lent x) ∷ below
+
+-- a place of another type than the one that a parameter takes is marked
+pub record MarksOther (lent : Ending) (parameter : DeclaredType) (place : Place) (d e : Drafted) : Type 0 where
+  pub grown : Grown d e
+  pub stands : (x : Lvalue) (below : List Piece) → PlaceEnds d.tables lent.kind x d.pieces below
+      → e.pieces ≡ an_argument (value_copied (of_other_type x (declared_view lent.of) place) (declared_view parameter)) ∷ below
 
 -- the place that a term lends, and its type
 abbrev pub lent_in : Term → Option Ending

@@ -1,5 +1,5 @@
 -- Serves the code: what stands on the stack of a pass over the nodes of an expression, beside the pieces of the draft.
-use Rattle.std.specs.Prelude.{◌≡◌, ℕ, suc, ◌+◌, ◌<◌, length, Bool, true, false, List, [], ◌∷◌, ◌++◌, map, Option, Some, None, option_map, slice_get}
+use Rattle.std.specs.Prelude.{◌≡◌, ℕ, zero, suc, ◌+◌, ◌<◌, ◌≤◌, length, take, Bool, true, false, List, [], ◌∷◌, ◌++◌, map, Option, Some, None, option_map, slice_get}
 use Rattle.vba_base.specs.declared.place.Place.{Place}
 use Rattle.vba_values.specs.Types.{Declared}
 use Rattle.vba_values.specs.Types as type
@@ -13,15 +13,16 @@ use Rattle.vba_expression.specs.Nodes as nodes
 use Rattle.bound_project.specs.declared.declared_type.DeclaredType.{DeclaredType}
 use Rattle.bound_project.specs.declared.node.NodeKind.{NodeKind}
 use Rattle.bound_project.specs.declared.node.Node.{Node}
+use Rattle.bound_project.specs.declared.node.ArgumentNames.{ArgumentNames}
 use Rattle.bound_project.specs.declared.variable.Variable.{Variable}
 use Rattle.bound_project.specs.View.{declared_view, parameter_view, variable_view}
 use Rattle.bound_project.specs.Expressions.{expr, element_value, not_given, active_sheet, Exprs, also, given_count, Lvalue, operand_type}
 use Rattle.bound_project.specs.Expressions as bound
 use Rattle.bound_project.specs.Lists.{above, exprs_of}
-use Rattle.bound_project.specs.Pieces.{Argument, Piece, Tables, a_member, an_argument, an_expr, expr_of, put_kind, with_argument}
+use Rattle.bound_project.specs.Pieces.{Argument, Piece, Tables, a_member, a_named_member, an_argument, an_expr, expr_of, put_kind, with_argument}
 use Rattle.bound_project.specs.Pieces as piece
 use Rattle.bound_project.specs.Project.{Parameter, nowhere}
-use Rattle.bound_project.specs.Drafts.{Drafted, NodeNamed}
+use Rattle.bound_project.specs.Drafts.{Drafted, NamesNamed, NodeNamed}
 use Rattle.bound_project.proofs.Drafts.{Extends}
 use Rattle.binder.specs.Declarations.{Written}
 use Rattle.declared_names.specs.View.{space_view, written_view}
@@ -292,17 +293,48 @@ pub record FunctionStands (env : Env) (x : FunctionCall) (e : Expr) (args : Args
   pub count_is : x.count ≡ length made
   pub on_top : ps ≡ above (map an_expr made) below
 
--- a member whose object was looked at, and the values that were pushed for it: none was given by a name, and so many of
--- them are written
+-- the same of arguments that may have names
+pub record GivenIs (value : plain.Term → Place → Option bound.Expr) (g : Given) (e : bound.Expr) : Type 0 where
+  pub is : (gs : List Given) → listed_values value (g ∷ gs) ≡ from_two also (Some e) (listed_values value gs)
+
+abbrev pub AllGiven : (plain.Term → Place → Option bound.Expr) → List Given → List bound.Expr → Type 0
+AllGiven value [] [] = Unit {0}
+AllGiven value (g ∷ gs) (e ∷ es) = GivenIs value g e × AllGiven value gs es
+AllGiven value gs es = ⊥
+
+-- the names that arguments are to have, where some are to have names
+abbrev pub names_told : Tables → Option ArgumentNames → List (List ℕ)
+names_told t None = []
+names_told t (Some by) = piece.names_in t by.order
+
+-- the names of so many arguments that have none
+abbrev pub nameless : ℕ → List (Option (List ℕ))
+nameless zero = []
+nameless (suc n) = None ∷ nameless n
+
+-- so many arguments without names, and behind them so many with the first of these names
+pub record NamesCame (names : List (List ℕ)) (count : ℕ) (gs : List Given) : Type 0 where
+  pub unnamed : ℕ
+  pub are : map (λ (g : Given). g.name) gs ≡ nameless unnamed ++ map (λ (x : List ℕ). Some x) (take count names)
+  pub there : count ≤ length names
+
+-- the object whose member was looked for
+abbrev pub looked_for : Tables → (name : ℕ) → Option ArgumentNames → (given : ℕ) → bound.Expr → Piece
+looked_for t name None given object = a_member object (piece.name_in t name) given
+looked_for t name (Some by) given object = a_named_member object (piece.name_in t name) (piece.by_name_in t by) given
+
+-- a member whose object was looked at, and the values that were pushed for it, by their names, of which so many are
+-- written
 pub record MemberStands (env : Env) (t : Tables) (x : MemberCall) (e : Expr) (args : Args) (ps below : List Piece) : Type 0 where
   pub object : bound.Expr
   pub is : item_of (place_told e) (callee env e (term_of env e)) ≡ a_host_member object (member_is t x.member)
   pub place_is : x.place ≡ place_told e
   pub made : List bound.Expr
-  pub values : AllListed (given_as env) (givens env args) made
+  pub values : AllGiven (given_as env) (givens env args) made
+  pub names : NamesCame (names_told t x.names) x.named (givens env args)
   pub written_is : (more : List bound.Expr) → given_count (exprs_of (made ++ more)) ≡ x.written + given_count (exprs_of more)
   pub count_is : x.count ≡ length made
-  pub on_top : ps ≡ above (map an_expr made) (a_member object (piece.name_in t x.member.name) x.given ∷ below)
+  pub on_top : ps ≡ above (map an_expr made) (looked_for t x.member.name x.names x.given object ∷ below)
 
 -- the arguments before those with names
 abbrev pub passed_below : List Item → Option Passed
@@ -393,9 +425,16 @@ abbrev pub EndingNamed : Tables → Option Ending → Type 0
 EndingNamed t None = Unit {0}
 EndingNamed t (Some e) = NodeNamed t e.kind
 
+abbrev pub AreNamed : Tables → Option ArgumentNames → Type 0
+AreNamed t None = Unit {0}
+AreNamed t (Some by) = NamesNamed t by
+
+abbrev pub MemberNamed : Tables → MemberCall → Type 0
+MemberNamed t x = (x.member.name < length t.constants) × AreNamed t x.names
+
 abbrev pub ItemNamed : Tables → Item → Type 0
 ItemNamed t (item.Tree x) = TermNamed t x.term
-ItemNamed t (item.Member x) = x.member.name < length t.constants
+ItemNamed t (item.Member x) = MemberNamed t x
 ItemNamed t x = Unit {0}
 
 abbrev pub AllNamed : Tables → List Item → Type 0

@@ -8,7 +8,7 @@ ghost use Rattle.binder.specs.Terms.{is_lent_to};
 ghost use Rattle.vba_values.specs.Coerce.{is_same_type};
 ghost use Rattle.vba_values.specs.Types as type;
 ghost use Rattle.bound_calls.specs.Standing.{TermNamed};
-ghost use Rattle.bound_calls.specs.Calls.{Copies, Lends, PassesMissing, PassesNone, PassesPlain, PassesRest, PassesTree, PushesArgument, is_copied, keeps_object, lent_in, may_be_item};
+ghost use Rattle.bound_calls.specs.Calls.{Copies, Lends, MarksOther, PassesMissing, PassesNone, PassesPlain, PassesRest, PassesTree, PushesArgument, is_copied, keeps_object, lent_in, may_be_item};
 
 use crate::constants::constant_number;
 use crate::references::{push_given, push_operand};
@@ -18,7 +18,7 @@ use bound_declarations::NotYet;
 use bound_project::{DeclaredType, Draft, ElementType, NodeKind, Parameter};
 use declared_names::is_object;
 use std::alloc::Global;
-use vba_base::{NoMemory, OrMemory, Place};
+use vba_base::{NoMemory, OrMemory, Place, Refusal};
 use vba_values::{copy_value, is_same_type};
 
 /// Is a type Variant?
@@ -138,6 +138,27 @@ fn lent_in<'a>(term: Term<'a>) -> Option<Ending>
     }
 }
 
+/// A place of another type than the one that a parameter takes: its value is marked as what breaks a static rule.
+fn mark_other(
+    draft: &mut Draft,
+    lent: Ending,
+    parameter: DeclaredType,
+    place: Place,
+) -> Result<(), NoMemory>
+    requires { NodeNamed (draft_view draft.old).tables lent.kind }
+    ensures { OnOk result (MarksOther lent parameter place (draft_view draft.old) (draft_view draft.new)) }
+{
+    let variant = DeclaredType::Plain(ElementType::Variant);
+    let other_type = NodeKind::Marked {
+        broken: Refusal { rule: 26, place },
+        values: 1,
+    };
+    push_node(draft, lent.kind, lent.of, place)?;
+    push_node(draft, NodeKind::Load, lent.of, place)?;
+    push_node(draft, other_type, variant, place)?;
+    push_node(draft, NodeKind::ByCopy(parameter), parameter, place)
+}
+
 /// Passes an expression that lends a place to a parameter that takes one.
 fn pass_lent<'a>(
     alloc: Global,
@@ -160,7 +181,8 @@ fn pass_lent<'a>(
     if is_copied(lent.kind, lent.of, parameter.of) {
         return copy(alloc, draft, parameter.of, tree);
     }
-    Err(OrMemory::Fault(NotYet))
+    mark_other(draft, lent, parameter.of, tree.place)?;
+    Ok(())
 }
 
 /// Passes an expression to a parameter that takes a place.

@@ -14,7 +14,7 @@ mod term;
 pub use arguments::{is_variant, nowhere, pass_missing, pass_plain, pass_rest, pass_tree, sum};
 pub use calls::{bare_call, call_ending, count_of, routine_ending};
 pub use constants::{constant_number, value_term};
-pub use orders::{named_ending, push_in_order, take_numbers};
+pub use orders::{named_ending, order_number, push_in_order, take_numbers};
 pub use references::{
     given_ending, has_object, is_host_type, may_refer, push_given, push_if_any, push_operand,
     push_reference, refers,

@@ -167,7 +167,7 @@ fn pass_apart(
 }
 
 /// The number of one more order of the draft.
-fn order_number(draft: &mut Draft, order: Vec<u32>) -> Result<u32, NoMemory>
+pub fn order_number(draft: &mut Draft, order: Vec<u32>) -> Result<u32, NoMemory>
     ensures { IfOk result (λ number. AddsOrder order.items (draft_view draft.old) (draft_view draft.new) number) }
 {
     match draft.add_order(order) {

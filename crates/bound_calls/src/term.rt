@@ -1,4 +1,4 @@
-use bound_project::{DeclaredType, NodeKind, Parameter, Variable};
+use bound_project::{ArgumentNames, DeclaredType, NodeKind, Parameter, Variable};
 use declared_names::{Space, Written};
 use vba_base::Place;
 use vba_lib::LibraryFunction;
@@ -139,15 +139,18 @@ pub struct FunctionCall {
     pub count: u32,
 }
 
-/// A member of an object of the host whose arguments are read: the place of its first token, the member, how many written
-/// arguments are to come, how many values were pushed behind the object, and how many of these are written.
+/// A member of an object of the host whose arguments are read: the place of its first token, the member, how the arguments
+/// are named that are to come, where some are, how many of those are written, how many values were pushed behind the
+/// object, and how many of these are written and have names.
 #[derive(Clone, Copy)]
 pub struct MemberCall {
     pub place: Place,
     pub member: HostMember,
+    pub names: Option<ArgumentNames>,
     pub given: u32,
     pub count: u32,
     pub written: u32,
+    pub named: u32,
 }
 
 /// What is indexed: a plain variable, for which nothing is pushed, or another place or a value, which was pushed.

@@ -6,12 +6,12 @@ use Rattle.vba_values.specs.Types.{Declared}
 use Rattle.bound_project.specs.declared.node.Node.{Node}
 use Rattle.bound_project.specs.declared.node.NodeKind.{NodeKind}
 use Rattle.bound_project.specs.declared.node.NodeKind.TheVariants as node
-use Rattle.bound_project.specs.Expressions.{expr, not_given, constant, load, load_made, element_value, field_value, unary, binary, call, err_value, default_of, default_if_any, enumerated, same, is_type, library, bound_of, host_object, active_sheet, host_member, named_member, this, new_object, method, late_member, late_item, no_args, in_order, Exprs, no_exprs, also, given_count}
+use Rattle.bound_project.specs.Expressions.{expr, not_given, constant, load, load_made, element_value, field_value, unary, binary, call, err_value, default_of, default_if_any, enumerated, same, is_type, library, bound_of, host_object, active_sheet, host_member, named_member, this, new_object, method, late_member, late_item, no_args, in_order, Exprs, no_exprs, also, given_count, marked}
 use Rattle.bound_project.specs.Expressions as bound
-use Rattle.bound_project.specs.Pieces.{Piece, an_expr, Tables, arguments_off, as_operand, expr_of, exprs_off, name_in, order_in, put_kind}
+use Rattle.bound_project.specs.Pieces.{Piece, an_expr, Tables, arguments_off, as_operand, expr_of, exprs_off, by_name_in, name_in, order_in, put_kind}
 use Rattle.bound_project.specs.View.{base_view, declared_view}
 use Rattle.binder.specs.ExpressionsBound.{host_kind, kind_by_type}
-use Rattle.bound_calls.proofs.LastNodes.{value_passes, place_passes, both_pass, found_passes, value_found_passes, member_found_passes}
+use Rattle.bound_calls.proofs.LastNodes.{value_passes, place_passes, both_pass, found_passes, value_found_passes, member_found_passes, named_found_passes}
 use Rattle.bound_members.specs.Kinds.{is_typed_kind}
 use Rattle.bound_members.specs.MemberCalls.{is_value_kind}
 
@@ -40,6 +40,8 @@ kind_given t n (node.HostObject reference) st h = refl
 kind_given t n node.ActiveSheet st h = refl
 kind_given t n (node.HostMember i count) st h =
     member_found_passes given_on_top refl (name_in t i) (λ e es. expr_of n (host_member e (name_in t i) es)) (λ e es rest. refl) (exprs_off count st no_exprs)
+kind_given t n (node.NamedMember i by count) st h =
+    named_found_passes given_on_top refl (name_in t i) (by_name_in t by) (λ e es. expr_of n (named_member e (name_in t i) (by_name_in t by) es)) (λ e es rest. refl) (exprs_off count st no_exprs)
 kind_given t n node.NotGiven st h = let e : false ≡ true = h in absurd cc
 kind_given t n (node.Variable x) st h = let e : false ≡ true = h in absurd cc
 kind_given t n (node.Item x count) st h = let e : false ≡ true = h in absurd cc
@@ -50,9 +52,12 @@ kind_given t n (node.BoundOf upper z) st h = let e : false ≡ true = h in absur
 kind_given t n node.DefaultOf st h = let e : false ≡ true = h in absurd cc
 kind_given t n node.DefaultIfAny st h = let e : false ≡ true = h in absurd cc
 kind_given t n (node.MemberThere i given) st h = let e : false ≡ true = h in absurd cc
+kind_given t n (node.NamedThere i by given) st h = let e : false ≡ true = h in absurd cc
 kind_given t n node.ByPlace st h = let e : false ≡ true = h in absurd cc
 kind_given t n (node.ByCopy of) st h = let e : false ≡ true = h in absurd cc
 kind_given t n (node.ByDefault i) st h = let e : false ≡ true = h in absurd cc
+kind_given t n (node.Marked broken count) st h =
+    found_passes given_on_top refl (λ es. expr_of n (marked broken es)) (λ es rest. refl) (exprs_off count st no_exprs)
 kind_given t n (node.ByList count) st h = let e : false ≡ true = h in absurd cc
 kind_given t n node.Shown st h = let e : false ≡ true = h in absurd cc
 kind_given t n node.Zone st h = let e : false ≡ true = h in absurd cc
@@ -85,6 +90,7 @@ count_more (enumerated a) place of operand st h rest = refl
 count_more (same a b) place of operand st h rest = refl
 count_more (is_type a b) place of operand st h rest = refl
 count_more (library a b c d e) place of operand st h rest = refl
+count_more (marked a b) place of operand st h rest = refl
 count_more (bound_of a b c) place of operand st h rest = refl
 count_more (host_object a) place of operand st h rest = refl
 count_more (host_member a b c) place of operand st h rest = refl
@@ -125,6 +131,7 @@ typed_kind (enumerated a) place of operand st h u = refl
 typed_kind (same a b) place of operand st h u = refl
 typed_kind (is_type a b) place of operand st h u = refl
 typed_kind (library a b c d e) place of operand st h u = refl
+typed_kind (marked a b) place of operand st h u = refl
 typed_kind (bound_of a b c) place of operand st h u = refl
 typed_kind (host_member a b c) place of operand st h u = refl
 typed_kind (named_member a b c d) place of operand st h u = refl
@@ -152,6 +159,8 @@ kind_typed t n (node.IsType of) st h = value_passes no_host_on_top refl (λ e. e
 kind_typed t n node.ActiveSheet st h = refl
 kind_typed t n (node.HostMember i count) st h =
     member_found_passes no_host_on_top refl (name_in t i) (λ e es. expr_of n (host_member e (name_in t i) es)) (λ e es rest. refl) (exprs_off count st no_exprs)
+kind_typed t n (node.NamedMember i by count) st h =
+    named_found_passes no_host_on_top refl (name_in t i) (by_name_in t by) (λ e es. expr_of n (named_member e (name_in t i) (by_name_in t by) es)) (λ e es rest. refl) (exprs_off count st no_exprs)
 kind_typed t n (node.HostObject reference) st h = let e : false ≡ true = h in absurd cc
 kind_typed t n node.NotGiven st h = let e : false ≡ true = h in absurd cc
 kind_typed t n (node.Variable x) st h = let e : false ≡ true = h in absurd cc
@@ -163,9 +172,12 @@ kind_typed t n (node.BoundOf upper z) st h = let e : false ≡ true = h in absur
 kind_typed t n node.DefaultOf st h = let e : false ≡ true = h in absurd cc
 kind_typed t n node.DefaultIfAny st h = let e : false ≡ true = h in absurd cc
 kind_typed t n (node.MemberThere i given) st h = let e : false ≡ true = h in absurd cc
+kind_typed t n (node.NamedThere i by given) st h = let e : false ≡ true = h in absurd cc
 kind_typed t n node.ByPlace st h = let e : false ≡ true = h in absurd cc
 kind_typed t n (node.ByCopy of) st h = let e : false ≡ true = h in absurd cc
 kind_typed t n (node.ByDefault i) st h = let e : false ≡ true = h in absurd cc
+kind_typed t n (node.Marked broken count) st h =
+    found_passes no_host_on_top refl (λ es. expr_of n (marked broken es)) (λ es rest. refl) (exprs_off count st no_exprs)
 kind_typed t n (node.ByList count) st h = let e : false ≡ true = h in absurd cc
 kind_typed t n node.Shown st h = let e : false ≡ true = h in absurd cc
 kind_typed t n node.Zone st h = let e : false ≡ true = h in absurd cc

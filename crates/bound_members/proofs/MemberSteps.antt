@@ -1,28 +1,33 @@
 -- Calls of members.
-use Rattle.std.proofs.lemmas.List.{map-append}
-use Rattle.std.proofs.Common.{◌≡◌, ℕ, ◌<◌, ◌+◌, Bool, true, false, List, [], ◌∷◌, ◌++◌, map, length, Option, Some, None, if◌then◌else◌, refl, sym, ap, subst, ◌∙◌, arith, length-append}
-use Rattle.std.specs.Prelude.{option_map}
+use Rattle.std.proofs.lemmas.List.{length-map, map-append}
+use Rattle.std.proofs.Common.{◌≡◌, ◌≢◌, ℕ, ◌<◌, ◌+◌, Bool, true, false, List, [], ◌∷◌, ◌++◌, map, length, Option, Some, None, if◌then◌else◌, refl, sym, ap, subst, ◌∙◌, arith, length-append}
+use Rattle.std.specs.Prelude.{option_and_then, option_map}
 use Rattle.vba_base.specs.declared.place.Place.{Place}
 use Rattle.vba_lexer.specs.declared.token.Token.{Token}
-use Rattle.vba_expression.specs.Tree.{Expr, no_args}
+use Rattle.vba_expression.specs.Tree.{Expr, Args, no_args, plain}
+use Rattle.vba_expression.specs.Tree as tree_of
+use Rattle.vba_words.specs.declared.identifier.Identifier.{Identifier}
 use Rattle.vba_expression.specs.Nodes as nodes
 use Rattle.vba_expression.specs.Nodes.{behind_node}
 use Rattle.vba_expression.specs.declared.node.ExpressionNode.TheVariants as node
+use Rattle.bound_project.specs.declared.node.NodeKind.{NodeKind}
 use Rattle.bound_project.specs.declared.node.NodeKind.TheVariants as kinds
+use Rattle.bound_project.specs.declared.node.ArgumentNames.{ArgumentNames}
 use Rattle.bound_project.specs.declared.node.Node.{Node}
-use Rattle.bound_project.specs.Expressions.{Exprs, no_exprs, given_count, host_member}
+use Rattle.bound_project.specs.Expressions.{Exprs, no_exprs, given_count, host_member, named_member, ByName}
 use Rattle.bound_project.specs.Expressions as bound
 use Rattle.bound_project.specs.Lists.{above, exprs_of}
-use Rattle.bound_project.proofs.Lists.{above_push, member_put}
-use Rattle.bound_project.specs.Pieces.{Piece, Tables, a_member, an_expr, exprs_off, name_in, of_member_found, of_value, expr_of, put, put_kind}
-use Rattle.bound_project.specs.Drafts.{Drafted}
+use Rattle.bound_project.proofs.Lists.{above_push, member_put, named_put}
+use Rattle.bound_project.specs.Pieces.{Piece, Tables, a_member, a_named_member, an_expr, exprs_off, by_name_in, name_in, names_in, order_in, of_member_found, of_named_found, expr_of, put, put_kind}
+use Rattle.bound_project.specs.Drafts.{Drafted, NamesNamed, NodeNamed}
 use Rattle.bound_project.specs.Project.{nowhere}
 use Rattle.bound_project.specs.declared.declared_type.DeclaredType.TheVariants.{Plain}
 use Rattle.bound_project.specs.declared.declared_type.ElementType.TheVariants as element
 use Rattle.bound_project.specs.View.{declared_view}
-use Rattle.binder.specs.Terms.{Env, Given, a_value, expression_of, listed_values, no_term}
+use Rattle.binder.specs.Terms.{Env, Given, a_value, expression_of, has_names, no_term}
 use Rattle.binder.specs.Terms as terms
-use Rattle.binder.specs.ExpressionsBound.{callee, given_as, givens, host_arguments, host_called, if_there, indexed, item_of, takes_arguments, term_of, place_told}
+use Rattle.binder.specs.ExpressionsBound.{callee, given_as, givens, host_arguments, if_there, indexed, item_of, member_called, named_called, names_taken, takes_arguments, takes_names, term_of, place_told}
+use Rattle.binder.specs.Options.{from_two}
 use Rattle.bound_calls.specs.declared.term.Ending.{Ending}
 use Rattle.bound_calls.specs.declared.term.HostMember.{HostMember}
 use Rattle.bound_calls.specs.declared.term.Item.{Item}
@@ -34,84 +39,149 @@ use Rattle.bound_calls.specs.declared.term.Tree.{Tree}
 use Rattle.bound_calls.specs.Calls.{node_of}
 use Rattle.bound_calls.specs.Indexing.{AddsArgument, AddsMissing, Closes}
 use Rattle.bound_calls.specs.References.{TakesGiven}
-use Rattle.bound_calls.specs.Standing.{AllListed, MemberStands, Stands, TermStands, AllNamed, Base, member_is, missing_given, missing_value, plain_given}
-use Rattle.bound_calls.proofs.Growing.{grown_same, grown_pieces, grown_twice, item_named, member_grows, stands_grows}
-use Rattle.bound_members.proofs.Listing.{all_written, every_listed, listed_long, listed_more, listed_nameless, none_written, one_written, value_given, value_missing}
+use Rattle.bound_calls.specs.Standing.{AllGiven, MemberStands, NamesCame, Stands, TermStands, TreeStands, AreNamed, AllNamed, MemberNamed, Grown, Base, looked_for, member_is, missing_given, missing_value, names_told, plain_given}
+use Rattle.bound_calls.proofs.Growing.{grown_same, grown_pieces, grown_twice, item_named, member_grows, stands_grows, term_grows, told_same}
+use Rattle.bound_members.proofs.Listing.{all_written, none_written, one_written}
+use Rattle.bound_members.proofs.Naming.{all_came, given_listed, given_long, given_more, missing_is, named_more, none_came, none_named, unnamed_more, value_is}
 use Rattle.bound_calls.proofs.CallSteps.{tree_ended}
-use Rattle.bound_members.specs.MemberCalls.{OpensMember, EndsMember, is_value_kind}
+use Rattle.bound_members.specs.MemberCalls.{OpensMember, AddsNamed, AddsValue, EndsCall, EndsMember, NamesFit, given_as_named, is_value_kind, there_kind}
+use Rattle.bound_members.specs.Names.{TellsNames, is_next}
 use Rattle.bound_members.proofs.Counting.{counts}
 
 -- ---- arguments begin
 
-opened : (place : Place) (m : HostMember) (given : ℕ) (d : Drafted) (env : Env) (tree : Expr) (below : List Piece) → place ≡ place_told tree
+there_put : (t : Tables) (n : Node) (name : ℕ) (names : Option ArgumentNames) (given : ℕ) (object : bound.Expr) (below : List Piece) → put_kind t n (there_kind name names given) (an_expr object ∷ below) ≡ looked_for t name names given object ∷ below
+there_put t n name None given object below = refl
+there_put t n name (Some by) given object below = refl
+
+there_named : (t : Tables) (name : ℕ) (names : Option ArgumentNames) (given : ℕ) → name < length t.constants → AreNamed t names → NodeNamed t (there_kind name names given)
+there_named t name None given h k = h
+there_named t name (Some by) given h k = (h, k)
+
+-- the node that looks for a member is named, once the names are told
+pub looks_named : (m : HostMember) (names : Option ArgumentNames) (given : ℕ) (d n : Drafted) → m.name < length d.tables.constants → TellsNames d n names → NodeNamed n.tables (there_kind m.name names given)
+looks_named m names given d n h told = there_named n.tables m.name names given (omega (arith, h, told.grown.tables.constants_more)) told.named
+
+abbrev opened_call : Place → HostMember → Option ArgumentNames → (given : ℕ) → MemberCall
+opened_call place m names given = record { place = place; member = m; names = names; given = given; count = 0; written = 0; named = 0 }
+
+opened : (place : Place) (m : HostMember) (names : Option ArgumentNames) (given : ℕ) (d : Drafted) (env : Env) (tree : Expr) (below : List Piece) → place ≡ place_told tree
     → TermStands env d.tables (term.HostMember m) (item_of (place_told tree) (callee env tree (term_of env tree))) d.pieces below
-    → MemberStands env d.tables (record { place = place; member = m; given = given; count = 0; written = 0 }) tree no_args (put d.tables (node_of (kinds.MemberThere m.name given) place m.of) d.pieces) below
-opened place m given d env tree below p k = record {
+    → MemberStands env d.tables (opened_call place m names given) tree no_args (put d.tables (node_of (there_kind m.name names given) place m.of) d.pieces) below
+opened place m names given d env tree below p k = record {
   object = k.object;
   is = k.is;
   place_is = p;
   made = [];
   values = tt;
+  names = none_came (names_told d.tables names);
   written_is = λ more. (let e : given_count (exprs_of more) ≡ 0 + given_count (exprs_of more) = omega arith in e);
   count_is = refl;
-  on_top = ap (λ st. of_value (λ x. a_member x (name_in d.tables m.name) given) st) k.on_top;
+  on_top = ap (λ st. put_kind d.tables (node_of (there_kind m.name names given) place m.of) (there_kind m.name names given) st) k.on_top
+      ∙ there_put d.tables (node_of (there_kind m.name names given) place m.of) m.name names given k.object below;
 }
 
-pub opens_member : (place : Place) (m : HostMember) (given : ℕ) (d e : Drafted) → m.name < length d.tables.constants → e ≡ record d { pieces = put d.tables (node_of (kinds.MemberThere m.name given) place m.of) d.pieces }
-    → OpensMember place m d e (record { place = place; member = m; given = given; count = 0; written = 0 })
-opens_member place m given d e named eq =
-    let P : Drafted → Type 0 = λ (z : Drafted). OpensMember place m d z (record { place = place; member = m; given = given; count = 0; written = 0 }) in
+pub opens_member : (place : Place) (m : HostMember) (names : Option ArgumentNames) (given : ℕ) (d n e : Drafted) → m.name < length d.tables.constants → TellsNames d n names
+    → e ≡ record n { pieces = put n.tables (node_of (there_kind m.name names given) place m.of) n.pieces } → OpensMember place m d e (record { place = place; member = m; names = names; given = given; count = 0; written = 0; named = 0 })
+opens_member place m names given d n e named told eq =
+    let c = opened_call place m names given in
+    let P : Drafted → Type 0 = λ (z : Drafted). OpensMember place m d z c in
+    let after : Drafted = record n { pieces = put n.tables (node_of (there_kind m.name names given) place m.of) n.pieces } in
     subst P (sym eq) (record {
-      grown = grown_pieces d (put d.tables (node_of (kinds.MemberThere m.name given) place m.of) d.pieces);
-      named = named;
-      stands = λ env tree items is below base p k s. (below, (opened place m given d env tree below p k, s));
+      grown = grown_twice d n after told.grown (grown_pieces n (put n.tables (node_of (there_kind m.name names given) place m.of) n.pieces));
+      named = (omega (arith, named, told.grown.tables.constants_more), told.named);
+      stands = λ env tree items is below base p k s.
+          let y = item_of (place_told tree) (callee env tree (term_of env tree)) in
+          let A : List Piece → Type 0 = λ (ps : List Piece). TermStands env n.tables (term.HostMember m) y ps below in
+          let grown = term_grows env d.tables n.tables told.grown.tables (term.HostMember m) named y d.pieces below k in
+          (below, (opened place m names given n env tree below p (subst A (sym told.pieces) grown), s));
     })
 
 -- ---- one more argument
 
-added : (env : Env) (x : MemberCall) (y : Tree) (v : Ending) (count written : ℕ) (comma : Option Token) (xs : List Item) (d m : Drafted) → count ≡ x.count + 1 → written ≡ x.written + 1 → x.member.name < length d.tables.constants → is_value_kind v.kind ≡ true → TakesGiven y.term d m v
-    → AllNamed d.tables xs → (is : List nodes.Item) (base : Base) → Stands env d.tables (item.Tree y ∷ item.Member x ∷ xs) is d.pieces base
-    → Stands env m.tables (item.Member (record x { count = count; written = written }) ∷ xs) (behind_node (node.PlainArgument comma) is) (put m.tables (node_of v.kind y.place v.of) m.pieces) base
-added env x y v count written comma xs d m c w named given t k [] base h = absurd h
-added env x y v count written comma xs d m c w named given t k (nodes.arguments args ∷ is) base h = absurd h
-added env x y v count written comma xs d m c w named given t k (nodes.tree z ∷ []) base h = absurd h.1.1
-added env x y v count written comma xs d m c w named given t k (nodes.tree z ∷ nodes.tree u ∷ is) base h = absurd h.1.1
-added env x y v count written comma xs d m c w named given t k (nodes.tree z ∷ nodes.arguments args ∷ []) base h = absurd h.1.1
-added env x y v count written comma xs d m c w named given t k (nodes.tree z ∷ nodes.arguments args ∷ nodes.arguments more ∷ is) base h = absurd h.1.1
-added env x y v count written comma xs d m c w named given t k (nodes.tree z ∷ nodes.arguments args ∷ nodes.tree b ∷ is) base h =
-    let low = h.1.1 in
-    let s = member_grows env d.tables m.tables t.grown.tables x named b args h.0 low.0 low.1.0 in
-    let g = t.stands env (term_of env z) h.0 h.1.0.term_is in
+valued : (x : MemberCall) (y : Tree) (v : Ending) (count written named : ℕ) (d m : Drafted) → count ≡ x.count + 1 → written ≡ x.written + 1 → MemberNamed d.tables x → is_value_kind v.kind ≡ true → TakesGiven y.term d m v
+    → (env : Env) (a b : Expr) (name : Option (List ℕ)) (args more : Args) (ps below : List Piece) → TreeStands env d.tables y a d.pieces ps → MemberStands env d.tables x b args ps below
+    → givens env more ≡ givens env args ++ given_as_named env name a ∷ [] → NamesCame (names_told m.tables x.names) named (givens env more)
+    → MemberStands env m.tables (record x { count = count; written = written; named = named }) b more (put m.tables (node_of v.kind y.place v.of) m.pieces) below
+valued x y v count written named d m c w k given t env a b name args more ps below tree h gs came =
+    let s = member_grows env d.tables m.tables t.grown.tables x k b args ps below h in
+    let g = t.stands env (term_of env a) ps tree.term_is in
     let n = node_of v.kind y.place v.of in
     let made = expression_of g.made y.place (declared_view v.of) in
-    let A : Place → Type 0 = λ (place : Place). given_as env (term_of env z) place ≡ Some made in (
-      low.0,
-      (
-        record {
-          object = s.object;
-          is = s.is;
-          place_is = s.place_is;
-          made = s.made ++ made ∷ [];
-          values = listed_more (given_as env) (givens env args) s.made (plain_given env z) made s.values
-              (value_given (given_as env) (term_of env z) (place_told z) made (subst A h.1.0.place_is (g.is y.place)));
-          written_is = one_written made s.made x.written written w s.written_is (counts m.tables n v.kind g.made m.pieces h.0 given (g.ends n));
-          count_is = omega (arith, c, s.count_is, length-append s.made (made ∷ []));
-          on_top = g.ends n ∙ ap (λ (ps : List Piece). an_expr made ∷ ps) s.on_top ∙ sym (above_push (map an_expr s.made) (an_expr made) (a_member s.object (name_in m.tables x.member.name) x.given ∷ low.0))
-              ∙ ap (λ (ps : List Piece). above ps (a_member s.object (name_in m.tables x.member.name) x.given ∷ low.0)) (sym (map-append an_expr s.made (made ∷ [])));
-        },
-        stands_grows env d.tables m.tables t.grown.tables xs k is low.0 base low.1.1,
-      ),
-    )
+    let low = looked_for m.tables x.member.name x.names x.given s.object ∷ below in
+    let A : Place → Type 0 = λ (place : Place). given_as env (term_of env a) place ≡ Some made in
+    let G : List Given → Type 0 = λ (l : List Given). AllGiven (given_as env) l (s.made ++ made ∷ []) in
+    record {
+      object = s.object;
+      is = s.is;
+      place_is = s.place_is;
+      made = s.made ++ made ∷ [];
+      values = subst G (sym gs) (given_more (given_as env) (givens env args) s.made (given_as_named env name a) made s.values
+          (value_is (given_as env) name (term_of env a) (place_told a) made (subst A tree.place_is (g.is y.place))));
+      names = came;
+      written_is = one_written made s.made x.written written w s.written_is (counts m.tables n v.kind g.made m.pieces ps given (g.ends n));
+      count_is = omega (arith, c, s.count_is, length-append s.made (made ∷ []));
+      on_top = g.ends n ∙ ap (λ (l : List Piece). an_expr made ∷ l) s.on_top ∙ sym (above_push (map an_expr s.made) (an_expr made) low)
+          ∙ ap (λ (l : List Piece). above l low) (sym (map-append an_expr s.made (made ∷ [])));
+    }
 
-pub adds_given : (x : MemberCall) (y : Tree) (v : Ending) (count written : ℕ) (d m e : Drafted) → count ≡ x.count + 1 → written ≡ x.written + 1 → x.member.name < length d.tables.constants → is_value_kind v.kind ≡ true → TakesGiven y.term d m v
-    → e ≡ record m { pieces = put m.tables (node_of v.kind y.place v.of) m.pieces } → AddsArgument (item.Member x) y d e (item.Member (record x { count = count; written = written }))
-adds_given x y v count written d m e c w named given t eq =
-    let P : Drafted → Type 0 = λ (z : Drafted). AddsArgument (item.Member x) y d z (item.Member (record x { count = count; written = written })) in
+pub adds_value : (x : MemberCall) (y : Tree) (v : Ending) (count written named : ℕ) (d m e : Drafted) → count ≡ x.count + 1 → written ≡ x.written + 1 → MemberNamed d.tables x → is_value_kind v.kind ≡ true → TakesGiven y.term d m v
+    → e ≡ record m { pieces = put m.tables (node_of v.kind y.place v.of) m.pieces } → AddsValue x y named d e (record x { count = count; written = written; named = named })
+adds_value x y v count written named d m e c w k given t eq =
+    let P : Drafted → Type 0 = λ (z : Drafted). AddsValue x y named d z (record x { count = count; written = written; named = named }) in
     subst P (sym eq) (record {
       grown = grown_twice d m (record m { pieces = put m.tables (node_of v.kind y.place v.of) m.pieces }) t.grown (grown_pieces m (put m.tables (node_of v.kind y.place v.of) m.pieces));
-      named = item_named d.tables m.tables t.grown.tables (item.Member x) named;
-      stands = λ env comma xs is base k h. added env x y v count written comma xs d m c w named given t k is base h;
+      is_named = item_named d.tables m.tables t.grown.tables (item.Member x) k;
+      stands = λ env a b name args more ps below tree h gs came. valued x y v count written named d m c w k given t env a b name args more ps below tree h gs came;
     })
+
+-- names that were told stay when the tables grow
+came_still : (d e : Drafted) (x : MemberCall) (named : ℕ) (gs : List Given) → Grown d e → MemberNamed d.tables x → NamesCame (names_told d.tables x.names) named gs → NamesCame (names_told e.tables x.names) named gs
+came_still d e x named gs g k n =
+    let N : List (List ℕ) → Type 0 = λ (names : List (List ℕ)). NamesCame names named gs in
+    subst N (sym (told_same d.tables e.tables g.tables x.names k.1)) n
+
+added : (env : Env) (x z : MemberCall) (y : Tree) (comma : Option Token) (xs : List Item) (d e : Drafted) → MemberNamed d.tables x → x.named ≡ 0 → AddsValue x y 0 d e z
+    → AllNamed d.tables xs → (is : List nodes.Item) (base : Base) → Stands env d.tables (item.Tree y ∷ item.Member x ∷ xs) is d.pieces base
+    → Stands env e.tables (item.Member z ∷ xs) (behind_node (node.PlainArgument comma) is) e.pieces base
+added env x z y comma xs d e k none v all [] base h = absurd h
+added env x z y comma xs d e k none v all (nodes.arguments args ∷ is) base h = absurd h
+added env x z y comma xs d e k none v all (nodes.tree a ∷ []) base h = absurd h.1.1
+added env x z y comma xs d e k none v all (nodes.tree a ∷ nodes.tree u ∷ is) base h = absurd h.1.1
+added env x z y comma xs d e k none v all (nodes.tree a ∷ nodes.arguments args ∷ []) base h = absurd h.1.1
+added env x z y comma xs d e k none v all (nodes.tree a ∷ nodes.arguments args ∷ nodes.arguments more ∷ is) base h = absurd h.1.1
+added env x z y comma xs d e k none v all (nodes.tree a ∷ nodes.arguments args ∷ nodes.tree b ∷ is) base h =
+    let low = h.1.1 in
+    let s : MemberStands env d.tables x b args h.0 low.0 = low.1.0 in
+    let came = unnamed_more (names_told e.tables x.names) x.named (givens env args) (plain_given env a) none refl (came_still d e x x.named (givens env args) v.grown k s.names) in
+    (low.0, (v.stands env a b None args (plain args comma a) h.0 low.0 h.1.0 s refl came, stands_grows env d.tables e.tables v.grown.tables xs all is low.0 base low.1.1))
+
+pub adds_given : (x z : MemberCall) (y : Tree) (d e : Drafted) → MemberNamed d.tables x → x.named ≡ 0 → AddsValue x y 0 d e z → AddsArgument (item.Member x) y d e (item.Member z)
+adds_given x z y d e k none v = record { grown = v.grown; named = v.is_named; stands = λ env comma xs is base all h. added env x z y comma xs d e k none v all is base h }
+
+-- one more with the name that is next
+named_added : (env : Env) (x z : MemberCall) (y : Tree) (by : ArgumentNames) (name : Identifier) (more : ℕ) (comma : Option Token) (mark : Token) (xs : List Item) (d e : Drafted) → MemberNamed d.tables x → x.names ≡ Some by
+    → is_next (names_in d.tables by.order) x.named name.name ≡ true → more ≡ x.named + 1 → AddsValue x y more d e z
+    → AllNamed d.tables xs → (is : List nodes.Item) (base : Base) → Stands env d.tables (item.Tree y ∷ item.Member x ∷ xs) is d.pieces base
+    → Stands env e.tables (item.Member z ∷ xs) (behind_node (node.NamedArgument comma name mark) is) e.pieces base
+named_added env x z y by name more comma mark xs d e k told next m v all [] base h = absurd h
+named_added env x z y by name more comma mark xs d e k told next m v all (nodes.arguments args ∷ is) base h = absurd h
+named_added env x z y by name more comma mark xs d e k told next m v all (nodes.tree a ∷ []) base h = absurd h.1.1
+named_added env x z y by name more comma mark xs d e k told next m v all (nodes.tree a ∷ nodes.tree u ∷ is) base h = absurd h.1.1
+named_added env x z y by name more comma mark xs d e k told next m v all (nodes.tree a ∷ nodes.arguments args ∷ []) base h = absurd h.1.1
+named_added env x z y by name more comma mark xs d e k told next m v all (nodes.tree a ∷ nodes.arguments args ∷ nodes.arguments others ∷ is) base h = absurd h.1.1
+named_added env x z y by name more comma mark xs d e k told next m v all (nodes.tree a ∷ nodes.arguments args ∷ nodes.tree b ∷ is) base h =
+    let low = h.1.1 in
+    let s : MemberStands env d.tables x b args h.0 low.0 = low.1.0 in
+    let there : is_next (names_told d.tables x.names) x.named name.name ≡ true = ap (λ (o : Option ArgumentNames). is_next (names_told d.tables o) x.named name.name) told ∙ next in
+    let gs = givens env args ++ given_as_named env (Some name.name) a ∷ [] in
+    let came = came_still d e x more gs v.grown k (named_more (names_told d.tables x.names) x.named more (givens env args) (given_as_named env (Some name.name) a) name.name m there refl s.names) in
+    (low.0, (v.stands env a b (Some name.name) args (tree_of.named args comma name mark a) h.0 low.0 h.1.0 s refl came, stands_grows env d.tables e.tables v.grown.tables xs all is low.0 base low.1.1))
+
+pub adds_named : (x z : MemberCall) (y : Tree) (by : ArgumentNames) (name : Identifier) (more : ℕ) (d e : Drafted) → MemberNamed d.tables x → x.names ≡ Some by → is_next (names_in d.tables by.order) x.named name.name ≡ true → more ≡ x.named + 1
+    → AddsValue x y more d e z → AddsNamed x y name d e z
+adds_named x z y by name more d e k told next m v =
+    record { grown = v.grown; named = v.is_named; stands = λ env comma mark xs is base all h. named_added env x z y by name more comma mark xs d e k told next m v all is base h }
 
 -- ---- one more argument, which isn't written
 
@@ -122,14 +192,16 @@ missing_at d place = record d { pieces = put d.tables (node_of kinds.NotGiven pl
 abbrev pub missing_node : Node
 missing_node = node_of kinds.NotGiven nowhere (Plain element.Variant)
 
-skipped : (env : Env) (x : MemberCall) (count : ℕ) (comma : Option Token) (xs : List Item) (d : Drafted) → count ≡ x.count + 1 → (is : List nodes.Item) (base : Base) → Stands env d.tables (item.Member x ∷ xs) is d.pieces base
+skipped : (env : Env) (x : MemberCall) (count : ℕ) (comma : Option Token) (xs : List Item) (d : Drafted) → count ≡ x.count + 1 → x.named ≡ 0 → (is : List nodes.Item) (base : Base) → Stands env d.tables (item.Member x ∷ xs) is d.pieces base
     → Stands env d.tables (item.Member (record x { count = count }) ∷ xs) (behind_node (node.MissingArgument comma) is) (put d.tables missing_node d.pieces) base
-skipped env x count comma xs d c [] base h = absurd h
-skipped env x count comma xs d c (nodes.tree z ∷ is) base h = absurd h
-skipped env x count comma xs d c (nodes.arguments args ∷ []) base h = absurd h
-skipped env x count comma xs d c (nodes.arguments args ∷ nodes.arguments more ∷ is) base h = absurd h
-skipped env x count comma xs d c (nodes.arguments args ∷ nodes.tree b ∷ is) base h =
-    let s = h.1.0 in (
+skipped env x count comma xs d c none [] base h = absurd h
+skipped env x count comma xs d c none (nodes.tree z ∷ is) base h = absurd h
+skipped env x count comma xs d c none (nodes.arguments args ∷ []) base h = absurd h
+skipped env x count comma xs d c none (nodes.arguments args ∷ nodes.arguments more ∷ is) base h = absurd h
+skipped env x count comma xs d c none (nodes.arguments args ∷ nodes.tree b ∷ is) base h =
+    let s : MemberStands env d.tables x b args d.pieces h.0 = h.1.0 in
+    let low = looked_for d.tables x.member.name x.names x.given s.object ∷ h.0 in
+    let N : ℕ → Type 0 = λ (k : ℕ). NamesCame (names_told d.tables x.names) k (givens env args ++ missing_given ∷ []) in (
       h.0,
       (
         record {
@@ -137,31 +209,24 @@ skipped env x count comma xs d c (nodes.arguments args ∷ nodes.tree b ∷ is) 
           is = s.is;
           place_is = s.place_is;
           made = s.made ++ missing_value ∷ [];
-          values = listed_more (given_as env) (givens env args) s.made missing_given missing_value s.values (value_missing (given_as env));
+          values = given_more (given_as env) (givens env args) s.made missing_given missing_value s.values (missing_is (given_as env));
+          names = subst N (sym none) (unnamed_more (names_told d.tables x.names) x.named (givens env args) missing_given none refl s.names);
           written_is = none_written s.made x.written s.written_is;
           count_is = omega (arith, c, s.count_is, length-append s.made (missing_value ∷ []));
-          on_top = ap (λ (ps : List Piece). an_expr missing_value ∷ ps) s.on_top ∙ sym (above_push (map an_expr s.made) (an_expr missing_value) (a_member s.object (name_in d.tables x.member.name) x.given ∷ h.0))
-              ∙ ap (λ (ps : List Piece). above ps (a_member s.object (name_in d.tables x.member.name) x.given ∷ h.0)) (sym (map-append an_expr s.made (missing_value ∷ [])));
+          on_top = ap (λ (ps : List Piece). an_expr missing_value ∷ ps) s.on_top ∙ sym (above_push (map an_expr s.made) (an_expr missing_value) low)
+              ∙ ap (λ (ps : List Piece). above ps low) (sym (map-append an_expr s.made (missing_value ∷ [])));
         },
         h.1.1,
       ),
     )
 
-pub adds_missing : (x : MemberCall) (count : ℕ) (d e : Drafted) → count ≡ x.count + 1 → x.member.name < length d.tables.constants → e ≡ record d { pieces = put d.tables missing_node d.pieces }
+pub adds_missing : (x : MemberCall) (count : ℕ) (d e : Drafted) → count ≡ x.count + 1 → x.named ≡ 0 → MemberNamed d.tables x → e ≡ record d { pieces = put d.tables missing_node d.pieces }
     → AddsMissing (item.Member x) d e (item.Member (record x { count = count }))
-adds_missing x count d e c named eq =
+adds_missing x count d e c none named eq =
     let P : Drafted → Type 0 = λ (z : Drafted). AddsMissing (item.Member x) d z (item.Member (record x { count = count })) in
-    subst P (sym eq) (record { grown = grown_pieces d (put d.tables missing_node d.pieces); named = named; stands = λ env comma xs is base k h. skipped env x count comma xs d c is base h })
+    subst P (sym eq) (record { grown = grown_pieces d (put d.tables missing_node d.pieces); named = named; stands = λ env comma xs is base k h. skipped env x count comma xs d c none is base h })
 
 -- ---- arguments end
-
-called_is : (env : Env) (object : bound.Expr) (m : terms.HostMember) (count : ℕ) (gs : List Given) (es : List bound.Expr) → count ≡ length es → takes_arguments m count ≡ true → AllListed (given_as env) gs es
-    → host_called env object m gs ≡ a_value (host_member object m.name (exprs_of es)) m.of
-called_is env object m count gs es c takes values =
-    let long : length gs ≡ count = omega (arith, c, listed_long (given_as env) gs es values) in
-    let found : Option Exprs → terms.Term = λ (o : Option Exprs). if_there (option_map (λ (xs : Exprs). a_value (host_member object m.name xs) m.of) o) in
-    ap (λ (n : ℕ). if takes_arguments m n then found (host_arguments env gs) else no_term) long ∙ ap (λ (b : Bool). if b then found (host_arguments env gs) else no_term) takes
-    ∙ ap (λ (b : Bool). found (if b then None else listed_values (given_as env) gs)) (listed_nameless (given_as env) gs es values) ∙ ap found (every_listed (given_as env) gs es values)
 
 member_ends : (t : Tables) (n : Node) (name given count : ℕ) (object : bound.Expr) (es : List bound.Expr) (ps below : List Piece) → count ≡ length es → given ≡ given_count (exprs_of es)
     → ps ≡ above (map an_expr es) (a_member object (name_in t name) given ∷ below) → put_kind t n (kinds.HostMember name count) ps ≡ expr_of n (host_member object (name_in t name) (exprs_of es)) ∷ below
@@ -171,19 +236,101 @@ member_ends t n name given count object es ps below c same on_top =
     ∙ ap (λ (k : ℕ). of_member_found (name_in t name) make (exprs_off (length es) (above (map an_expr es) (a_member object (name_in t name) k ∷ below)) no_exprs)) same
     ∙ member_put (name_in t name) make object es below
 
-pub ends_member : (x : MemberCall) → x.given ≡ x.written → ((t : Tables) → takes_arguments (member_is t x.member) x.count ≡ true) → EndsMember x (term.Value (record { kind = kinds.HostMember x.member.name x.count; of = x.member.of }))
-ends_member x g takes = record {
-  named = λ t named. named;
-  stands = λ env t e args ps below s.
-      let place = place_told e in
+pub named_ends : (t : Tables) (n : Node) (name given count : ℕ) (by : ArgumentNames) (object : bound.Expr) (es : List bound.Expr) (ps below : List Piece) → count ≡ length es → given ≡ given_count (exprs_of es)
+    → ps ≡ above (map an_expr es) (a_named_member object (name_in t name) (by_name_in t by) given ∷ below)
+    → put_kind t n (kinds.NamedMember name by count) ps ≡ expr_of n (named_member object (name_in t name) (by_name_in t by) (exprs_of es)) ∷ below
+named_ends t n name given count by object es ps below c same on_top =
+    let how = by_name_in t by in
+    let make : bound.Expr → Exprs → Piece = λ (x : bound.Expr) (xs : Exprs). expr_of n (named_member x (name_in t name) how xs) in
+    ap (λ (k : ℕ). of_named_found (name_in t name) how make (exprs_off k ps no_exprs)) c ∙ ap (λ (st : List Piece). of_named_found (name_in t name) how make (exprs_off (length es) st no_exprs)) on_top
+    ∙ ap (λ (k : ℕ). of_named_found (name_in t name) how make (exprs_off (length es) (above (map an_expr es) (a_named_member object (name_in t name) how k ∷ below)) no_exprs)) same
+    ∙ named_put (name_in t name) how make object es below
+
+-- a member whose arguments have no names
+plain_called : (env : Env) (object : bound.Expr) (m : terms.HostMember) (named : ℕ) (gs : List Given) (es : List bound.Expr) → NamesCame [] named gs → AllGiven (given_as env) gs es
+    → member_called env object m gs ≡ Some (host_member object m.name (exprs_of es))
+plain_called env object m named gs es came values =
+    let found : Option bound.Node = option_map (λ (xs : Exprs). host_member object m.name xs) (host_arguments env gs) in
+    ap (λ (b : Bool). if b then named_called env object m gs else found) (none_named named gs came) ∙ ap (λ (o : Option Exprs). option_map (λ (xs : Exprs). host_member object m.name xs) o) (given_listed (given_as env) gs es values)
+
+-- what is no Some is None
+pub none_of : (o : Option ArgumentNames) → ((names : ArgumentNames) → (o ≡ Some names) → ⊥) → o ≡ None
+none_of None h = refl
+none_of (Some names) h = absurd (h names refl)
+
+pub plain_ends : (x : MemberCall) (t : Tables) → x.names ≡ None → EndsCall t x (kinds.HostMember x.member.name x.count)
+plain_ends x t none = record {
+  named = λ named. named.0;
+  stands = λ g env e args ps below s.
+      let N : Option ArgumentNames → Type 0 = λ (o : Option ArgumentNames). NamesCame (names_told t o) x.named (givens env args) in
       record {
         made = host_member s.object (name_in t x.member.name) (exprs_of s.made);
-        is = ap (λ (z : terms.Term). indexed env place z (givens env args)) s.is ∙ called_is env s.object (member_is t x.member) x.count (givens env args) s.made s.count_is (takes t) s.values;
-        ends = λ n. member_ends t n x.member.name x.given x.count s.object s.made ps below s.count_is (g ∙ sym (all_written s.made x.written s.written_is)) s.on_top;
+        is = plain_called env s.object (member_is t x.member) x.named (givens env args) s.made (subst N none s.names) s.values;
+        ends = λ n. member_ends t n x.member.name x.given x.count s.object s.made ps below s.count_is (g ∙ sym (all_written s.made x.written s.written_is))
+            (s.on_top ∙ ap (λ (o : Option ArgumentNames). above (map an_expr s.made) (looked_for t x.member.name o x.given s.object ∷ below)) none);
       };
 }
 
-ended_stands : (env : Env) (x : MemberCall) (y : Term) (left right : Token) (xs : List Item) (d : Drafted) → EndsMember x y → (is : List nodes.Item) (base : Base) → Stands env d.tables (item.Member x ∷ xs) is d.pieces base
+-- one whose last arguments have names
+pub by_name_called : (env : Env) (object : bound.Expr) (m : terms.HostMember) (by : ByName) (named : ℕ) (gs : List Given) (es : List bound.Expr) → named ≢ 0 → named ≡ length by.names → length gs ≡ by.before + named → takes_names m by ≡ true
+    → NamesCame by.names named gs → AllGiven (given_as env) gs es → (named_called env object m gs ≡ Some (named_member object m.name by (exprs_of es))) × (has_names gs ≡ true)
+by_name_called env object m by named gs es some all count takes came values =
+    let both = all_came by.names named by.before gs some all count came in
+    let made : Option ByName → Option Exprs → Option bound.Node = λ (o : Option ByName) (xs : Option Exprs). from_two (λ (how : ByName) (ys : Exprs). named_member object m.name how ys) o xs in
+    let taken : names_taken m gs ≡ Some by =
+    ap (λ (o : Option ByName). option_and_then (λ (how : ByName). if takes_names m how then Some how else None) o) both.1 ∙ ap (λ (b : Bool). if b then Some by else None) takes in
+    (ap (λ (o : Option ByName). made o (host_arguments env gs)) taken ∙ ap (λ (o : Option Exprs). made (Some by) o) (given_listed (given_as env) gs es values), both.0)
+
+named_call : (env : Env) (object : bound.Expr) (m : terms.HostMember) (by : ByName) (named : ℕ) (gs : List Given) (es : List bound.Expr) → named ≢ 0 → named ≡ length by.names → length gs ≡ by.before + named → takes_names m by ≡ true
+    → NamesCame by.names named gs → AllGiven (given_as env) gs es → member_called env object m gs ≡ Some (named_member object m.name by (exprs_of es))
+named_call env object m by named gs es some all count takes came values =
+    let r = by_name_called env object m by named gs es some all count takes came values in
+    let found : Option bound.Node = option_map (λ (xs : Exprs). host_member object m.name xs) (host_arguments env gs) in
+    ap (λ (b : Bool). if b then named_called env object m gs else found) r.1 ∙ r.0
+
+told_as : (t : Tables) (names : Option ArgumentNames) (by : ArgumentNames) → names ≡ Some by → AreNamed t names → NamesNamed t by
+told_as t names by told k = subst (λ (o : Option ArgumentNames). AreNamed t o) told k
+
+-- the last node of a member with names is named
+pub node_named_by : (x : MemberCall) (by : ArgumentNames) (t : Tables) → MemberNamed t x → x.names ≡ Some by → NodeNamed t (kinds.NamedMember x.member.name by x.count)
+node_named_by x by t named told = (named.0, told_as t x.names by told named.1)
+
+pub by_name_ends : (x : MemberCall) (t : Tables) (by : ArgumentNames) → x.names ≡ Some by → NamesFit t x by → EndsCall t x (kinds.NamedMember x.member.name by x.count)
+by_name_ends x t by told fit = record {
+  named = λ named. node_named_by x by t named told;
+  stands = λ g env e args ps below s.
+      let gs = givens env args in
+      let N : Option ArgumentNames → Type 0 = λ (o : Option ArgumentNames). NamesCame (names_told t o) x.named gs in
+      let all : x.named ≡ length (by_name_in t by).names = fit.all ∙ sym (length-map (order_in t by.order) (name_in t)) in
+      let count : length gs ≡ by.before + x.named = omega (arith, fit.count, s.count_is, given_long (given_as env) gs s.made s.values) in
+      record {
+        made = named_member s.object (name_in t x.member.name) (by_name_in t by) (exprs_of s.made);
+        is = named_call env s.object (member_is t x.member) (by_name_in t by) x.named gs s.made fit.some all count fit.takes (subst N told s.names) s.values;
+        ends = λ n. named_ends t n x.member.name x.given x.count by s.object s.made ps below s.count_is (g ∙ sym (all_written s.made x.written s.written_is))
+            (s.on_top ∙ ap (λ (o : Option ArgumentNames). above (map an_expr s.made) (looked_for t x.member.name o x.given s.object ∷ below)) told);
+      };
+}
+
+pub ends_member : (x : MemberCall) (t : Tables) (kind : NodeKind) → x.given ≡ x.written → ((t : Tables) → takes_arguments (member_is t x.member) x.count ≡ true) → EndsCall t x kind
+    → EndsMember t x (term.Value (record { kind = kind; of = x.member.of }))
+ends_member x t kind g takes ended = record {
+  named = ended.named;
+  stands = λ env e args ps below s.
+      let place = place_told e in
+      let gs = givens env args in
+      let m = member_is t x.member in
+      let c = ended.stands g env e args ps below s in
+      let long : length gs ≡ x.count = omega (arith, s.count_is, given_long (given_as env) gs s.made s.values) in
+      let found : Option bound.Node → terms.Term = λ (o : Option bound.Node). if_there (option_map (λ (made : bound.Node). a_value made m.of) o) in
+      record {
+        made = c.made;
+        is = ap (λ (z : terms.Term). indexed env place z gs) s.is ∙ ap (λ (n : ℕ). if takes_arguments m n then found (member_called env s.object m gs) else no_term) long
+            ∙ ap (λ (b : Bool). if b then found (member_called env s.object m gs) else no_term) (takes t) ∙ ap found c.is;
+        ends = c.ends;
+      };
+}
+
+ended_stands : (env : Env) (x : MemberCall) (y : Term) (left right : Token) (xs : List Item) (d : Drafted) → EndsMember d.tables x y → (is : List nodes.Item) (base : Base) → Stands env d.tables (item.Member x ∷ xs) is d.pieces base
     → Stands env d.tables (item.Tree (record { place = x.place; name = None; dotted = None; term = y }) ∷ xs) (behind_node (node.Index left right) is) d.pieces base
 ended_stands env x y left right xs d m [] base h = absurd h
 ended_stands env x y left right xs d m (nodes.tree v ∷ is) base h = absurd h
@@ -191,8 +338,8 @@ ended_stands env x y left right xs d m (nodes.arguments args ∷ []) base h = ab
 ended_stands env x y left right xs d m (nodes.arguments args ∷ nodes.arguments more ∷ is) base h = absurd h
 ended_stands env x y left right xs d m (nodes.arguments args ∷ nodes.tree b ∷ is) base h = (
   h.0,
-  (tree_ended env d.tables y x.place b args left right d.pieces h.0 h.1.0.place_is (m.stands env d.tables b args d.pieces h.0 h.1.0), h.1.1),
+  (tree_ended env d.tables y x.place b args left right d.pieces h.0 h.1.0.place_is (m.stands env b args d.pieces h.0 h.1.0), h.1.1),
 )
 
-pub closes_member : (x : MemberCall) (y : Term) (d : Drafted) → x.member.name < length d.tables.constants → EndsMember x y → Closes (item.Member x) d d (record { place = x.place; name = None; dotted = None; term = y })
-closes_member x y d named m = record { grown = grown_same d; named = m.named d.tables named; stands = λ env left right xs is base k h. ended_stands env x y left right xs d m is base h }
+pub closes_member : (x : MemberCall) (y : Term) (d : Drafted) → MemberNamed d.tables x → EndsMember d.tables x y → Closes (item.Member x) d d (record { place = x.place; name = None; dotted = None; term = y })
+closes_member x y d named m = record { grown = grown_same d; named = m.named named; stands = λ env left right xs is base k h. ended_stands env x y left right xs d m is base h }

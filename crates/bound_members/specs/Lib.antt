@@ -1,3 +1,4 @@
 pub mod Kinds
 pub mod Members
 pub mod MemberCalls
+pub mod Names

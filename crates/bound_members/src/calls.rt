@@ -1,43 +1,59 @@
 //! Members that are called: their objects are looked at, and their arguments are pushed.
 
-ghost use Rattle.std.specs.Prelude.{◌≡◌, ◌<◌, length, IfOk};
+ghost use Rattle.std.specs.Prelude.{◌≡◌, ◌<◌, length, IfOk, MatchBool};
 ghost use Rattle.bound_project.specs.DraftView.{draft_view};
 ghost use Rattle.bound_calls.specs.declared.term.Item.TheVariants as item;
 ghost use Rattle.bound_calls.specs.Indexing.{AddsArgument, AddsMissing};
-ghost use Rattle.bound_calls.specs.Standing.{TermNamed};
-ghost use Rattle.bound_members.specs.MemberCalls.{EndsMember, OpensMember, is_value_kind};
+ghost use Rattle.bound_calls.specs.Standing.{MemberNamed, TermNamed};
+ghost use Rattle.bound_members.specs.MemberCalls.{AddsNamed, AddsValue, EndsCall, EndsMember, NamesFit, OpensMember, is_value_kind, there_kind};
 
+use crate::ahead::given_ahead;
 use crate::kinds::is_typed_kind;
 use crate::members::takes_arguments;
+use crate::names::{is_next, names_ahead, takes_names};
 use bound_calls::{
     Ending, HostMember, MemberCall, Term, Tree, given_ending, nowhere, push_node, sum,
 };
 use bound_declarations::NotYet;
-use bound_project::{DeclaredType, Draft, ElementType, NodeKind};
+use bound_project::{ArgumentNames, DeclaredType, Draft, ElementType, NodeKind};
 use std::alloc::Global;
 use vba_base::{OrMemory, Place};
+use vba_expression::ExpressionNode;
+use vba_words::Identifier;
 
-/// A member of the object that was pushed, for which so many written arguments are to come.
+/// The node that looks for a member.
+fn there_kind(name: u32, names: Option<ArgumentNames>, given: u32) -> NodeKind
+    ensures { result ≡ there_kind name names given }
+{
+    match names {
+        None => NodeKind::MemberThere { name, given },
+        Some(names) => NodeKind::NamedThere { name, names, given },
+    }
+}
+
+/// A member of the object that was pushed, whose arguments are to come in these nodes.
 pub fn open_member(
+    alloc: Global,
     draft: &mut Draft,
     place: Place,
     member: HostMember,
-    given: u32,
+    nodes: &[ExpressionNode],
 ) -> Result<MemberCall, OrMemory<NotYet>>
     requires { member.name < length (draft_view draft.old).tables.constants }
     ensures { IfOk result (λ call. OpensMember place member (draft_view draft.old) (draft_view draft.new) call) }
 {
-    let there = NodeKind::MemberThere {
-        name: member.name,
-        given,
-    };
+    let given = given_ahead(nodes);
+    let names = names_ahead(alloc, draft, nodes)?;
+    let there = there_kind(member.name, names, given);
     push_node(draft, there, member.of, place)?;
     Ok(MemberCall {
         place,
         member,
+        names,
         given,
         count: 0,
         written: 0,
+        named: 0,
     })
 }
 
@@ -51,16 +67,17 @@ fn is_value_kind(kind: NodeKind) -> bool
     }
 }
 
-/// One more argument: the expression on top, as it is.
-pub fn add_given<'a>(
+/// One more argument, with this name or without one: the expression on top, as it is; so many have names then.
+fn add_value<'a>(
     alloc: Global,
     draft: &mut Draft,
     call: MemberCall,
     tree: Tree<'a>,
+    named: u32,
 ) -> Result<MemberCall, OrMemory<NotYet>>
-    requires named { TermNamed (draft_view draft.old).tables tree.term }
-    requires member { call.member.name < length (draft_view draft.old).tables.constants }
-    ensures { IfOk result (λ more. AddsArgument (item.Member call) tree.entry (draft_view draft.old) (draft_view draft.new) (item.Member more)) }
+    requires tree { TermNamed (draft_view draft.old).tables tree.term }
+    requires member { MemberNamed (draft_view draft.old).tables call }
+    ensures { IfOk result (λ more. AddsValue call tree.entry named (draft_view draft.old) (draft_view draft.new) more) }
 {
     let count = sum(call.count, 1)?;
     let written = sum(call.written, 1)?;
@@ -72,24 +89,100 @@ pub fn add_given<'a>(
     Ok(MemberCall {
         count,
         written,
+        named,
         ..call
     })
 }
 
+/// One more argument without a name: the expression on top, as it is.
+pub fn add_given<'a>(
+    alloc: Global,
+    draft: &mut Draft,
+    call: MemberCall,
+    tree: Tree<'a>,
+) -> Result<MemberCall, OrMemory<NotYet>>
+    requires named { TermNamed (draft_view draft.old).tables tree.term }
+    requires member { MemberNamed (draft_view draft.old).tables call }
+    ensures { IfOk result (λ more. AddsArgument (item.Member call) tree.entry (draft_view draft.old) (draft_view draft.new) (item.Member more)) }
+{
+    if call.named != 0 {
+        return Err(OrMemory::Fault(NotYet));
+    }
+    add_value(alloc, draft, call, tree, 0)
+}
+
+/// One more argument, with a name, which is the next one of those that were told.
+pub fn add_named<'a>(
+    alloc: Global,
+    draft: &mut Draft,
+    call: MemberCall,
+    tree: Tree<'a>,
+    name: &Identifier,
+) -> Result<MemberCall, OrMemory<NotYet>>
+    requires named { TermNamed (draft_view draft.old).tables tree.term }
+    requires member { MemberNamed (draft_view draft.old).tables call }
+    ensures { IfOk result (λ more. AddsNamed call tree.entry name.now (draft_view draft.old) (draft_view draft.new) more) }
+{
+    let Some(names) = call.names else {
+        return Err(OrMemory::Fault(NotYet));
+    };
+    if !is_next(draft, names, call.named, name) {
+        return Err(OrMemory::Fault(NotYet));
+    }
+    let named = sum(call.named, 1)?;
+    add_value(alloc, draft, call, tree, named)
+}
+
 /// One more argument, which isn't written: Missing.
 pub fn add_missing(draft: &mut Draft, call: MemberCall) -> Result<MemberCall, OrMemory<NotYet>>
-    requires { call.member.name < length (draft_view draft.old).tables.constants }
+    requires { MemberNamed (draft_view draft.old).tables call }
     ensures { IfOk result (λ more. AddsMissing (item.Member call) (draft_view draft.old) (draft_view draft.new) (item.Member more)) }
 {
+    if call.named != 0 {
+        return Err(OrMemory::Fault(NotYet));
+    }
     let count = sum(call.count, 1)?;
     let variant = DeclaredType::Plain(ElementType::Variant);
     push_node(draft, NodeKind::NotGiven, variant, nowhere())?;
     Ok(MemberCall { count, ..call })
 }
 
+/// Are the arguments named as was told: have all names come, as many stand before them, and has the member such parameters?
+pub fn names_fit(draft: &Draft, call: MemberCall, names: ArgumentNames) -> bool
+    ensures { MatchBool result (NamesFit (draft_view draft.now).tables call names) (Unit {0}) }
+{
+    let told = draft.order(names.order).len();
+    if call.named == 0 || call.named as usize != told {
+        return false;
+    }
+    if call.count < names.before || call.count - names.before != call.named {
+        return false;
+    }
+    takes_names(draft, call.member, names)
+}
+
+/// The last node of a member whose arguments were pushed.
+fn member_kind(draft: &Draft, call: MemberCall) -> Result<NodeKind, OrMemory<NotYet>>
+    ensures { IfOk result (λ kind. EndsCall (draft_view draft.now).tables call kind) }
+{
+    let name = call.member.name;
+    let arguments = call.count;
+    let Some(names) = call.names else {
+        return Ok(NodeKind::HostMember { name, arguments });
+    };
+    if !names_fit(draft, call, names) {
+        return Err(OrMemory::Fault(NotYet));
+    }
+    Ok(NodeKind::NamedMember {
+        name,
+        names,
+        arguments,
+    })
+}
+
 /// What a member gives of its arguments, where it takes so many and as many written ones came as were counted.
-pub fn close_member<'a>(call: MemberCall) -> Result<Term<'a>, OrMemory<NotYet>>
-    ensures { IfOk result (λ term. EndsMember call term) }
+pub fn close_member<'a>(draft: &Draft, call: MemberCall) -> Result<Term<'a>, OrMemory<NotYet>>
+    ensures { IfOk result (λ term. EndsMember (draft_view draft.now).tables call term) }
 {
     if call.written != call.given {
         return Err(OrMemory::Fault(NotYet));
@@ -97,11 +190,9 @@ pub fn close_member<'a>(call: MemberCall) -> Result<Term<'a>, OrMemory<NotYet>>
     if !takes_arguments(call.member, call.count) {
         return Err(OrMemory::Fault(NotYet));
     }
+    let kind = member_kind(draft, call)?;
     Ok(Term::Value(Ending {
-        kind: NodeKind::HostMember {
-            name: call.member.name,
-            arguments: call.count,
-        },
+        kind,
         of: call.member.of,
     }))
 }

@@ -59,10 +59,12 @@ pub fn is_typed_kind(kind: NodeKind) -> bool
         NodeKind::CallInOrder { .. } => true,
         NodeKind::ErrValue(_) => true,
         NodeKind::Library { .. } => true,
+        NodeKind::Marked { .. } => true,
         NodeKind::Same => true,
         NodeKind::IsType(_) => true,
         NodeKind::ActiveSheet => true,
         NodeKind::HostMember { .. } => true,
+        NodeKind::NamedMember { .. } => true,
         _ => false,
     }
 }

@@ -2,10 +2,13 @@
 //! read and called.
 #![tactic(auto)]
 
+mod ahead;
 mod calls;
 mod kinds;
 mod members;
+mod names;
 
-pub use calls::{add_given, add_missing, close_member, open_member};
+pub use ahead::given_ahead;
+pub use calls::{add_given, add_missing, add_named, close_member, names_fit, open_member};
 pub use kinds::{HostKind, kind_of_ending, kind_of_type};
 pub use members::{find_member, is_word, takes_arguments};

@@ -10,17 +10,18 @@ use Rattle.vba_values.specs.Val.{Val, empty}
 use Rattle.bound_project.specs.declared.node.NodeKind.{NodeKind}
 use Rattle.bound_project.specs.declared.node.NodeKind.TheVariants as node
 use Rattle.bound_project.specs.declared.node.Node.{Node}
+use Rattle.bound_project.specs.declared.node.ArgumentNames.{ArgumentNames}
 use Rattle.bound_project.specs.declared.statement.ActionKind.{ActionKind}
 use Rattle.bound_project.specs.declared.statement.ActionKind.TheVariants as kind
 use Rattle.bound_project.specs.declared.statement.StatementNode.{StatementNode}
 use Rattle.bound_project.specs.declared.project.Body.{Body}
 use Rattle.bound_project.specs.View.{declared_view}
-use Rattle.bound_project.specs.Expressions.{constant, call, host_member, no_args, in_order, no_exprs}
+use Rattle.bound_project.specs.Expressions.{constant, call, host_member, named_member, ByName, no_args, in_order, no_exprs}
 use Rattle.bound_project.specs.Statements as plain
 use Rattle.bound_project.specs.Statements.{Action, let_property, raise, set_property}
-use Rattle.bound_project.specs.Pieces.{Piece, an_argument, default_taken, a_member, Tables, constant_in, name_of, order_in, exprs_off, arguments_off, of_value, of_found, of_member_found, expr_of, put_kind, put, read, pieces}
+use Rattle.bound_project.specs.Pieces.{Piece, an_argument, default_taken, a_member, a_named_member, Tables, constant_in, name_of, name_in, order_in, by_name_in, exprs_off, arguments_off, of_value, of_found, of_member_found, of_named_found, expr_of, put_kind, put, read, pieces}
 use Rattle.bound_project.specs.Bodies.{behind_value, member_found, whole, action_of, action_or, part, statement_view, StatementFits, AllFit, BodiesFit, body_view}
-use Rattle.bound_project.specs.Drafts.{Drafted, NodeNamed, ActionNamed, AllNamed, ActionsNamed, BodyKept, BodiesKept, Kept, with_constant, with_order, tables_in, drafted, statement_of}
+use Rattle.bound_project.specs.Drafts.{Drafted, AllBelow, NamesNamed, NodeNamed, ActionNamed, AllNamed, ActionsNamed, BodyKept, BodiesKept, Kept, with_constant, with_order, tables_in, drafted, statement_of}
 
 -- ---- tables that grow
 
@@ -47,12 +48,32 @@ order_extends t order = record {
   orders_more = omega (arith, length-append t.orders (order ∷ []));
 }
 
+below_more : (b c : ℕ) → b ≤ c → (is : List ℕ) → AllBelow b is → AllBelow c is
+below_more b c le [] h = tt
+below_more b c le (i ∷ is) h = (omega (arith, h.0, le), below_more b c le is h.1)
+
+pub names_named : (t u : Tables) → Extends t u → (by : ArgumentNames) → NamesNamed t by → NamesNamed u by
+names_named t u e by h =
+    (omega (arith, h.0, e.orders_more), subst (λ is. AllBelow (length u.constants) is) (sym (e.order_is by.order h.0)) (below_more (length t.constants) (length u.constants) e.constants_more (order_in t by.order) h.1))
+
+-- the names themselves stay
+each_name_same : (t u : Tables) → Extends t u → (is : List ℕ) → AllBelow (length t.constants) is → map (name_in u) is ≡ map (name_in t) is
+each_name_same t u e [] h = refl
+each_name_same t u e (i ∷ is) h = ap (λ v. name_of v ∷ map (name_in u) is) (e.constant_is i h.0) ∙ ap (λ r. name_in t i ∷ r) (each_name_same t u e is h.1)
+
+pub by_name_same : (t u : Tables) → Extends t u → (by : ArgumentNames) → NamesNamed t by → by_name_in u by ≡ by_name_in t by
+by_name_same t u e by h =
+    let made : List (List ℕ) → ByName = λ names. record { before = by.before; names = names } in
+    ap (λ is. made (map (name_in u) is)) (e.order_is by.order h.0) ∙ ap made (each_name_same t u e (order_in t by.order) h.1)
+
 node_named : (t u : Tables) → Extends t u → (k : NodeKind) → NodeNamed t k → NodeNamed u k
 node_named t u e (node.Constant i) h = omega (arith, e.constants_more)
 node_named t u e (node.ByDefault i) h = omega (arith, e.constants_more)
 node_named t u e (node.CallInOrder p count order) h = omega (arith, e.orders_more)
 node_named t u e (node.MemberThere i given) h = omega (arith, e.constants_more)
 node_named t u e (node.HostMember i count) h = omega (arith, e.constants_more)
+node_named t u e (node.NamedThere i by given) h = (omega (arith, h.0, e.constants_more), names_named t u e by h.1)
+node_named t u e (node.NamedMember i by count) h = (omega (arith, h.0, e.constants_more), names_named t u e by h.1)
 node_named t u e k h = tt
 
 action_named : (t u : Tables) → Extends t u → (k : ActionKind) → ActionNamed t k → ActionNamed u k
@@ -77,6 +98,13 @@ put_same t u e n (node.CallInOrder p count order) h st = ap (λ o. of_found (λ 
 put_same t u e n (node.MemberThere i given) h st = ap (λ v. of_value (λ x. a_member x (name_of v) given) st) (e.constant_is i h)
 put_same t u e n (node.HostMember i count) h st =
     ap (λ v. of_member_found (name_of v) (λ x es. expr_of n (host_member x (name_of v) es)) (exprs_off count st no_exprs)) (e.constant_is i h)
+put_same t u e n (node.NamedThere i by given) h st =
+    ap (λ v. of_value (λ x. a_named_member x (name_of v) (by_name_in u by) given) st) (e.constant_is i h.0)
+    ∙ ap (λ how. of_value (λ x. a_named_member x (name_in t i) how given) st) (by_name_same t u e by h.1)
+put_same t u e n (node.NamedMember i by count) h st =
+    let found = exprs_off count st no_exprs in
+    ap (λ v. of_named_found (name_of v) (by_name_in u by) (λ x es. expr_of n (named_member x (name_of v) (by_name_in u by) es)) found) (e.constant_is i h.0)
+    ∙ ap (λ how. of_named_found (name_in t i) how (λ x es. expr_of n (named_member x (name_in t i) how es)) found) (by_name_same t u e by h.1)
 put_same t u e n k h st = refl
 
 read_same : (t u : Tables) → Extends t u → (ns : List Node) → AllNamed t ns → (st : List Piece) → read u st ns ≡ read t st ns

@@ -3,8 +3,8 @@ use Rattle.std.proofs.Common.{◌≡◌, true, cond, ℕ, suc, ◌+◌, List, []
 use Rattle.std.specs.Prelude.{◌==◌, ◌&&◌}
 use Rattle.std.proofs.lemmas.Bool.{eq-eqb}
 use Rattle.std.proofs.lemmas.Slice.Eq.{bytes_eq-Decides}
-use Rattle.bound_project.specs.Expressions.{Expr, Exprs, no_exprs, given_count, Args, no_args, Prints, no_prints}
-use Rattle.bound_project.specs.Pieces.{Argument, Piece, an_expr, an_argument, a_member, is_member, of_member_found, misfit, exprs_off, arguments_off, prints_off}
+use Rattle.bound_project.specs.Expressions.{Expr, Exprs, no_exprs, given_count, ByName, Args, no_args, Prints, no_prints}
+use Rattle.bound_project.specs.Pieces.{Argument, Piece, an_expr, an_argument, a_member, a_named_member, is_member, same_names, same_by_name, is_named_member, of_member_found, of_named_found, misfit, exprs_off, arguments_off, prints_off}
 use Rattle.bound_project.specs.Lists.{above, args_before, args_of, exprs_before, exprs_of, item_piece, print_item, prints_before, prints_of}
 
 -- one more piece on top
@@ -58,3 +58,18 @@ pub member_put : (name : List ℕ) (make : Expr → Exprs → Piece) (object : E
 member_put name make object es st =
     ap (λ o. of_member_found name make o) (exprs_are es (a_member object name (given_count (exprs_of es)) ∷ st))
     ∙ ap (λ b. cond b (make object (exprs_of es) ∷ st) misfit) (is_itself name (exprs_of es))
+
+-- and one whose arguments are named is named as it is
+pub names_are : (xs : List (List ℕ)) → same_names xs xs ≡ true
+names_are [] = refl
+names_are (x ∷ xs) = ap (λ b. b && same_names xs xs) ((bytes_eq-Decides x x).1 refl) ∙ names_are xs
+
+pub is_named_itself : (name : List ℕ) (by : ByName) (es : Exprs) → is_named_member name name by by (given_count es) es ≡ true
+is_named_itself name by es =
+    ap (λ b. b && same_by_name by by) (is_itself name es) ∙ ap (λ b. b && same_names by.names by.names) (eq-eqb by.before by.before refl) ∙ names_are by.names
+
+pub named_put : (name : List ℕ) (by : ByName) (make : Expr → Exprs → Piece) (object : Expr) (es : List Expr) (st : List Piece)
+    → of_named_found name by make (exprs_off (length es) (above (map an_expr es) (a_named_member object name by (given_count (exprs_of es)) ∷ st)) no_exprs) ≡ make object (exprs_of es) ∷ st
+named_put name by make object es st =
+    ap (λ o. of_named_found name by make o) (exprs_are es (a_named_member object name by (given_count (exprs_of es)) ∷ st))
+    ∙ ap (λ b. cond b (make object (exprs_of es) ∷ st) misfit) (is_named_itself name by (exprs_of es))

@@ -9,13 +9,14 @@ use Rattle.vba_values.specs.declared.value.Value.{Value}
 use Rattle.bound_project.specs.declared.node.NodeKind.{NodeKind}
 use Rattle.bound_project.specs.declared.node.NodeKind.TheVariants as node
 use Rattle.bound_project.specs.declared.node.Node.{Node}
+use Rattle.bound_project.specs.declared.node.ArgumentNames.{ArgumentNames}
 use Rattle.bound_project.specs.declared.statement.ActionKind.{ActionKind}
 use Rattle.bound_project.specs.declared.statement.ActionKind.TheVariants as kind
 use Rattle.bound_project.specs.declared.statement.StatementNode.{StatementNode}
 use Rattle.bound_project.specs.declared.project.Body.{Body}
 use Rattle.bound_project.specs.Statements as plain
 use Rattle.bound_project.specs.Project as project
-use Rattle.bound_project.specs.Pieces.{Piece, Tables, pieces}
+use Rattle.bound_project.specs.Pieces.{Piece, Tables, order_in, pieces}
 use Rattle.bound_project.specs.Bodies.{AllFit, part, action_of, action_or, statement_view, body_view}
 
 -- a project while it is bound: its tables, the pieces of the statement that is being read, the statements of the body
@@ -35,6 +36,14 @@ with_constant t v = record t { constants = t.constants ++ v ∷ [] }
 abbrev pub with_order : Tables → List ℕ → Tables
 with_order t order = record t { orders = t.orders ++ order ∷ [] }
 
+-- so are the names of arguments: their order, and its constants
+abbrev pub AllBelow : (bound : ℕ) → List ℕ → Type 0
+AllBelow bound [] = Unit {0}
+AllBelow bound (i ∷ is) = (i < bound) × AllBelow bound is
+
+abbrev pub NamesNamed : Tables → ArgumentNames → Type 0
+NamesNamed t by = (by.order < length t.orders) × AllBelow (length t.constants) (order_in t by.order)
+
 -- a node's and a statement's numbers are in the tables
 abbrev pub NodeNamed : Tables → NodeKind → Type 0
 NodeNamed t (node.Constant i) = i < length t.constants
@@ -42,6 +51,8 @@ NodeNamed t (node.ByDefault i) = i < length t.constants
 NodeNamed t (node.CallInOrder p count order) = order < length t.orders
 NodeNamed t (node.MemberThere i given) = i < length t.constants
 NodeNamed t (node.HostMember i count) = i < length t.constants
+NodeNamed t (node.NamedThere i by given) = (i < length t.constants) × NamesNamed t by
+NodeNamed t (node.NamedMember i by count) = (i < length t.constants) × NamesNamed t by
 NodeNamed t k = Unit {0}
 
 abbrev pub ActionNamed : Tables → ActionKind → Type 0
@@ -82,12 +93,21 @@ statement_of t k st place next = record { action = action_or (action_of t k st);
 
 -- ---- that all is kept is one fact
 
+all_below_prop : (bound : ℕ) (is : List ℕ) → IsProp (AllBelow bound is)
+all_below_prop bound [] = Unit-prop
+all_below_prop bound (i ∷ is) = ×_prop le_prop (all_below_prop bound is)
+
+names_named_prop : (t : Tables) (by : ArgumentNames) → IsProp (NamesNamed t by)
+names_named_prop t by = ×_prop le_prop (all_below_prop (length t.constants) (order_in t by.order))
+
 node_named_prop : (t : Tables) (k : NodeKind) → IsProp (NodeNamed t k)
 node_named_prop t (node.Constant i) = le_prop
 node_named_prop t (node.ByDefault i) = le_prop
 node_named_prop t (node.CallInOrder p count order) = le_prop
 node_named_prop t (node.MemberThere i given) = le_prop
 node_named_prop t (node.HostMember i count) = le_prop
+node_named_prop t (node.NamedThere i by given) = ×_prop le_prop (names_named_prop t by)
+node_named_prop t (node.NamedMember i by count) = ×_prop le_prop (names_named_prop t by)
 node_named_prop t k = Unit-prop
 
 action_named_prop : (t : Tables) (k : ActionKind) → IsProp (ActionNamed t k)

@@ -2,6 +2,7 @@
 -- lent is an Lvalue.
 use Rattle.std.specs.Prelude.{ℕ, suc, ℤ, List, Bool}
 use Rattle.vba_base.specs.declared.place.Place.{Place}
+use Rattle.vba_base.specs.declared.place.Refusal.{Refusal}
 use Rattle.vba_values.specs.declared.types.OpKind.{OpKind}
 use Rattle.vba_values.specs.declared.types.Compare.{Compare}
 use Rattle.vba_values.specs.declared.object.HostRef.{HostRef}
@@ -84,6 +85,9 @@ mutual
     same : (left right : Expr) → Node
     -- TypeOf e Is type
     is_type : Expr → Declared → Node
+    -- what breaks a static rule, with the values that it is written with. No project that runs has one; it means what
+    -- Array means of them
+    marked : (broken : Refusal) → Exprs → Node
     -- a function of the library: whether $ stands behind its name, its arguments, how its module compares texts, and
     -- from where an Array counts: 0 where VBA. is written. An argument that takes no object is a default_of
     library : LibraryFunction → (text_form : Bool) → Exprs → Compare → (base : ℤ) → Node

@@ -1,6 +1,6 @@
 -- Serves the code: the trees that nodes in postfix order stand for. Reading a node takes the pieces that it ends off a
 -- stack and puts one piece there. Where the pieces don't fit, one piece is left that fits nowhere.
-use Rattle.std.specs.Prelude.{ℕ, zero, suc, ◌==◌, Bool, ◌&&◌, if◌then◌else◌, bytes_eq, List, [], ◌∷◌, Option, Some, None, option_map, slice_index_or}
+use Rattle.std.specs.Prelude.{ℕ, zero, suc, ◌==◌, Bool, true, false, ◌&&◌, if◌then◌else◌, bytes_eq, List, [], ◌∷◌, map, Option, Some, None, option_map, slice_index_or}
 use Rattle.vba_base.specs.declared.place.Place.{Place}
 use Rattle.vba_values.specs.declared.types.OpKind.{OpKind}
 use Rattle.vba_values.specs.Types.{Declared}
@@ -9,7 +9,8 @@ use Rattle.bound_project.specs.declared.declared_type.DeclaredType.{DeclaredType
 use Rattle.bound_project.specs.declared.node.NodeKind.{NodeKind}
 use Rattle.bound_project.specs.declared.node.NodeKind.TheVariants as node
 use Rattle.bound_project.specs.declared.node.Node.{Node}
-use Rattle.bound_project.specs.Expressions.{Expr, expr, not_given, constant, load, element_value, field_value, unary, binary, call, err_value, default_of, default_if_any, same, is_type, library, bound_of, host_object, active_sheet, host_member, Lvalue, variable, item, element, field, kept_place, Args, no_args, by_place, by_copy, by_default, by_list, in_order, Exprs, no_exprs, also, given_count, Prints, shown, zone}
+use Rattle.bound_project.specs.declared.node.ArgumentNames.{ArgumentNames}
+use Rattle.bound_project.specs.Expressions.{Expr, expr, not_given, constant, load, element_value, field_value, unary, binary, call, err_value, default_of, default_if_any, same, is_type, library, bound_of, host_object, active_sheet, host_member, named_member, ByName, Lvalue, variable, item, element, field, kept_place, Args, no_args, by_place, by_copy, by_default, by_list, in_order, Exprs, no_exprs, also, given_count, Prints, shown, zone, marked}
 use Rattle.bound_project.specs.Expressions as plain
 use Rattle.bound_project.specs.Statements.{Tests, test_is, test_range, Resizes, resize, Arrays, an_array}
 use Rattle.bound_project.specs.View.{declared_view, variable_view, member_view, base_view}
@@ -29,6 +30,8 @@ pub data Piece : Type 0 where
   an_argument : Argument → Piece
   -- an object, the folded name of its member, and how many arguments are given
   a_member : Expr → (name : List ℕ) → (given : ℕ) → Piece
+  -- the same with how arguments are named
+  a_named_member : Expr → (name : List ℕ) → ByName → (given : ℕ) → Piece
   a_value_shown : Expr → Piece
   a_zone : Piece
   a_test_begun : Piece
@@ -55,6 +58,13 @@ name_of v = []
 
 abbrev pub name_in : Tables → ℕ → List ℕ
 name_in t i = name_of (constant_in t i)
+
+-- the names that constants are, by their order, and how arguments are named
+abbrev pub names_in : Tables → ℕ → List (List ℕ)
+names_in t i = map (name_in t) (order_in t i)
+
+abbrev pub by_name_in : Tables → ArgumentNames → ByName
+by_name_in t by = record { before = by.before; names = names_in t by.order }
 
 -- what is left where pieces don't fit
 abbrev pub misfit : List Piece
@@ -151,6 +161,26 @@ abbrev pub of_member_found : (name : List ℕ) → (Expr → Exprs → Piece) �
 of_member_found name make None = misfit
 of_member_found name make (Some found) = of_member name make found.0 found.1
 
+-- the same where arguments are named, and that they are named so
+abbrev pub same_names : List (List ℕ) → List (List ℕ) → Bool
+same_names [] [] = true
+same_names (x ∷ xs) (y ∷ ys) = bytes_eq x y && same_names xs ys
+same_names xs ys = false
+
+abbrev pub same_by_name : ByName → ByName → Bool
+same_by_name a b = (a.before == b.before) && same_names a.names b.names
+
+abbrev pub is_named_member : (name other : List ℕ) → (by how : ByName) → (given : ℕ) → Exprs → Bool
+is_named_member name other by how given es = is_member name other given es && same_by_name by how
+
+abbrev pub of_named : (name : List ℕ) → ByName → (Expr → Exprs → Piece) → Exprs → List Piece → List Piece
+of_named name by make es (a_named_member e other how given ∷ st) = if is_named_member name other by how given es then make e es ∷ st else misfit
+of_named name by make es st = misfit
+
+abbrev pub of_named_found : (name : List ℕ) → ByName → (Expr → Exprs → Piece) → Option (Exprs × List Piece) → List Piece
+of_named_found name by make None = misfit
+of_named_found name by make (Some found) = of_named name by make found.0 found.1
+
 -- ---- what a node makes of the pieces before it
 
 -- the expression that a node is
@@ -177,6 +207,7 @@ put_kind t n (node.Binary o compare left right) st = of_both (λ a b. expr_of n 
 put_kind t n (node.Call p count) st = of_found (λ args. expr_of n (call p args)) (arguments_off count st no_args)
 put_kind t n (node.CallInOrder p count order) st = of_found (λ args. expr_of n (call p (in_order (order_in t order) args))) (arguments_off count st no_args)
 put_kind t n (node.ErrValue member) st = expr_of n (err_value (member_view member)) ∷ st
+put_kind t n (node.Marked broken count) st = of_found (λ es. expr_of n (marked broken es)) (exprs_off count st no_exprs)
 put_kind t n (node.Library f text_form count compare one) st = of_found (λ es. expr_of n (library f text_form es compare (base_view one))) (exprs_off count st no_exprs)
 put_kind t n (node.BoundOf upper z) st = of_place (λ x. expr_of n (bound_of upper x z)) st
 put_kind t n node.DefaultOf st = of_value (λ e. expr_of n (default_of e)) st
@@ -187,6 +218,9 @@ put_kind t n (node.HostObject reference) st = expr_of n (host_object reference) 
 put_kind t n node.ActiveSheet st = expr_of n active_sheet ∷ st
 put_kind t n (node.MemberThere i given) st = of_value (λ e. a_member e (name_in t i) given) st
 put_kind t n (node.HostMember i count) st = of_member_found (name_in t i) (λ e es. expr_of n (host_member e (name_in t i) es)) (exprs_off count st no_exprs)
+put_kind t n (node.NamedThere i by given) st = of_value (λ e. a_named_member e (name_in t i) (by_name_in t by) given) st
+put_kind t n (node.NamedMember i by count) st =
+    of_named_found (name_in t i) (by_name_in t by) (λ e es. expr_of n (named_member e (name_in t i) (by_name_in t by) es)) (exprs_off count st no_exprs)
 put_kind t n node.ByPlace st = of_place (λ x. an_argument (place_lent x)) st
 put_kind t n (node.ByCopy of) st = of_value (λ e. an_argument (value_copied e (declared_view of))) st
 put_kind t n (node.ByDefault i) st = an_argument (default_taken (constant_in t i)) ∷ st

@@ -30,7 +30,7 @@ impl Draft {
     ghost use Rattle.vba_values.specs.View.{view as value_view};
     ghost use Rattle.bound_project.specs.View.{declarations_view, declared_view};
     ghost use Rattle.bound_project.specs.Expressions.{constant, expr};
-    ghost use Rattle.bound_project.specs.Pieces.{an_expr, put};
+    ghost use Rattle.bound_project.specs.Pieces.{an_expr, name_in, order_in, put};
     ghost use Rattle.bound_project.specs.Bodies.{Fits, action_of, block_view, project_view};
     ghost use Rattle.bound_project.specs.Drafts.{ActionNamed, NodeNamed, no_tables, statement_of, with_constant, with_order};
     ghost use Rattle.bound_project.specs.DraftView.{draft_view};
@@ -60,7 +60,7 @@ impl Draft {
         Ok(number)
     }
 
-    /// The number by which nodes and statements name an order of arguments.
+    /// The number by which nodes and statements name an order of arguments, or of the constants that are their names.
     pub fn add_order(&mut self, order: Vec<u32>) -> Result<u32, OrMemory<TooLong>>
         ensures number { IfOk result (λ number. number ≡ length (draft_view self.old).tables.orders) }
         ensures draft { IfOk result (λ _. draft_view self.new ≡ record (draft_view self.old) { tables = with_order (draft_view self.old).tables order.items }) }
@@ -70,6 +70,26 @@ impl Draft {
         };
         self.orders.push(order)?;
         Ok(number)
+    }
+
+    /// The name that a constant is, which is a text, or no units where there is none with that number.
+    pub fn name(&self, number: u32) -> &[u16]
+        ensures { result.now ≡ name_in (draft_view self.now).tables number }
+    {
+        let Some(Value::Text(text)) = self.constants.get(number as usize) else {
+            return &[];
+        };
+        text.units()
+    }
+
+    /// An order of arguments or of names, or none of them where there is no order with that number.
+    pub fn order(&self, number: u32) -> &[u32]
+        ensures { result.now ≡ order_in (draft_view self.now).tables number }
+    {
+        match self.orders.get(number as usize) {
+            Some(order) => order.as_slice(),
+            None => &[],
+        }
     }
 
     /// One more node of the statement that is being read.

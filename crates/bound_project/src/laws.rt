@@ -1,14 +1,15 @@
 ghost use Rattle.vba_lib.specs.declared.function.LibraryFunction.{LibraryFunction};
 ghost use Rattle.vba_values.specs.declared.types.Compare.{Compare};
 ghost use Rattle.std.specs.Prelude.{◌≡◌, ℕ, Bool, None, Option, Some, List, [], ◌∷◌, length, map};
+ghost use Rattle.bound_project.specs.declared.node.ArgumentNames.{ArgumentNames};
 ghost use Rattle.bound_project.specs.declared.node.Node.{Node};
 ghost use Rattle.bound_project.specs.declared.node.NodeKind.TheVariants as node;
 ghost use Rattle.bound_project.specs.declared.statement.ActionKind.TheVariants as kind;
 ghost use Rattle.bound_project.specs.declared.variable.Variable.{Variable};
 ghost use Rattle.bound_project.specs.View.{base_view, variable_view};
-ghost use Rattle.bound_project.specs.Expressions.{Expr, call, given_count, host_member, item, library};
+ghost use Rattle.bound_project.specs.Expressions.{Expr, call, given_count, host_member, item, library, named_member};
 ghost use Rattle.bound_project.specs.Statements.{assign_item, assign_member, print};
-ghost use Rattle.bound_project.specs.Pieces.{Argument, Piece, Tables, a_member, a_place, an_argument, an_expr, expr_of, name_in, put_kind};
+ghost use Rattle.bound_project.specs.Pieces.{Argument, Piece, Tables, a_member, a_named_member, a_place, an_argument, an_expr, by_name_in, expr_of, name_in, put_kind};
 ghost use Rattle.bound_project.specs.Bodies.{action_of};
 ghost use Rattle.bound_project.specs.Lists.{above, args_of, exprs_of, item_piece, prints_of};
 ghost use Rattle.bound_project.specs.Project.{Project, statement_at, next_of};
@@ -38,6 +39,14 @@ pub fn members_take_their_arguments()
     ensures { (t : Tables) (n : Node) (i : ℕ) (object : Expr) (es : List Expr) (st : List Piece)
         → put_kind t n (node.HostMember i (length es)) (above (map an_expr es) (a_member object (name_in t i) (given_count (exprs_of es)) ∷ st))
         ≡ expr_of n (host_member object (name_in t i) (exprs_of es)) ∷ st }
+{}
+
+/// A member whose last arguments have names takes just the values that were put for it behind the object that was looked
+/// at for it. It holds of the definitions alone, and changes nothing.
+pub fn named_members_take_their_arguments()
+    ensures { (t : Tables) (n : Node) (i : ℕ) (by : ArgumentNames) (object : Expr) (es : List Expr) (st : List Piece)
+        → put_kind t n (node.NamedMember i by (length es)) (above (map an_expr es) (a_named_member object (name_in t i) (by_name_in t by) (given_count (exprs_of es)) ∷ st))
+        ≡ expr_of n (named_member object (name_in t i) (by_name_in t by) (exprs_of es)) ∷ st }
 {}
 
 /// An assignment to a member takes just the values that were put for it. It holds of the definitions alone, and changes

@@ -20,10 +20,10 @@ pub use declared_type::{DeclaredType, ElementType};
 pub use draft::Draft;
 pub use laws::{
     assignments_take_their_arguments, calls_take_their_arguments, elements_take_their_numbers,
-    functions_take_their_arguments, members_take_their_arguments, prints_show_their_items,
-    statements_past_the_end_are_next,
+    functions_take_their_arguments, members_take_their_arguments,
+    named_members_take_their_arguments, prints_show_their_items, statements_past_the_end_are_next,
 };
-pub use node::{Node, NodeKind};
+pub use node::{ArgumentNames, Node, NodeKind};
 pub use project::{Block, Body, Project};
 pub use statement::{ActionKind, Handling, StatementNode};
 pub use too_long::TooLong;

@@ -1,8 +1,16 @@
 use crate::declared_type::DeclaredType;
 use crate::variable::{ErrMember, Variable};
-use vba_base::Place;
+use vba_base::{Place, Refusal};
 use vba_lib::LibraryFunction;
 use vba_values::{Compare, HostRef, OpKind};
+
+/// How arguments are named: so many stand before those with names, and the order of the constants that are these names,
+/// folded.
+#[derive(Clone, Copy)]
+pub struct ArgumentNames {
+    pub before: u32,
+    pub order: u32,
+}
 
 /// What a node makes of the pieces before it: the nodes of an expression stand in the order in which it is evaluated,
 /// those of its parts before it. Numbers of constants and orders are places in the lists of the project.
@@ -76,6 +84,12 @@ pub enum NodeKind {
         compare: Compare,
         is_base_one: bool,
     },
+    /// What breaks a static rule: the values that it is written with, behind which it stands. No project that runs has
+    /// one.
+    Marked {
+        broken: Refusal,
+        values: u32,
+    },
     /// UBound, or LBound, of what is at the place before it, for the dimension of this number.
     BoundOf {
         is_upper: bool,
@@ -102,6 +116,17 @@ pub enum NodeKind {
     /// That member, behind so many values, of which those that aren't given are `NotGiven`.
     HostMember {
         name: u32,
+        arguments: u32,
+    },
+    /// The same with arguments of which the last ones have names.
+    NamedThere {
+        name: u32,
+        names: ArgumentNames,
+        given: u32,
+    },
+    NamedMember {
+        name: u32,
+        names: ArgumentNames,
         arguments: u32,
     },
     /// An argument: the place before it, the value before it made one of a type, a default, so many values before it.

@@ -1,6 +1,6 @@
 -- What the nodes of a statement say is what is added.
 use Rattle.std.proofs.Common.{◌≡◌, ℕ, pos, Bool, true, false, List, [], ◌∷◌, ◌++◌, refl, ◌∙◌, sym, ap, subst}
-use Rattle.std.specs.Prelude.{Option, Some, is_some, option_map, option_and_then}
+use Rattle.std.specs.Prelude.{Option, Some, is_some, option_map}
 use Rattle.vba_base.specs.declared.place.Place.{Place}
 use Rattle.vba_values.specs.declared.types.Compare.{Compare}
 use Rattle.vba_values.specs.declared.types.WholeKind.TheVariants as kind_of_whole
@@ -25,7 +25,7 @@ use Rattle.binder.specs.Constants.{compare_in}
 use Rattle.binder.specs.Numbering.{Opened, Standing}
 use Rattle.binder.specs.Terms.{Within, Env}
 use Rattle.binder.specs.StatementsBound.{Around, with_or, within, integer, one_statement, simple_action, env_at, for_action, next_action, line_of, loop_variable, selected, header_of}
-use Rattle.binder.specs.ExpressionsBound.{bound_as_given, bound_operand}
+use Rattle.binder.specs.ExpressionsBound.{bound_operand}
 use Rattle.vba_lexer.specs.declared.token.Token.{Token}
 use Rattle.vba_words.specs.declared.identifier.Identifier.{Identifier}
 use Rattle.vba_expression.specs.Tree.{Expr}
@@ -181,21 +181,6 @@ pub next_done : (env : Env) (around os : List Opened) (o : Opened) (for_word equ
     → around ≡ o ∷ os → line_of o.line ≡ Some (tree.for_line for_word x equal start to_word limit step) → Some v ≡ loop_variable env x
     → next_action env around ≡ Some (to.next v o.header o.first)
 next_done env around os o for_word equal to_word x start limit step v is opened named = rw (is, opened, ← named)
-
--- For Each
-pub each_pushed : (env : Env) (control : Variable) (named : Option bound.Variable) (group : Expr) (of : DeclaredType) (first behind : ℕ) (d e : Drafted)
-    → d.pieces ≡ [] → Some (variable_view control) ≡ named → ValuePushed (bound_as_given env group) of d e
-    → ActionPushed (kind.ForEach control first behind) (option_and_then (λ v. option_map (λ x. to.for_each v x first behind) (bound_as_given env group)) named) d e
-each_pushed env control named group of first behind d e empty name v =
-    let found : Option bound.Variable → Option Action = λ (o : Option bound.Variable). option_and_then (λ (x : bound.Variable). option_map (λ (y : bound.Expr). to.for_each x y first behind) (bound_as_given env group)) o in
-    record {
-      statements = v.same.statements;
-      bodies = v.same.bodies;
-      named = tt;
-      made = to.for_each (variable_view control) v.pushed.made first behind;
-      is = ap found (sym name) ∙ ap (option_map (λ (y : bound.Expr). to.for_each (variable_view control) y first behind)) v.pushed.is;
-      fits = ap (action_of e.tables (kind.ForEach control first behind)) (v.pushed.on_top ∙ ap (λ ps. an_expr v.pushed.made ∷ ps) empty);
-    }
 
 -- Next of the innermost block, which is a For Each
 pub next_each_done : (env : Env) (around os : List Opened) (o : Opened) (for_word each_word in_word : Token) (x : Identifier) (group : Expr) (v : bound.Variable)

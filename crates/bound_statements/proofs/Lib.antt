@@ -3,6 +3,7 @@ pub mod Walked
 pub mod Lists
 pub mod Parts
 pub mod Ended
+pub mod Broken
 pub mod Items
 pub mod Arrays
 pub mod Ifs

@@ -20,8 +20,8 @@ use Rattle.binder.specs.Options.{from_two}
 use Rattle.binder.specs.Constants.{compare_in, place_of_expression}
 use Rattle.binder.specs.Numbering.{Opened, Standing, Sought, here, an_arm, behind_block, sought_behind}
 use Rattle.binder.specs.Terms as terms
-use Rattle.binder.specs.ExpressionsBound.{bound_as_given, bound_operand, bound_reference, givens, term_of, place_told}
-use Rattle.binder.specs.StatementsBound.{Around, assigned_to, called_place, called_with, redim_arrays, erased_arrays, value_shown, items_shown, ends_line, simple_action, block_action, loop_variable, next_action, loop_action, for_action, step_value, step_place, case_tests, selected, line_of, header_of, set_target, set_to, value_for, with_action}
+use Rattle.binder.specs.ExpressionsBound.{bound_as_given, bound_operand, givens, term_of, place_told}
+use Rattle.binder.specs.StatementsBound.{Around, assigned_to, called_place, called_with, redim_arrays, erased_arrays, value_shown, items_shown, ends_line, simple_action, block_action, loop_variable, if_broken, cannot_count, for_each_of, is_other_name, name_place, loop_name, next_action, set_given, loop_action, for_action, step_value, step_place, case_tests, selected, line_of, header_of, value_for, with_action}
 use Rattle.bound_calls.specs.Standing.{PushedIs}
 
 -- a condition of a line: where it holds, control goes to the first statement of its block
@@ -33,14 +33,21 @@ case_in env a s tests =
     from_two (λ v ts. to.case_of ts (header_of s.around) (bound.operand_type v) (compare_in env.scope) (sought_behind here s) (sought_behind (an_arm 0) s))
     (selected a s.around) (case_tests env tests)
 
+-- a For with this variable
+abbrev pub counted_in : terms.Env → Standing → Option bound.Variable → (start limit : Expr) → Option tree.StepClause → Option Action
+counted_in env s x start limit step =
+    for_action x env (bound_operand env start) (bound_operand env limit) (step_value env (place_of s.part) step) (place_of_expression limit) (step_place step)
+    (sought_behind here s) (sought_behind (behind_block 0) s)
+
 abbrev pub for_in : terms.Env → Standing → Identifier → (start limit : Expr) → Option tree.StepClause → Option Action
-for_in env s x start limit step =
-    for_action (loop_variable env x) env (bound_operand env start) (bound_operand env limit) (step_value env (place_of s.part) step)
-    (place_of_expression limit) (step_place step) (sought_behind here s) (sought_behind (behind_block 0) s)
+for_in env s x start limit step = if_broken (cannot_count (loop_variable env x)) 29 x.token.place (counted_in env s (loop_variable env x) start limit step)
 
 abbrev pub each_in : terms.Env → Standing → Identifier → Expr → Option Action
 each_in env s x group =
-    option_and_then (λ v. option_map (λ e. to.for_each v e (sought_behind here s) (sought_behind (behind_block 0) s)) (bound_as_given env group)) (loop_variable env x)
+    option_and_then (λ v. option_map (for_each_of v x.token.place (sought_behind here s) (sought_behind (behind_block 0) s)) (bound_as_given env group)) (loop_variable env x)
+
+abbrev pub next_in : terms.Env → Standing → Option Identifier → Option Action
+next_in env s x = if_broken (is_other_name x (loop_name s.around)) 29 (name_place x) (next_action env s.around)
 
 -- a line of a block, in this scope
 abbrev pub block_in : terms.Env → Around → Standing → BlockLine → Option Action
@@ -50,7 +57,7 @@ block_in env a s (tree.select_case select_word case_word e) = option_map (λ v. 
 block_in env a s (tree.case_line case_word tests) = case_in env a s (all_of tests)
 block_in env a s (tree.for_line for_word x equal start to_word limit step) = for_in env s x start limit step
 block_in env a s (tree.for_each for_word each_word x in_word group) = each_in env s x group
-block_in env a s (tree.next_line next_word x) = next_action env s.around
+block_in env a s (tree.next_line next_word x) = next_in env s x
 block_in env a s (tree.do_line do_word c) = loop_action env c (sought_behind here s) (sought_behind (behind_block 0) s)
 block_in env a s (tree.loop_line loop_word c) = loop_action env c (header_of s.around) (sought_behind here s)
 block_in env a s (tree.while_line while_word e) = branch_in env s (behind_block 0) e
@@ -60,7 +67,7 @@ block_in env a s line = block_action a s line
 -- a statement other than a single-line If, in this scope
 abbrev pub simple_in : terms.Env → Around → Standing → Simple → Option Action
 simple_in env a s (tree.assignment let_word x equal e) = option_and_then (assigned_to env x) (value_for env x e)
-simple_in env a s (tree.set_assignment set_word x equal e) = option_and_then (set_to (set_target env x)) (bound_reference env e)
+simple_in env a s (tree.set_assignment set_word x equal e) = option_and_then (set_given env set_word.place x) (bound_as_given env e)
 simple_in env a s (tree.call_place call_word e) = called_place env e
 simple_in env a s (tree.call e args) = called_with env e (givens env args)
 simple_in env a s (tree.re_dim redim_word preserve_word arrays) = option_map (to.redim (is_some preserve_word)) (redim_arrays env (all_of arrays))

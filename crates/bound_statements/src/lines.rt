@@ -16,7 +16,7 @@ ghost use Rattle.vba_tree.specs.View.{block_line_view, loop_condition_view};
 
 use crate::around::Around;
 use crate::case_lines::bind_case;
-use crate::for_lines::{bind_for, bind_for_each, next_kind};
+use crate::for_lines::{bind_for, bind_for_each, bind_next};
 use crate::innermost::header_of;
 use crate::values::{push_given, push_operand, there};
 use bound_actions::bind_with;
@@ -132,7 +132,6 @@ fn bind_loop<'a>(
 
 /// What a line without a condition or a value does, in its scope.
 fn alone_line<'a>(
-    alloc: Global,
     around: Around<'a>,
     standing: Standing<'a>,
     line: &'a BlockLine,
@@ -142,7 +141,6 @@ fn alone_line<'a>(
     ensures is { IfOk result (λ kind. (block_in (env_view around.entry.env) (around_view around.entry) (standing_view standing.entry) (block_line_view line.now)) ≡ done_alone kind) }
 {
     match line {
-        BlockLine::Next { .. } => next_kind(alloc, around.env, standing),
         BlockLine::Wend(_) => Ok(ActionKind::GoTo {
             to: header_of(standing),
         }),
@@ -190,6 +188,7 @@ pub(crate) fn bind_line<'a>(
         BlockLine::ForEach { element, group, .. } => {
             bind_for_each(alloc, draft, env, standing, element, group)
         }
+        BlockLine::Next { counter, .. } => bind_next(alloc, draft, env, standing, counter),
         BlockLine::Do { condition, .. } => {
             let first = standing.sought_behind(Sought::Here)?;
             let behind = standing.sought_behind(Sought::BehindBlock(0))?;
@@ -200,6 +199,6 @@ pub(crate) fn bind_line<'a>(
             bind_loop(alloc, draft, env, condition, header_of(standing), behind)
         }
         BlockLine::With { object, .. } => there(bind_with(alloc, draft, env, object)?),
-        _ => alone_line(alloc, around, standing, line),
+        _ => alone_line(around, standing, line),
     }
 }

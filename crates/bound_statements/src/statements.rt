@@ -132,9 +132,12 @@ fn kind_in_scope<'a>(
         SimpleStatement::Assignment { place, value, .. } => {
             there(bind_assignment(alloc, draft, env, place, value)?)
         }
-        SimpleStatement::SetAssignment { place, value, .. } => {
-            there(bind_set(alloc, draft, env, place, value)?)
-        }
+        SimpleStatement::SetAssignment {
+            set_word,
+            place,
+            value,
+            ..
+        } => there(bind_set(alloc, draft, env, set_word.place, place, value)?),
         SimpleStatement::CallPlace { place, .. } => {
             there(bind_call_place(alloc, draft, env, place)?)
         }

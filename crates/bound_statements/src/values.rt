@@ -1,11 +1,15 @@
 //! Values that statements need.
 
-ghost use Rattle.std.specs.Prelude.{◌≡◌, Some, IfOk, pos};
+ghost use Rattle.std.specs.Prelude.{◌≡◌, [], Some, IfOk, pos};
 ghost use Rattle.bound_statements.specs.Actions.{ValuePushed};
 ghost use Rattle.binder.specs.ExpressionsBound as plain;
+ghost use Rattle.binder.specs.Terms.{broken_rule};
 ghost use Rattle.binder.specs.StatementsBound as statements;
 ghost use Rattle.bound_project.specs.declared.node.NodeKind.TheVariants as node;
 ghost use Rattle.bound_project.specs.DraftView.{draft_view};
+ghost use Rattle.bound_project.specs.Expressions.{no_exprs};
+ghost use Rattle.bound_project.specs.Statements as to;
+ghost use Rattle.bound_actions.specs.Actions.{ActionPushed};
 ghost use Rattle.bound_project.specs.View.{variable_view};
 ghost use Rattle.bound_terms.specs.View.{EnvStands, env_view};
 ghost use Rattle.vba_values.specs.declared.types.WholeKind.TheVariants as whole_kind;
@@ -14,11 +18,12 @@ ghost use Rattle.vba_values.specs.View.{view as value_view};
 ghost use Rattle.vba_expression.specs.View.{view as expression_view};
 
 use bound_actions::loop_variable;
+use bound_calls::push_node;
 use bound_declarations::NotYet;
 use bound_project::{ActionKind, DeclaredType, Draft, ElementType, Node, NodeKind, Variable};
 use bound_terms::{Env, bind_given, bind_operand};
 use std::alloc::Global;
-use vba_base::{NoMemory, OrMemory, Place};
+use vba_base::{NoMemory, OrMemory, Place, Refusal};
 use vba_expression::Expression;
 use vba_values::Value;
 use vba_words::Identifier;
@@ -100,6 +105,25 @@ pub(crate) fn counter_of<'a>(
         Some(found) => Ok(found),
         None => Err(OrMemory::Fault(NotYet)),
     }
+}
+
+/// A statement that breaks a static rule at a place.
+#[tactic(auto, using(crate::proofs::Broken::rule_marked))]
+pub(crate) fn mark(
+    draft: &mut Draft,
+    rule: u8,
+    place: Place,
+) -> Result<ActionKind, OrMemory<NotYet>>
+    requires { (draft_view draft.old).pieces ≡ [] }
+    ensures { IfOk result (λ kind. ActionPushed kind (Some (to.evaluate (broken_rule rule place no_exprs))) (draft_view draft.old) (draft_view draft.new)) }
+{
+    let variant = DeclaredType::Plain(ElementType::Variant);
+    let broken = NodeKind::Marked {
+        broken: Refusal { rule, place },
+        values: 0,
+    };
+    push_node(draft, broken, variant, place)?;
+    Ok(ActionKind::Evaluate)
 }
 
 /// A node whose kind is still to be told, where it asks for no place and no type.

@@ -1,5 +1,6 @@
 pub mod Lookups
 pub mod NamedTerms
+pub mod NamedMembers
 pub mod Dotted
 pub mod Elements
 pub mod IndexedProperties

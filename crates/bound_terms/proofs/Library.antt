@@ -3,6 +3,7 @@ use Rattle.std.proofs.Common.{◌≡◌, ℕ, suc, ◌+◌, ◌==◌, Bool, true
 use Rattle.std.specs.Prelude.{ℤ, pos, option_and_then, bytes_eq, codes}
 use Rattle.std.proofs.lemmas.List.{map-append}
 use Rattle.vba_base.specs.declared.place.Place.{Place}
+use Rattle.vba_base.specs.declared.place.Refusal.{Refusal}
 use Rattle.vba_lexer.specs.declared.token.Token.{Token}
 use Rattle.vba_words.specs.declared.identifier.Identifier.{Identifier}
 use Rattle.vba_expression.specs.Tree.{Expr}
@@ -11,6 +12,7 @@ use Rattle.vba_expression.specs.Nodes.{behind_node}
 use Rattle.vba_expression.specs.declared.node.ExpressionNode.TheVariants as node
 use Rattle.vba_values.specs.declared.types.Compare.{Compare}
 use Rattle.vba_values.specs.Types.{Declared}
+use Rattle.vba_values.specs.Types as type
 use Rattle.vba_lib.specs.declared.function.LibraryFunction.{LibraryFunction}
 use Rattle.vba_lib.specs.declared.function.LibraryFunction.TheVariants as function
 use Rattle.vba_lib.specs.Library.{declared_of}
@@ -23,7 +25,7 @@ use Rattle.bound_project.specs.declared.declared_type.ElementType.TheVariants as
 use Rattle.bound_project.specs.Project.{nowhere}
 use Rattle.bound_project.specs.declared.node.NodeKind.TheVariants as kinds
 use Rattle.bound_project.specs.View.{declared_view, base_view}
-use Rattle.bound_project.specs.Expressions.{Exprs, also, library, operand_type}
+use Rattle.bound_project.specs.Expressions.{Exprs, also, library, marked, operand_type}
 use Rattle.bound_project.specs.Expressions as bound
 use Rattle.bound_project.specs.Lists.{above, exprs_of}
 use Rattle.bound_project.proofs.Lists.{above_push}
@@ -35,7 +37,8 @@ use Rattle.binder.specs.Constants.{compare_in}
 use Rattle.binder.specs.Options.{from_two}
 use Rattle.binder.specs.Terms.{Env, Given, a_function, a_value, error_word, has_names, no_term}
 use Rattle.binder.specs.Terms as terms
-use Rattle.binder.specs.ExpressionsBound.{array_base, constant_term, from_zero, function_called, function_values, givens, if_there, indexed, is_user_type, item_of, library_term, plain_value, taken_as, takes_count, taking, term_of, place_told}
+use Rattle.binder.specs.ExpressionsBound.{array_base, callee, constant_term, from_zero, function_called, function_value, function_values, givens, if_there, indexed, is_user_type, item_of, library_term, plain_value, taken_as, takes_count, taking, term_of, place_told}
+use Rattle.bound_calls.specs.declared.term.Ending.{Ending}
 use Rattle.bound_calls.specs.declared.term.Function.{Function}
 use Rattle.bound_calls.specs.declared.term.FunctionCall.{FunctionCall}
 use Rattle.bound_calls.specs.declared.term.Term.{Term}
@@ -230,20 +233,28 @@ values_long env f i [] (e ∷ es) h = absurd h
 values_long env f i (g ∷ gs) [] h = absurd h
 values_long env f i (g ∷ gs) (e ∷ es) h = omega (arith, values_long env f (suc i) gs es h.1)
 
-called_is : (env : Env) (f : LibraryFunction) (text_form one : Bool) (compare : Compare) (count : ℕ) (of : DeclaredType) (gs : List Given) (es : List bound.Expr) → compare ≡ compare_in env.scope → count ≡ length es → takes_count f count ≡ true
-    → declared_view of ≡ declared_of f text_form → AllValues env f 0 gs es
-    → function_called env f text_form (base_number one) gs ≡ a_value (library f text_form (exprs_of es) compare (base_view one)) (declared_view of)
-called_is env f text_form one compare count of gs es c counted takes typed values =
+-- what is made of arguments, by whether a function takes so many
+valued_call : (env : Env) (place : Place) (f : LibraryFunction) (text_form : Bool) (base count : ℕ) (takes : Bool) (gs : List Given) (es : List bound.Expr) → count ≡ length es → takes_count f count ≡ takes → AllValues env f 0 gs es
+    → function_called env place f text_form base gs ≡ function_value env place f text_form base takes (exprs_of es)
+valued_call env place f text_form base count takes gs es counted is values =
     let long : length gs ≡ count = omega (arith, counted, values_long env f 0 gs es values) in
-    let found : Option Exprs → terms.Term = λ (o : Option Exprs).
-    if_there (option_map (λ (xs : Exprs). a_value (library f text_form xs (compare_in env.scope) (pos (base_number one))) (declared_of f text_form)) o) in
     let listed = function_values env f 0 gs in
-    ap (λ (b : Bool). if not b && takes_count f (length gs) then found listed else no_term) (values_nameless env f 0 gs es values)
-    ∙ ap (λ (n : ℕ). if takes_count f n then found listed else no_term) long ∙ ap (λ (b : Bool). if b then found listed else no_term) takes
-    ∙ ap found (all_valued env f 0 gs es values)
+    let made : Bool → Option Exprs → terms.Term = λ (b : Bool) (o : Option Exprs). if_there (option_map (function_value env place f text_form base b) o) in
+    ap (λ (b : Bool). if b then no_term else made (takes_count f (length gs)) listed) (values_nameless env f 0 gs es values)
+    ∙ ap (λ (n : ℕ). made (takes_count f n) listed) long ∙ ap (λ (b : Bool). made b listed) is ∙ ap (made takes) (all_valued env f 0 gs es values)
+
+called_is : (env : Env) (place : Place) (f : LibraryFunction) (text_form one : Bool) (compare : Compare) (count : ℕ) (of : DeclaredType) (gs : List Given) (es : List bound.Expr) → compare ≡ compare_in env.scope → count ≡ length es → takes_count f count ≡ true
+    → declared_view of ≡ declared_of f text_form → AllValues env f 0 gs es
+    → function_called env place f text_form (base_number one) gs ≡ a_value (library f text_form (exprs_of es) compare (base_view one)) (declared_view of)
+called_is env place f text_form one compare count of gs es c counted takes typed values =
+    valued_call env place f text_form (base_number one) count true gs es counted takes values
     ∙ ap (λ (k : Compare). a_value (library f text_form (exprs_of es) k (pos (base_number one))) (declared_of f text_form)) (sym c)
     ∙ ap (λ (z : ℤ). a_value (library f text_form (exprs_of es) compare z) (declared_of f text_form)) (base_is one)
     ∙ ap (λ (u : Declared). a_value (library f text_form (exprs_of es) compare (base_view one)) u) (sym typed)
+
+miscounted_is : (env : Env) (place : Place) (f : LibraryFunction) (text_form one : Bool) (count : ℕ) (gs : List Given) (es : List bound.Expr) → count ≡ length es → takes_count f count ≡ false → AllValues env f 0 gs es
+    → function_called env place f text_form (base_number one) gs ≡ a_value (marked (record { rule = 25; place = place }) (exprs_of es)) type.variant
+miscounted_is env place f text_form one count gs es counted takes values = valued_call env place f text_form (base_number one) count false gs es counted takes values
 
 abbrev pub kind_of : FunctionCall → NodeKind
 kind_of x = kinds.Library x.function.function x.function.is_text_form x.count x.function.compare x.function.is_base_one
@@ -258,9 +269,30 @@ ends_function x of takes typed = record {
       let A : terms.Term → Type 0 = λ (z : terms.Term). indexed env (place_told e) (item_of (place_told e) z) gs ≡ a_value (library f.function f.is_text_form (exprs_of s.made) f.compare (base_view f.is_base_one)) (declared_view of) in
       record {
         made = library f.function f.is_text_form (exprs_of s.made) f.compare (base_view f.is_base_one);
-        is = subst A (sym s.function_is.is) (called_is env f.function f.is_text_form f.is_base_one f.compare x.count of gs s.made s.function_is.compare_is s.count_is takes typed s.values);
+        is = subst A (sym s.function_is.is) (called_is env (place_told e) f.function f.is_text_form f.is_base_one f.compare x.count of gs s.made s.function_is.compare_is s.count_is takes typed s.values);
         ends = λ n.
             ap (λ (o : Option (Exprs × List Piece)). of_found (λ (xs : Exprs). expr_of n (library f.function f.is_text_form xs f.compare (base_view f.is_base_one))) o) (taken_off x.count s.made ps below s.count_is s.on_top);
+      };
+}
+
+-- a function that doesn't take so many
+abbrev pub miscounted : FunctionCall → Ending
+miscounted x = record { kind = kinds.Marked (record { rule = 25; place = x.place }) x.count; of = Plain element.Variant }
+
+pub ends_miscounted : (x : FunctionCall) → takes_count x.function.function x.count ≡ false → EndsFunction x (term.Value (miscounted x))
+ends_miscounted x takes = record {
+  named = λ t. tt;
+  stands = λ env t e args ps below s.
+      let f = x.function in
+      let gs = givens env args in
+      let place = place_told e in
+      let broken : Refusal = record { rule = 25; place = x.place } in
+      let A : terms.Term → Type 0 = λ (z : terms.Term). indexed env place (item_of place z) gs ≡ a_value (marked (record { rule = 25; place = place }) (exprs_of s.made)) type.variant in
+      let B : Place → Type 0 = λ (p : Place). indexed env place (item_of place (callee env e (term_of env e))) gs ≡ a_value (marked (record { rule = 25; place = p }) (exprs_of s.made)) type.variant in
+      record {
+        made = marked broken (exprs_of s.made);
+        is = subst B (sym s.place_is) (subst A (sym s.function_is.is) (miscounted_is env place f.function f.is_text_form f.is_base_one x.count gs s.made s.count_is takes s.values));
+        ends = λ n. ap (λ (o : Option (Exprs × List Piece)). of_found (λ (xs : Exprs). expr_of n (marked broken xs)) o) (taken_off x.count s.made ps below s.count_is s.on_top);
       };
 }
 

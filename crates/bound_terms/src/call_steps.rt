@@ -17,14 +17,15 @@ use bound_declarations::NotYet;
 use bound_project::Draft;
 use std::alloc::Global;
 use vba_base::OrMemory;
+use vba_expression::ExpressionNode;
 
-/// Arguments begin, so many of them: the expression on top is called or indexed.
+/// Arguments begin, with which these nodes begin: the expression on top is called or indexed.
 pub fn step_no_arguments<'a>(
     alloc: Global,
     draft: &mut Draft,
     env: Env<'a>,
     stack: &mut Vec<Item<'a>>,
-    given: u32,
+    nodes: &[ExpressionNode],
 ) -> Result<(), OrMemory<NotYet>>
     requires env { EnvStands env }
     requires named { AllNamed (draft_view draft.old).tables (reverse stack.old.items) }
@@ -33,7 +34,7 @@ pub fn step_no_arguments<'a>(
     let Some(Item::Tree(tree)) = take_item(stack) else {
         return Err(OrMemory::NoMemory);
     };
-    let item = begin_arguments(alloc, draft, env, tree, given)?;
+    let item = begin_arguments(alloc, draft, env, tree, nodes)?;
     put_item(stack, item)?;
     Ok(())
 }

@@ -26,7 +26,7 @@ use bound_declarations::NotYet;
 use bound_project::{DeclaredType, Draft, ElementType, NodeKind};
 use declared_names::has_dollar;
 use std::alloc::Global;
-use vba_base::{NoMemory, OrMemory};
+use vba_base::{NoMemory, OrMemory, Refusal};
 use vba_lib::{LibraryFunction, arity, declared_type};
 use vba_words::Identifier;
 
@@ -222,13 +222,20 @@ fn answer_type(
     }
 }
 
-/// What a function gives of its arguments; it is bound only where it takes so many.
+/// What a function gives of its arguments; where it doesn't take so many they are marked as what breaks a static rule.
 pub fn close_function<'a>(alloc: Global, call: FunctionCall) -> Result<Term<'a>, OrMemory<NotYet>>
     ensures { IfOk result (λ term. EndsFunction call term) }
 {
     let function = call.function;
     if !takes_count(function.function, call.count) {
-        return Err(OrMemory::Fault(NotYet));
+        let place = call.place;
+        return Ok(Term::Value(Ending {
+            kind: NodeKind::Marked {
+                broken: Refusal { rule: 25, place },
+                values: call.count,
+            },
+            of: DeclaredType::Plain(ElementType::Variant),
+        }));
     }
     let of = answer_type(alloc, function.function, function.is_text_form)?;
     Ok(Term::Value(Ending {

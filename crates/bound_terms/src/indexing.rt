@@ -21,10 +21,11 @@ use bound_calls::{
     pass_plain, push_node, push_operand, routine_ending, sum,
 };
 use bound_declarations::{NotYet, is_property};
-use bound_members::{add_given, add_missing, close_member, open_member};
+use bound_members::{add_given, add_missing, close_member, given_ahead, open_member};
 use bound_project::{DeclaredType, Draft, ElementType, NodeKind};
 use std::alloc::Global;
 use vba_base::{OrMemory, Place};
+use vba_expression::ExpressionNode;
 
 /// The type of what an index gives, where something can be indexed.
 fn element_type(of: DeclaredType) -> Option<DeclaredType>
@@ -225,13 +226,13 @@ fn open_term<'a>(
     }
 }
 
-/// What an expression is whose arguments are read from now on: so many are to come that are written.
+/// What an expression is whose arguments are read from now on: they are to come in these nodes.
 pub fn begin_arguments<'a>(
     alloc: Global,
     draft: &mut Draft,
     env: Env<'a>,
     tree: Tree<'a>,
-    given: u32,
+    nodes: &[ExpressionNode],
 ) -> Result<Item<'a>, OrMemory<NotYet>>
     requires env { EnvStands env }
     requires named { TermNamed (draft_view draft.old).tables tree.term }
@@ -240,10 +241,10 @@ pub fn begin_arguments<'a>(
     let term = callee_term(alloc, draft, env, tree)?;
     if takes_item(term) {
         let member = item_member(alloc, draft, tree.place, term)?;
-        let call = open_member(draft, tree.place, member, given)?;
+        let call = open_member(alloc, draft, tree.place, member, nodes)?;
         return Ok(Item::Member(call));
     }
-    open_term(alloc, draft, tree, term, given)
+    open_term(alloc, draft, tree, term, given_ahead(nodes))
 }
 
 /// One more number: the expression on top.
@@ -411,7 +412,7 @@ pub fn end_arguments<'a>(
 {
     match item {
         Item::Member(call) => {
-            let term = close_member(call)?;
+            let term = close_member(draft, call)?;
             Ok(Tree {
                 place: call.place,
                 name: None,

@@ -26,7 +26,5 @@ pub use gathering::{gathered_ending, take_gathered};
 pub use indexing::indexes_value;
 pub use items::{item_member, item_term, takes_item};
 pub use names::{meant_term, meant_variable};
-pub use pass::{
-    bind_given, bind_operand, bind_reference, bind_value, given_at, push_value, run, tree_of,
-};
+pub use pass::{bind_given, bind_operand, bind_reference, bind_value, push_value, run, tree_of};
 pub use properties::{Writer, writer_of};

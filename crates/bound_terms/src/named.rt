@@ -1,7 +1,7 @@
 //! Arguments with names: each is pushed for its parameter as it is read, and the call keeps in which order parameters
 //! take what was pushed.
 
-ghost use Rattle.std.specs.Prelude.{◌≡◌, ◌≢◌, [], IfOk, OnOk, Option, map, option_map, reverse};
+ghost use Rattle.std.specs.Prelude.{◌≡◌, ◌≢◌, [], ◌∷◌, IfOk, OnOk, Option, map, option_map, reverse};
 ghost use Rattle.vba_lexer.specs.declared.token.Token.{Token};
 ghost use Rattle.vba_expression.specs.declared.node.ExpressionNode.TheVariants as node;
 ghost use Rattle.vba_expression.specs.Nodes.{behind_node};
@@ -15,10 +15,11 @@ ghost use Rattle.bound_calls.specs.Steps.{Goes};
 use crate::call_steps;
 use crate::gathering::{index_gathered, take_gathered};
 use bound_calls::{
-    Item, Named, Passed, Term, Tree, named_ending, pass_tree, put_item, sum, take_item,
+    Item, MemberCall, Named, Passed, Term, Tree, named_ending, pass_tree, put_item, sum, take_item,
     take_numbers,
 };
 use bound_declarations::NotYet;
+use bound_members::add_named;
 use bound_project::{Draft, Parameter};
 use std::alloc::Global;
 use vba_base::{NoMemory, OrMemory};
@@ -66,6 +67,45 @@ fn parameter_named<'a>(
     Ok(None)
 }
 
+/// One more argument of a procedure: an expression behind arguments, for the parameter with this name.
+fn pass_named<'a>(
+    alloc: Global,
+    draft: &mut Draft,
+    stack: &mut Vec<Item<'a>>,
+    tree: Tree<'a>,
+    name: &Identifier,
+) -> Result<(), OrMemory<NotYet>>
+    requires { AllNamed (draft_view draft.old).tables (Item.Tree tree ∷ reverse stack.old.items) }
+    ensures { OnOk result ((env : plain.Env) (comma : Option Token) (mark : Token) → Goes env (draft_view draft.old) (Item.Tree tree.entry ∷ reverse stack.old.items) (draft_view draft.new) (reverse stack.new.items) (behind_node (node.NamedArgument comma name.now mark))) }
+{
+    let Some(passed) = passed_below(stack) else {
+        return Err(OrMemory::Fault(NotYet));
+    };
+    let Some((number, parameter)) = parameter_named(passed.count, passed.left, name)? else {
+        return Err(OrMemory::Fault(NotYet));
+    };
+    pass_tree(alloc, draft, parameter, tree)?;
+    put_item(stack, Item::Named(Named { number }))?;
+    Ok(())
+}
+
+/// One more argument of a member: an expression behind the call, with this name.
+fn give_named<'a>(
+    alloc: Global,
+    draft: &mut Draft,
+    stack: &mut Vec<Item<'a>>,
+    call: MemberCall,
+    tree: Tree<'a>,
+    name: &Identifier,
+) -> Result<(), OrMemory<NotYet>>
+    requires { AllNamed (draft_view draft.old).tables (Item.Tree tree ∷ Item.Member call ∷ reverse stack.old.items) }
+    ensures { OnOk result ((env : plain.Env) (comma : Option Token) (mark : Token) → Goes env (draft_view draft.old) (Item.Tree tree.entry ∷ Item.Member call ∷ reverse stack.old.items) (draft_view draft.new) (reverse stack.new.items) (behind_node (node.NamedArgument comma name.now mark))) }
+{
+    let more = add_named(alloc, draft, call, tree, name)?;
+    put_item(stack, Item::Member(more))?;
+    Ok(())
+}
+
 /// One more argument: the expression on top, for the parameter with this name.
 pub fn step_named_argument<'a>(
     alloc: Global,
@@ -79,15 +119,14 @@ pub fn step_named_argument<'a>(
     let Some(Item::Tree(tree)) = take_item(stack) else {
         return Err(OrMemory::NoMemory);
     };
-    let Some(passed) = passed_below(stack) else {
-        return Err(OrMemory::Fault(NotYet));
-    };
-    let Some((number, parameter)) = parameter_named(passed.count, passed.left, name)? else {
-        return Err(OrMemory::Fault(NotYet));
-    };
-    pass_tree(alloc, draft, parameter, tree)?;
-    put_item(stack, Item::Named(Named { number }))?;
-    Ok(())
+    match take_item(stack) {
+        Some(Item::Member(call)) => give_named(alloc, draft, stack, call, tree, name),
+        Some(item) => {
+            put_item(stack, item)?;
+            pass_named(alloc, draft, stack, tree, name)
+        }
+        None => Err(OrMemory::Fault(NotYet)),
+    }
 }
 
 /// Arguments end of which the last ones have names: a call.

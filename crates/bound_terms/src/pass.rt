@@ -24,32 +24,12 @@ use std::alloc::Global;
 use vba_base::OrMemory;
 use vba_expression::{BinaryOperator, Expression, ExpressionNode};
 
-/// How many arguments there are behind the node with this number, with which they begin. No promise rests on it: where
-/// they end as many must have come.
-fn arguments_behind(nodes: &[ExpressionNode], number: usize) -> u32 {
-    let Some((_before, behind)) = nodes.split_at_checked(number) else {
-        return 0;
-    };
-    let mut count: u32 = 0;
-    let mut depth: usize = 0;
-    for node in behind {
-        match node {
-            ExpressionNode::NoArguments => depth = depth.saturating_add(1),
-            ExpressionNode::Index { .. } => {
-                if depth <= 1 {
-                    return count;
-                }
-                depth = depth.saturating_sub(1);
-            }
-            ExpressionNode::PlainArgument { .. } => {
-                if depth <= 1 {
-                    count = count.saturating_add(1);
-                }
-            }
-            _ => {}
-        }
+/// The nodes from a number on.
+fn nodes_from(nodes: &[ExpressionNode], number: usize) -> &[ExpressionNode] {
+    match nodes.split_at_checked(number) {
+        Some((_before, behind)) => behind,
+        None => &[],
     }
-    count
 }
 
 /// Is it the operator Is?
@@ -113,14 +93,14 @@ fn refers_at(nodes: &[ExpressionNode], number: usize, has_same: bool) -> bool {
     is_before_same(behind)
 }
 
-/// Reads one node; where arguments begin, so many are to come, and a left operand before a leaf is a reference or none.
+/// Reads one node, with which these nodes begin; a left operand before a leaf is a reference or none.
 fn step<'a>(
     alloc: Global,
     draft: &mut Draft,
     env: Env<'a>,
     stack: &mut Vec<Item<'a>>,
     node: &'a ExpressionNode,
-    given: u32,
+    nodes: &[ExpressionNode],
     refers: bool,
 ) -> Result<(), OrMemory<NotYet>>
     requires env { EnvStands env }
@@ -146,7 +126,7 @@ fn step<'a>(
         ExpressionNode::Binary { operator, token } => {
             step_binary(alloc, draft, env.compare, stack, *operator, *token)
         }
-        ExpressionNode::NoArguments => step_no_arguments(alloc, draft, env, stack, given),
+        ExpressionNode::NoArguments => step_no_arguments(alloc, draft, env, stack, nodes),
         ExpressionNode::MissingArgument { .. } => step_missing_argument(alloc, draft, stack),
         ExpressionNode::PlainArgument { .. } => step_plain_argument(alloc, draft, stack),
         ExpressionNode::NamedArgument { name, .. } => {
@@ -154,14 +134,6 @@ fn step<'a>(
         }
         ExpressionNode::Index { .. } => step_index(alloc, draft, stack),
         _ => Err(OrMemory::Fault(NotYet)),
-    }
-}
-
-/// How many arguments are to come where a node begins them.
-pub fn given_at(nodes: &[ExpressionNode], node: &ExpressionNode, number: usize) -> u32 {
-    match node {
-        ExpressionNode::NoArguments => arguments_behind(nodes, number),
-        _ => 0,
     }
 }
 
@@ -180,9 +152,9 @@ pub fn run<'a>(
     let has_same = has_same(nodes);
     let mut number: usize = 0;
     for node in nodes {
-        let given = given_at(nodes, node, number);
+        let ahead = nodes_from(nodes, number);
         let refers = refers_at(nodes, number, has_same);
-        step(alloc, draft, env, stack, node, given, refers)?;
+        step(alloc, draft, env, stack, node, ahead, refers)?;
         number = number.saturating_add(1);
     }
     Ok(())

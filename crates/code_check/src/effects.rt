@@ -64,7 +64,10 @@ pub fn effect_of(instr: Instr) -> Effect
         | Instr::Fit(_)
         | Instr::FitObject(_)
         | Instr::ShowText => Effect::Does(Takes::Values(1), Gives::Value),
-        Instr::MemberThere { .. } => Effect::Does(Takes::Values(1), Gives::TwoValues),
+        Instr::MemberThere { .. } | Instr::NamedThere { .. } => Effect::Does(
+            Takes::Values(1),
+            Gives::TwoValues,
+        ),
         Instr::Operate { .. } | Instr::Same => Effect::Does(Takes::Values(2), Gives::Value),
         Instr::LoopOn { .. } => Effect::Does(Takes::Values(3), Gives::Value),
         Instr::Drop | Instr::Keep { .. } | Instr::EachOn { .. } => Effect::Does(
@@ -104,7 +107,7 @@ pub fn effect_of(instr: Instr) -> Effect
             Gives::Value,
         ),
         Instr::Index { numbers } => Effect::Does(Takes::CountedAndValues(numbers, 1), Gives::Value),
-        Instr::MemberOf { arguments, .. } => Effect::Does(
+        Instr::MemberOf { arguments, .. } | Instr::NamedOf { arguments, .. } => Effect::Does(
             Takes::CountedAndValues(arguments, 2),
             Gives::Value,
         ),

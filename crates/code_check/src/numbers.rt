@@ -254,6 +254,8 @@ fn is_sound(code: &Code, procedure: usize, instr: Instr) -> bool
         | Instr::FirstSheet
         | Instr::MemberThere { .. }
         | Instr::MemberOf { .. }
+        | Instr::NamedThere { .. }
+        | Instr::NamedOf { .. }
         | Instr::Same
         | Instr::Library { .. }
         | Instr::BoundAt { .. }

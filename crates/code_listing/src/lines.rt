@@ -1,7 +1,7 @@
 ghost use Rattle.std.specs.Prelude.{◌≡◌, ◌<◌, ◌++◌, IfOk, length, string_bytes, if◌then◌else◌};
 ghost use Rattle.std.specs.Fmt.{decimal};
 ghost use Rattle.vba_values.specs.View.{view};
-ghost use Rattle.bound_project.specs.Pieces.{Tables, constant_in, name_in};
+ghost use Rattle.bound_project.specs.Pieces.{constant_in, name_in};
 ghost use Rattle.bound_project.specs.View.{variable_view};
 ghost use Rattle.pcode.specs.View.{code_view, instr_view, tables_of};
 ghost use Rattle.code_listing.specs.Listing as lists;
@@ -172,14 +172,14 @@ fn call_line(code: &Code, instr: Instr) -> Line
         Instr::ShowText => listed_as(35, 0, 0),
         Instr::Show { ends, items } => listed_as(36, number(items), bit_of(ends)),
         Instr::Throw { arguments } => listed_as(37, number(arguments), 0),
-        _ => block_line(instr),
+        _ => block_line(code, instr),
     }
 }
 
 // The same of the kinds from 38 on; here up to 51: loops, and what else a block keeps and tests.
-fn block_line(instr: Instr) -> Line
-    requires { (t : Tables) → 37 < kind_of t instr }
-    ensures { (t : Tables) → line_view result ≡ lists.listed (instr_view t instr) }
+fn block_line(code: &Code, instr: Instr) -> Line
+    requires { 37 < kind_of (tables_of code.now) instr }
+    ensures { line_view result ≡ lists.listed (instr_view (tables_of code.now) instr) }
 {
     match instr {
         Instr::LoopOff { block } => listed_as(38, number(block), 0),
@@ -200,14 +200,14 @@ fn block_line(instr: Instr) -> Line
         Instr::EraseAt => listed_as(49, 0, 0),
         Instr::KeepPath { block } => listed_as(50, number(block), 0),
         Instr::DropKept { block } => listed_as(51, number(block), 0),
-        _ => control_line(instr),
+        _ => control_line(code, instr),
     }
 }
 
-// The same of the kinds from 52 on: jumps, errors, ends, and two assignments.
-fn control_line(instr: Instr) -> Line
-    requires { (t : Tables) → 51 < kind_of t instr }
-    ensures { (t : Tables) → line_view result ≡ lists.listed (instr_view t instr) }
+// The same of the kinds from 52 on: jumps, errors, ends, two assignments, and members whose last arguments have names.
+fn control_line(code: &Code, instr: Instr) -> Line
+    requires { 51 < kind_of (tables_of code.now) instr }
+    ensures { line_view result ≡ lists.listed (instr_view (tables_of code.now) instr) }
 {
     match instr {
         Instr::PutReturn { statement } => listed_as(52, number(statement), 0),
@@ -227,6 +227,12 @@ fn control_line(instr: Instr) -> Line
         Instr::StopHere => listed_as(63, 0, 0),
         Instr::Leave => listed_as(64, 0, 0),
         Instr::StoreItem { numbers } => listed_as(65, number(numbers), 0),
+        Instr::NamedThere { name, given, .. } => name_line(67, code, name, given),
+        Instr::NamedOf {
+            name,
+            arguments,
+            ..
+        } => name_line(68, code, name, arguments),
         // Only SetMember is left.
         _ => listed_as(66, 0, 0),
     }

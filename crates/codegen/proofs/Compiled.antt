@@ -1,5 +1,5 @@
 -- What is assembled of a project is its code.
-use Rattle.std.proofs.Common.{◌≡◌, ℕ, ◌+◌, Bool, true, false, cond, List, [], ◌∷◌, ◌++◌, length, map, get_or, refl, sym, ap, ◌∙◌, arith, rules}
+use Rattle.std.proofs.Common.{◌≡◌, ℕ, zero, suc, ◌+◌, Bool, true, false, cond, List, [], ◌∷◌, ◌++◌, length, map, get_or, refl, sym, ap, ◌∙◌, arith, rules}
 use Rattle.std.specs.Prelude.{nat_lt, slice_index, Vec}
 use Rattle.std.specs.declared.alloc.Global.{Global}
 use Rattle.std.proofs.lemmas.Bool.{ltb-true, ltb-false}
@@ -13,7 +13,7 @@ use Rattle.bound_project.specs.declared.statement.StatementNode.{StatementNode}
 use Rattle.bound_project.specs.declared.node.Node.{Node}
 use Rattle.bound_project.specs.declared.project.Body.{Body}
 use Rattle.bound_project.specs.declared.project.Project.{Project}
-use Rattle.bound_project.specs.Pieces.{Tables}
+use Rattle.bound_project.specs.Pieces.{Tables, name_of}
 use Rattle.bound_project.specs.Bodies.{Fits, tables_of, body_view, statement_view, project_view}
 use Rattle.bound_project.specs.Project as project
 use Rattle.bound_project.specs.Statements as plain_statements
@@ -41,6 +41,14 @@ at_number vs i n false e h =
     let le = ltb-false i n h in
     ap (λ k. get_or (vs ++ empty ∷ missing ∷ []) k empty) e ∙ get_or-append_seam vs empty (missing ∷ []) empty ∙ sym (get_or_past vs i empty (omega arith))
 
+-- neither of the two constants more is a text
+name_past : (vs : List Val) (i : ℕ) → name_of (get_or (vs ++ empty ∷ missing ∷ []) i empty) ≡ name_of (get_or vs i empty)
+name_past [] zero = refl
+name_past [] (suc zero) = refl
+name_past [] (suc (suc i)) = refl
+name_past (v ∷ vs) zero = refl
+name_past (v ∷ vs) (suc i) = name_past vs i
+
 grown : (old new : List Value) (orders : List (List ℕ)) (added : Added) → HasAdded old new added
     → Grown (record { constants = map value_view old; orders = orders }) (record { constants = map value_view new; orders = orders }) added
 grown old new orders added h =
@@ -55,6 +63,7 @@ grown old new orders added h =
           (let m : added.missing ≡ length vs + 1 = omega (arith, h.missing_at, length-map old value_view) in
           ap (λ l. get_or l added.missing empty) more ∙ ap (λ n. get_or (vs ++ (empty ∷ missing ∷ [])) n empty) m ∙ get_or-append-add vs (empty ∷ missing ∷ []) 1 empty);
       order = λ i. refl;
+      name = λ i. ap (λ l. name_of (get_or l i empty)) more ∙ name_past vs i;
     }
 
 -- ---- the tables

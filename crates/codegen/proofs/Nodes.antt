@@ -6,16 +6,17 @@ use Rattle.bound_project.specs.declared.declared_type.DeclaredType.{DeclaredType
 use Rattle.bound_project.specs.declared.node.NodeKind.{NodeKind}
 use Rattle.bound_project.specs.declared.node.NodeKind.TheVariants as node
 use Rattle.bound_project.specs.declared.node.Node.{Node}
+use Rattle.bound_project.specs.declared.node.ArgumentNames.{ArgumentNames}
 use Rattle.bound_project.specs.View.{declared_view}
-use Rattle.bound_project.specs.Expressions.{Expr, expr, operand_type}
-use Rattle.bound_project.specs.Pieces.{Piece, Tables, constant_in, name_of, name_in, order_in, as_operand, put_kind, put, read}
+use Rattle.bound_project.specs.Expressions.{Expr, expr, ByName, operand_type}
+use Rattle.bound_project.specs.Pieces.{Piece, Tables, constant_in, name_of, name_in, by_name_in, order_in, as_operand, put_kind, put, read}
 use Rattle.pcode.specs.Instructions as plain
 use Rattle.pcode.specs.Code.{expr_code, args_code, count as count_of}
 use Rattle.pcode.specs.View.{instr_view}
 use Rattle.codegen.specs.declared.node.Around.{Around}
 use Rattle.codegen.specs.declared.node.Added.{Added}
 use Rattle.codegen.specs.Emission.{constant_number, node_instrs, nodes_instrs}
-use Rattle.codegen.proofs.Pieces.{codes, Emits, append_none, value_emits, place_emits, both_emits, test_emits, range_emits, found_emits, args_emit, place_found_emits, value_found_emits, member_found_emits}
+use Rattle.codegen.proofs.Pieces.{codes, Emits, append_none, value_emits, place_emits, both_emits, test_emits, range_emits, found_emits, args_emit, place_found_emits, value_found_emits, member_found_emits, named_found_emits}
 
 -- the tables of the code are those of the project with two constants more
 pub record Grown (t u : Tables) (added : Added) : Type 0 where
@@ -23,6 +24,16 @@ pub record Grown (t u : Tables) (added : Added) : Type 0 where
   pub empty_is : constant_in u added.empty ≡ empty
   pub missing_is : constant_in u added.missing ≡ missing
   pub order : (i : ℕ) → order_in u i ≡ order_in t i
+  pub name : (i : ℕ) → name_in u i ≡ name_in t i
+
+each_name_seen : (t u : Tables) (added : Added) → Grown t u added → (is : List ℕ) → map (name_in u) is ≡ map (name_in t) is
+each_name_seen t u added g [] = refl
+each_name_seen t u added g (i ∷ is) = ap (λ x. x ∷ map (name_in u) is) (g.name i) ∙ ap (λ r. name_in t i ∷ r) (each_name_seen t u added g is)
+
+by_name_seen : (t u : Tables) (added : Added) → Grown t u added → (by : ArgumentNames) → by_name_in u by ≡ by_name_in t by
+by_name_seen t u added g by =
+    let made : List (List ℕ) → ByName = λ names. record { before = by.before; names = names } in
+    ap (λ is. made (map (name_in u) is)) (g.order by.order) ∙ ap made (each_name_seen t u added g (order_in t by.order))
 
 same_code : (of : DeclaredType) (e : Expr) → expr_code (as_operand of e) ≡ expr_code e
 same_code of (expr node place written operand) = refl
@@ -63,6 +74,8 @@ node_emits t u added g around n (node.CallInOrder p count order) st there =
     along around _ st _ _ (ap (λ o. plain.Reorder o count ∷ plain.Call p (length (order_in t order)) ∷ []) (sym (g.order order)))
     (args_emit around count st _ (λ c. plain.Reorder (order_in t order) c ∷ plain.Call p (length (order_in t order)) ∷ []) (λ args. append_assoc (args_code args) (plain.Reorder (order_in t order) (count_of args) ∷ []) (plain.Call p (length (order_in t order)) ∷ []))) there
 node_emits t u added g around n (node.ErrValue told) st there = (refl, there.1)
+node_emits t u added g around n (node.Marked broken count) st there =
+    found_emits around count st _ (λ c. map (instr_view u) (node_instrs added t.orders around (node.Marked broken c))) (λ es. refl) there
 node_emits t u added g around n (node.Library f text_form count compare one) st there =
     found_emits around count st _ (λ c. map (instr_view u) (node_instrs added t.orders around (node.Library f text_form c compare one))) (λ es. refl) there
 node_emits t u added g around n (node.BoundOf upper z) st there = place_emits around _ _ (λ x. refl) st there
@@ -77,6 +90,13 @@ node_emits t u added g around n (node.MemberThere i given) st there =
 node_emits t u added g around n (node.HostMember i count) st there =
     along around _ st _ _ (ap (λ v. plain.MemberOf (name_of v) count ∷ []) (sym (g.constant i)))
     (member_found_emits around count st (name_in t i) _ (λ c. plain.MemberOf (name_in t i) c ∷ []) (λ e es. refl)) there
+node_emits t u added g around n (node.NamedThere i by given) st there =
+    value_emits around _ _ (λ e.
+    ap (λ v. expr_code e ++ plain.NamedThere (name_of v) (by_name_in t by) given ∷ []) (sym (g.constant i))
+    ∙ ap (λ how. expr_code e ++ plain.NamedThere (name_in u (constant_number added i)) how given ∷ []) (sym (by_name_seen t u added g by))) st there
+node_emits t u added g around n (node.NamedMember i by count) st there =
+    along around _ st _ _ (ap (λ v. plain.NamedOf (name_of v) (by_name_in t by) count ∷ []) (sym (g.constant i)) ∙ ap (λ how. plain.NamedOf (name_in u (constant_number added i)) how count ∷ []) (sym (by_name_seen t u added g by)))
+    (named_found_emits around count st (name_in t i) (by_name_in t by) _ (λ c. plain.NamedOf (name_in t i) (by_name_in t by) c ∷ []) (λ e es. refl)) there
 node_emits t u added g around n node.ByPlace st there = place_emits around _ _ (λ x. refl) st there
 node_emits t u added g around n (node.ByCopy of) st there = value_emits around _ _ (λ e. refl) st there
 node_emits t u added g around n (node.ByDefault i) st there = (ap (λ v. codes around st ++ plain.Push v ∷ []) (sym (g.constant i)), there.1)

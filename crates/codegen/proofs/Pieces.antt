@@ -5,9 +5,9 @@ use Rattle.std.proofs.lemmas.Bool.{and_parts, eqb-true}
 use Rattle.std.proofs.lemmas.Slice.Eq.{bytes_eq-Decides}
 use Rattle.vba_values.specs.Val.{empty}
 use Rattle.bound_project.specs.View.{declared_view}
-use Rattle.bound_project.specs.Expressions.{Expr, Exprs, no_exprs, also, given_count, Lvalue, Args, no_args, operand_type}
-use Rattle.bound_project.specs.Pieces.{Argument, place_lent, value_copied, default_taken, values_listed, Piece, nothing, an_expr, a_place, an_argument, a_member, a_value_shown, a_zone, a_test_begun, a_test_is, a_test_range, a_resize, an_erased, of_value, of_place, of_both, of_test, of_range, of_found, of_place_found, of_value_found, is_member, misfit, of_member, of_member_found, exprs_off, arguments_off, with_argument}
-use Rattle.pcode.specs.Instructions.{Instr, Push, Selected, Plain, Fit, Lend, Pack, MemberThere, ShowText, IfFits, IfBetween, Redim, EraseAt}
+use Rattle.bound_project.specs.Expressions.{Expr, Exprs, no_exprs, also, given_count, ByName, Lvalue, Args, no_args, operand_type}
+use Rattle.bound_project.specs.Pieces.{Argument, place_lent, value_copied, default_taken, values_listed, Piece, nothing, an_expr, a_place, an_argument, a_member, a_named_member, a_value_shown, a_zone, a_test_begun, a_test_is, a_test_range, a_resize, an_erased, of_value, of_place, of_both, of_test, of_range, of_found, of_place_found, of_value_found, is_member, misfit, of_member, of_member_found, same_names, same_by_name, is_named_member, of_named, of_named_found, exprs_off, arguments_off, with_argument}
+use Rattle.pcode.specs.Instructions.{Instr, Push, Selected, Plain, Fit, Lend, Pack, MemberThere, NamedThere, ShowText, IfFits, IfBetween, Redim, EraseAt}
 use Rattle.pcode.specs.Code.{count, list_count, expr_code, place_code, args_code, list_code}
 use Rattle.codegen.specs.declared.node.Around.{Around}
 
@@ -23,6 +23,7 @@ piece_code around (an_expr e) = expr_code e
 piece_code around (a_place x) = place_code x
 piece_code around (an_argument a) = argument_code a
 piece_code around (a_member e name given) = expr_code e ++ MemberThere name given ∷ []
+piece_code around (a_named_member e name by given) = expr_code e ++ NamedThere name by given ∷ []
 piece_code around (a_value_shown e) = expr_code e ++ ShowText ∷ []
 piece_code around a_zone = Push empty ∷ []
 piece_code around a_test_begun = Selected around.header ∷ Plain ∷ []
@@ -238,3 +239,58 @@ pub member_found_emits : (around : Around) (n : ℕ) (st : List Piece) (name : L
     → ((e : Expr) (es : Exprs) → piece_code around (make e es) ≡ expr_code e ++ MemberThere name (given_count es) ∷ (list_code es ++ is (list_count es)))
     → Emits around (of_member_found name make (exprs_off n st no_exprs)) st (is n)
 member_found_emits around n st name make is h = member_off around n st name make is h (exprs_off n st no_exprs) (exprs_are around n st no_exprs)
+
+-- ---- the same where the last arguments have names
+
+names_same : (xs ys : List (List ℕ)) → same_names xs ys ≡ true → xs ≡ ys
+names_same [] [] h = refl
+names_same [] (y ∷ ys) h = let e : false ≡ true = h in absurd cc
+names_same (x ∷ xs) [] h = let e : false ≡ true = h in absurd cc
+names_same (x ∷ xs) (y ∷ ys) h =
+    let both = and_parts (bytes_eq x y) (same_names xs ys) h in
+    ap (λ l. l ∷ xs) ((bytes_eq-Decides x y).0 both.0) ∙ ap (λ r. y ∷ r) (names_same xs ys both.1)
+
+by_name_same : (by how : ByName) → same_by_name by how ≡ true → by ≡ how
+by_name_same by how h =
+    let both = and_parts (by.before == how.before) (same_names by.names how.names) h in
+    let made : ℕ → List (List ℕ) → ByName = λ k names. record { before = k; names = names } in
+    ap (λ k. made k by.names) (eqb-true by.before how.before both.0) ∙ ap (made how.before) (names_same by.names how.names both.1)
+
+named_code : (name other : List ℕ) (by how : ByName) (given : ℕ) (es : Exprs) (e : Expr) → is_named_member name other by how given es ≡ true
+    → expr_code e ++ NamedThere name by (given_count es) ∷ [] ≡ expr_code e ++ NamedThere other how given ∷ []
+named_code name other by how given es e h =
+    let both = and_parts (is_member name other given es) (same_by_name by how) h in
+    let same = member_is name other given es both.0 in
+    ap (λ l. expr_code e ++ NamedThere l by (given_count es) ∷ []) same.0 ∙ ap (λ b. expr_code e ++ NamedThere other b (given_count es) ∷ []) (by_name_same by how both.1)
+    ∙ ap (λ k. expr_code e ++ NamedThere other how k ∷ []) (sym same.1)
+
+named_if : (around : Around) (name other : List ℕ) (by how : ByName) (given : ℕ) (make : Expr → Exprs → Piece) (es : Exprs) (e : Expr) (is : List Instr)
+    → piece_code around (make e es) ≡ expr_code e ++ NamedThere name by (given_count es) ∷ is
+    → (st : List Piece) (b : Bool) → is_named_member name other by how given es ≡ b → Emits around (cond b (make e es ∷ st) misfit) (a_named_member e other how given ∷ st) is
+named_if around name other by how given make es e is h st true k there =
+    let looked = NamedThere name by (given_count es) ∷ [] in
+    let parted : expr_code e ++ (looked ++ is) ≡ (expr_code e ++ looked) ++ is = sym (append_assoc (expr_code e) looked is) in (
+      one (codes around st) (expr_code e ++ looked) is _ (h ∙ parted) ∙ ap (λ c. (codes around st ++ c) ++ is) (named_code name other by how given es e k),
+      (tt, there.1),
+    )
+named_if around name other by how given make es e is h st false k there = absurd there.0
+
+named_emits : (around : Around) (name : List ℕ) (by : ByName) (make : Expr → Exprs → Piece) (es : Exprs) (is : List Instr)
+    → ((e : Expr) → piece_code around (make e es) ≡ expr_code e ++ NamedThere name by (given_count es) ∷ is) → (st : List Piece) → Emits around (of_named name by make es st) st is
+named_emits around name by make es is h (a_named_member e other how given ∷ st) there =
+    named_if around name other by how given make es e is (h e) st (is_named_member name other by how given es) refl there
+named_emits around name by make es is h st there = absurd there.0
+
+named_off : (around : Around) (n : ℕ) (st : List Piece) (name : List ℕ) (by : ByName) (make : Expr → Exprs → Piece) (is : ℕ → List Instr)
+    → ((e : Expr) (es : Exprs) → piece_code around (make e es) ≡ expr_code e ++ NamedThere name by (given_count es) ∷ (list_code es ++ is (list_count es)))
+    → (o : Option (Exprs × List Piece)) → ExprsOff around n st no_exprs o → Emits around (of_named_found name by make o) st (is n)
+named_off around n st name by make is h None off there = absurd there.0
+named_off around n st name by make is h (Some (es, rest)) off there =
+    let k : list_count es ≡ n = omega (arith, off.1) in
+    let r = named_emits around name by make es (list_code es ++ is (list_count es)) (λ e. h e es) rest there in
+    (r.0 ∙ sym (append_assoc (codes around rest) (list_code es) (is (list_count es))) ∙ ap (λ c. c ++ is (list_count es)) (off.0 ∙ append_none (codes around st)) ∙ ap (λ m. codes around st ++ is m) k, off.2 r.1)
+
+pub named_found_emits : (around : Around) (n : ℕ) (st : List Piece) (name : List ℕ) (by : ByName) (make : Expr → Exprs → Piece) (is : ℕ → List Instr)
+    → ((e : Expr) (es : Exprs) → piece_code around (make e es) ≡ expr_code e ++ NamedThere name by (given_count es) ∷ (list_code es ++ is (list_count es)))
+    → Emits around (of_named_found name by make (exprs_off n st no_exprs)) st (is n)
+named_found_emits around n st name by make is h = named_off around n st name by make is h (exprs_off n st no_exprs) (exprs_are around n st no_exprs)

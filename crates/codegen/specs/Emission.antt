@@ -2,6 +2,7 @@
 use Rattle.std.specs.Prelude.{ℕ, suc, ◌+◌, true, false, if◌then◌else◌, nat_lt, List, [], ◌∷◌, ◌++◌, length, map, slice_index, slice_index_or, slice_get, Vec}
 use Rattle.std.specs.declared.alloc.Global.{Global}
 use Rattle.vba_values.specs.declared.types.Compare.TheVariants.{Binary as by_units}
+use Rattle.vba_lib.specs.declared.function.LibraryFunction.TheVariants as function
 use Rattle.error_frames.specs.declared.frame.Policy.{Policy}
 use Rattle.error_frames.specs.declared.frame.Policy.TheVariants.{Default, Handler, ResumeNext}
 use Rattle.bound_project.specs.declared.declared_type.ElementType.TheVariants.{Variant}
@@ -65,6 +66,7 @@ place_instrs k = []
 abbrev pub operator_instrs : NodeKind → List Instr
 operator_instrs (node.Unary o of) = instr.OperateAlone o of ∷ []
 operator_instrs (node.Binary o compare left right) = instr.Operate o compare left right ∷ []
+operator_instrs (node.Marked broken count) = instr.Library function.Array false by_units false count ∷ []
 operator_instrs (node.Library f text_form count compare one) = instr.Library f text_form compare one count ∷ []
 operator_instrs node.DefaultOf = instr.Plain ∷ []
 operator_instrs node.DefaultIfAny = instr.PlainIfAny ∷ []
@@ -78,6 +80,8 @@ call_instrs added orders (node.Call p count) = instr.Call p count ∷ []
 call_instrs added orders (node.CallInOrder p count order) = instr.Reorder order count ∷ instr.Call p (order_length orders order) ∷ []
 call_instrs added orders (node.MemberThere i given) = instr.MemberThere (constant_number added i) given ∷ []
 call_instrs added orders (node.HostMember i count) = instr.MemberOf (constant_number added i) count ∷ []
+call_instrs added orders (node.NamedThere i by given) = instr.NamedThere (constant_number added i) by given ∷ []
+call_instrs added orders (node.NamedMember i by count) = instr.NamedOf (constant_number added i) by count ∷ []
 call_instrs added orders node.ByPlace = instr.Lend ∷ []
 call_instrs added orders (node.ByCopy of) = instr.Fit of ∷ []
 call_instrs added orders (node.ByList count) = instr.Pack count ∷ []

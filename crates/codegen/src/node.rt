@@ -4,6 +4,7 @@ ghost use Rattle.codegen.specs.Emission.{call_instrs, constant_number, lists_of,
 use bound_project::{DeclaredType, Node, NodeKind, TooLong};
 use pcode::Instr;
 use vba_base::OrMemory;
+use vba_lib::LibraryFunction;
 use vba_values::Compare;
 
 /// The numbers of the two constants that the compiler adds behind those of the project: nothing, and what stands for
@@ -137,6 +138,13 @@ fn put_operator(code: &mut Vec<Instr>, kind: NodeKind) -> Result<(), OrMemory<To
             left,
             right,
         },
+        NodeKind::Marked { values, .. } => Instr::Library {
+            function: LibraryFunction::Array,
+            is_text_form: false,
+            compare: Compare::Binary,
+            is_base_one: false,
+            arguments: values,
+        },
         NodeKind::Library {
             function,
             is_text_form,
@@ -205,6 +213,20 @@ fn put_call(
         },
         NodeKind::HostMember { name, arguments } => Instr::MemberOf {
             name: constant_number(added, name),
+            arguments,
+        },
+        NodeKind::NamedThere { name, names, given } => Instr::NamedThere {
+            name: constant_number(added, name),
+            names,
+            given,
+        },
+        NodeKind::NamedMember {
+            name,
+            names,
+            arguments,
+        } => Instr::NamedOf {
+            name: constant_number(added, name),
+            names,
             arguments,
         },
         NodeKind::ByPlace => Instr::Lend,

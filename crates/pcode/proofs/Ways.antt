@@ -3,7 +3,7 @@ use Rattle.std.proofs.Common.{◌≡◌, ℕ, suc, ◌+◌, Bool, List, [], ◌�
 use Rattle.std.proofs.lemmas.List.{append-nil}
 use Rattle.vba_values.specs.declared.types.Compare.{Compare}
 use Rattle.vba_values.specs.Types.{Declared}
-use Rattle.bound_project.specs.Expressions.{Expr, expr, Node, not_given, constant, load, load_made, element_value, field_value, unary, binary, call, err_value, default_of, default_if_any, enumerated, same, is_type, library, bound_of, host_object, active_sheet, ByName, host_member, named_member, this, new_object, method, late_member, late_item, Lvalue, variable, item, element, field, kept_place, object_field, as_new, element_along, late_field, value_place, Args, no_args, by_place, by_copy, by_default, by_list, in_order, Given, none_given, place_given, expr_given, Exprs, no_exprs, also, Prints, no_prints, shown, zone}
+use Rattle.bound_project.specs.Expressions.{Expr, expr, Node, not_given, constant, load, load_made, element_value, field_value, unary, binary, call, err_value, default_of, default_if_any, enumerated, same, is_type, library, bound_of, host_object, active_sheet, ByName, host_member, named_member, this, new_object, method, late_member, late_item, Lvalue, variable, item, element, field, kept_place, object_field, as_new, element_along, late_field, value_place, Args, no_args, by_place, by_copy, by_default, by_list, in_order, Given, none_given, place_given, expr_given, Exprs, no_exprs, also, Prints, no_prints, shown, zone, marked}
 use Rattle.bound_project.specs.Statements.{Resizes, no_resizes, resize, Arrays, no_arrays, an_array, Tests, no_tests, test_is, test_range, Action, assign, assign_item, set, assign_default, assign_member, set_member, assign_through, assign_element, set_element, assign_late, set_late, evaluate, let_property, set_property, let_method, set_method, raise_event, print, raise, test, go_to, for_to, next, for_each, next_each, exit_each, select, case_of, redim, erase, with_place, with_value, end_with, go_sub, return_sub, exit_to, on_error, end_handler, clear_err, resume_again, resume_next, resume_at, stop, end_run, Statement}
 use Rattle.bound_project.specs.Project.{Project, Body}
 use Rattle.vba_meaning.specs.LateBound.{Use, reading, assigning, setting, which_given}
@@ -135,6 +135,7 @@ mutual
       then_gives (expr_code e) _ (expr_gives e ks) (then_gives (list_code es) _ (list_gives es (a_value ∷ ks)) (record { by = λ rest. counts (list_kinds es) _ _ _ rest _ (lists_count es) refl }))
   node_gives (same a b) ks = then_gives (expr_code a) _ (expr_gives a ks) (then_gives (expr_code b) _ (expr_gives b (a_value ∷ ks)) (record { by = λ rest. refl }))
   node_gives (is_type e of) ks = then_gives (expr_code e) _ (expr_gives e ks) (record { by = λ rest. refl })
+  node_gives (marked broken es) ks = then_gives (list_code es) _ (list_gives es ks) (record { by = λ rest. counts (list_kinds es) _ _ _ rest _ (lists_count es) refl })
   node_gives (library f text_form es compare base) ks = then_gives (list_code es) _ (list_gives es ks) (record { by = λ rest. counts (list_kinds es) _ _ _ rest _ (lists_count es) refl })
   node_gives (bound_of upper x z) ks = then_gives (place_code x) _ (place_gives x ks) (record { by = λ rest. refl })
   node_gives (host_object reference) ks = record { by = λ rest. refl }

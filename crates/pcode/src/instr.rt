@@ -1,4 +1,4 @@
-use bound_project::{DeclaredType, ErrMember, Variable};
+use bound_project::{ArgumentNames, DeclaredType, ErrMember, Variable};
 use error_frames::Policy;
 use vba_lib::LibraryFunction;
 use vba_values::{Compare, HostRef, OpKind};
@@ -67,6 +67,17 @@ pub enum Instr {
     },
     MemberOf {
         name: u32,
+        arguments: u32,
+    },
+    /// The same where the last arguments have names.
+    NamedThere {
+        name: u32,
+        names: ArgumentNames,
+        given: u32,
+    },
+    NamedOf {
+        name: u32,
+        names: ArgumentNames,
         arguments: u32,
     },
     /// Is and TypeOf.

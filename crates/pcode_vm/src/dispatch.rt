@@ -57,6 +57,14 @@ impl Machine {
             Instr::MemberOf { name, arguments } => self.member_of(
                 alloc, code, turns, pc, name, arguments,
             ),
+            Instr::NamedThere { name, names, given } => self.named_there(
+                alloc, code, turns, pc, name, names, given,
+            ),
+            Instr::NamedOf {
+                name,
+                names,
+                arguments,
+            } => self.named_of(alloc, code, turns, pc, name, names, arguments),
             Instr::Same => self.same(alloc, code, turns, pc),
             Instr::IsType(of) => self.is_type(alloc, code, turns, pc, of),
             Instr::Library {

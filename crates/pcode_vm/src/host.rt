@@ -137,7 +137,7 @@ impl Machine {
 
     // The same, with all of them off the operands: Err.Raise raises an error. Collections aren't built: a member of a counted
     // object is answered as want of memory.
-    fn use_member(
+    pub fn use_member(
         &mut self,
         alloc: Global,
         code: &Code,

@@ -20,6 +20,7 @@ macro_rules! attempt {
 mod arguments;
 mod backs;
 mod blocks;
+mod by_name;
 mod calls;
 mod control;
 mod dispatch;

@@ -7,3 +7,4 @@ pub mod Clears
 pub mod Placed
 pub mod Raised
 pub mod Unheard
+pub mod Named

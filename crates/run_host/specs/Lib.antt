@@ -1,3 +1,4 @@
 pub mod View
 pub mod Tells
 pub mod Members
+pub mod ByName

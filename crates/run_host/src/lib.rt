@@ -5,6 +5,7 @@
 mod areas;
 mod arguments;
 mod assigning;
+mod by_name;
 mod cell_events;
 mod clearing;
 mod counts;
@@ -19,6 +20,7 @@ mod sheets;
 mod writing;
 
 pub use assigning::{item_assigned, member_assigned, member_not_set, written_default};
+pub use by_name::{NamedArguments, in_parameter_order, named_there};
 pub use events::{Event, Told};
 pub use indexing::item_by;
 pub use members::{is_counted, member_called, member_there};

@@ -1,12 +1,14 @@
 -- The machine follows the project: expressions and statements.
 use Rattle.std.proofs.Common.{◌≡◌, ℕ, zero, suc, ◌+◌, Bool, true, false, List, [], ◌∷◌, ◌++◌, length, map, Option, Some, None, refl, sym, ap, ◌∙◌, subst, arith}
-use Rattle.std.specs.Prelude.{slice_get, if◌then◌else◌}
+use Rattle.std.specs.Prelude.{pos, slice_get, if◌then◌else◌}
 use Rattle.vba_values.specs.declared.object.ObjRef.TheVariants.{Heap, Host}
 use Rattle.vba_values.specs.declared.types.Compare.{Compare}
+use Rattle.vba_values.specs.declared.types.Compare.TheVariants.{Binary}
+use Rattle.vba_lib.specs.declared.function.LibraryFunction.TheVariants as function
 use Rattle.vba_values.specs.Types.{Declared}
 use Rattle.vba_values.specs.Val.{Val, boolean, empty, missing, object}
 use Rattle.error_frames.specs.declared.frame.ResumeKind.TheVariants as kind
-use Rattle.bound_project.specs.Expressions.{Expr, expr, Node, not_given, constant, load, load_made, element_value, field_value, unary, binary, call, err_value, default_of, default_if_any, enumerated, same, is_type, library, bound_of, host_object, active_sheet, ByName, host_member, named_member, this, new_object, method, late_member, late_item, Lvalue, variable, item, element, field, kept_place, object_field, as_new, element_along, late_field, value_place, Args, no_args, by_place, by_copy, by_default, by_list, in_order, Given, none_given, place_given, expr_given, Exprs, no_exprs, also, given_count, Prints, no_prints, shown, zone, operand_type}
+use Rattle.bound_project.specs.Expressions.{Expr, expr, Node, not_given, constant, load, load_made, element_value, field_value, unary, binary, call, err_value, default_of, default_if_any, enumerated, same, is_type, library, bound_of, host_object, active_sheet, ByName, host_member, named_member, this, new_object, method, late_member, late_item, Lvalue, variable, item, element, field, kept_place, object_field, as_new, element_along, late_field, value_place, Args, no_args, by_place, by_copy, by_default, by_list, in_order, Given, none_given, place_given, expr_given, Exprs, no_exprs, also, given_count, Prints, no_prints, shown, zone, operand_type, marked}
 use Rattle.bound_project.specs.Statements.{Resizes, no_resizes, resize, Arrays, no_arrays, an_array, Tests, no_tests, test_is, test_range, Action, assign, assign_item, set, assign_default, assign_member, set_member, assign_through, assign_element, set_element, assign_late, set_late, evaluate, let_property, set_property, let_method, set_method, raise_event, print, raise, test, go_to, for_to, next, for_each, next_each, exit_each, select, case_of, redim, erase, with_place, with_value, end_with, go_sub, return_sub, exit_to, on_error, end_handler, clear_err, resume_again, resume_next, resume_at, stop, end_run}
 use Rattle.vba_events.specs.declared.linked.Linked.{Linked}
 use Rattle.sheet_host.specs.declared.area.Area.{Area}
@@ -257,6 +259,13 @@ module _ (pr : Project) (code : Code) (bound n : ℕ) (callee : Callee) (known :
     node_runs (enumerated e) pc to st bs s has good =
         first (on_value st bs) (eval e callee pr s) (expr_code e) _ pc to _ has (λ mid h. expr_runs e pc mid st bs s h good) (λ v s1 g1 i h.
         instr Enumerate i (value v ∷ st) bs s1 h.0 (ends_at (on_value st bs) h.1 (uses_run false (λ d m. enumerator_of d v m) (i + 1) st bs s1 g1)))
+    node_runs (marked broken es) pc to st bs s has good =
+        first_each (on_args st bs) (eval_list es callee pr s) (list_code es) _ pc to _ has (list_counts es callee pr s) (λ mid h. list_runs es pc mid st bs s h good) (λ xs s1 len g1 j h.
+        instr (Library function.Array false Binary (pos 0) (length xs)) j (pushed xs st) bs s1 (h.0 ∙ ap (λ m. Some (Library function.Array false Binary (pos 0) m)) (sym len))
+        (subst (λ m. Runs code bound n m (on_value st bs to) (failed bs) (perform (library_called pr.declared function.Array false Binary (pos 0) (slot_values xs)) s1)) (sym (all_taken xs st _))
+        (subst (λ d. Runs code bound n (done_then (library_called d function.Array false Binary (pos 0) (slot_values xs) s1.memory) bs s1 (on_value st bs (j + 1))) (on_value st bs to) (failed bs)
+        (perform (library_called pr.declared function.Array false Binary (pos 0) (slot_values xs)) s1)) (sym tables)
+        (ends_at (on_value st bs) h.1 (performs (library_called pr.declared function.Array false Binary (pos 0) (slot_values xs)) bs s1 g1)))))
     node_runs (library f text_form es compare base) pc to st bs s has good =
         first_each (on_args st bs) (eval_list es callee pr s) (list_code es) _ pc to _ has (list_counts es callee pr s) (λ mid h. list_runs es pc mid st bs s h good) (λ xs s1 len g1 j h.
         instr (Library f text_form compare base (length xs)) j (pushed xs st) bs s1 (h.0 ∙ ap (λ m. Some (Library f text_form compare base m)) (sym len))

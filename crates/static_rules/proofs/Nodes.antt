@@ -1,7 +1,7 @@
 -- A node keeps the places of the pieces before it, and adds its own behind them.
 use Rattle.std.proofs.Common.{◌≡◌, List, [], ◌∷◌, ◌++◌, refl, sym, ap, ◌∙◌, append_assoc}
 use Rattle.std.proofs.lemmas.List.{append-nil}
-use Rattle.vba_base.specs.declared.place.Place.{Place}
+use Rattle.vba_base.specs.declared.place.Refusal.{Refusal}
 use Rattle.vba_values.specs.declared.types.OpKind.TheVariants as op
 use Rattle.vba_values.specs.Types.{Declared}
 use Rattle.bound_project.specs.declared.declared_type.DeclaredType.{DeclaredType}
@@ -10,18 +10,18 @@ use Rattle.bound_project.specs.declared.node.NodeKind.TheVariants as node
 use Rattle.bound_project.specs.declared.node.Node.{Node}
 use Rattle.bound_project.specs.View.{declared_view}
 use Rattle.bound_project.specs.Expressions.{Expr, expr, operand_type}
-use Rattle.bound_project.specs.Pieces.{Piece, Tables, name_in, as_operand, put_kind, put, read}
-use Rattle.static_rules.specs.Doubles.{double_at, doubles}
+use Rattle.bound_project.specs.Pieces.{Piece, Tables, name_in, by_name_in, as_operand, put_kind, put, read}
+use Rattle.static_rules.specs.Broken.{double_at, broken}
 use Rattle.static_rules.specs.Scan.{kind_places, nodes_places}
-use Rattle.static_rules.proofs.Pieces.{found_in, Adds, value_adds, value_keeps, place_keeps, both_add, both_keep, test_adds, range_adds, list_kept, args_kept, place_and_list, value_and_list, member_kept}
+use Rattle.static_rules.proofs.Pieces.{found_in, Adds, value_adds, value_keeps, place_keeps, both_add, both_keep, test_adds, range_adds, list_adds, list_kept, args_kept, place_and_list, value_and_list, member_kept, named_kept}
 
 -- an operand keeps its places, and has the type that its operator says
-pub as_one : (of : DeclaredType) (e : Expr) (more : Declared → List Place) → doubles (as_operand of e) ++ more (operand_type (as_operand of e)) ≡ doubles e ++ more (declared_view of)
+pub as_one : (of : DeclaredType) (e : Expr) (more : Declared → List Refusal) → broken (as_operand of e) ++ more (operand_type (as_operand of e)) ≡ broken e ++ more (declared_view of)
 as_one of (expr node place written operand) more = refl
 
-pub as_two : (l r : DeclaredType) (a b : Expr) (more : Declared → Declared → List Place)
-    → doubles (as_operand l a) ++ (doubles (as_operand r b) ++ more (operand_type (as_operand l a)) (operand_type (as_operand r b)))
-    ≡ doubles a ++ (doubles b ++ more (declared_view l) (declared_view r))
+pub as_two : (l r : DeclaredType) (a b : Expr) (more : Declared → Declared → List Refusal)
+    → broken (as_operand l a) ++ (broken (as_operand r b) ++ more (operand_type (as_operand l a)) (operand_type (as_operand r b)))
+    ≡ broken a ++ (broken b ++ more (declared_view l) (declared_view r))
 as_two l r (expr node place written operand) (expr node' place' written' operand') more = refl
 
 node_adds : (t : Tables) (selected : DeclaredType) (n : Node) (k : NodeKind) (st : List Piece) → Adds (declared_view selected) (put_kind t n k st) st (kind_places selected n.place k)
@@ -43,6 +43,7 @@ node_adds t selected n (node.Call p count) st there = args_kept (declared_view s
 node_adds t selected n (node.CallInOrder p count order) st there = args_kept (declared_view selected) count st _ (λ args. refl) there
 node_adds t selected n (node.ErrValue told) st there = (refl, there.1)
 node_adds t selected n (node.Library f text_form count compare one) st there = list_kept (declared_view selected) count st _ (λ es. refl) there
+node_adds t selected n (node.Marked broken count) st there = list_adds (declared_view selected) count st _ (broken ∷ []) (λ es. refl) there
 node_adds t selected n (node.BoundOf upper z) st there = place_keeps (declared_view selected) _ (λ x. refl) st there
 node_adds t selected n node.DefaultOf st there = value_keeps (declared_view selected) _ (λ e. refl) st there
 node_adds t selected n node.DefaultIfAny st there = value_keeps (declared_view selected) _ (λ e. refl) st there
@@ -52,6 +53,8 @@ node_adds t selected n (node.HostObject reference) st there = (refl, there.1)
 node_adds t selected n node.ActiveSheet st there = (refl, there.1)
 node_adds t selected n (node.MemberThere i given) st there = value_keeps (declared_view selected) _ (λ e. refl) st there
 node_adds t selected n (node.HostMember i count) st there = member_kept (declared_view selected) count st (name_in t i) _ (λ e es. refl) there
+node_adds t selected n (node.NamedThere i by given) st there = value_keeps (declared_view selected) _ (λ e. refl) st there
+node_adds t selected n (node.NamedMember i by count) st there = named_kept (declared_view selected) count st (name_in t i) (by_name_in t by) _ (λ e es. refl) there
 node_adds t selected n node.ByPlace st there = place_keeps (declared_view selected) _ (λ x. refl) st there
 node_adds t selected n (node.ByCopy of) st there = value_keeps (declared_view selected) _ (λ e. refl) st there
 node_adds t selected n (node.ByDefault i) st there = (refl, there.1)

@@ -4,6 +4,7 @@ use Rattle.std.specs.Prelude.{IsSome, flat_map}
 use Rattle.std.proofs.lemmas.Bool.{false≢true}
 use Rattle.std.proofs.lemmas.List.{append-nil}
 use Rattle.vba_base.specs.declared.place.Place.{Place}
+use Rattle.vba_base.specs.declared.place.Refusal.{Refusal}
 use Rattle.vba_values.specs.declared.types.OpKind.{OpKind}
 use Rattle.vba_values.specs.Types.{Declared}
 use Rattle.bound_project.specs.declared.statement.ActionKind.{ActionKind}
@@ -18,7 +19,7 @@ use Rattle.bound_project.specs.Statements.{Tests, no_tests, test_is, test_range,
 use Rattle.bound_project.specs.Statements as plain
 use Rattle.bound_project.specs.Pieces.{Piece, an_expr, a_place, a_member, is_member, name_in, exprs_off, a_value_shown, a_zone, a_test_is, a_test_range, a_resize, an_erased, Tables, prints_off, tests_off, resizes_off, arrays_off, arguments_off, pieces}
 use Rattle.bound_project.specs.Bodies.{whole, one_value, one_place, behind_value, member_found, item_found, alone, action_of, action_or, part, statement_view, StatementFits, AllFit, BodiesFit, Fits, body_view, tables_of, project_view}
-use Rattle.static_rules.specs.Doubles.{double_at, doubles, place_doubles, args_doubles, list_doubles, prints_doubles, range_doubles, tests_doubles, resizes_doubles, arrays_doubles, loop_doubles, action_doubles, body_doubles, least_of, least_double}
+use Rattle.static_rules.specs.Broken.{double_at, broken, place_broken, args_broken, list_broken, prints_broken, range_broken, tests_broken, resizes_broken, arrays_broken, loop_broken, action_broken, body_broken, least_of, first_broken}
 use Rattle.static_rules.specs.Scan.{selected_type, nodes_places, loop_places, statement_places, statements_places, bodies_places}
 use Rattle.static_rules.proofs.Pieces.{found_in, AllThere, ExprsOff, exprs_are, ArgsOff, args_are, one, two}
 use Rattle.static_rules.proofs.Nodes.{as_two, nodes_add}
@@ -27,15 +28,15 @@ use Rattle.static_rules.proofs.Nodes.{as_two, nodes_add}
 
 abbrev PrintsOff : (selected : Declared) → List Piece → Prints → Option (Prints × List Piece) → Type 0
 PrintsOff selected st acc None = Unit {0}
-PrintsOff selected st acc (Some (ps, rest)) = (found_in selected rest ++ prints_doubles ps ≡ found_in selected st ++ prints_doubles acc) × (AllThere rest → AllThere st)
+PrintsOff selected st acc (Some (ps, rest)) = (found_in selected rest ++ prints_broken ps ≡ found_in selected st ++ prints_broken acc) × (AllThere rest → AllThere st)
 
 prints_shown : (selected : Declared) (e : Expr) (st : List Piece) (acc : Prints) (o : Option (Prints × List Piece)) → PrintsOff selected st (shown e acc) o → PrintsOff selected (a_value_shown e ∷ st) acc o
 prints_shown selected e st acc None h = tt
-prints_shown selected e st acc (Some (ps, rest)) h = (h.0 ∙ sym (append_assoc (found_in selected st) (doubles e) (prints_doubles acc)), λ there. (tt, h.1 there))
+prints_shown selected e st acc (Some (ps, rest)) h = (h.0 ∙ sym (append_assoc (found_in selected st) (broken e) (prints_broken acc)), λ there. (tt, h.1 there))
 
 prints_zone : (selected : Declared) (st : List Piece) (acc : Prints) (o : Option (Prints × List Piece)) → PrintsOff selected st (zone acc) o → PrintsOff selected (a_zone ∷ st) acc o
 prints_zone selected st acc None h = tt
-prints_zone selected st acc (Some (ps, rest)) h = (h.0 ∙ ap (λ c. c ++ prints_doubles acc) (sym (append-nil (found_in selected st))), λ there. (tt, h.1 there))
+prints_zone selected st acc (Some (ps, rest)) h = (h.0 ∙ ap (λ c. c ++ prints_broken acc) (sym (append-nil (found_in selected st))), λ there. (tt, h.1 there))
 
 prints_are : (selected : Declared) (n : ℕ) (st : List Piece) (acc : Prints) → PrintsOff selected st acc (prints_off n st acc)
 prints_are selected zero st acc = (refl, λ there. there)
@@ -45,19 +46,19 @@ prints_are selected (suc n) st acc = tt
 
 abbrev TestsOff : (selected : Declared) → List Piece → Tests → Option (Tests × List Piece) → Type 0
 TestsOff selected st acc None = Unit {0}
-TestsOff selected st acc (Some (ts, rest)) = (found_in selected rest ++ tests_doubles selected ts ≡ found_in selected st ++ tests_doubles selected acc) × (AllThere rest → AllThere st)
+TestsOff selected st acc (Some (ts, rest)) = (found_in selected rest ++ tests_broken selected ts ≡ found_in selected st ++ tests_broken selected acc) × (AllThere rest → AllThere st)
 
 tests_is : (selected : Declared) (o : OpKind) (at : Place) (e : Expr) (st : List Piece) (acc : Tests) (found : Option (Tests × List Piece))
     → TestsOff selected st (test_is o at e acc) found → TestsOff selected (a_test_is o at e ∷ st) acc found
 tests_is selected o at e st acc None h = tt
 tests_is selected o at e st acc (Some (ts, rest)) h =
-    (h.0 ∙ sym (append_assoc (found_in selected st) (doubles e ++ double_at at o selected (operand_type e)) (tests_doubles selected acc)), λ there. (tt, h.1 there))
+    (h.0 ∙ sym (append_assoc (found_in selected st) (broken e ++ double_at at o selected (operand_type e)) (tests_broken selected acc)), λ there. (tt, h.1 there))
 
 tests_range : (selected : Declared) (a b : Expr) (a_at b_at : Place) (st : List Piece) (acc : Tests) (found : Option (Tests × List Piece))
     → TestsOff selected st (test_range a b a_at b_at acc) found → TestsOff selected (a_test_range a b a_at b_at ∷ st) acc found
 tests_range selected a b a_at b_at st acc None h = tt
 tests_range selected a b a_at b_at st acc (Some (ts, rest)) h =
-    (h.0 ∙ sym (append_assoc (found_in selected st) (doubles a ++ (doubles b ++ range_doubles selected a b a_at b_at)) (tests_doubles selected acc)), λ there. (tt, h.1 there))
+    (h.0 ∙ sym (append_assoc (found_in selected st) (broken a ++ (broken b ++ range_broken selected a b a_at b_at)) (tests_broken selected acc)), λ there. (tt, h.1 there))
 
 tests_are : (selected : Declared) (n : ℕ) (st : List Piece) (acc : Tests) → TestsOff selected st acc (tests_off n st acc)
 tests_are selected zero st acc = (refl, λ there. there)
@@ -68,13 +69,13 @@ tests_are selected (suc n) st acc = tt
 
 abbrev ResizesOff : (selected : Declared) → List Piece → Resizes → Option (Resizes × List Piece) → Type 0
 ResizesOff selected st acc None = Unit {0}
-ResizesOff selected st acc (Some (rs, rest)) = (found_in selected rest ++ resizes_doubles rs ≡ found_in selected st ++ resizes_doubles acc) × (AllThere rest → AllThere st)
+ResizesOff selected st acc (Some (rs, rest)) = (found_in selected rest ++ resizes_broken rs ≡ found_in selected st ++ resizes_broken acc) × (AllThere rest → AllThere st)
 
 resizes_more : (selected : Declared) (x : Lvalue) (es : Exprs) (of : Option Declared) (st : List Piece) (acc : Resizes) (found : Option (Resizes × List Piece))
     → ResizesOff selected st (resize x es of acc) found → ResizesOff selected (a_resize x es of ∷ st) acc found
 resizes_more selected x es of st acc None h = tt
 resizes_more selected x es of st acc (Some (rs, rest)) h =
-    (h.0 ∙ sym (append_assoc (found_in selected st) (place_doubles x ++ list_doubles es) (resizes_doubles acc)), λ there. (tt, h.1 there))
+    (h.0 ∙ sym (append_assoc (found_in selected st) (place_broken x ++ list_broken es) (resizes_broken acc)), λ there. (tt, h.1 there))
 
 resizes_are : (selected : Declared) (n : ℕ) (st : List Piece) (acc : Resizes) → ResizesOff selected st acc (resizes_off n st acc)
 resizes_are selected zero st acc = (refl, λ there. there)
@@ -83,11 +84,11 @@ resizes_are selected (suc n) st acc = tt
 
 abbrev ArraysOff : (selected : Declared) → List Piece → Arrays → Option (Arrays × List Piece) → Type 0
 ArraysOff selected st acc None = Unit {0}
-ArraysOff selected st acc (Some (xs, rest)) = (found_in selected rest ++ arrays_doubles xs ≡ found_in selected st ++ arrays_doubles acc) × (AllThere rest → AllThere st)
+ArraysOff selected st acc (Some (xs, rest)) = (found_in selected rest ++ arrays_broken xs ≡ found_in selected st ++ arrays_broken acc) × (AllThere rest → AllThere st)
 
 arrays_more : (selected : Declared) (x : Lvalue) (st : List Piece) (acc : Arrays) (found : Option (Arrays × List Piece)) → ArraysOff selected st (an_array x acc) found → ArraysOff selected (an_erased x ∷ st) acc found
 arrays_more selected x st acc None h = tt
-arrays_more selected x st acc (Some (xs, rest)) h = (h.0 ∙ sym (append_assoc (found_in selected st) (place_doubles x) (arrays_doubles acc)), λ there. (tt, h.1 there))
+arrays_more selected x st acc (Some (xs, rest)) h = (h.0 ∙ sym (append_assoc (found_in selected st) (place_broken x) (arrays_broken acc)), λ there. (tt, h.1 there))
 
 arrays_are : (selected : Declared) (n : ℕ) (st : List Piece) (acc : Arrays) → ArraysOff selected st acc (arrays_off n st acc)
 arrays_are selected zero st acc = (refl, λ there. there)
@@ -97,36 +98,36 @@ arrays_are selected (suc n) st acc = tt
 -- ---- what is made of the pieces of a statement
 
 -- the places of the action that was made, if one was
-abbrev Made : (selected : Declared) → (own : List Place) → List Piece → Option Action → Type 0
+abbrev Made : (selected : Declared) → (own : List Refusal) → List Piece → Option Action → Type 0
 Made selected own st None = Unit {0}
-Made selected own st (Some a) = (action_doubles a ≡ found_in selected st ++ own) × AllThere st
+Made selected own st (Some a) = (action_broken a ≡ found_in selected st ++ own) × AllThere st
 
-value_made : (selected : Declared) (go : Expr → Action) → ((e : Expr) → action_doubles (go e) ≡ doubles e) → (st : List Piece) → Made selected [] st (one_value st go)
-value_made selected go h (an_expr e ∷ []) = (h e ∙ sym (append-nil (doubles e)), (tt, tt))
+value_made : (selected : Declared) (go : Expr → Action) → ((e : Expr) → action_broken (go e) ≡ broken e) → (st : List Piece) → Made selected [] st (one_value st go)
+value_made selected go h (an_expr e ∷ []) = (h e ∙ sym (append-nil (broken e)), (tt, tt))
 value_made selected go h st = tt
 
-place_made : (selected : Declared) (go : Lvalue → Action) → ((x : Lvalue) → action_doubles (go x) ≡ place_doubles x) → (st : List Piece) → Made selected [] st (one_place st go)
-place_made selected go h (a_place x ∷ []) = (h x ∙ sym (append-nil (place_doubles x)), (tt, tt))
+place_made : (selected : Declared) (go : Lvalue → Action) → ((x : Lvalue) → action_broken (go x) ≡ place_broken x) → (st : List Piece) → Made selected [] st (one_place st go)
+place_made selected go h (a_place x ∷ []) = (h x ∙ sym (append-nil (place_broken x)), (tt, tt))
 place_made selected go h st = tt
 
-alone_made : (selected : Declared) (a : Action) → action_doubles a ≡ [] → (st : List Piece) → Made selected [] st (alone st a)
+alone_made : (selected : Declared) (a : Action) → action_broken a ≡ [] → (st : List Piece) → Made selected [] st (alone st a)
 alone_made selected a h [] = (h, tt)
 alone_made selected a h (p ∷ st) = tt
 
-prints_made : (selected : Declared) (go : Prints → Action) → ((ps : Prints) → action_doubles (go ps) ≡ prints_doubles ps)
+prints_made : (selected : Declared) (go : Prints → Action) → ((ps : Prints) → action_broken (go ps) ≡ prints_broken ps)
     → (st : List Piece) (found : Option (Prints × List Piece)) → PrintsOff selected st no_prints found → Made selected [] st (whole found go)
 prints_made selected go h st None off = tt
 prints_made selected go h st (Some (ps, [])) off = (h ps ∙ off.0, off.1 tt)
 prints_made selected go h st (Some (ps, p ∷ rest)) off = tt
 
-args_made : (selected : Declared) (go : Args → Action) → ((args : Args) → action_doubles (go args) ≡ args_doubles args)
+args_made : (selected : Declared) (go : Args → Action) → ((args : Args) → action_broken (go args) ≡ args_broken args)
     → (st : List Piece) (found : Option (Args × List Piece)) → ArgsOff selected st no_args found → Made selected [] st (whole found go)
 args_made selected go h st None off = tt
 args_made selected go h st (Some (args, [])) off = (h args ∙ off.0, off.1 tt)
 args_made selected go h st (Some (args, p ∷ rest)) off = tt
 
 -- arguments behind a value
-behind_made : (selected : Declared) (go : Args → Expr → Action) → ((args : Args) (e : Expr) → action_doubles (go args e) ≡ doubles e ++ args_doubles args)
+behind_made : (selected : Declared) (go : Args → Expr → Action) → ((args : Args) (e : Expr) → action_broken (go args e) ≡ broken e ++ args_broken args)
     → (st : List Piece) (found : Option (Args × List Piece)) → ArgsOff selected st no_args found → Made selected [] st (behind_value found go)
 behind_made selected go h st None off = tt
 behind_made selected go h st (Some (args, an_expr e ∷ [])) off = (h args e ∙ off.0, off.1 (tt, tt))
@@ -135,7 +136,7 @@ behind_made selected go h st (Some (args, rest)) off = tt
 -- an assignment to a member: arguments behind the member that was looked for, behind a value
 assigned_if : (selected : Declared) (name other : List ℕ) (given : ℕ) (es : Exprs) (base e : Expr) (st : List Piece)
     → ExprsOff selected st no_exprs (Some (es, a_member base other given ∷ an_expr e ∷ [])) → (b : Bool) → Made selected [] st (cond b (Some (assign_member base name es e)) None)
-assigned_if selected name other given es base e st off true = (sym (append_assoc (doubles e) (doubles base) (list_doubles es)) ∙ off.0, off.1 (tt, (tt, tt)))
+assigned_if selected name other given es base e st off true = (sym (append_assoc (broken e) (broken base) (list_broken es)) ∙ off.0, off.1 (tt, (tt, tt)))
 assigned_if selected name other given es base e st off false = tt
 
 member_made : (selected : Declared) (name : List ℕ) (st : List Piece) (found : Option (Exprs × List Piece)) → ExprsOff selected st no_exprs found → Made selected [] st (member_found name found)
@@ -146,22 +147,22 @@ member_made selected name st (Some (es, rest)) off = tt
 -- an assignment to an item: numbers behind the value of which they mean one, behind a value
 item_made : (selected : Declared) (st : List Piece) (found : Option (Exprs × List Piece)) → ExprsOff selected st no_exprs found → Made selected [] st (item_found found)
 item_made selected st None off = tt
-item_made selected st (Some (es, an_expr base ∷ an_expr e ∷ [])) off = (sym (append_assoc (doubles e) (doubles base) (list_doubles es)) ∙ off.0, off.1 (tt, (tt, tt)))
+item_made selected st (Some (es, an_expr base ∷ an_expr e ∷ [])) off = (sym (append_assoc (broken e) (broken base) (list_broken es)) ∙ off.0, off.1 (tt, (tt, tt)))
 item_made selected st (Some (es, rest)) off = tt
 
-tests_made : (selected : Declared) (go : Tests → Action) → ((ts : Tests) → action_doubles (go ts) ≡ tests_doubles selected ts)
+tests_made : (selected : Declared) (go : Tests → Action) → ((ts : Tests) → action_broken (go ts) ≡ tests_broken selected ts)
     → (st : List Piece) (found : Option (Tests × List Piece)) → TestsOff selected st no_tests found → Made selected [] st (whole found go)
 tests_made selected go h st None off = tt
 tests_made selected go h st (Some (ts, [])) off = (h ts ∙ off.0, off.1 tt)
 tests_made selected go h st (Some (ts, p ∷ rest)) off = tt
 
-resizes_made : (selected : Declared) (go : Resizes → Action) → ((rs : Resizes) → action_doubles (go rs) ≡ resizes_doubles rs)
+resizes_made : (selected : Declared) (go : Resizes → Action) → ((rs : Resizes) → action_broken (go rs) ≡ resizes_broken rs)
     → (st : List Piece) (found : Option (Resizes × List Piece)) → ResizesOff selected st no_resizes found → Made selected [] st (whole found go)
 resizes_made selected go h st None off = tt
 resizes_made selected go h st (Some (rs, [])) off = (h rs ∙ off.0, off.1 tt)
 resizes_made selected go h st (Some (rs, p ∷ rest)) off = tt
 
-arrays_made : (selected : Declared) (go : Arrays → Action) → ((xs : Arrays) → action_doubles (go xs) ≡ arrays_doubles xs)
+arrays_made : (selected : Declared) (go : Arrays → Action) → ((xs : Arrays) → action_broken (go xs) ≡ arrays_broken xs)
     → (st : List Piece) (found : Option (Arrays × List Piece)) → ArraysOff selected st no_arrays found → Made selected [] st (whole found go)
 arrays_made selected go h st None off = tt
 arrays_made selected go h st (Some (xs, [])) off = (h xs ∙ off.0, off.1 tt)
@@ -174,19 +175,19 @@ abbrev selected_of : ActionKind → Declared
 selected_of k = declared_view (selected_type k)
 
 action_made : (t : Tables) (k : ActionKind) (st : List Piece) → Made (selected_of k) (loop_places k) st (action_of t k st)
-action_made t kind.Assign (a_place x ∷ an_expr e ∷ []) = (sym (append-nil (doubles e ++ place_doubles x)), (tt, (tt, tt)))
+action_made t kind.Assign (a_place x ∷ an_expr e ∷ []) = (sym (append-nil (broken e ++ place_broken x)), (tt, (tt, tt)))
 action_made t kind.Assign st = tt
 action_made t (kind.AssignItem count) st =
     let of = selected_of (kind.AssignItem count) in
     item_made of st (exprs_off count st no_exprs) (exprs_are of count st no_exprs)
-action_made t kind.Set (a_place x ∷ an_expr e ∷ []) = (sym (append-nil (doubles e ++ place_doubles x)), (tt, (tt, tt)))
+action_made t kind.Set (a_place x ∷ an_expr e ∷ []) = (sym (append-nil (broken e ++ place_broken x)), (tt, (tt, tt)))
 action_made t kind.Set st = tt
-action_made t kind.AssignDefault (an_expr x ∷ an_expr e ∷ []) = (sym (append-nil (doubles e ++ doubles x)), (tt, (tt, tt)))
+action_made t kind.AssignDefault (an_expr x ∷ an_expr e ∷ []) = (sym (append-nil (broken e ++ broken x)), (tt, (tt, tt)))
 action_made t kind.AssignDefault st = tt
 action_made t (kind.AssignMember m count) st =
     let of = selected_of (kind.AssignMember m count) in
     member_made of (name_in t m) st (exprs_off count st no_exprs) (exprs_are of count st no_exprs)
-action_made t kind.SetMember (an_expr x ∷ an_expr e ∷ []) = (sym (append-nil (doubles e ++ doubles x)), (tt, (tt, tt)))
+action_made t kind.SetMember (an_expr x ∷ an_expr e ∷ []) = (sym (append-nil (broken e ++ broken x)), (tt, (tt, tt)))
 action_made t kind.SetMember st = tt
 action_made t kind.Evaluate st = value_made (selected_of kind.Evaluate) _ (λ e. refl) st
 action_made t (kind.LetProperty q count of) st =
@@ -213,8 +214,8 @@ action_made t (kind.RaiseInOrder count order) st =
 action_made t (kind.Test sense to other) st = value_made (selected_of (kind.Test sense to other)) _ (λ e. refl) st
 action_made t (kind.GoTo to) st = alone_made (selected_of (kind.GoTo to)) _ refl st
 action_made t (kind.For x compare last step last_at step_at first behind) (an_expr c ∷ an_expr b ∷ an_expr a ∷ []) = (
-  ap (λ l. doubles a ++ l) (as_two last step b c (λ d e. loop_doubles (declared_view x.of) d e last_at step_at))
-      ∙ two (doubles a) (doubles b) (doubles c) (loop_doubles (declared_view x.of) (declared_view last) (declared_view step) last_at step_at) _ refl,
+  ap (λ l. broken a ++ l) (as_two last step b c (λ d e. loop_broken (declared_view x.of) d e last_at step_at))
+      ∙ two (broken a) (broken b) (broken c) (loop_broken (declared_view x.of) (declared_view last) (declared_view step) last_at step_at) _ refl,
   (tt, (tt, (tt, tt))),
 )
 action_made t (kind.For x compare last step last_at step_at first behind) st = tt
@@ -249,29 +250,29 @@ action_made t kind.End st = alone_made (selected_of kind.End) _ refl st
 -- ---- statements, bodies and projects
 
 action_found : (t : Tables) (k : ActionKind) (ns : List Node) (o : Option Action) → action_of t k (pieces t ns) ≡ o → IsSome o
-    → nodes_places (selected_type k) ns ++ loop_places k ≡ action_doubles (action_or o)
+    → nodes_places (selected_type k) ns ++ loop_places k ≡ action_broken (action_or o)
 action_found t k ns None e h = absurd (false≢true h)
 action_found t k ns (Some a) e h =
     let m : Made (selected_of k) (loop_places k) (pieces t ns) (Some a) = subst (λ o. Made (selected_of k) (loop_places k) (pieces t ns) o) e (action_made t k (pieces t ns)) in
     sym (m.0 ∙ ap (λ c. c ++ loop_places k) (nodes_add t (selected_type k) ns [] m.1).0)
 
-statement_found : (t : Tables) (ns : List Node) (s : StatementNode) → StatementFits t ns s → statement_places ns s ≡ action_doubles (statement_view t ns s).action
+statement_found : (t : Tables) (ns : List Node) (s : StatementNode) → StatementFits t ns s → statement_places ns s ≡ action_broken (statement_view t ns s).action
 statement_found t ns s h =
     let own = part ns s.first_node s.nodes in
     action_found t s.action own (action_of t s.action (pieces t own)) refl h.1
 
 statements_found : (t : Tables) (ns : List Node) (ss : List StatementNode) → AllFit t ns ss
-    → statements_places ns ss ≡ flat_map (λ (s : plain.Statement). action_doubles s.action) (map (statement_view t ns) ss)
+    → statements_places ns ss ≡ flat_map (λ (s : plain.Statement). action_broken s.action) (map (statement_view t ns) ss)
 statements_found t ns [] h = refl
 statements_found t ns (s ∷ ss) h =
     ap (λ c. c ++ statements_places ns ss) (statement_found t ns s h.0)
-    ∙ ap (λ c. action_doubles (statement_view t ns s).action ++ c) (statements_found t ns ss h.1)
+    ∙ ap (λ c. action_broken (statement_view t ns s).action ++ c) (statements_found t ns ss h.1)
 
-bodies_found : (t : Tables) (bs : List Body) → BodiesFit t bs → bodies_places bs ≡ flat_map body_doubles (map (body_view t) bs)
+bodies_found : (t : Tables) (bs : List Body) → BodiesFit t bs → bodies_places bs ≡ flat_map body_broken (map (body_view t) bs)
 bodies_found t [] h = refl
 bodies_found t (b ∷ bs) h =
     ap (λ c. c ++ bodies_places bs) (statements_found t b.nodes.items b.statements.items h.0)
-    ∙ ap (λ c. body_doubles (body_view t b) ++ c) (bodies_found t bs h.1)
+    ∙ ap (λ c. body_broken (body_view t b) ++ c) (bodies_found t bs h.1)
 
-pub project_found : (pr : Project) → Fits pr → least_of None (bodies_places pr.bodies.items) ≡ least_double (project_view pr)
+pub project_found : (pr : Project) → Fits pr → least_of None (bodies_places pr.bodies.items) ≡ first_broken (project_view pr)
 project_found pr fits = ap (λ c. least_of None c) (bodies_found (tables_of pr) pr.bodies.items fits)

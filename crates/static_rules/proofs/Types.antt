@@ -7,7 +7,7 @@ use Rattle.vba_values.specs.declared.types.VType.{VType}
 use Rattle.vba_values.specs.StaticTypes.{static_of}
 use Rattle.vba_values.specs.Types.{Declared, declared}
 use Rattle.vba_values.specs.Types as type
-use Rattle.static_rules.specs.Doubles.{is_double}
+use Rattle.static_rules.specs.Broken.{is_double}
 use Rattle.static_rules.specs.Scan.{operator_type}
 
 array_left : (o : OpKind) (element right : Declared) → static_of o type.variant right ≡ static_of o (type.array_of element) right

@@ -1,2 +1,2 @@
-pub mod Doubles
+pub mod Broken
 pub mod Scan

@@ -2,17 +2,18 @@
 
 ghost use Rattle.std.specs.Prelude.{◌≡◌};
 ghost use Rattle.bound_project.specs.Bodies.{Fits, part, project_view};
-ghost use Rattle.static_rules.specs.Doubles.{least_double, least_of};
+ghost use Rattle.static_rules.specs.Broken.{first_broken, least_of};
 ghost use Rattle.static_rules.specs.Scan.{bodies_places, kind_places, loop_places, nodes_places, selected_type, statement_places, statements_places};
 
 use crate::doubles::{note_double, note_loop};
+use crate::least::note;
 use bound_project::{
     ActionKind, Body, DeclaredType, ElementType, Node, NodeKind, Project, StatementNode,
 };
-use vba_base::Place;
+use vba_base::{Place, Refusal};
 use vba_values::OpKind;
 
-fn note_node(least: &mut Option<Place>, selected: DeclaredType, at: Place, kind: NodeKind)
+fn note_node(least: &mut Option<Refusal>, selected: DeclaredType, at: Place, kind: NodeKind)
     ensures { least.new ≡ least_of least.old (kind_places selected at kind) }
 {
     match kind {
@@ -24,6 +25,7 @@ fn note_node(least: &mut Option<Place>, selected: DeclaredType, at: Place, kind:
             ..
         } => note_double(least, at, operator, left, right),
         NodeKind::TestIs { operator, of } => note_double(least, at, operator, selected, of),
+        NodeKind::Marked { broken, .. } => note(least, broken),
         NodeKind::TestRange { low, high, high_at } => {
             note_double(least, at, OpKind::Ge, selected, low);
             note_double(least, high_at, OpKind::Le, selected, high);
@@ -32,7 +34,7 @@ fn note_node(least: &mut Option<Place>, selected: DeclaredType, at: Place, kind:
     }
 }
 
-fn note_nodes(least: &mut Option<Place>, selected: DeclaredType, nodes: &[Node])
+fn note_nodes(least: &mut Option<Refusal>, selected: DeclaredType, nodes: &[Node])
     ensures { least.new ≡ least_of least.old (nodes_places selected nodes.now) }
 {
     for node in nodes {
@@ -49,7 +51,7 @@ fn selected_type(action: ActionKind) -> DeclaredType
     }
 }
 
-fn note_action(least: &mut Option<Place>, action: ActionKind)
+fn note_action(least: &mut Option<Refusal>, action: ActionKind)
     ensures { least.new ≡ least_of least.old (loop_places action) }
 {
     if let ActionKind::For {
@@ -75,7 +77,7 @@ fn nodes_of(nodes: &[Node], first: u32, count: u32) -> &[Node]
     &rest[..count]
 }
 
-fn note_statement(least: &mut Option<Place>, nodes: &[Node], statement: StatementNode)
+fn note_statement(least: &mut Option<Refusal>, nodes: &[Node], statement: StatementNode)
     ensures { least.new ≡ least_of least.old (statement_places nodes.now statement) }
 {
     let own = nodes_of(nodes, statement.first_node, statement.nodes);
@@ -83,7 +85,7 @@ fn note_statement(least: &mut Option<Place>, nodes: &[Node], statement: Statemen
     note_action(least, statement.action);
 }
 
-fn note_statements(least: &mut Option<Place>, nodes: &[Node], statements: &[StatementNode])
+fn note_statements(least: &mut Option<Refusal>, nodes: &[Node], statements: &[StatementNode])
     ensures { least.new ≡ least_of least.old (statements_places nodes.now statements.now) }
 {
     for statement in statements {
@@ -91,7 +93,7 @@ fn note_statements(least: &mut Option<Place>, nodes: &[Node], statements: &[Stat
     }
 }
 
-fn note_bodies(least: &mut Option<Place>, bodies: &[Body])
+fn note_bodies(least: &mut Option<Refusal>, bodies: &[Body])
     ensures { least.new ≡ least_of least.old (bodies_places bodies.now) }
 {
     for body in bodies {
@@ -99,11 +101,12 @@ fn note_bodies(least: &mut Option<Place>, bodies: &[Body])
     }
 }
 
-/// S24: the least place of a bound project at which an operator, a comparison of a Case or of a For, or the sum of a
-/// For's counter and step, has a Double result by the declared types of its operands; None where none has.
-pub fn first_double(project: &Project) -> Option<Place>
+/// The first rule that a bound project breaks, by module, place and rule: S24, where an operator, a comparison of a Case
+/// or of a For, or the sum of a For's counter and step, has a Double result by the declared types of its operands, and
+/// what is marked. None where it breaks none.
+pub fn first_broken(project: &Project) -> Option<Refusal>
     requires { Fits project.now }
-    ensures { result ≡ least_double (project_view project.now) }
+    ensures { result ≡ first_broken (project_view project.now) }
 {
     let mut least = None;
     note_bodies(&mut least, &project.bodies);

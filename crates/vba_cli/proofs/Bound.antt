@@ -29,8 +29,8 @@ use Rattle.list_file.specs.Lists.{Start}
 use Rattle.list_file.specs.Plans.{ModuleFile}
 use Rattle.declared_names.specs.View.{source_view}
 use Rattle.declared_names.specs.declared.space.Source as declared_names
-use Rattle.vba_cli.specs.Program.{Kept, begins_at, bound_kept, bound_modules, bound_sources, double_rule, each, first_of_two, judged_by, kept_of, main_of, module_of, named_rule, program_of}
-use Rattle.vba_cli.specs.Programs.{IsFitted, IsProgram, IsRefused, double_of, first_fold, unless_refused}
+use Rattle.vba_cli.specs.Program.{Kept, begins_at, bound_kept, bound_modules, bound_sources, bound_rule, each, first_of_two, judged_by, kept_of, main_of, module_of, named_rule, program_of}
+use Rattle.vba_cli.specs.Programs.{IsFitted, IsProgram, IsRefused, rule_of, first_fold, unless_refused}
 
 -- modules are numbered
 pub modules_numbered : (ms : List Source) (spaces : List Space) → spaces ≡ spaces_from 0 ms → AreNumbered spaces
@@ -88,9 +88,9 @@ pub bound_fits : (spaces : List Space) (st : Startup) (b : Bound) → IsBound th
 bound_fits spaces st (bound.NotBuilt place) h = tt
 bound_fits spaces st (bound.Runs pr) h = h.0
 
--- a part was told that isn't built, so S24 isn't asked
+-- a part was told that isn't built, so the project isn't asked
 left_told : (fault : Option Refusal) (place : Place) (built : Option Place) (pr : Option Project)
-    → IsProgram (λ told. answer_by (first_of_two fault (double_rule (or_else told built) pr)) (or_else told built) pr) (unless_refused (first_of_two fault None) (bound.NotBuilt place))
+    → IsProgram (λ told. answer_by (first_of_two fault (bound_rule (or_else told built) pr)) (or_else told built) pr) (unless_refused (first_of_two fault None) (bound.NotBuilt place))
 left_told None place built pr = refl
 left_told (Some refusal) place built pr = record { told = Some place; is = refl }
 
@@ -101,17 +101,17 @@ project_told answer None pr fits is = (fits, is)
 project_told answer (Some refusal) pr fits is = record { told = None; is = is }
 
 pub modules_asked : (start : Option Start) (ms : List Source) (spaces : List Space) (fault first : Option Refusal) (b : Bound) → spaces ≡ spaces_from 0 ms → fault ≡ fault_in spaces
-    → first ≡ first_of_two fault (double_of b) → IsBound the_outside spaces (begins_at start ms) b → IsProgram (by_rule None start ms) (unless_refused first b)
+    → first ≡ first_of_two fault (rule_of b) → IsBound the_outside spaces (begins_at start ms) b → IsProgram (by_rule None start ms) (unless_refused first b)
 modules_asked start ms spaces fault first (bound.NotBuilt place) e faulty is b =
     subst (λ f. IsProgram (by_rule None start ms) (unless_refused f (bound.NotBuilt place))) (sym (is ∙ ap (λ f. first_of_two f None) (faulty ∙ ap fault_in e)))
     (left_told (fault_in (spaces_from 0 ms)) place (not_built the_outside ms) (project start ms))
 modules_asked start ms spaces fault first (bound.Runs pr) e faulty is b =
     let runs = subst (λ ss. IsBound the_outside ss (begins_at start ms) (bound.Runs pr)) e b in
-    let double = double_rule None (Some (project_view pr)) in
+    let broken = bound_rule None (Some (project_view pr)) in
     project_told (by_rule None start ms) first pr runs.0
     (ap (λ built. judged_by None ms built (project start ms)) runs.1.none_left
     ∙ ap (λ p. judged_by None ms None p) runs.1.project_is
-    ∙ ap (λ f. answer_by f None (Some (project_view pr))) (sym (is ∙ ap (λ f. first_of_two f double) (faulty ∙ ap fault_in e))))
+    ∙ ap (λ f. answer_by f None (Some (project_view pr))) (sym (is ∙ ap (λ f. first_of_two f broken) (faulty ∙ ap fault_in e))))
 
 -- files whose modules break no rule of their own are what these are bound to
 pub program_read : (start : Option Start) (files : List ModuleFile) (ks : List Kept) (ms : List Source) (r : Result Bound (OrMemory Refusal))

@@ -1,7 +1,7 @@
 -- What the files of modules are: a project that runs, or why they are none. The rules come in phases: those of tokens and
 -- directives for all modules, then those of lines and modules for all, then those of names, then the startup, what the
 -- language leaves out, Double results and signatures.
-use Rattle.std.specs.Prelude.{ℕ, suc, Bool, List, [], ◌∷◌, codes, Option, Some, None, option_map, Result, Ok, Err, nat_lt, if◌then◌else◌}
+use Rattle.std.specs.Prelude.{ℕ, suc, Bool, List, [], ◌∷◌, codes, Option, Some, None, Result, Ok, Err, nat_lt, if◌then◌else◌}
 use Rattle.vba_base.specs.Decode.{decoded}
 use Rattle.vba_base.specs.declared.place.Place.{Place}
 use Rattle.vba_base.specs.declared.place.Refusal.{Refusal}
@@ -12,7 +12,7 @@ use Rattle.vba_module.specs.Verdict.{trees_of}
 use Rattle.module_parser.specs.Parsed.{verdict, read_lexed}
 use Rattle.refusal_order.specs.Least.{least_of_both}
 use Rattle.bound_project.specs.Project.{Project}
-use Rattle.static_rules.specs.Doubles.{least_double}
+use Rattle.static_rules.specs.Broken.{first_broken}
 use Rattle.binder.specs.Sources.{Source, given_name, name_or}
 use Rattle.binder.specs.Options.{or_else}
 use Rattle.binder.specs.Scopes.{Space, spaces_from}
@@ -91,20 +91,20 @@ first_of_two (Some l) (Some r) =
 abbrev pub named_rule : List Source → Startup → Option Refusal
 named_rule ms st = or_else (names.verdict the_outside ms) (startup_fault the_outside (spaces_from 0 ms) st)
 
--- S24, by the least place of a project that has a Double result; where a part isn't built, it isn't asked
-abbrev pub double_rule : (left : Option Place) → Option Project → Option Refusal
-double_rule None (Some pr) = option_map (λ place. record { rule = 24; place = place }) (least_double pr)
-double_rule left pr = None
+-- the first rule that a bound project breaks; where a part isn't built, it isn't asked
+abbrev pub bound_rule : (left : Option Place) → Option Project → Option Refusal
+bound_rule None (Some pr) = first_broken pr
+bound_rule left pr = None
 
 -- what is asked where all these are found: the first of what the language leaves out (S23), of signatures that differ
--- (S31, S32) and of Double results
-abbrev pub static_rule : List Space → (double : Option Refusal) → Option Refusal
-static_rule spaces double = first_of_two (first_of_two (first_left_out the_outside spaces) (first_signature the_outside spaces)) double
+-- (S31, S32) and of the project that is bound
+abbrev pub static_rule : List Space → (broken : Option Refusal) → Option Refusal
+static_rule spaces broken = first_of_two (first_of_two (first_left_out the_outside spaces) (first_signature the_outside spaces)) broken
 
 -- modules that break this rule of names, or none: the first rule that they break, the first part that isn't built, or
 -- their project
 abbrev pub judged_by : (named : Option Refusal) → List Source → (left : Option Place) → Option Project → Answer
-judged_by named ms left pr = answer_by (or_else named (static_rule (spaces_from 0 ms) (double_rule left pr))) left pr
+judged_by named ms left pr = answer_by (or_else named (static_rule (spaces_from 0 ms) (bound_rule left pr))) left pr
 
 -- a project of these modules, where vbarun tells that a part isn't built yet, or tells none
 abbrev pub bound_modules : Option Start → List Source → (told : Option Place) → Answer

@@ -16,17 +16,17 @@ use Rattle.vba_lexer.specs.Lexed.{lines_view}
 use Rattle.vba_cli.specs.declared.kept.Kept.{Kept}
 use Rattle.vba_cli.specs.declared.modules.ReadModule.{ReadModule}
 use Rattle.vba_cli.specs.Program as program
-use Rattle.vba_cli.specs.Program.{double_rule}
+use Rattle.vba_cli.specs.Program.{bound_rule}
 
 -- a project that is bound fits
 abbrev pub IsFitted : Bound → Type 0
 IsFitted (bound.NotBuilt place) = Unit {0}
 IsFitted (bound.Runs pr) = Fits pr
 
--- S24 of what was bound
-abbrev pub double_of : Bound → Option Refusal
-double_of (bound.NotBuilt place) = None
-double_of (bound.Runs pr) = double_rule None (Some (project_view pr))
+-- the first rule that what was bound breaks
+abbrev pub rule_of : Bound → Option Refusal
+rule_of (bound.NotBuilt place) = None
+rule_of (bound.Runs pr) = bound_rule None (Some (project_view pr))
 
 -- what was bound, unless a rule is broken
 abbrev pub unless_refused : Option Refusal → Bound → Result Bound (OrMemory Refusal)

@@ -16,7 +16,7 @@ ghost use Rattle.signature_rules.specs.Signatures.{first_signature as plain_sign
 ghost use Rattle.binder.specs.Bind.{not_built, project_of};
 ghost use Rattle.binder.specs.Options.{or_else};
 ghost use Rattle.vba_cli.specs.Program.{begins_at, bound_modules, first_of_two, judged_by, program_of};
-ghost use Rattle.vba_cli.specs.Programs.{IsFitted, IsProgram, double_of, first_fold, module_view, unless_refused};
+ghost use Rattle.vba_cli.specs.Programs.{IsFitted, IsProgram, rule_of, first_fold, module_view, unless_refused};
 
 use crate::modules::ReadModule;
 use crate::phases::{keep_all, read_all};
@@ -26,7 +26,7 @@ use list_file::{ModuleBytes, Startup};
 use name_rules::{first_left_out, verdict};
 use refusal_order::note_both;
 use signature_rules::first_signature;
-use static_rules::first_double;
+use static_rules::first_broken;
 use std::alloc::Global;
 use vba_base::{NoMemory, OrMemory, Place, Refusal};
 
@@ -143,8 +143,8 @@ fn judged<'a>(alloc: Global, modules: Modules<'a>) -> Result<Bound, OrMemory<Ref
     }
 }
 
-// Modules in which names, types and the macro to begin with are found: refused by the first of S23, S24, S31 and S32,
-// or else bound. S24 is asked of the project that is bound.
+// Modules in which names, types and the macro to begin with are found: refused by the first of S23, S31, S32 and of what
+// is asked of the project that is bound, or else bound.
 #[tactic(auto, using(crate::proofs::Bound::modules_asked))]
 fn asked<'a>(alloc: Global, modules: Modules<'a>) -> Result<Bound, OrMemory<Refusal>>
     requires { AreNumbered (map space_view modules.spaces.now) }
@@ -153,21 +153,18 @@ fn asked<'a>(alloc: Global, modules: Modules<'a>) -> Result<Bound, OrMemory<Refu
 {
     let fault = first_fault(alloc, modules.spaces)?;
     let bound = bind_at(alloc, modules.spaces, modules.start)?;
-    let first = first_of_two(fault, double_in(&bound));
+    let first = first_of_two(fault, rule_in(&bound));
     unless_refused(bound, first)
 }
 
-// S24 of what was bound.
-fn double_in(bound: &Bound) -> Option<Refusal>
+// The first rule that what was bound breaks.
+fn rule_in(bound: &Bound) -> Option<Refusal>
     requires { IsFitted bound.now }
-    ensures { result ≡ double_of bound.now }
+    ensures { result ≡ rule_of bound.now }
 {
     match bound {
         Bound::NotBuilt(_) => None,
-        Bound::Runs(project) => {
-            let place = first_double(project)?;
-            Some(Refusal { rule: 24, place })
-        }
+        Bound::Runs(project) => first_broken(project),
     }
 }
 

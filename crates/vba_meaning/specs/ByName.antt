@@ -1,5 +1,5 @@
 -- Members of the host and of Collections whose arguments are named ([MS-VBAL] 5.6.13.1).
-use Rattle.std.specs.Prelude.{ℕ, zero, suc, nat_lt, ◌==◌, ◌&&◌, ◌||◌, List, [], ◌∷◌, ◌++◌, codes, if◌then◌else◌, bytes_eq, Option, Some, None, Result, Ok, Err, slice_index_or, take, drop, unwrap_or, option_map}
+use Rattle.std.specs.Prelude.{ℕ, zero, suc, nat_lt, Bool, false, ◌==◌, ◌&&◌, ◌||◌, List, [], ◌∷◌, ◌++◌, codes, if◌then◌else◌, bytes_eq, Option, Some, None, Result, Ok, Err, slice_index_or, take, drop, unwrap_or, option_map}
 use Rattle.std.specs.List.{list_any}
 use Rattle.vba_values.specs.declared.fault.Bad.{Bad}
 use Rattle.vba_values.specs.declared.object.HostRef.{HostRef}
@@ -37,6 +37,15 @@ given_once before p ps = None
 abbrev pub parameters_given : (parameters : List (List ℕ)) → (before : ℕ) → (names : List (List ℕ)) → Option (List ℕ)
 parameters_given xs before [] = Some []
 parameters_given xs before (name ∷ names) = given_once before (parameter_named 0 xs name) (parameters_given xs before names)
+
+-- whether a parameter, by its number, is given an argument by one of these names
+abbrev pub is_parameter : (number : ℕ) → Option ℕ → Bool
+is_parameter number None = false
+is_parameter number (Some p) = number == p
+
+abbrev pub any_given : (parameters : List (List ℕ)) → (number : ℕ) → (names : List (List ℕ)) → Bool
+any_given xs number [] = false
+any_given xs number (name ∷ names) = is_parameter number (parameter_named 0 xs name) || any_given xs number names
 
 -- a use begins: 450 where the names don't fit, and then 449 where an argument is lacking that the member must have
 abbrev pub first_given : (before : ℕ) → List ℕ → Memory → Effect Val

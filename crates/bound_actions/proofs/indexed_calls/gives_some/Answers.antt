@@ -1,7 +1,7 @@
+use Rattle.std.proofs.Common.{sym, ◌∙◌}
 use Rattle.bound_actions.proofs.IndexedCalls.{some_if}
 use Rattle.bound_actions.proofs.indexed_calls.gives_some.Goals as goal
 
-pub returns-in-Some-PlainArgument-default : goal.returns-in-Some-PlainArgument-default
-returns-in-Some-PlainArgument-default c =
-    let m = c.in-Some-PlainArgument-default in
-    some_if c.args.nodes.now m.field-0-1.now m.field-0-0.now m.field-0-0-0 c.adds_one.result m.ensures.cases.0 m.field-0-0-is c.adds_one.ensures
+pub returns : goal.returns
+returns c =
+    some_if c.args.nodes.now c.in-Some._front.now c.in-Some.last.now c.adds_one.result c.in-Some.ensures.cases.0 (sym c.is_argument.ensures ∙ c.if-not-is_argument.false) c.adds_one.ensures

@@ -11,6 +11,13 @@ returns c =
     let d = draft_view c.args.draft.now in
     let h = draft_view c.item_member.new.draft in
     let i = draft_view c.open_member.new.draft in
-    let e = draft_view c.read_member.new.draft in
-    IfOk-weaker c.written_call.result (λ k. WritesCall c.in_ok-call.call k) (λ k. AssignsItem env c.args.place c.args.term c.args.nodes.now d e k)
-    (λ k w. item_assigned env c.args.place c.args.term c.in_ok-member.member c.in_ok-opened.opened c.in_ok-call.call c.args.nodes.now k d h i e c.in_ok-member.ensures c.in_ok-opened.ensures c.in_ok-call.ensures w) c.written_call.ensures
+    let j = draft_view c.read_member.new.draft in
+    let e = draft_view c.write_call.new.draft in
+    IfOk-weaker c.write_call.result (λ k. WritesCall c.in_ok-call.call j e k) (λ k. AssignsItem env c.args.place c.args.term c.args.nodes.now d e k)
+    (λ k w. item_assigned env c.args.place c.args.term c.in_ok-member.member c.in_ok-opened.opened c.in_ok-call.call c.args.nodes.now k d h i j e c.in_ok-member.ensures c.in_ok-opened.ensures c.in_ok-call.ensures w) c.write_call.ensures
+
+pub write_call-requires : goal.write_call-requires
+write_call-requires c = c.in_ok-call.ensures.goes.named.0
+
+pub read_member-requires-clause-named : goal.read_member-requires-clause-named
+read_member-requires-clause-named c = c.in_ok-opened.ensures.named

@@ -7,9 +7,16 @@ use Rattle.vba_expression.specs.declared.node.ExpressionNode.{ExpressionNode}
 use Rattle.bound_project.specs.DraftView.{draft_view}
 use Rattle.bound_calls.specs.declared.term.Item.{Item}
 use Rattle.bound_calls.specs.declared.term.Item.TheVariants as item
+use Rattle.bound_calls.specs.Standing.{AllNamed}
 use Rattle.bound_calls.specs.Steps.{Goes}
 use Rattle.bound_terms.specs.View.{env_view}
 use Rattle.bound_actions.proofs.member_targets.read_member.Goals as goal
+
+pub run-requires-clause-named : goal.run-requires-clause-named
+run-requires-clause-named c =
+    let start : reverse c.put_item.new.stack.items ≡ item.Member c.args.call ∷ [] = c.in_ok-put_item.ensures ∙ ap (λ l. item.Member c.args.call ∷ reverse l) c.new-stack.ensures.items in
+    let N : List Item → Type 0 = λ l. AllNamed (draft_view c.args.draft.now).tables l in
+    subst N (sym start) (c.requires.named, tt)
 
 pub returns-then-is_empty : goal.returns-then-is_empty
 returns-then-is_empty c =

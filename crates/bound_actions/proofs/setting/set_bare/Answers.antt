@@ -14,4 +14,4 @@ returns c =
     let d = draft_view c.args.draft.now in
     let f = draft_view c.tree_of.new.draft in
     let e = draft_view c.set_term.new.draft in
-    IfOk-weaker c.set_term.result (λ k. SetsTerm x.term f e k) (λ k. SetsTo env place d e k) (λ k h. sets_bare env place x d f e k c.requires.bare c.in_ok-tree.ensures h) c.set_term.ensures
+    IfOk-weaker c.set_term.result (λ k. SetsTerm c.args.set_word x.term f e k) (λ k. SetsTo c.args.set_word env place d e k) (λ k h. sets_bare c.args.set_word env place x d f e k c.requires.bare c.in_ok-tree.ensures h) c.set_term.ensures

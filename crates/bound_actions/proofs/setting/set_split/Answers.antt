@@ -1,5 +1,6 @@
 use Rattle.std.proofs.Common.{sym, ◌∙◌}
 use Rattle.std.proofs.lemmas.Result.{IfOk-weaker}
+use Rattle.vba_base.specs.declared.place.Place.{Place}
 use Rattle.vba_expression.specs.Nodes.{tree_in}
 use Rattle.bound_project.specs.DraftView.{draft_view}
 use Rattle.bound_project.specs.Drafts.{Drafted}
@@ -25,8 +26,8 @@ returns-then-takes_item c =
     let f = draft_view c.nodes_tree.new.draft in
     let g = draft_view c.callee_term.new.draft in
     let h = draft_view c.item_member.new.draft in
-    IfOk-weaker c.set_member.result (λ k. (d : Drafted) → SetsTerm (term.HostMember m) d d k) (λ k. SetsTo env (tree_in ns) d h k)
-    (λ k s. sets_split_member env c.args.split ns x y m d f g h k c.requires.split c.if-not-adds_one.ensures c.in_ok-tree.ensures c.in_ok-term.ensures c.in_ok-member.ensures (s h)) c.set_member.ensures
+    IfOk-weaker c.set_member.result (λ k. (word : Place) (d : Drafted) → SetsTerm word (term.HostMember m) d d k) (λ k. SetsTo c.args.set_word env (tree_in ns) d h k)
+    (λ k s. sets_split_member c.args.set_word env c.args.split ns x y m d f g h k c.requires.split c.if-not-adds_one.ensures c.in_ok-tree.ensures c.in_ok-term.ensures c.in_ok-member.ensures (s c.args.set_word h)) c.set_member.ensures
 
 pub returns : goal.returns
 returns c =
@@ -40,6 +41,6 @@ returns c =
     let g = draft_view c.callee_term.new.draft in
     let h = draft_view c.continue_tree.new.draft in
     let e = draft_view c.set_term.new.draft in
-    IfOk-weaker c.set_term.result (λ k. SetsTerm more.term h e k) (λ k. SetsTo env (tree_in ns) d e k)
-    (λ k s. sets_split env c.args.split ns x more y d f g h e k c.requires.split c.if-not-adds_one.ensures c.in_ok-tree.ensures c.in_ok-term.ensures (sym c.takes_item.ensures ∙ c.if-takes_item.false) c.in_ok-more.ensures s)
+    IfOk-weaker c.set_term.result (λ k. SetsTerm c.args.set_word more.term h e k) (λ k. SetsTo c.args.set_word env (tree_in ns) d e k)
+    (λ k s. sets_split c.args.set_word env c.args.split ns x more y d f g h e k c.requires.split c.if-not-adds_one.ensures c.in_ok-tree.ensures c.in_ok-term.ensures (sym c.takes_item.ensures ∙ c.if-takes_item.false) c.in_ok-more.ensures s)
     c.set_term.ensures

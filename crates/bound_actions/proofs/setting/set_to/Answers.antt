@@ -16,4 +16,4 @@ set_bare-requires-clause-bare c =
 
 pub returns-in-Some : goal.returns-in-Some
 returns-in-Some c =
-    let B : Expr → Type 0 = λ e. IfOk c.set_split.result (λ k. SetsTo (env_view c.args.env) e (draft_view c.args.draft.now) (draft_view c.set_split.new.draft) k) in subst B c.nodes-nodes.ensures c.set_split.ensures
+    let B : Expr → Type 0 = λ e. IfOk c.set_split.result (λ k. SetsTo c.args.set_word (env_view c.args.env) e (draft_view c.args.draft.now) (draft_view c.set_split.new.draft) k) in subst B c.nodes-nodes.ensures c.set_split.ensures

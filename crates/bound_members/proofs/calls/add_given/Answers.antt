@@ -1,9 +1,14 @@
-use Rattle.std.proofs.Common.{sym, ◌∙◌}
+use Rattle.std.proofs.lemmas.Result.{IfOk-weaker}
 use Rattle.bound_project.specs.DraftView.{draft_view}
+use Rattle.bound_calls.specs.declared.term.Item.TheVariants as item
+use Rattle.bound_calls.specs.Indexing.{AddsArgument}
+use Rattle.bound_members.specs.MemberCalls.{AddsValue}
 use Rattle.bound_members.proofs.MemberSteps.{adds_given}
 use Rattle.bound_members.proofs.calls.add_given.Goals as goal
 
 pub returns : goal.returns
 returns c =
-    adds_given c.args.call c.args.tree c.in_ok-ending.ending c.in_ok-count.count c.in_ok-written.written (draft_view c.args.draft.now) (draft_view c.given_ending.new.draft) (draft_view c.push_node.new.draft) c.in_ok-count.ensures c.in_ok-written.ensures c.requires.member
-    (sym c.is_value_kind.ensures ∙ c.if-not-is_value_kind.false) c.in_ok-ending.ensures c.in_ok-push_node.ensures
+    let d = draft_view c.args.draft.now in
+    let e = draft_view c.add_value.new.draft in
+    IfOk-weaker c.add_value.result (λ z. AddsValue c.args.call c.args.tree 0 d e z) (λ z. AddsArgument (item.Member c.args.call) c.args.tree d e (item.Member z))
+    (λ z v. adds_given c.args.call z c.args.tree d e c.requires.member c.if-call-ne0.false v) c.add_value.ensures

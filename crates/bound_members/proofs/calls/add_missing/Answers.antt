@@ -12,5 +12,5 @@ use Rattle.bound_members.proofs.calls.add_missing.Goals as goal
 pub returns : goal.returns
 returns c =
     let d = draft_view c.args.draft.now in
-    adds_missing c.args.call c.in_ok-count.count d (draft_view c.push_node.new.draft) c.in_ok-count.ensures c.requires
+    adds_missing c.args.call c.in_ok-count.count d (draft_view c.push_node.new.draft) c.in_ok-count.ensures c.if-call-ne0.false c.requires
     (c.in_ok-push_node.ensures ∙ ap (λ (p : Place). record d { pieces = put d.tables (node_of kinds.NotGiven p (Plain element.Variant)) d.pieces }) c.nowhere.ensures)

@@ -27,3 +27,9 @@ returns-in-ForEach c =
     let P : BlockLine → Type 0 =
     λ (line : BlockLine). IfOk c.bind_for_each.result (λ kind. ActionPushed kind (block_in (env_view c.args.around.env) (around_view c.args.around) (standing_view c.args.standing) (block_line_view line)) (draft_view c.args.draft.now) (draft_view c.bind_for_each.new.draft)) in
     subst P (sym c.in-ForEach.is) c.bind_for_each.ensures
+
+pub returns-in-Next : goal.returns-in-Next
+returns-in-Next c =
+    let P : BlockLine → Type 0 =
+    λ (line : BlockLine). IfOk c.bind_next.result (λ kind. ActionPushed kind (block_in (env_view c.args.around.env) (around_view c.args.around) (standing_view c.args.standing) (block_line_view line)) (draft_view c.args.draft.now) (draft_view c.bind_next.new.draft)) in
+    subst P (sym c.in-Next.is) c.bind_next.ensures

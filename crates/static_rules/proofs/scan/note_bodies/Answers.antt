@@ -1,7 +1,7 @@
 use Rattle.std.proofs.Common.{List, ap, ◌∙◌}
 use Rattle.bound_project.specs.declared.node.Node.{Node}
 use Rattle.bound_project.specs.declared.statement.StatementNode.{StatementNode}
-use Rattle.static_rules.specs.Doubles.{least_of}
+use Rattle.static_rules.specs.Broken.{least_of}
 use Rattle.static_rules.specs.Scan.{statements_places}
 use Rattle.static_rules.proofs.Steps.{bodies_next}
 use Rattle.static_rules.proofs.scan.note_bodies.Goals as goal

@@ -2,7 +2,7 @@ use Rattle.std.proofs.Common.{sym, ap, ◌∙◌}
 use Rattle.vba_values.specs.declared.types.OpKind.TheVariants as op
 use Rattle.bound_project.specs.declared.node.NodeKind.{NodeKind}
 use Rattle.bound_project.specs.View.{declared_view}
-use Rattle.static_rules.specs.Doubles.{double_at, least_of}
+use Rattle.static_rules.specs.Broken.{double_at, least_of}
 use Rattle.static_rules.specs.Scan.{kind_places}
 use Rattle.static_rules.proofs.Steps.{noted_twice}
 use Rattle.static_rules.proofs.scan.note_node.Goals as goal

@@ -1,5 +1,5 @@
 use Rattle.std.proofs.Common.{◌≡◌, take}
-use Rattle.static_rules.specs.Doubles.{least_of}
+use Rattle.static_rules.specs.Broken.{least_of}
 use Rattle.static_rules.specs.Scan.{nodes_places}
 use Rattle.static_rules.proofs.scan.note_nodes.Given as goal
 

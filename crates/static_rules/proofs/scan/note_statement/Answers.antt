@@ -2,7 +2,7 @@ use Rattle.std.proofs.Common.{List, ap, ◌∙◌}
 use Rattle.bound_project.specs.declared.declared_type.DeclaredType.{DeclaredType}
 use Rattle.bound_project.specs.declared.node.Node.{Node}
 use Rattle.bound_project.specs.Bodies.{part}
-use Rattle.static_rules.specs.Doubles.{least_of}
+use Rattle.static_rules.specs.Broken.{least_of}
 use Rattle.static_rules.specs.Scan.{loop_places, nodes_places, selected_type}
 use Rattle.static_rules.proofs.Steps.{noted_twice}
 use Rattle.static_rules.proofs.scan.note_statement.Goals as goal

@@ -1,9 +1,9 @@
 use Rattle.std.proofs.Common.{List, None, ap, ◌∙◌}
 use Rattle.bound_project.specs.declared.project.Body.{Body}
-use Rattle.static_rules.specs.Doubles.{least_of}
+use Rattle.static_rules.specs.Broken.{least_of}
 use Rattle.static_rules.specs.Scan.{bodies_places}
 use Rattle.static_rules.proofs.Statements.{project_found}
-use Rattle.static_rules.proofs.scan.first_double.Goals as goal
+use Rattle.static_rules.proofs.scan.first_broken.Goals as goal
 
 pub returns : goal.returns
 returns c =

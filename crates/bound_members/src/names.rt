@@ -1,0 +1,188 @@
+//! Names of arguments that members take.
+
+ghost use Rattle.std.specs.Prelude.{◌≡◌, ◌+◌, ◌<◌, ◌^◌, [], IfOk, OnOk, Some, is_some, length, map};
+ghost use Rattle.bound_project.specs.DraftView.{draft_view};
+ghost use Rattle.bound_project.specs.Pieces.{by_name_in, name_in, names_in};
+ghost use Rattle.binder.specs.ExpressionsBound as bound;
+ghost use Rattle.vba_meaning.specs.ByName.{any_given, parameter_named, parameters_given};
+ghost use Rattle.bound_calls.specs.Standing.{member_is};
+ghost use Rattle.bound_members.specs.Names.{AddsName, TellsNames, is_next};
+
+use crate::ahead::{before_names, depth_behind, ends_all, named_at};
+use crate::members::is_word;
+use bound_calls::{HostMember, constant_number, order_number};
+use bound_declarations::NotYet;
+use bound_project::{ArgumentNames, Draft};
+use std::alloc::Global;
+use vba_base::{NoMemory, OrMemory, Units};
+use vba_expression::ExpressionNode;
+use vba_values::Value;
+use vba_words::Identifier;
+
+/// One more name, which becomes a constant.
+fn add_name(
+    alloc: Global,
+    draft: &mut Draft,
+    name: &Identifier,
+    order: &mut Vec<u32>,
+) -> Result<(), NoMemory>
+    ensures { OnOk result (AddsName (draft_view draft.old) order.old.items (draft_view draft.new) order.new.items) }
+{
+    let text = Units::from_units(alloc, name.name.units())?;
+    let constant = constant_number(draft, Value::Text(text))?;
+    order.push(constant)?;
+    Ok(())
+}
+
+/// One more name, where a node is an outermost argument that has one.
+fn add_node(
+    alloc: Global,
+    draft: &mut Draft,
+    node: &ExpressionNode,
+    depth: u32,
+    order: &mut Vec<u32>,
+) -> Result<(), NoMemory>
+    ensures { OnOk result (AddsName (draft_view draft.old) order.old.items (draft_view draft.new) order.new.items) }
+{
+    match named_at(node, depth) {
+        Some(name) => add_name(alloc, draft, name, order),
+        None => Ok(()),
+    }
+}
+
+/// The constants that are the names of the arguments to come.
+fn add_names(
+    alloc: Global,
+    draft: &mut Draft,
+    nodes: &[ExpressionNode],
+) -> Result<Vec<u32>, NoMemory>
+    ensures { IfOk result (λ order. AddsName (draft_view draft.old) [] (draft_view draft.new) order.items) }
+{
+    let mut order = Vec::new(alloc);
+    let mut depth: u32 = 0;
+    for node in nodes {
+        if ends_all(node, depth) {
+            return Ok(order);
+        }
+        add_node(alloc, draft, node, depth, &mut order)?;
+        depth = depth_behind(node, depth);
+    }
+    Ok(order)
+}
+
+/// How the arguments are named that are to come, where some of them are.
+pub fn names_ahead(
+    alloc: Global,
+    draft: &mut Draft,
+    nodes: &[ExpressionNode],
+) -> Result<Option<ArgumentNames>, NoMemory>
+    ensures { IfOk result (λ names. TellsNames (draft_view draft.old) (draft_view draft.new) names) }
+{
+    let Some(before) = before_names(nodes) else {
+        return Ok(None);
+    };
+    let order = add_names(alloc, draft, nodes)?;
+    let order = order_number(draft, order)?;
+    Ok(Some(ArgumentNames { before, order }))
+}
+
+/// Is a name the one behind so many of those that were told?
+#[tactic(auto, using(crate::proofs::Told::next_is))]
+pub fn is_next(draft: &Draft, names: ArgumentNames, count: u32, name: &Identifier) -> bool
+    ensures { result ≡ is_next (names_in (draft_view draft.now).tables names.order) count name.now.name }
+{
+    match draft.order(names.order).get(count as usize) {
+        Some(constant) => draft.name(*constant) == name.name.units(),
+        None => false,
+    }
+}
+
+/// Names of parameters.
+type Parameters = &'static [&'static [u8]];
+
+const INDEX: Parameters = &[b"index"];
+
+const ADDRESS: Parameters = &[b"address"];
+
+const ROW_AND_COLUMN: Parameters = &[b"r", b"c"];
+
+/// The names that parameters of a member have, by the greatest number of its arguments.
+fn known_parameters(name: &[u16], greatest: u32) -> Parameters
+    ensures names { map (λ w. w.now) result.now ≡ bound.known_parameters name.now (Some greatest) }
+    ensures few { length result.now < 4 }
+{
+    if greatest == 1 {
+        return INDEX;
+    }
+    if greatest == 2 && is_word(name, b"range") {
+        return ADDRESS;
+    }
+    if greatest == 2 {
+        return ROW_AND_COLUMN;
+    }
+    &[]
+}
+
+/// The number of the parameter with a name, counted from one on.
+fn parameter_named(first: u32, parameters: &[&[u8]], name: &[u16]) -> Option<u32>
+    requires { first + length parameters.now < 2 ^ 32 }
+    ensures { result ≡ parameter_named first (map (λ w. w.now) parameters.now) name.now }
+{
+    match parameters {
+        [] => None,
+        [own, parameters @ ..] => if is_word(name, own) {
+            Some(first)
+        } else {
+            parameter_named(first + 1, parameters, name)
+        }
+    }
+}
+
+/// Is a parameter given an argument by one of these names?
+fn is_given(draft: &Draft, parameters: &[&[u8]], number: u32, order: &[u32]) -> bool
+    requires { length parameters.now < 2 ^ 32 }
+    ensures { result ≡ any_given (map (λ w. w.now) parameters.now) number (map (name_in (draft_view draft.now).tables) order.now) }
+{
+    match order {
+        [] => false,
+        [first, order @ ..] => {
+            match parameter_named(0, parameters, draft.name(*first)) {
+                Some(named) => number == named || is_given(draft, parameters, number, order),
+                None => is_given(draft, parameters, number, order),
+            }
+        }
+    }
+}
+
+/// Are all of these names of parameters behind the first ones, no two of the same?
+#[tactic(auto, using(vba_meaning::proofs::Named::given_more))]
+fn are_given(draft: &Draft, parameters: &[&[u8]], before: u32, order: &[u32]) -> bool
+    requires { length parameters.now < 2 ^ 32 }
+    ensures { result ≡ is_some (parameters_given (map (λ w. w.now) parameters.now) before (map (name_in (draft_view draft.now).tables) order.now)) }
+{
+    match order {
+        [] => true,
+        [first, order @ ..] => {
+            let Some(number) = parameter_named(0, parameters, draft.name(*first)) else {
+                return false;
+            };
+            if number < before || !are_given(draft, parameters, before, order) {
+                return false;
+            }
+            !is_given(draft, parameters, number, order)
+        }
+    }
+}
+
+/// Has a member parameters of these names, where they are known before the run?
+pub fn takes_names(draft: &Draft, member: HostMember, names: ArgumentNames) -> bool
+    ensures { let t = (draft_view draft.now).tables in result ≡ bound.takes_names (member_is t member) (by_name_in t names) }
+{
+    match member.greatest {
+        None => true,
+        Some(greatest) => {
+            let parameters = known_parameters(draft.name(member.name), greatest);
+            are_given(draft, parameters, names.before, draft.order(names.order))
+        }
+    }
+}
