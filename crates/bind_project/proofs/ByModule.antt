@@ -7,14 +7,14 @@ use Rattle.vba_tree.specs.Tree.{Line, procedure_header}
 use Rattle.bound_project.specs.Project.{Body}
 use Rattle.bound_project.specs.Statements.{Statement}
 use Rattle.bound_project.specs.Drafts.{Drafted}
-use Rattle.binder.specs.Options.{from_two, or_else}
-use Rattle.binder.specs.Declarations.{Written}
-use Rattle.binder.specs.Scopes.{Outside, Space, Scope}
-use Rattle.binder.specs.StatementsBound.{all_statements, blocks_in}
-use Rattle.binder.specs.Names.{scope_of}
-use Rattle.binder.specs.Constants.{home}
-use Rattle.binder.specs.Bind.{around_of, body_with, bound_body, bodies_of, all_bodies, numbered, no_space, is_built_part, place_unless, first_part, left_in_body, left_in_parts, left_in_space, left_in_spaces}
-use Rattle.bound_statements.specs.Walks.{BodyAdded}
+use Rattle.bound_actions.specs.binder.specs.Options.{from_two, or_else}
+use Rattle.bound_actions.specs.binder.specs.Declarations.{Written}
+use Rattle.bound_actions.specs.binder.specs.Scopes.{Outside, Space, Scope}
+use Rattle.bound_actions.specs.binder.specs.StatementsBound.{all_statements, blocks_in}
+use Rattle.bound_actions.specs.binder.specs.Names.{scope_of}
+use Rattle.bound_actions.specs.binder.specs.Constants.{home}
+use Rattle.bound_actions.specs.binder.specs.Bind.{around_of, body_with, bound_body, bodies_of, all_bodies, numbered, no_space, is_built_part, place_unless, first_part, left_in_body, left_in_parts, left_in_space, left_in_spaces}
+use Rattle.statement_nodes.specs.Walks.{BodyAdded}
 use Rattle.bind_project.specs.Modules.{is_header, with_bodies, IsFront, ProcedureAdded, PartsWalked, PartsAdded, SpaceAdded, SpacesWalked, SpacesAdded}
 
 joined : (x y z : List Body) → (x ++ y) ++ z ≡ x ++ (y ++ z)

@@ -1,12 +1,12 @@
 -- Serves the code: what is known of a project.
 use Rattle.std.specs.Prelude.{◌≡◌}
-use Rattle.binder.specs.Bind.{declarations_of}
+use Rattle.bound_actions.specs.binder.specs.Bind.{declarations_of}
 use Rattle.bound_project.specs.View.{declarations_view}
-use Rattle.declared_names.specs.Outside.{the_outside}
-use Rattle.constant_values.specs.Rounds.{IsPlaced}
-use Rattle.constant_values.specs.Tables.{AreProjectValues}
-use Rattle.declared_names.specs.View.{scope_view}
-use Rattle.project_tables.specs.Signed.{AreSignatures, whole_scope}
+use Rattle.bound_actions.specs.declared_names.specs.Outside.{the_outside}
+use Rattle.bound_actions.specs.constant_values.specs.Rounds.{IsPlaced}
+use Rattle.bound_actions.specs.constant_values.specs.Tables.{AreProjectValues}
+use Rattle.bound_actions.specs.declared_names.specs.View.{scope_view}
+use Rattle.bound_actions.specs.project_tables.specs.Signed.{AreSignatures, whole_scope}
 use Rattle.bind_project.specs.declared.home.Home.{Home}
 
 -- it is what the project has

@@ -2,14 +2,14 @@
 
 ghost use Rattle.std.specs.Prelude.{◌≡◌, IfOk, option_map};
 ghost use Rattle.std.specs.List.{list_all};
-ghost use Rattle.binder.specs.Bind as plain;
+ghost use Rattle.bound_actions.specs.binder.specs.Bind as plain;
 ghost use Rattle.bound_project.specs.View.{declared_view, element_view};
-ghost use Rattle.declared_names.specs.View.{scope_view, type_meant_view};
+ghost use Rattle.bound_actions.specs.declared_names.specs.View.{scope_view, type_meant_view};
 ghost use Rattle.vba_module.specs.Headers.{all_of, parameters_of};
 ghost use Rattle.vba_tree.specs.View.{listed_view, declared_type_view, type_clause_view, new_type_clause_view, variable_view, parameter_view, parameters_view, result_type_view};
 
+use bound_actions::declared_names::{Scope, TypeMeant, type_meant};
 use bound_project::{DeclaredType, ElementType};
-use declared_names::{Scope, TypeMeant, type_meant};
 use vba_base::NoMemory;
 use vba_lexer::TypeSuffix;
 use vba_tree::{

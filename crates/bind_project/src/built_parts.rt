@@ -2,8 +2,8 @@
 
 ghost use Rattle.std.specs.Prelude.{◌≡◌, ◌&&◌, IfOk, option_map};
 ghost use Rattle.std.specs.List.{list_all};
-ghost use Rattle.binder.specs.Bind as plain;
-ghost use Rattle.declared_names.specs.View.{scope_view};
+ghost use Rattle.bound_actions.specs.binder.specs.Bind as plain;
+ghost use Rattle.bound_actions.specs.declared_names.specs.View.{scope_view};
 ghost use Rattle.module_parts.specs.View.{part_view};
 ghost use Rattle.vba_module.specs.Headers.{parameters_of};
 ghost use Rattle.vba_module.specs.Parts as parts;
@@ -12,7 +12,7 @@ ghost use Rattle.vba_tree.specs.View.{parameters_view, result_type_view, stateme
 use crate::built_declarations::{
     are_built_parameters, are_built_variables, is_built_result, is_built_suffix, is_built_written,
 };
-use declared_names::Scope;
+use bound_actions::declared_names::Scope;
 use module_parts::Part;
 use vba_base::NoMemory;
 use vba_tree::{LineTree, ProcedureHeader, SimpleStatement, Statement};

@@ -1,7 +1,7 @@
+use bound_actions::constant_values::ProjectValues;
+use bound_actions::declared_names::Scope;
+use bound_actions::project_tables::Signatures;
 use bound_project::Declarations;
-use constant_values::ProjectValues;
-use declared_names::Scope;
-use project_tables::Signatures;
 
 /// A module of a project, with what is known of the project.
 #[derive(Clone, Copy)]

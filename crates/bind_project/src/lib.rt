@@ -8,9 +8,14 @@ mod built_parts;
 mod home;
 mod modules;
 mod procedures;
+mod single_line_ifs;
 mod spaces;
+mod statements;
 mod walk;
 
 pub use binding::{bind, startup_fault};
 pub use bound::Bound;
-pub use project_tables::Startup;
+pub use bound_actions::project_tables::Startup;
+
+// What stands below, for the crates above.
+pub use bound_actions::{binder, constant_values, declared_names, project_tables};

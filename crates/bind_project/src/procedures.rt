@@ -4,21 +4,21 @@ ghost use Rattle.std.specs.Prelude.{◌≡◌, IfOk, OnOk};
 ghost use Rattle.bind_project.specs.Homes.{HomeStands};
 ghost use Rattle.bind_project.specs.Modules.{IsFront, ProcedureAdded};
 ghost use Rattle.bind_project.specs.Procedures.{RowFits, numbered_view};
-ghost use Rattle.bound_statements.specs.Round.{around_view};
-ghost use Rattle.binder.specs.Bind as plain;
+ghost use Rattle.bound_lines.specs.Round.{around_view};
+ghost use Rattle.bound_actions.specs.binder.specs.Bind as plain;
 ghost use Rattle.bound_project.specs.DraftView.{draft_view};
-ghost use Rattle.bound_terms.specs.View.{EnvStands, env_view};
-ghost use Rattle.declared_names.specs.View.{scope_view};
+ghost use Rattle.bound_actions.specs.bound_names.specs.View.{EnvStands, env_view};
+ghost use Rattle.bound_actions.specs.declared_names.specs.View.{scope_view};
 
 use crate::home::Home;
 use crate::walk::bind_body;
+use bound_actions::bound_names::Env;
+use bound_actions::constant_values::constants_in;
+use bound_actions::declared_names::Scope;
+use bound_actions::project_tables::ProcedureRow;
+use bound_actions::statement_numbers::{blocks_in, body_count};
+use bound_lines::Around;
 use bound_project::Draft;
-use bound_statements::Around;
-use bound_terms::Env;
-use constant_values::constants_in;
-use declared_names::Scope;
-use project_tables::ProcedureRow;
-use statement_numbers::{blocks_in, body_count};
 use std::alloc::Global;
 use vba_base::{NoMemory, OrMemory, Place};
 
@@ -45,7 +45,7 @@ fn env_of<'a>(home: Home<'a>, row: &'a ProcedureRow<'a>) -> Env<'a>
 }
 
 /// The procedure round its statements.
-#[tactic(auto, using(bound_statements::proofs::Rounds::around_is))]
+#[tactic(auto, using(bound_lines::proofs::Rounds::around_is))]
 fn around_of<'a>(home: Home<'a>, row: &'a ProcedureRow<'a>) -> Result<Around<'a>, NoMemory>
     requires home { HomeStands home }
     requires fits { RowFits (scope_view home.scope) row.now }

@@ -1,26 +1,28 @@
 //! Bodies, bound part by part.
 
 ghost use Rattle.std.specs.Prelude.{◌≡◌, ℕ, [], OnOk};
-ghost use Rattle.bound_statements.specs.Round.{StandsAt, around_view};
-ghost use Rattle.bound_statements.specs.Walks.{Added, BodyAdded, PartAdded, statements_of};
-ghost use Rattle.binder.specs.StatementsBound.{next_number};
+ghost use Rattle.bound_lines.specs.Round.{StandsAt, around_view};
+ghost use Rattle.statement_nodes.specs.Walks.{Added, BodyAdded, PartAdded, statements_of};
+ghost use Rattle.bound_actions.specs.binder.specs.StatementsBound.{next_number};
 ghost use Rattle.bound_project.specs.DraftView.{draft_view};
-ghost use Rattle.bound_terms.specs.View.{EnvStands};
+ghost use Rattle.bound_actions.specs.bound_names.specs.View.{EnvStands};
 ghost use Rattle.module_parts.specs.View.{part_view};
-ghost use Rattle.statement_numbers.specs.View.{standing_view};
+ghost use Rattle.bound_actions.specs.statement_numbers.specs.View.{standing_view};
 
 use crate::built_parts::is_built_part;
-use bound_declarations::NotYet;
+use crate::single_line_ifs::bind_statement;
+use crate::statements::bind_simple;
+use bound_actions::bound_declarations::NotYet;
+use bound_actions::statement_numbers::{Standing, Walk};
+use bound_lines::{Around, around_at};
 use bound_project::Draft;
-use bound_statements::{Around, around_at, bind_simple, bind_statement};
 use module_parts::{Part, place_of};
-use statement_numbers::{Standing, Walk};
 use std::alloc::Global;
 use vba_base::{OrMemory, Place};
 use vba_tree::Statement;
 
 /// Adds the statements of a part.
-#[tactic(auto, using(bound_statements::proofs::Walked::none_added, bound_statements::proofs::Ifs::simple_part_added))]
+#[tactic(auto, using(statement_nodes::proofs::Walked::none_added, statement_nodes::proofs::Ifs::simple_part_added))]
 fn bind_statements<'a>(
     alloc: Global,
     draft: &mut Draft,
@@ -73,7 +75,7 @@ fn bind_there<'a>(
 }
 
 /// Binds a part.
-#[tactic(auto, using(bound_statements::proofs::Ifs::part_added))]
+#[tactic(auto, using(statement_nodes::proofs::Ifs::part_added))]
 fn bind_part<'a>(
     alloc: Global,
     draft: &mut Draft,
@@ -97,7 +99,7 @@ fn bind_part<'a>(
 }
 
 /// Binds the parts of a body.
-#[tactic(auto, using(bound_statements::proofs::Walked::walk_begins, bound_statements::proofs::Walked::walk_goes_on, bound_statements::proofs::Walked::walk_ends))]
+#[tactic(auto, using(statement_nodes::proofs::Walked::walk_begins, statement_nodes::proofs::Walked::walk_goes_on, statement_nodes::proofs::Walked::walk_ends))]
 pub(crate) fn bind_body<'a>(
     alloc: Global,
     draft: &mut Draft,

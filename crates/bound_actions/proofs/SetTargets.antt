@@ -2,153 +2,36 @@
 use Rattle.std.proofs.Common.{◌≡◌, Bool, true, false, List, [], ◌∷◌, Option, Some, None, is_some, if◌then◌else◌, refl, sym, ap, subst, ◌∙◌}
 use Rattle.std.specs.Prelude.{◌||◌, not, codes, option_and_then}
 use Rattle.vba_base.specs.declared.place.Place.{Place}
-use Rattle.vba_lexer.specs.declared.token.Token.{Token}
-use Rattle.vba_values.specs.Types.{Declared}
-use Rattle.vba_expression.specs.Tree.{Expr, Args, index}
+use Rattle.vba_expression.specs.Tree.{Expr, index}
 use Rattle.vba_expression.specs.Nodes.{tree_in}
 use Rattle.vba_expression.specs.declared.node.ExpressionNode.{ExpressionNode}
-use Rattle.bound_project.specs.declared.declared_type.DeclaredType.{DeclaredType}
-use Rattle.bound_project.specs.declared.declared_type.DeclaredType.TheVariants.{Plain}
-use Rattle.bound_project.specs.declared.declared_type.ElementType.TheVariants.{Variant}
-use Rattle.bound_project.specs.declared.node.NodeKind.{NodeKind}
-use Rattle.bound_project.specs.declared.node.NodeKind.TheVariants as node
 use Rattle.bound_project.specs.declared.statement.ActionKind.{ActionKind}
-use Rattle.bound_project.specs.declared.statement.ActionKind.TheVariants as action
-use Rattle.bound_project.specs.Bodies.{action_of}
 use Rattle.bound_project.specs.Drafts.{Drafted}
-use Rattle.bound_project.specs.Expressions.{Lvalue, no_exprs, also}
 use Rattle.bound_project.specs.Expressions as bound
-use Rattle.bound_project.specs.Pieces.{Piece, Tables, an_expr, put}
-use Rattle.bound_project.specs.Statements.{Action, set, set_member}
+use Rattle.bound_project.specs.Pieces.{Piece, Tables, an_expr}
 use Rattle.bound_project.specs.View.{declared_view}
-use Rattle.binder.specs.Types.{is_object}
-use Rattle.binder.specs.Constants.{is_variant}
-use Rattle.binder.specs.Terms.{Env, Given, a_host_member, a_place, a_routine, a_value, expression_of}
-use Rattle.binder.specs.Terms as plain
-use Rattle.binder.specs.ExpressionsBound.{bound_as_given, callee, givens, indexed, item_of, object_member, term_of, place_told}
-use Rattle.binder.specs.StatementsBound.{may_refer, no_reference, set_given, set_target, set_to, target_before}
-use Rattle.bound_calls.specs.declared.term.HostMember.{HostMember}
-use Rattle.bound_calls.specs.declared.term.Term.{Term}
-use Rattle.bound_calls.specs.declared.term.Term.TheVariants as term
-use Rattle.bound_calls.specs.declared.term.Tree.{Tree}
-use Rattle.bound_calls.specs.Standing.{TermStands, member_is}
-use Rattle.bound_calls.specs.Steps.{Binds, Leaves}
-use Rattle.bound_calls.proofs.Growing.{grown_pieces, grown_same, grown_twice}
-use Rattle.bound_calls.proofs.Taking.{node_of}
-use Rattle.bound_terms.specs.Callee.{CalleeIs}
-use Rattle.bound_terms.specs.Items.{MakesItem, takes_item}
-use Rattle.bound_actions.specs.declared.trees.Split.{Split}
-use Rattle.bound_actions.specs.Actions.{ActionStands, may_be_object}
-use Rattle.bound_actions.specs.Called.{Continues, IsBare, LeavesAlone, SplitAt}
-use Rattle.bound_actions.specs.Heights.{AddsOne}
-use Rattle.bound_actions.specs.Setting.{SetsTerm, SetsTo}
-use Rattle.bound_actions.proofs.Assigned.{index_at}
-use Rattle.bound_actions.proofs.NodeTrees.{continued}
-
--- ---- terms
-
-place_set : (word : Place) (y : plain.Term) (value : bound.Expr) (x : Lvalue) (of : Declared) (bounded lends : Bool) → y ≡ a_place x of bounded lends → (is_object of || is_variant of) ≡ true → set_to word y value ≡ Some (set x value)
-place_set word y value x of bounded lends e h = ap (λ (z : plain.Term). set_to word z value) e ∙ ap (λ (b : Bool). if b then Some (set x value) else Some (no_reference word (also value (also (expression_of (bound.load x) word of) no_exprs)))) h
-
-pub sets_place : (word : Place) (kind : NodeKind) (of : DeclaredType) (place : Place) (d e : Drafted) → may_be_object of ≡ true → e ≡ record d { pieces = put d.tables (node_of kind place of) d.pieces }
-    → (bounded lends : Bool) → SetsTerm word (term.Place kind of bounded lends) d e action.Set
-sets_place word kind of place d e h eq bounded lends =
-    let P : Drafted → Type 0 = λ (z : Drafted). SetsTerm word (term.Place kind of bounded lends) d z action.Set in
-    let n = node_of kind place of in
-    subst P (sym eq) (record {
-      grown = grown_pieces d (put d.tables n d.pieces);
-      named = tt;
-      stands = λ env y value k.
-          record { made = set k.at value; is = place_set word y value k.at (declared_view of) bounded lends k.is h; fits = ap (λ (ps : List Piece). action_of d.tables action.Set ps) (k.ends n) };
-    })
-
--- a place that can't have an object
-no_place_set : (word : Place) (y : plain.Term) (value : bound.Expr) (x : Lvalue) (of : Declared) (bounded lends : Bool) → y ≡ a_place x of bounded lends → (is_object of || is_variant of) ≡ false
-    → set_to word y value ≡ Some (no_reference word (also value (also (expression_of (bound.load x) word of) no_exprs)))
-no_place_set word y value x of bounded lends e h =
-    ap (λ (z : plain.Term). set_to word z value) e
-    ∙ ap (λ (b : Bool). if b then Some (set x value) else Some (no_reference word (also value (also (expression_of (bound.load x) word of) no_exprs)))) h
-
-pub sets_no_place : (word : Place) (kind : NodeKind) (of : DeclaredType) (place : Place) (d d1 d2 e : Drafted) → may_be_object of ≡ false → d1 ≡ record d { pieces = put d.tables (node_of kind place of) d.pieces }
-    → d2 ≡ record d1 { pieces = put d1.tables (node_of node.Load word of) d1.pieces } → e ≡ record d2 { pieces = put d2.tables (node_of (node.Marked (record { rule = 28; place = word }) 2) word (Plain Variant)) d2.pieces }
-    → (bounded lends : Bool) → SetsTerm word (term.Place kind of bounded lends) d e action.Evaluate
-sets_no_place word kind of place d d1 d2 e h a b c bounded lends =
-    let P : Drafted → Type 0 = λ (z : Drafted). SetsTerm word (term.Place kind of bounded lends) d z action.Evaluate in
-    let n = node_of kind place of in
-    let l = node_of node.Load word of in
-    let m = node_of (node.Marked (record { rule = 28; place = word }) 2) word (Plain Variant) in
-    let two : d2 ≡ record d { pieces = put d.tables l (put d.tables n d.pieces) } = b ∙ ap (λ (z : Drafted). record z { pieces = put z.tables l z.pieces }) a in
-    let three : e ≡ record d { pieces = put d.tables m (put d.tables l (put d.tables n d.pieces)) } = c ∙ ap (λ (z : Drafted). record z { pieces = put z.tables m z.pieces }) two in
-    subst P (sym three) (record {
-      grown = grown_pieces d (put d.tables m (put d.tables l (put d.tables n d.pieces)));
-      named = tt;
-      stands = λ env y value k.
-          record {
-            made = no_reference word (also value (also (expression_of (bound.load k.at) word (declared_view of)) no_exprs));
-            is = no_place_set word y value k.at (declared_view of) bounded lends k.is h;
-            fits = ap (λ (ps : List Piece). action_of d.tables action.Evaluate (put d.tables m (put d.tables l ps))) (k.ends n);
-          };
-    })
-
-sets_member : (word : Place) (m : HostMember) (d : Drafted) → is_some m.greatest ≡ false → SetsTerm word (term.HostMember m) d d action.SetMember
-sets_member word m d late = record {
-  grown = grown_same d;
-  named = tt;
-  stands = λ env y value k.
-      let done : Option Action = Some (set_member k.object value) in
-      record {
-        made = set_member k.object value;
-        is = ap (λ (z : plain.Term). set_to word z value) k.is ∙ ap (λ (b : Bool). if b then None else done) late;
-        fits = ap (λ (ps : List Piece). action_of d.tables action.SetMember ps) k.on_top;
-      };
-}
-
-pub sets_late : (word : Place) (m : HostMember) (d : Drafted) → not (is_some m.greatest) ≡ true → SetsTerm word (term.HostMember m) d d action.SetMember
-sets_late word m d late = sets_member word m d (none_there (is_some m.greatest) late)
-  where
-    none_there : (b : Bool) → not b ≡ true → b ≡ false
-    none_there true h = let e : false ≡ true = h in absurd cc
-    none_there false h = refl
+use Rattle.bound_terms.specs.binder.specs.Terms.{Env, a_host_member, a_place, a_routine, a_value}
+use Rattle.bound_terms.specs.binder.specs.Terms as plain
+use Rattle.bound_terms.specs.binder.specs.ExpressionsBound.{callee, givens, item_of, object_member, term_of, place_told}
+use Rattle.bound_terms.specs.binder.specs.StatementsBound.{set_target, set_to, target_before}
+use Rattle.bound_terms.specs.bound_calls.specs.declared.term.HostMember.{HostMember}
+use Rattle.bound_terms.specs.bound_calls.specs.declared.term.Term.{Term}
+use Rattle.bound_terms.specs.bound_calls.specs.declared.term.Term.TheVariants as term
+use Rattle.bound_terms.specs.bound_calls.specs.declared.term.Tree.{Tree}
+use Rattle.bound_terms.specs.bound_calls.specs.Standing.{TermStands, member_is}
+use Rattle.bound_terms.specs.bound_calls.specs.Steps.{Leaves}
+use Rattle.bound_terms.specs.bound_calls.proofs.Growing.{grown_twice}
+use Rattle.bound_terms.specs.bound_names.specs.Callee.{CalleeIs}
+use Rattle.bound_terms.specs.bound_names.specs.Items.{MakesItem, takes_item}
+use Rattle.statement_terms.specs.declared.trees.Split.{Split}
+use Rattle.statement_terms.specs.Called.{Continues, LeavesAlone, SplitAt}
+use Rattle.statement_terms.specs.Heights.{AddsOne}
+use Rattle.statement_terms.specs.Setting.{SetsTerm, SetsTo}
+use Rattle.statement_terms.proofs.Assigned.{index_at}
+use Rattle.statement_terms.proofs.NodeTrees.{continued}
+use Rattle.statement_terms.proofs.SetTargets.{set_with, target_parts, is_member, other_set, member_set, other_kept}
 
 -- ---- expressions
-
--- what stands before arguments, which are looked at where it is no member that is found in the run
-abbrev set_with : Env → Place → List Given → plain.Term → plain.Term
-set_with env place gs (a_host_member e m) = if is_some m.greatest then indexed env place (a_host_member e m) gs else a_host_member e m
-set_with env place gs t = indexed env place t gs
-
-target_parts : (env : Env) (base : Expr) (left right : Token) (args : Args) → set_target env (index base left args right) ≡ set_with env (place_told base) (givens env args) (target_before env base)
-target_parts env base left right args = refl
-
-abbrev is_member : plain.Term → Bool
-is_member (a_host_member e m) = true
-is_member t = false
-
-other_set : (env : Env) (place : Place) (gs : List Given) (t : plain.Term) → is_member t ≡ false → set_with env place gs t ≡ indexed env place t gs
-other_set env place gs (a_host_member e m) h = let k : true ≡ false = h in absurd cc
-other_set env place gs t h = refl
-
--- a member is set only where it is found in the run
-late_alone : (b : Bool) (x y : plain.Term) (v made : Action) → (if b then None else Some v) ≡ Some made → (if b then x else y) ≡ y
-late_alone true x y v made h = let k : None ≡ Some made = h in absurd cc
-late_alone false x y v made h = refl
-
-member_set : (word : Place) (env : Env) (place : Place) (gs : List Given) (e : bound.Expr) (m : plain.HostMember) (value : bound.Expr) (made : Action) → set_to word (a_host_member e m) value ≡ Some made → set_with env place gs (a_host_member e m) ≡ a_host_member e m
-member_set word env place gs e m value made h = late_alone (is_some m.greatest) (indexed env place (a_host_member e m) gs) (a_host_member e m) (set_member e value) made h
-
-bare_target : (env : Env) (place : Expr) → IsBare place → set_target env place ≡ term_of env place
-bare_target env (index base left args right) h = absurd h
-bare_target env e h = refl
-
-pub sets_bare : (word : Place) (env : Env) (place : Expr) (x : Tree) (d f e : Drafted) (kind : ActionKind) → IsBare place → Leaves env place d f x → SetsTerm word x.term f e kind → SetsTo word env place d e kind
-sets_bare word env place x d f e kind bare l s = record {
-  grown = grown_twice d f e l.grown s.grown;
-  named = s.named;
-  stands = λ value alone.
-      let T : List Piece → Type 0 = λ (ps : List Piece). TermStands env f.tables x.term (term_of env place) f.pieces ps in
-      let m = s.stands env (term_of env place) value (subst T alone l.stands.term_is) in
-      record { made = m.made; is = ap (λ (t : plain.Term). set_to word t value) (bare_target env place bare) ∙ m.is; fits = m.fits };
-}
 
 -- a member with arguments
 pub sets_split_member : (word : Place) (env : Env) (split : Split) (all : List ExpressionNode) (x : Tree) (y : Term) (m : HostMember) (d f g h : Drafted) (kind : ActionKind) → SplitAt split all → AddsOne split.arguments.now → LeavesAlone env split.target.now d f x
@@ -175,10 +58,6 @@ sets_split_member word env split all x y m d f g h kind at one l c made s =
           ap (λ (t : plain.Term). set_with env p (givens env args) t) there.is ∙ member_set word env p (givens env args) there.object (member_is h.tables m) value done.made set_there in
           record { made = done.made; is = ap (λ (t : plain.Term). set_to word t value) (target_parts env base at.left at.right args ∙ same) ∙ set_there; fits = done.fits };
     })
-
--- other arguments
-other_kept : (place : Place) (z y : plain.Term) → z ≡ y → item_of place y ≡ y → is_member y ≡ false → is_member (item_of place z) ≡ false
-other_kept place z y is a b = ap (λ (t : plain.Term). is_member (item_of place t)) is ∙ ap is_member a ∙ b
 
 no_member : (env : Env) (t : Tables) (place : Place) (x : Term) (z : plain.Term) (ps below : List Piece) → takes_item x ≡ false → TermStands env t x z ps below → is_member (item_of place z) ≡ false
 no_member env t place (term.Place kind of bounded lends) z ps below i h =
@@ -220,49 +99,4 @@ sets_split word env split all x more y d f g h e kind at one l c item r s =
           let T : List Piece → Type 0 = λ (ps : List Piece). TermStands env h.tables more.term (term_of env tree) h.pieces ps in
           let m = s.stands env (term_of env tree) value (subst T alone leaves.stands.term_is) in
           record { made = m.made; is = ap (λ (t : plain.Term). set_to word t value) same ∙ m.is; fits = m.fits };
-    })
-
--- ---- the statement
-
--- what is given, by whether it may be an object
-given_may : (env : Env) (word : Place) (place : Expr) (v : bound.Expr) (of : DeclaredType) (may : Bool) → bound.operand_type v ≡ declared_view of → may_be_object of ≡ may
-    → set_given env word place v ≡ (if may then set_to word (set_target env place) v else Some (no_reference word (also v no_exprs)))
-given_may env word place v of may operand is =
-    let kept : Bool → Option Action = λ (b : Bool). if b then set_to word (set_target env place) v else Some (no_reference word (also v no_exprs)) in
-    ap kept (ap (λ (u : Declared). may_refer u) operand ∙ is)
-
-pub set_bound : (word : Place) (env : Env) (place value : Expr) (of : DeclaredType) (d e g : Drafted) (kind : ActionKind) → d.pieces ≡ [] → Binds (bound_as_given env value) d e (Some of) → may_be_object of ≡ true
-    → SetsTo word env place e g kind → ActionStands (Some kind) (option_and_then (set_given env word place) (bound_as_given env value)) d g
-set_bound word env place value of d e g kind none b may a =
-    let made = b.pushed.made in
-    let alone : e.pieces ≡ an_expr made ∷ [] = b.pushed.on_top ∙ ap (λ (ps : List Piece). an_expr made ∷ ps) none in
-    let s = a.stands made alone in
-    let all = grown_twice d e g b.grown a.grown in
-    record {
-      statements = all.statements;
-      bodies = all.bodies;
-      named = a.named;
-      made = s.made;
-      is = ap (λ (o : Option bound.Expr). option_and_then (set_given env word place) o) b.pushed.is ∙ given_may env word place made of true b.pushed.operand may ∙ s.is;
-      fits = s.fits;
-    }
-
--- a value that can't be an object
-pub set_broken : (word : Place) (env : Env) (place value : Expr) (of : DeclaredType) (d e g : Drafted) → d.pieces ≡ [] → Binds (bound_as_given env value) d e (Some of) → may_be_object of ≡ false
-    → g ≡ record e { pieces = put e.tables (node_of (node.Marked (record { rule = 28; place = word }) 1) word (Plain Variant)) e.pieces }
-    → ActionStands (Some action.Evaluate) (option_and_then (set_given env word place) (bound_as_given env value)) d g
-set_broken word env place value of d e g none b may eq =
-    let made = b.pushed.made in
-    let alone : e.pieces ≡ an_expr made ∷ [] = b.pushed.on_top ∙ ap (λ (ps : List Piece). an_expr made ∷ ps) none in
-    let n = node_of (node.Marked (record { rule = 28; place = word }) 1) word (Plain Variant) in
-    let all = grown_twice d e (record e { pieces = put e.tables n e.pieces }) b.grown (grown_pieces e (put e.tables n e.pieces)) in
-    let found = option_and_then (set_given env word place) (bound_as_given env value) in
-    let P : Drafted → Type 0 = λ (z : Drafted). ActionStands (Some action.Evaluate) found d z in
-    subst P (sym eq) (record {
-      statements = all.statements;
-      bodies = all.bodies;
-      named = tt;
-      made = no_reference word (also made no_exprs);
-      is = ap (λ (o : Option bound.Expr). option_and_then (set_given env word place) o) b.pushed.is ∙ given_may env word place made of false b.pushed.operand may;
-      fits = ap (λ (ps : List Piece). action_of e.tables action.Evaluate (put e.tables n ps)) alone;
     })

@@ -1,25 +1,23 @@
-ghost use Rattle.std.specs.Prelude.{◌≡◌, [], IfOk, option_map, option_and_then};
+ghost use Rattle.std.specs.Prelude.{◌≡◌, [], IfOk, option_and_then};
 ghost use Rattle.vba_expression.specs.View.{view as expression_view, arguments_view};
 ghost use Rattle.bound_project.specs.DraftView.{draft_view};
-ghost use Rattle.bound_project.specs.View.{variable_view};
-ghost use Rattle.binder.specs.ExpressionsBound.{givens};
-ghost use Rattle.binder.specs.StatementsBound as plain;
-ghost use Rattle.bound_actions.specs.Actions.{ActionStands, IsVariable};
-ghost use Rattle.bound_terms.specs.View.{EnvStands, env_view};
+ghost use Rattle.bound_terms.specs.binder.specs.ExpressionsBound.{givens};
+ghost use Rattle.bound_terms.specs.binder.specs.StatementsBound as plain;
+ghost use Rattle.statement_terms.specs.statement_nodes.specs.Pushed.{ActionStands};
+ghost use Rattle.bound_terms.specs.bound_names.specs.View.{EnvStands, env_view};
 
 use crate::assigned_values::bind_assigned;
 use crate::assigning::assign_to;
 use crate::statement_calls::{call_bare, call_tree};
-use crate::trees::{ends_bare, nodes_tree, split_call};
-use bound_calls::Term;
-use bound_declarations::NotYet;
-use bound_project::{ActionKind, Draft, NodeKind, Variable};
-use bound_terms::{Env, meant_variable, tree_of};
-use declared_names::{Use, declares};
+use crate::trees::nodes_tree;
+use bound_project::{ActionKind, Draft};
+use bound_terms::bound_declarations::NotYet;
+use bound_terms::bound_names::Env;
+use bound_terms::tree_of;
+use statement_terms::{ends_bare, split_call};
 use std::alloc::Global;
 use vba_base::OrMemory;
 use vba_expression::{Arguments, Expression};
-use vba_words::Identifier;
 
 /// `[Let] place = value`
 pub fn bind_assignment<'a>(
@@ -83,36 +81,4 @@ pub fn bind_call_place<'a>(
     let tree = nodes_tree(alloc, draft, env, split.target)?;
     let kind = call_tree(alloc, draft, env, tree, split.arguments)?;
     Ok(Some(kind))
-}
-
-/// The variable that a term is.
-fn variable_in<'a>(term: Term<'a>) -> Option<Variable>
-    ensures { IsVariable term.entry result }
-{
-    match term {
-        Term::Place { kind, .. } => match kind {
-            NodeKind::Variable(variable) => Some(variable),
-            _ => None,
-        },
-        _ => None,
-    }
-}
-
-/// The variable of a loop.
-pub fn loop_variable<'a>(
-    alloc: Global,
-    env: Env<'a>,
-    name: &'a Identifier,
-) -> Result<Option<Variable>, OrMemory<NotYet>>
-    requires { EnvStands env }
-    ensures { IfOk result (λ found. option_map variable_view found ≡ plain.loop_variable (env_view env.entry) name.now) }
-{
-    let Some(meant) = declares(Use::Plainly, env.constants.scope, name) else {
-        return Err(OrMemory::Fault(NotYet));
-    };
-    let term = meant_variable(alloc, env, meant)?;
-    let Some(variable) = variable_in(term) else {
-        return Err(OrMemory::Fault(NotYet));
-    };
-    Ok(Some(variable))
 }

@@ -3,17 +3,18 @@
 ghost use Rattle.std.specs.Prelude.{◌≡◌, true, Bool, IfOk, OnOk};
 ghost use Rattle.vba_expression.specs.View.{view as expression_view};
 ghost use Rattle.bound_project.specs.DraftView.{draft_view};
-ghost use Rattle.binder.specs.StatementsBound as plain;
-ghost use Rattle.bound_actions.specs.Assigning.{PushesFor, ValueFor, is_plain};
-ghost use Rattle.bound_calls.specs.Standing.{TermNamed};
-ghost use Rattle.bound_terms.specs.View.{EnvStands, env_view};
+ghost use Rattle.bound_terms.specs.binder.specs.StatementsBound as plain;
+ghost use Rattle.statement_terms.specs.Assigning.{PushesFor, ValueFor, is_plain};
+ghost use Rattle.bound_terms.specs.bound_calls.specs.Standing.{TermNamed};
+ghost use Rattle.bound_terms.specs.bound_names.specs.View.{EnvStands, env_view};
 
 use crate::assigning::assign_to;
-use crate::targets::may_be_object;
-use bound_calls::{Term, Tree, push_given, push_operand};
-use bound_declarations::NotYet;
 use bound_project::Draft;
-use bound_terms::{Env, push_value, tree_of};
+use bound_terms::bound_calls::Tree;
+use bound_terms::bound_declarations::NotYet;
+use bound_terms::bound_names::Env;
+use bound_terms::{push_value, tree_of};
+use statement_terms::{is_plain, push_assigned};
 use std::alloc::Global;
 use vba_base::OrMemory;
 use vba_expression::Expression;
@@ -43,37 +44,6 @@ fn is_given_with<'a>(
 {
     let mut draft = Draft::new(alloc);
     is_given_in(alloc, &mut draft, env, place)
-}
-
-/// Is a term a place or a value that is no object and can be none?
-fn is_plain<'a>(term: Term<'a>) -> bool
-    ensures { result ≡ is_plain term.entry }
-{
-    match term {
-        Term::Place { of, .. } => !may_be_object(of),
-        Term::Value(ending) => !may_be_object(ending.of),
-        _ => false,
-    }
-}
-
-/// Pushes what is assigned, as it is or as an operand.
-fn push_assigned<'a>(
-    alloc: Global,
-    draft: &mut Draft,
-    tree: Tree<'a>,
-    given: bool,
-) -> Result<(), OrMemory<NotYet>>
-    requires { TermNamed (draft_view draft.old).tables tree.term }
-    ensures { OnOk result (PushesFor given tree.entry (draft_view draft.old) (draft_view draft.new)) }
-{
-    if given {
-        push_given(alloc, draft, tree)?;
-        return Ok(());
-    }
-    let Some(_of) = push_operand(alloc, draft, tree)? else {
-        return Err(OrMemory::Fault(NotYet));
-    };
-    Ok(())
 }
 
 /// Pushes a value that is assigned and is no object: it is the same as it is and as an operand.

@@ -1,109 +1,30 @@
 //! What the value of an assignment goes to.
 
-ghost use Rattle.std.specs.Prelude.{◌≡◌, true, false, [], IfOk, map, option_map};
+ghost use Rattle.std.specs.Prelude.{[], IfOk, map};
 ghost use Rattle.vba_expression.specs.View.{view as expression_view};
 ghost use Rattle.vba_expression.specs.Nodes.{tree_in};
 ghost use Rattle.bound_project.specs.DraftView.{draft_view};
 ghost use Rattle.bound_project.specs.View.{parameter_view};
-ghost use Rattle.bound_actions.specs.Called.{AssignsTo, IsBare, Lets, LetsOn, LetsWith, SplitAt, ordered_kind, property_kind};
-ghost use Rattle.bound_actions.specs.Members.{AssignsTree};
-ghost use Rattle.bound_terms.specs.Callee.{IsWriter};
-ghost use Rattle.bound_calls.specs.Standing.{TermNamed};
-ghost use Rattle.bound_terms.specs.View.{EnvStands, env_view};
-ghost use Rattle.declared_names.specs.View.{scope_view};
+ghost use Rattle.statement_terms.specs.Called.{AssignsTo, IsBare, Lets, LetsOn, LetsWith, SplitAt};
+ghost use Rattle.bound_terms.specs.bound_names.specs.Callee.{IsWriter};
+ghost use Rattle.bound_terms.specs.bound_names.specs.View.{EnvStands, env_view};
+ghost use Rattle.bound_terms.specs.declared_names.specs.View.{scope_view};
 
-use crate::member_targets::{assign_item, assign_member, assign_sheet};
-use crate::statement_calls::{push_rest, read_named};
-use crate::targets::{assign_indexed, assign_place, assign_value, is_variant_term};
-use crate::trees::{
-    Split, adds_one, continue_tree, ends_bare, member_name, nodes_tree, split_call,
+use crate::member_targets::assign_item;
+use crate::statement_calls::read_named;
+use crate::trees::{continue_tree, nodes_tree};
+use bound_project::{ActionKind, Draft, Parameter};
+use bound_terms::bound_calls::{count_of, pass_rest, push_in_order};
+use bound_terms::bound_declarations::{NotYet, procedure_number};
+use bound_terms::bound_names::{Env, Writer, callee_term, takes_item, writer_of};
+use bound_terms::tree_of;
+use statement_terms::{
+    Assignment, PropertyLet, Split, adds_one, as_given, assign_indexed, assign_tree, ends_bare,
+    is_variant_term, member_name, ordered_kind, property_kind, push_rest, split_call,
 };
-use bound_calls::{Ending, Ordered, Term, Tree, count_of, pass_rest, push_in_order};
-use bound_declarations::{NotYet, procedure_number};
-use bound_project::{ActionKind, DeclaredType, Draft, Parameter};
-use bound_terms::{Env, Writer, callee_term, takes_item, tree_of, writer_of};
-use declared_names::is_object;
 use std::alloc::Global;
 use vba_base::OrMemory;
 use vba_expression::{Expression, ExpressionNode};
-use vba_words::Identifier;
-
-/// What is done with a value that was pushed, where it is assigned, and whether it comes as it is: where its target takes
-/// it with arguments or is an item of a Variant.
-#[derive(Clone, Copy)]
-pub struct Assignment {
-    pub kind: ActionKind,
-    pub is_given: bool,
-}
-
-/// An assignment of a value as it is.
-fn as_given(kind: ActionKind) -> Assignment
-    ensures kind { result.kind ≡ kind }
-    ensures given { result.is_given ≡ true }
-{
-    Assignment {
-        kind,
-        is_given: true,
-    }
-}
-
-/// An assignment of an operand.
-fn as_operand(kind: ActionKind) -> Assignment
-    ensures kind { result.kind ≡ kind }
-    ensures given { result.is_given ≡ false }
-{
-    Assignment {
-        kind,
-        is_given: false,
-    }
-}
-
-/// An assignment to a property, whose last parameter has a type: one of an object is given the object itself.
-fn property_kind(procedure: u32, arguments: u32, of: DeclaredType) -> ActionKind
-    ensures { result ≡ property_kind procedure arguments of }
-{
-    if is_object(of) {
-        ActionKind::SetProperty {
-            procedure,
-            arguments,
-            of,
-        }
-    } else {
-        ActionKind::LetProperty {
-            procedure,
-            arguments,
-            of,
-        }
-    }
-}
-
-/// A procedure that writes a property, and the type of its last parameter.
-#[derive(Clone, Copy)]
-struct PropertyLet {
-    procedure: u32,
-    of: DeclaredType,
-}
-
-/// The same of arguments of which the last ones have names.
-fn ordered_kind(property: PropertyLet, ordered: Ordered) -> ActionKind
-    ensures { result ≡ ordered_kind property.procedure ordered property.of }
-{
-    if is_object(property.of) {
-        ActionKind::SetPropertyInOrder {
-            procedure: property.procedure,
-            arguments: ordered.arguments,
-            order: ordered.order,
-            of: property.of,
-        }
-    } else {
-        ActionKind::LetPropertyInOrder {
-            procedure: property.procedure,
-            arguments: ordered.arguments,
-            order: ordered.order,
-            of: property.of,
-        }
-    }
-}
 
 /// An assignment to a property whose arguments, for these parameters, are pushed.
 fn let_passed<'a>(
@@ -175,37 +96,6 @@ fn let_given<'a>(
         of: last.of,
     };
     let_passed(alloc, draft, env, property, front, nodes)
-}
-
-/// An expression that doesn't end with arguments in brackets, by the name behind its dot, behind the value that it is given.
-fn assign_tree<'a>(
-    draft: &mut Draft,
-    tree: Tree<'a>,
-    name: Option<&Identifier>,
-) -> Result<Assignment, OrMemory<NotYet>>
-    requires { TermNamed (draft_view draft.old).tables tree.term }
-    ensures { IfOk result (λ done. AssignsTree tree.entry (option_map (λ name. name.now) name.entry) (draft_view draft.old) (draft_view draft.new) done.kind done.is_given) }
-{
-    let place = tree.place;
-    match tree.term {
-        Term::Place { kind, of, .. } => {
-            let kind = assign_place(draft, Ending { kind, of }, place)?;
-            Ok(as_operand(kind))
-        }
-        Term::Value(ending) => {
-            let kind = assign_value(draft, ending, place)?;
-            Ok(as_operand(kind))
-        }
-        Term::HostMember(member) => {
-            let kind = assign_member(draft, member, name, place)?;
-            Ok(as_given(kind))
-        }
-        Term::SheetMember(member) => {
-            let kind = assign_sheet(draft, member, name, place)?;
-            Ok(as_given(kind))
-        }
-        _ => Err(OrMemory::Fault(NotYet)),
-    }
 }
 
 /// A place that doesn't end with arguments in brackets, behind the value that it is given.

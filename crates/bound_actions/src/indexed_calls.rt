@@ -1,64 +1,21 @@
 //! Calls that stand as statements and call no procedure: members of objects with arguments, and what else brackets index.
 
-ghost use Rattle.std.specs.Prelude.{◌≡◌, ◌++◌, IfOk, MatchBool};
+ghost use Rattle.std.specs.Prelude.{◌≡◌, ◌++◌, IfOk};
 ghost use Rattle.bound_project.specs.DraftView.{draft_view};
-ghost use Rattle.bound_actions.specs.Called.{CallsTreeOn, Continues};
-ghost use Rattle.bound_actions.specs.Heights.{GivesSome, brackets, is_argument};
-ghost use Rattle.bound_calls.specs.Standing.{TermNamed};
-ghost use Rattle.bound_terms.specs.View.{EnvStands, env_view};
+ghost use Rattle.statement_terms.specs.Called.{CallsTreeOn, Continues};
+ghost use Rattle.statement_terms.specs.Heights.{GivesSome, brackets};
+ghost use Rattle.bound_terms.specs.bound_calls.specs.Standing.{TermNamed};
+ghost use Rattle.bound_terms.specs.bound_names.specs.View.{EnvStands, env_view};
 
-use crate::pushed_terms::push_term;
-use crate::trees::adds_one;
-use bound_calls::{Item, Tree, put_item, take_item};
-use bound_declarations::NotYet;
 use bound_project::{ActionKind, Draft};
-use bound_terms::{Env, run};
+use bound_terms::bound_calls::{Item, Tree, put_item, take_item};
+use bound_terms::bound_declarations::NotYet;
+use bound_terms::bound_names::Env;
+use bound_terms::run;
+use statement_terms::{brackets, gives_some, push_term};
 use std::alloc::Global;
-use vba_base::{NoMemory, OrMemory, Place};
+use vba_base::{NoMemory, OrMemory};
 use vba_expression::ExpressionNode;
-use vba_lexer::{Token, TokenKind};
-
-/// Is a node an argument that is written?
-fn is_argument(node: &ExpressionNode) -> bool
-    ensures { result ≡ is_argument node.now }
-{
-    match node {
-        ExpressionNode::PlainArgument { .. } => true,
-        ExpressionNode::NamedArgument { .. } => true,
-        _ => false,
-    }
-}
-
-/// Are these nodes arguments, of which the last one is written?
-fn gives_some(nodes: &[ExpressionNode]) -> bool
-    ensures { MatchBool result (GivesSome nodes.now) (Unit {0}) }
-{
-    let Some((last, _front)) = nodes.split_last() else {
-        return false;
-    };
-    if !is_argument(last) {
-        return false;
-    }
-    adds_one(nodes)
-}
-
-/// Brackets round arguments, which are no nodes of a statement.
-fn brackets(alloc: Global, place: Place) -> Result<Vec<ExpressionNode>, NoMemory>
-    ensures { IfOk result (λ nodes. nodes.items ≡ brackets place) }
-{
-    let token = Token {
-        kind: TokenKind::BadMark,
-        start: 0,
-        end: 0,
-        place,
-    };
-    let mut nodes = Vec::new(alloc);
-    nodes.push(ExpressionNode::Index {
-        left: token,
-        right: token,
-    })?;
-    Ok(nodes)
-}
 
 /// An expression behind which arguments are read, and their brackets.
 fn index_tree<'a>(

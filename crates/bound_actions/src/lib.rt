@@ -1,4 +1,4 @@
-//! What statements do with expressions: assignments, calls, the places that With and For Each keep.
+//! What statements do with expressions: assignments and calls.
 #![tactic(auto)]
 
 mod actions;
@@ -6,14 +6,16 @@ mod assigned_values;
 mod assigning;
 mod indexed_calls;
 mod member_targets;
-mod places;
-mod pushed_terms;
 mod raising;
 mod setting;
 mod statement_calls;
-mod targets;
 mod trees;
 
-pub use actions::{bind_assignment, bind_call, bind_call_place, loop_variable};
-pub use places::{bind_place, bind_with, kept_by};
+pub use actions::{bind_assignment, bind_call, bind_call_place};
 pub use setting::bind_set;
+
+// What stands below, for the crates above.
+pub use bound_terms::{
+    binder, bound_declarations, bound_names, constant_values, declared_names, project_tables,
+};
+pub use statement_terms::statement_numbers;

@@ -1,71 +1,23 @@
 //! Err.Raise and Error.
 
-ghost use Rattle.std.specs.Prelude.{◌≡◌, IfOk, map, option_map};
-ghost use Rattle.vba_base.specs.Fold.{folded};
+ghost use Rattle.std.specs.Prelude.{◌≡◌, IfOk, map};
 ghost use Rattle.vba_base.specs.declared.place.Place as place;
-ghost use Rattle.vba_values.specs.View.{view as value_view};
 ghost use Rattle.bound_project.specs.DraftView.{draft_view};
-ghost use Rattle.bound_project.specs.View.{declared_view, parameter_view};
-ghost use Rattle.binder.specs.StatementsBound as plain;
-ghost use Rattle.bound_actions.specs.Called.{ActsOn, PassesAll};
-ghost use Rattle.bound_terms.specs.View.{EnvStands, env_view};
-ghost use Rattle.bound_calls.specs.declared.term.Term.TheVariants as term;
+ghost use Rattle.bound_project.specs.View.{parameter_view};
+ghost use Rattle.bound_terms.specs.binder.specs.StatementsBound as plain;
+ghost use Rattle.statement_terms.specs.Called.{ActsOn, PassesAll};
+ghost use Rattle.bound_terms.specs.bound_names.specs.View.{EnvStands, env_view};
+ghost use Rattle.bound_terms.specs.bound_calls.specs.declared.term.Term.TheVariants as term;
 
-use crate::statement_calls::{push_arguments, push_rest, read_named};
-use bound_calls::push_in_order;
-use bound_declarations::NotYet;
-use bound_project::{ActionKind, DeclaredType, Draft, ElementType, Parameter, Spelled};
-use bound_terms::Env;
+use crate::statement_calls::{push_arguments, read_named};
+use bound_project::{ActionKind, Draft, Parameter};
+use bound_terms::bound_calls::push_in_order;
+use bound_terms::bound_declarations::NotYet;
+use bound_terms::bound_names::Env;
+use statement_terms::{push_rest, raise_parameters};
 use std::alloc::Global;
-use vba_base::{NoMemory, OrMemory, Place, Units, name_of};
+use vba_base::OrMemory;
 use vba_expression::ExpressionNode;
-use vba_values::Value;
-
-/// number
-const NUMBER: &[u16] = &[0x6E, 0x75, 0x6D, 0x62, 0x65, 0x72];
-/// source
-const SOURCE: &[u16] = &[0x73, 0x6F, 0x75, 0x72, 0x63, 0x65];
-/// description
-const DESCRIPTION: &[u16] = &[
-    0x64, 0x65, 0x73, 0x63, 0x72, 0x69, 0x70, 0x74, 0x69, 0x6F, 0x6E,
-];
-
-/// A parameter of Err.Raise, whose name is its own fold.
-fn raise_parameter(
-    alloc: Global,
-    word: &[u16],
-    of: DeclaredType,
-    default: Option<Value>,
-) -> Result<Parameter, NoMemory>
-    ensures { IfOk result (λ parameter. folded word.now ≡ word.now
-        → parameter_view parameter ≡ plain.raise_parameter word.now (declared_view of) (option_map value_view default)) }
-{
-    let spelling = Units::from_units(alloc, word)?;
-    let fold = name_of(alloc, word)?;
-    Ok(Parameter {
-        name: Spelled { spelling, fold },
-        of,
-        is_by_reference: false,
-        default,
-        is_param_array: false,
-    })
-}
-
-/// The parameters of Err.Raise: Number, and where they are given Source and Description.
-fn raise_parameters(alloc: Global) -> Result<Vec<Parameter>, NoMemory>
-    ensures { IfOk result (λ parameters. map parameter_view parameters.items ≡ plain.raise_parameters) }
-{
-    let long = DeclaredType::Plain(ElementType::Long);
-    let text = DeclaredType::Plain(ElementType::Text);
-    let mut parameters = Vec::with_capacity(alloc, 3)?;
-    let number = raise_parameter(alloc, NUMBER, long, None)?;
-    parameters.push(number)?;
-    let source = raise_parameter(alloc, SOURCE, text, Some(Value::Missing))?;
-    parameters.push(source)?;
-    let description = raise_parameter(alloc, DESCRIPTION, text, Some(Value::Missing))?;
-    parameters.push(description)?;
-    Ok(parameters)
-}
 
 /// Pushes the arguments of Error, as those of Err.Raise; answers how many are written, and how many there are.
 fn push_raised<'a>(

@@ -1,97 +1,27 @@
 //! Set: what is given a reference to an object.
 
-ghost use Rattle.std.specs.Prelude.{◌≡◌, [], Bool, IfOk, OnOk, option_and_then};
-ghost use Rattle.vba_base.specs.declared.place.Place as told;
+ghost use Rattle.std.specs.Prelude.{◌≡◌, [], IfOk, option_and_then};
 ghost use Rattle.vba_expression.specs.View.{view as expression_view};
 ghost use Rattle.vba_expression.specs.Nodes.{tree_in};
 ghost use Rattle.bound_project.specs.DraftView.{draft_view};
-ghost use Rattle.bound_project.specs.Drafts.{Drafted, NodeNamed};
-ghost use Rattle.binder.specs.ExpressionsBound.{bound_as_given};
-ghost use Rattle.binder.specs.StatementsBound as plain;
-ghost use Rattle.bound_actions.specs.Actions.{ActionStands};
-ghost use Rattle.bound_actions.specs.Called.{IsBare, SplitAt};
-ghost use Rattle.bound_actions.specs.Setting.{SetsTerm, SetsTo};
-ghost use Rattle.bound_calls.specs.declared.term.Term.TheVariants as term;
-ghost use Rattle.bound_calls.specs.Calls.{node_of};
-ghost use Rattle.bound_calls.specs.Standing.{TermNamed};
-ghost use Rattle.bound_project.specs.declared.declared_type.DeclaredType.TheVariants.{Plain};
-ghost use Rattle.bound_project.specs.declared.declared_type.ElementType.TheVariants.{Variant};
-ghost use Rattle.bound_project.specs.declared.node.NodeKind.TheVariants as node;
-ghost use Rattle.bound_project.specs.Pieces.{put};
-ghost use Rattle.bound_terms.specs.View.{EnvStands, env_view};
+ghost use Rattle.bound_terms.specs.binder.specs.ExpressionsBound.{bound_as_given};
+ghost use Rattle.bound_terms.specs.binder.specs.StatementsBound as plain;
+ghost use Rattle.statement_terms.specs.statement_nodes.specs.Pushed.{ActionStands};
+ghost use Rattle.statement_terms.specs.Called.{IsBare, SplitAt};
+ghost use Rattle.statement_terms.specs.Setting.{SetsTo};
+ghost use Rattle.bound_terms.specs.bound_names.specs.View.{EnvStands, env_view};
 
-use crate::member_targets::is_late;
-use crate::targets::may_be_object;
-use crate::trees::{Split, adds_one, continue_tree, ends_bare, nodes_tree, split_call};
-use bound_calls::{Ending, HostMember, Term, push_node};
-use bound_declarations::NotYet;
-use bound_project::{ActionKind, DeclaredType, Draft, ElementType, NodeKind};
-use bound_terms::{Env, bind_given, callee_term, item_member, takes_item, tree_of};
+use crate::trees::{continue_tree, nodes_tree};
+use bound_project::{ActionKind, Draft};
+use bound_terms::bound_declarations::NotYet;
+use bound_terms::bound_names::{Env, callee_term, item_member, takes_item};
+use bound_terms::{bind_given, tree_of};
+use statement_terms::{
+    Split, adds_one, ends_bare, may_be_object, push_broken, set_member, set_term, split_call,
+};
 use std::alloc::Global;
-use vba_base::{NoMemory, OrMemory, Place, Refusal};
+use vba_base::{NoMemory, OrMemory, Place};
 use vba_expression::{Expression, ExpressionNode};
-
-/// What breaks a static rule: so many values that were pushed, at the word Set.
-fn push_broken(draft: &mut Draft, set_word: Place, values: u32) -> Result<(), NoMemory>
-    ensures { OnOk result (draft_view draft.new ≡ record (draft_view draft.old) { pieces = put (draft_view draft.old).tables (node_of (node.Marked (record { rule = 28; place = set_word }) values) set_word (Plain Variant)) (draft_view draft.old).pieces }) }
-{
-    let variant = DeclaredType::Plain(ElementType::Variant);
-    let broken = NodeKind::Marked {
-        broken: Refusal {
-            rule: 28,
-            place: set_word,
-        },
-        values,
-    };
-    push_node(draft, broken, variant, set_word)
-}
-
-/// A place, behind the reference that it is given: one that has no object breaks a static rule.
-fn set_place(
-    draft: &mut Draft,
-    set_word: Place,
-    at: Ending,
-    place: Place,
-) -> Result<ActionKind, OrMemory<NotYet>>
-    requires { NodeNamed (draft_view draft.old).tables at.kind }
-    ensures { IfOk result (λ kind. (bounded lends : Bool)
-        → SetsTerm set_word (term.Place at.kind at.of bounded lends) (draft_view draft.old) (draft_view draft.new) kind) }
-{
-    push_node(draft, at.kind, at.of, place)?;
-    if may_be_object(at.of) {
-        return Ok(ActionKind::Set);
-    }
-    push_node(draft, NodeKind::Load, at.of, set_word)?;
-    push_broken(draft, set_word, 2)?;
-    Ok(ActionKind::Evaluate)
-}
-
-/// A member of an object that is found in the run, behind the reference that it is given and the object.
-fn set_member(member: HostMember) -> Result<ActionKind, OrMemory<NotYet>>
-    ensures { IfOk result (λ kind. (word : told.Place) (d : Drafted) → SetsTerm word (term.HostMember member) d d kind) }
-{
-    if !is_late(member.greatest) {
-        return Err(OrMemory::Fault(NotYet));
-    }
-    Ok(ActionKind::SetMember)
-}
-
-/// A term, behind the reference that it is given.
-fn set_term<'a>(
-    draft: &mut Draft,
-    set_word: Place,
-    term: Term<'a>,
-    place: Place,
-) -> Result<ActionKind, OrMemory<NotYet>>
-    requires { TermNamed (draft_view draft.old).tables term }
-    ensures { IfOk result (λ kind. SetsTerm set_word term.entry (draft_view draft.old) (draft_view draft.new) kind) }
-{
-    match term {
-        Term::Place { kind, of, .. } => set_place(draft, set_word, Ending { kind, of }, place),
-        Term::HostMember(member) => set_member(member),
-        _ => Err(OrMemory::Fault(NotYet)),
-    }
-}
 
 /// An expression that doesn't end with arguments in brackets, behind the reference that it is given.
 fn set_bare<'a>(

@@ -1,26 +1,26 @@
 //! Calls that stand as statements.
 
-ghost use Rattle.std.specs.Prelude.{◌≡◌, ◌≢◌, [], ◌∷◌, IfOk, MatchBool, OnOk, map, reverse};
-ghost use Rattle.vba_expression.specs.declared.node.ExpressionNode.TheVariants as node;
+ghost use Rattle.std.specs.Prelude.{◌≢◌, [], IfOk, OnOk, map};
 ghost use Rattle.bound_project.specs.DraftView.{draft_view};
 ghost use Rattle.bound_project.specs.View.{parameter_view};
-ghost use Rattle.binder.specs.Terms as plain;
-ghost use Rattle.bound_actions.specs.Called.{Acts, ActsOn, CallsTree, CallsTreeOn, PassesAll, Reads, RestPushed};
-ghost use Rattle.bound_actions.specs.NamedCalls.{PushesCall, PushesNamed, PushesValues, ReadsNamed, ReadsWritten};
-ghost use Rattle.bound_calls.specs.Standing.{TermNamed};
-ghost use Rattle.bound_terms.specs.View.{EnvStands, env_view};
-ghost use Rattle.bound_calls.specs.declared.term.Term.TheVariants as term;
+ghost use Rattle.statement_terms.specs.Called.{ActsOn, CallsTree, CallsTreeOn, PassesAll, Reads};
+ghost use Rattle.statement_terms.specs.NamedCalls.{PushesValues, ReadsNamed};
+ghost use Rattle.bound_actions.specs.NamedCalls.{ReadsWritten};
+ghost use Rattle.bound_terms.specs.bound_calls.specs.Standing.{TermNamed};
+ghost use Rattle.bound_terms.specs.bound_names.specs.View.{EnvStands, env_view};
+ghost use Rattle.bound_terms.specs.bound_calls.specs.declared.term.Term.TheVariants as term;
 
 use crate::indexed_calls::call_indexed;
-use crate::pushed_terms::push_term;
 use crate::raising::{raise, raise_number};
-use bound_calls::{
-    Item, Passed, Routine, Term, Tree, call_ending, count_of, named_ending, pass_rest, put_item,
-    sum, take_item, take_numbers,
-};
-use bound_declarations::NotYet;
 use bound_project::{ActionKind, Draft, Parameter};
-use bound_terms::{Env, callee_term, gathered_ending, indexes_value, run, take_gathered};
+use bound_terms::bound_calls::{
+    Item, Passed, Routine, Term, Tree, put_item, take_item, take_numbers,
+};
+use bound_terms::bound_declarations::NotYet;
+use bound_terms::bound_names::{Env, callee_term};
+use bound_terms::bound_operands::{gathered_ending, take_gathered};
+use bound_terms::{indexes_value, run};
+use statement_terms::{are_none, bare_term, push_given, push_rest, push_term};
 use std::alloc::Global;
 use vba_base::{OrMemory, Place};
 use vba_expression::ExpressionNode;
@@ -97,21 +97,6 @@ pub fn read_arguments<'a>(
     }
 }
 
-/// Pushes what the other parameters have behind written arguments without names; answers how many are written, and how
-/// many there are.
-pub fn push_rest<'a>(
-    alloc: Global,
-    draft: &mut Draft,
-    passed: Passed<'a>,
-) -> Result<(u32, u32), OrMemory<NotYet>>
-    ensures { IfOk result (λ counts. RestPushed passed.entry (draft_view draft.old) (draft_view draft.new) counts.0 counts.1) }
-{
-    let left = count_of(passed.left)?;
-    let arguments = sum(passed.count, left)?;
-    pass_rest(alloc, draft, passed.left)?;
-    Ok((passed.count, arguments))
-}
-
 /// Pushes all arguments of these parameters, none with a name; answers how many are written, and how many there are.
 pub fn push_arguments<'a>(
     alloc: Global,
@@ -125,37 +110,6 @@ pub fn push_arguments<'a>(
 {
     let passed = read_arguments(alloc, draft, env, parameters, nodes)?;
     push_rest(alloc, draft, passed)
-}
-
-/// Pushes what a call gives whose written arguments were pushed.
-fn push_call<'a>(
-    alloc: Global,
-    draft: &mut Draft,
-    routine: Routine<'a>,
-    passed: Passed<'a>,
-    place: Place,
-) -> Result<(), OrMemory<NotYet>>
-    ensures { OnOk result (PushesCall routine.entry passed.entry place (draft_view draft.old) (draft_view draft.new)) }
-{
-    let ending = call_ending(alloc, draft, routine, passed)?;
-    push_term(alloc, draft, Term::Value(ending), place)
-}
-
-/// The same where some of those arguments have names: they were pushed for the parameters with these numbers, the last one
-/// first.
-fn push_named<'a>(
-    alloc: Global,
-    draft: &mut Draft,
-    routine: Routine<'a>,
-    passed: Passed<'a>,
-    named: Vec<u32>,
-    place: Place,
-) -> Result<(), OrMemory<NotYet>>
-    requires { named.items ≢ [] }
-    ensures { OnOk result (PushesNamed routine.entry passed.entry (reverse named.items) place (draft_view draft.old) (draft_view draft.new)) }
-{
-    let ending = named_ending(alloc, draft, routine, passed, named)?;
-    push_term(alloc, draft, Term::Value(ending), place)
 }
 
 /// The same where the last arguments are so many values for a ParamArray.
@@ -172,24 +126,6 @@ fn push_values<'a>(
 {
     let ending = gathered_ending(alloc, draft, routine, passed, values)?;
     push_term(alloc, draft, Term::Value(ending), place)
-}
-
-/// The same with names or without.
-fn push_given<'a>(
-    alloc: Global,
-    draft: &mut Draft,
-    routine: Routine<'a>,
-    passed: Passed<'a>,
-    named: Vec<u32>,
-    place: Place,
-) -> Result<(), OrMemory<NotYet>>
-    ensures { OnOk result (PushesNamed routine.entry passed.entry (reverse named.items) place (draft_view draft.old) (draft_view draft.new)) }
-{
-    if named.is_empty() {
-        push_call(alloc, draft, routine, passed, place)?;
-        return Ok(());
-    }
-    push_named(alloc, draft, routine, passed, named, place)
 }
 
 /// A statement that calls a procedure.
@@ -216,36 +152,6 @@ fn call_routine<'a>(
     Ok(ActionKind::Evaluate)
 }
 
-/// A statement that is the value of a call, another value or an object.
-fn evaluate_term<'a>(
-    alloc: Global,
-    draft: &mut Draft,
-    term: Term<'a>,
-    place: Place,
-) -> Result<ActionKind, OrMemory<NotYet>>
-    requires { TermNamed (draft_view draft.old).tables term }
-    ensures { IfOk result (λ kind. (env : plain.Env) → Acts env term.entry place [] (draft_view draft.old) (draft_view draft.new) kind) }
-{
-    push_term(alloc, draft, term, place)?;
-    Ok(ActionKind::Evaluate)
-}
-
-/// A statement that calls without arguments.
-fn bare_term<'a>(
-    alloc: Global,
-    draft: &mut Draft,
-    term: Term<'a>,
-    place: Place,
-) -> Result<ActionKind, OrMemory<NotYet>>
-    requires { TermNamed (draft_view draft.old).tables term }
-    ensures { IfOk result (λ kind. (env : plain.Env) → Acts env term.entry place [] (draft_view draft.old) (draft_view draft.new) kind) }
-{
-    match term {
-        Term::ErrClear => Ok(ActionKind::ClearErr),
-        _ => evaluate_term(alloc, draft, term, place),
-    }
-}
-
 /// A statement that calls a procedure, Err.Raise or Error with arguments.
 fn given_term<'a>(
     alloc: Global,
@@ -263,16 +169,6 @@ fn given_term<'a>(
         Term::ErrRaise => raise(alloc, draft, env, nodes),
         Term::ErrorWord => raise_number(alloc, draft, env, nodes),
         _ => Err(OrMemory::Fault(NotYet)),
-    }
-}
-
-/// Are these nodes no arguments?
-fn are_none(nodes: &[ExpressionNode]) -> bool
-    ensures { MatchBool result (nodes.now ≡ node.NoArguments ∷ []) (Unit {0}) }
-{
-    match nodes {
-        [ExpressionNode::NoArguments] => true,
-        _ => false,
     }
 }
 

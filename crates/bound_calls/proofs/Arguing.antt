@@ -24,10 +24,10 @@ use Rattle.bound_project.specs.Pieces.{Argument, place_lent, value_copied, defau
 use Rattle.bound_project.specs.Project as project
 use Rattle.bound_project.specs.Drafts.{Drafted, NodeNamed, with_constant}
 use Rattle.bound_project.proofs.Drafts.{constant_last}
-use Rattle.binder.specs.Types.{is_object}
-use Rattle.binder.specs.Terms.{Env, Given, a_place, taken_by, by_reference, by_copy, is_lent_to, is_copied_to}
-use Rattle.binder.specs.Terms as plain
-use Rattle.binder.specs.ExpressionsBound.{argument_of, given_as, operand_of, term_of, givens, place_told}
+use Rattle.bound_declarations.specs.binder.specs.Types.{is_object}
+use Rattle.bound_declarations.specs.binder.specs.Terms.{Env, Given, a_place, taken_by, by_reference, by_copy, is_lent_to, is_copied_to}
+use Rattle.bound_declarations.specs.binder.specs.Terms as plain
+use Rattle.bound_declarations.specs.binder.specs.ExpressionsBound.{argument_of, given_as, operand_of, term_of, givens, place_told}
 use Rattle.bound_calls.specs.declared.term.Ending.{Ending}
 use Rattle.bound_calls.specs.declared.term.Term.{Term}
 use Rattle.bound_calls.specs.declared.term.Term.TheVariants as term

@@ -22,11 +22,11 @@ use Rattle.bound_project.specs.Project as project
 use Rattle.bound_project.specs.Drafts.{Drafted, NodeNamed}
 use Rattle.bound_project.proofs.Drafts.{Extends}
 use Rattle.vba_values.specs.Types.{Declared}
-use Rattle.binder.specs.Declarations.{Written}
-use Rattle.binder.specs.Scopes.{Space}
-use Rattle.binder.specs.Terms.{Env, Given, a_value, a_routine, value_with}
-use Rattle.binder.specs.Terms as plain_terms
-use Rattle.binder.specs.ExpressionsBound.{argument_of, call_with, bare_call, callee, indexed, item_of, term_of, value_of, givens, place_told}
+use Rattle.bound_declarations.specs.binder.specs.Declarations.{Written}
+use Rattle.bound_declarations.specs.binder.specs.Scopes.{Space}
+use Rattle.bound_declarations.specs.binder.specs.Terms.{Env, Given, a_value, a_routine, value_with}
+use Rattle.bound_declarations.specs.binder.specs.Terms as plain_terms
+use Rattle.bound_declarations.specs.binder.specs.ExpressionsBound.{argument_of, call_with, bare_call, callee, indexed, item_of, term_of, value_of, givens, place_told}
 use Rattle.bound_calls.specs.declared.term.Ending.{Ending}
 use Rattle.bound_calls.specs.declared.term.Routine.{Routine}
 use Rattle.bound_calls.specs.declared.term.Term.{Term}

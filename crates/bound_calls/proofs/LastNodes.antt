@@ -11,8 +11,8 @@ use Rattle.bound_project.specs.Expressions as bound
 use Rattle.bound_project.specs.Pieces.{Piece, nothing, an_expr, a_place, a_member, a_named_member, an_argument, a_value_shown, a_zone, a_test_begun, a_test_is, a_test_range, a_resize, an_erased, Tables, arguments_off, as_operand, expr_of, exprs_off, is_member, is_named_member, misfit, by_name_in, name_in, of_both, of_found, of_member, of_member_found, of_named, of_named_found, of_place, of_value, of_value_found, order_in, put_kind}
 use Rattle.bound_project.specs.Project.{nowhere}
 use Rattle.bound_project.specs.View.{base_view, declared_view}
-use Rattle.binder.specs.Constants.{is_variant}
-use Rattle.binder.specs.ExpressionsBound.{may_be_object, may_give_object}
+use Rattle.bound_declarations.specs.binder.specs.Constants.{is_variant}
+use Rattle.bound_declarations.specs.binder.specs.ExpressionsBound.{may_be_object, may_give_object}
 use Rattle.bound_calls.specs.declared.term.Ending.{Ending}
 use Rattle.bound_calls.specs.References.{EndingGives, kind_gives}
 

@@ -25,14 +25,14 @@ use Rattle.bound_project.specs.Pieces.{Argument, Piece, Tables, an_argument, arg
 use Rattle.bound_project.specs.Project as project
 use Rattle.bound_project.specs.Drafts.{Drafted, NodeNamed}
 use Rattle.bound_project.proofs.Drafts.{order_extends}
-use Rattle.binder.specs.Constants.{home}
-use Rattle.binder.specs.Declarations.{Written}
-use Rattle.binder.specs.Names.{scope_in}
-use Rattle.binder.specs.Scopes.{Scope, Space}
-use Rattle.binder.specs.Storage.{bound_parameters, procedure_number}
-use Rattle.binder.specs.Terms.{Env, Given, a_value, bound_arguments, parameter_named}
-use Rattle.binder.specs.Terms as plain_terms
-use Rattle.binder.specs.ExpressionsBound.{is_get, reader, parameters_in, call_type, call_value, call_with, if_there, indexes_value, indexed_value, node_or, numbers_of, argument_of, callee, indexed, term_of, givens, place_told}
+use Rattle.bound_declarations.specs.binder.specs.Constants.{home}
+use Rattle.bound_declarations.specs.binder.specs.Declarations.{Written}
+use Rattle.bound_declarations.specs.binder.specs.Names.{scope_in}
+use Rattle.bound_declarations.specs.binder.specs.Scopes.{Scope, Space}
+use Rattle.bound_declarations.specs.binder.specs.Storage.{bound_parameters, procedure_number}
+use Rattle.bound_declarations.specs.binder.specs.Terms.{Env, Given, a_value, bound_arguments, parameter_named}
+use Rattle.bound_declarations.specs.binder.specs.Terms as plain_terms
+use Rattle.bound_declarations.specs.binder.specs.ExpressionsBound.{is_get, reader, parameters_in, call_type, call_value, call_with, if_there, indexes_value, indexed_value, node_or, numbers_of, argument_of, callee, indexed, term_of, givens, place_told}
 use Rattle.bound_calls.specs.declared.term.Ending.{Ending}
 use Rattle.bound_calls.specs.declared.term.Routine.{Routine}
 use Rattle.bound_calls.specs.declared.term.Term.TheVariants as term

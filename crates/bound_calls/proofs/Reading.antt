@@ -10,16 +10,16 @@ use Rattle.bound_project.specs.Pieces.{Argument}
 use Rattle.bound_project.specs.Project as project
 use Rattle.bound_project.specs.Statements as to
 use Rattle.bound_project.specs.Statements.{Action}
-use Rattle.binder.specs.Declarations.{Written}
-use Rattle.binder.specs.Types.{is_object}
-use Rattle.binder.specs.Scopes.{Space, Scope}
-use Rattle.binder.specs.Constants.{home}
-use Rattle.binder.specs.Names.{scope_in}
-use Rattle.binder.specs.Storage.{bound_parameters, parameters_of, procedure_number}
-use Rattle.binder.specs.Terms.{Env, Given, a_routine, a_value, bound_arguments}
-use Rattle.binder.specs.Terms as plain
-use Rattle.binder.specs.ExpressionsBound.{is_get, reader, parameters_in, call_type, call_value, call_with, if_there, indexes_value, indexed_value, node_or, numbers_of, argument_of, writer}
-use Rattle.binder.specs.StatementsBound.{let_to, assigned}
+use Rattle.bound_declarations.specs.binder.specs.Declarations.{Written}
+use Rattle.bound_declarations.specs.binder.specs.Types.{is_object}
+use Rattle.bound_declarations.specs.binder.specs.Scopes.{Space, Scope}
+use Rattle.bound_declarations.specs.binder.specs.Constants.{home}
+use Rattle.bound_declarations.specs.binder.specs.Names.{scope_in}
+use Rattle.bound_declarations.specs.binder.specs.Storage.{bound_parameters, parameters_of, procedure_number}
+use Rattle.bound_declarations.specs.binder.specs.Terms.{Env, Given, a_routine, a_value, bound_arguments}
+use Rattle.bound_declarations.specs.binder.specs.Terms as plain
+use Rattle.bound_declarations.specs.binder.specs.ExpressionsBound.{is_get, reader, parameters_in, call_type, call_value, call_with, if_there, indexes_value, indexed_value, node_or, numbers_of, argument_of, writer}
+use Rattle.bound_declarations.specs.binder.specs.StatementsBound.{let_to, assigned}
 use Rattle.bound_calls.specs.Passing.{AllTaken}
 
 and_no : (b : Bool) → (b && false) ≡ false

@@ -16,15 +16,15 @@ use Rattle.bound_project.specs.Expressions.{load, err_value, err_number, host_ob
 use Rattle.bound_project.specs.Expressions as bound
 use Rattle.bound_project.specs.Pieces.{Piece, Tables, name_in, of_place, of_value, expr_of, put}
 use Rattle.bound_project.specs.Drafts.{Drafted, NodeNamed}
-use Rattle.binder.specs.Options.{or_else}
-use Rattle.binder.specs.Types.{is_object}
-use Rattle.binder.specs.Declarations.{Written}
-use Rattle.binder.specs.Scopes.{Space}
-use Rattle.binder.specs.Storage.{procedure_number}
-use Rattle.binder.specs.Constants.{is_variant}
-use Rattle.binder.specs.Terms.{Env, a_routine, a_value, bound_arguments, expression_of, typed_value, value_with}
-use Rattle.binder.specs.Terms as plain
-use Rattle.binder.specs.ExpressionsBound.{bare_call, call_type, call_value, parameters_in, if_there, is_host_type, has_default, has_object, plain_operand, if_any, default_value, typed_reference, value_of, operand_of, reference_of, given_as, term_of, place_told}
+use Rattle.bound_declarations.specs.binder.specs.Options.{or_else}
+use Rattle.bound_declarations.specs.binder.specs.Types.{is_object}
+use Rattle.bound_declarations.specs.binder.specs.Declarations.{Written}
+use Rattle.bound_declarations.specs.binder.specs.Scopes.{Space}
+use Rattle.bound_declarations.specs.binder.specs.Storage.{procedure_number}
+use Rattle.bound_declarations.specs.binder.specs.Constants.{is_variant}
+use Rattle.bound_declarations.specs.binder.specs.Terms.{Env, a_routine, a_value, bound_arguments, expression_of, typed_value, value_with}
+use Rattle.bound_declarations.specs.binder.specs.Terms as plain
+use Rattle.bound_declarations.specs.binder.specs.ExpressionsBound.{bare_call, call_type, call_value, parameters_in, if_there, is_host_type, has_default, has_object, plain_operand, if_any, default_value, typed_reference, value_of, operand_of, reference_of, given_as, term_of, place_told}
 use Rattle.bound_calls.specs.declared.term.Ending.{Ending}
 use Rattle.bound_calls.specs.declared.term.HostMember.{HostMember}
 use Rattle.bound_calls.specs.declared.term.Routine.{Routine}

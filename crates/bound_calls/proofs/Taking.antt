@@ -16,14 +16,14 @@ use Rattle.bound_project.specs.Expressions as bound
 use Rattle.bound_project.specs.Pieces.{Piece, Tables, a_member, an_expr, exprs_off, name_in, of_member_found, of_place, of_value, expr_of, put}
 use Rattle.bound_project.proofs.Lists.{member_put}
 use Rattle.bound_project.specs.Drafts.{Drafted, NodeNamed}
-use Rattle.binder.specs.Options.{or_else}
-use Rattle.binder.specs.Types.{is_object}
-use Rattle.binder.specs.Declarations.{Written}
-use Rattle.binder.specs.Scopes.{Space}
-use Rattle.binder.specs.Terms.{Env, a_host_member, a_routine, bound_arguments, expression_of, no_term, typed_value, value_with}
-use Rattle.binder.specs.Terms as plain
-use Rattle.binder.specs.ExpressionsBound.{bare_call, call_value, if_there, parameters_in, plain_operand, reader, value_of, reference_of, default_value, operand_of}
-use Rattle.declared_names.specs.View.{space_view, written_view}
+use Rattle.bound_declarations.specs.binder.specs.Options.{or_else}
+use Rattle.bound_declarations.specs.binder.specs.Types.{is_object}
+use Rattle.bound_declarations.specs.binder.specs.Declarations.{Written}
+use Rattle.bound_declarations.specs.binder.specs.Scopes.{Space}
+use Rattle.bound_declarations.specs.binder.specs.Terms.{Env, a_host_member, a_routine, bound_arguments, expression_of, no_term, typed_value, value_with}
+use Rattle.bound_declarations.specs.binder.specs.Terms as plain
+use Rattle.bound_declarations.specs.binder.specs.ExpressionsBound.{bare_call, call_value, if_there, parameters_in, plain_operand, reader, value_of, reference_of, default_value, operand_of}
+use Rattle.bound_declarations.specs.declared_names.specs.View.{space_view, written_view}
 use Rattle.bound_calls.specs.declared.term.Ending.{Ending}
 use Rattle.bound_calls.specs.declared.term.HostMember.{HostMember}
 use Rattle.bound_calls.specs.declared.term.Routine.{Routine}

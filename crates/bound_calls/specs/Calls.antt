@@ -16,10 +16,10 @@ use Rattle.bound_project.specs.Lists.{above}
 use Rattle.bound_project.specs.Pieces.{Argument, place_lent, value_copied, Piece, an_argument, an_expr}
 use Rattle.bound_project.specs.Project as project
 use Rattle.bound_project.specs.Drafts.{Drafted}
-use Rattle.binder.specs.Constants.{is_variant}
-use Rattle.binder.specs.Types.{is_object}
-use Rattle.binder.specs.Terms.{Env, Given, of_other_type}
-use Rattle.binder.specs.ExpressionsBound.{argument_of, term_of, place_told}
+use Rattle.bound_declarations.specs.binder.specs.Constants.{is_variant}
+use Rattle.bound_declarations.specs.binder.specs.Types.{is_object}
+use Rattle.bound_declarations.specs.binder.specs.Terms.{Env, Given, of_other_type}
+use Rattle.bound_declarations.specs.binder.specs.ExpressionsBound.{argument_of, term_of, place_told}
 use Rattle.bound_calls.specs.declared.term.Ending.{Ending}
 use Rattle.bound_calls.specs.declared.term.Routine.{Routine}
 use Rattle.bound_calls.specs.declared.term.Term.{Term}

@@ -1,3 +1,7 @@
+pub use Rattle.bound_declarations
+pub use Rattle.bound_declarations.specs.binder
+pub use Rattle.bound_declarations.specs.constant_values
+pub use Rattle.bound_declarations.specs.declared_names
 pub mod Standing
 pub mod Taking
 pub mod References

@@ -24,15 +24,15 @@ use Rattle.bound_project.specs.Pieces as piece
 use Rattle.bound_project.specs.Project.{Parameter, nowhere}
 use Rattle.bound_project.specs.Drafts.{Drafted, NamesNamed, NodeNamed}
 use Rattle.bound_project.proofs.Drafts.{Extends}
-use Rattle.binder.specs.Declarations.{Written}
-use Rattle.declared_names.specs.View.{space_view, written_view}
-use Rattle.binder.specs.Options.{from_two}
-use Rattle.binder.specs.Scopes.{Space, qualifier_of}
-use Rattle.binder.specs.Constants.{compare_in}
-use Rattle.binder.specs.Storage.{procedure_number}
-use Rattle.binder.specs.Terms.{Env, Given, a_place, a_value, a_routine, a_function, a_host_member, err_object, err_raise, err_clear, error_word, no_term, expression_of, listed_values, parameter_named, taken_by}
-use Rattle.binder.specs.Terms as plain
-use Rattle.binder.specs.ExpressionsBound.{reader, parameters_in, call_type, callee, item_of, element_place, element_type, argument_of, function_values, givens, given_as, indexed, numbers_of, term_of, operand_of, reference_of, place_told}
+use Rattle.bound_declarations.specs.binder.specs.Declarations.{Written}
+use Rattle.bound_declarations.specs.declared_names.specs.View.{space_view, written_view}
+use Rattle.bound_declarations.specs.binder.specs.Options.{from_two}
+use Rattle.bound_declarations.specs.binder.specs.Scopes.{Space, qualifier_of}
+use Rattle.bound_declarations.specs.binder.specs.Constants.{compare_in}
+use Rattle.bound_declarations.specs.binder.specs.Storage.{procedure_number}
+use Rattle.bound_declarations.specs.binder.specs.Terms.{Env, Given, a_place, a_value, a_routine, a_function, a_host_member, err_object, err_raise, err_clear, error_word, no_term, expression_of, listed_values, parameter_named, taken_by}
+use Rattle.bound_declarations.specs.binder.specs.Terms as plain
+use Rattle.bound_declarations.specs.binder.specs.ExpressionsBound.{reader, parameters_in, call_type, callee, item_of, element_place, element_type, argument_of, function_values, givens, given_as, indexed, numbers_of, term_of, operand_of, reference_of, place_told}
 use Rattle.bound_calls.specs.declared.term.Dotted.{Dotted}
 use Rattle.bound_calls.specs.declared.term.Ending.{Ending}
 use Rattle.bound_calls.specs.declared.term.Property.{Property}

@@ -10,12 +10,12 @@ use Rattle.bound_project.specs.Project.{nowhere}
 use Rattle.vba_values.specs.Types as type
 use Rattle.bound_project.specs.Pieces.{Piece, Tables, an_expr, name_in}
 use Rattle.bound_project.specs.Drafts.{Drafted, NodeNamed}
-use Rattle.binder.specs.Declarations.{Written}
-use Rattle.binder.specs.Scopes.{Space}
-use Rattle.binder.specs.Types.{is_object}
-use Rattle.binder.specs.Terms.{Env, a_routine, typed_value}
-use Rattle.binder.specs.Terms as plain
-use Rattle.binder.specs.ExpressionsBound.{bare_call, value_of}
+use Rattle.bound_declarations.specs.binder.specs.Declarations.{Written}
+use Rattle.bound_declarations.specs.binder.specs.Scopes.{Space}
+use Rattle.bound_declarations.specs.binder.specs.Types.{is_object}
+use Rattle.bound_declarations.specs.binder.specs.Terms.{Env, a_routine, typed_value}
+use Rattle.bound_declarations.specs.binder.specs.Terms as plain
+use Rattle.bound_declarations.specs.binder.specs.ExpressionsBound.{bare_call, value_of}
 use Rattle.bound_calls.specs.declared.term.Ending.{Ending}
 use Rattle.bound_calls.specs.declared.term.HostMember.{HostMember}
 use Rattle.bound_calls.specs.declared.term.Routine.{Routine}

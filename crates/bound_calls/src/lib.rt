@@ -25,3 +25,7 @@ pub use term::{
     Call, Dotted, Ending, Function, FunctionCall, HostMember, Indexed, Item, MemberCall, Named,
     Operand, Ordered, Passed, Property, Routine, Target, Term, Tree,
 };
+
+// What stands below, for the crates above.
+pub use bound_declarations;
+pub use bound_declarations::{binder, constant_values, declared_names};

@@ -10,8 +10,8 @@ use crate::arguments::nowhere;
 use crate::calls::bare_call;
 use crate::term::{Ending, HostMember, Term};
 use bound_declarations::NotYet;
+use bound_declarations::declared_names::is_object;
 use bound_project::{DeclaredType, Draft, ElementType, Node, NodeKind};
-use declared_names::is_object;
 use std::alloc::Global;
 use vba_base::{NoMemory, OrMemory, Place};
 

@@ -1,5 +1,5 @@
+use bound_declarations::declared_names::{Space, Written};
 use bound_project::{ArgumentNames, DeclaredType, NodeKind, Parameter, Variable};
-use declared_names::{Space, Written};
 use vba_base::Place;
 use vba_lib::LibraryFunction;
 use vba_values::Compare;

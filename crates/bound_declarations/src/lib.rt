@@ -27,3 +27,17 @@ pub use procedures::{bound_module, bound_procedure};
 pub use storage::own_storage;
 pub use types::{arrayed, parameter_type, result_type};
 pub use user_types::module_types;
+
+// What stands below, for the crates above.
+pub use binder;
+pub use bound_project;
+pub use constant_values;
+pub use declared_names;
+pub use module_parts;
+pub use vba_base;
+pub use vba_expression;
+pub use vba_lexer;
+pub use vba_module;
+pub use vba_tree;
+pub use vba_values;
+pub use vba_words;

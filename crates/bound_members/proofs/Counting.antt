@@ -10,7 +10,7 @@ use Rattle.bound_project.specs.Expressions.{expr, not_given, constant, load, loa
 use Rattle.bound_project.specs.Expressions as bound
 use Rattle.bound_project.specs.Pieces.{Piece, an_expr, Tables, arguments_off, as_operand, expr_of, exprs_off, by_name_in, name_in, order_in, put_kind}
 use Rattle.bound_project.specs.View.{base_view, declared_view}
-use Rattle.binder.specs.ExpressionsBound.{host_kind, kind_by_type}
+use Rattle.bound_calls.specs.binder.specs.ExpressionsBound.{host_kind, kind_by_type}
 use Rattle.bound_calls.proofs.LastNodes.{value_passes, place_passes, both_pass, found_passes, value_found_passes, member_found_passes, named_found_passes}
 use Rattle.bound_members.specs.Kinds.{is_typed_kind}
 use Rattle.bound_members.specs.MemberCalls.{is_value_kind}

@@ -8,9 +8,9 @@ use Rattle.bound_project.specs.Drafts.{Drafted, with_constant}
 use Rattle.bound_project.specs.Pieces.{name_in, name_of}
 use Rattle.bound_project.proofs.Drafts.{constant_last}
 use Rattle.bound_project.specs.View.{element_view}
-use Rattle.binder.specs.Terms.{a_host_member, no_term}
-use Rattle.binder.specs.Terms as terms
-use Rattle.binder.specs.ExpressionsBound.{HostKind, application, workbook, sheets, sheet, area, any_object, member_in, member_of_kind}
+use Rattle.bound_calls.specs.binder.specs.Terms.{a_host_member, no_term}
+use Rattle.bound_calls.specs.binder.specs.Terms as terms
+use Rattle.bound_calls.specs.binder.specs.ExpressionsBound.{HostKind, application, workbook, sheets, sheet, area, any_object, member_in, member_of_kind}
 use Rattle.bound_calls.specs.declared.term.HostMember.{HostMember}
 use Rattle.bound_calls.specs.Steps.{AddsConstant}
 use Rattle.bound_calls.proofs.Growing.{grown_constant}

@@ -9,7 +9,7 @@ use Rattle.bound_project.specs.Expressions.{host_object}
 use Rattle.bound_project.specs.Expressions as bound
 use Rattle.bound_project.specs.Pieces.{Piece, expr_of, put_kind}
 use Rattle.bound_project.specs.View.{declared_view}
-use Rattle.binder.specs.ExpressionsBound.{host_kind, kind_by_type, kind_of_object}
+use Rattle.bound_calls.specs.binder.specs.ExpressionsBound.{host_kind, kind_by_type, kind_of_object}
 use Rattle.bound_calls.specs.declared.term.Ending.{Ending}
 use Rattle.bound_calls.proofs.LastNodes.{any_node}
 use Rattle.bound_members.specs.declared.kinds.HostKind.{HostKind}

@@ -24,10 +24,10 @@ use Rattle.bound_project.specs.Project.{nowhere}
 use Rattle.bound_project.specs.declared.declared_type.DeclaredType.TheVariants.{Plain}
 use Rattle.bound_project.specs.declared.declared_type.ElementType.TheVariants as element
 use Rattle.bound_project.specs.View.{declared_view}
-use Rattle.binder.specs.Terms.{Env, Given, a_value, expression_of, has_names, no_term}
-use Rattle.binder.specs.Terms as terms
-use Rattle.binder.specs.ExpressionsBound.{callee, given_as, givens, host_arguments, if_there, indexed, item_of, member_called, named_called, names_taken, takes_arguments, takes_names, term_of, place_told}
-use Rattle.binder.specs.Options.{from_two}
+use Rattle.bound_calls.specs.binder.specs.Terms.{Env, Given, a_value, expression_of, has_names, no_term}
+use Rattle.bound_calls.specs.binder.specs.Terms as terms
+use Rattle.bound_calls.specs.binder.specs.ExpressionsBound.{callee, given_as, givens, host_arguments, if_there, indexed, item_of, member_called, named_called, names_taken, takes_arguments, takes_names, term_of, place_told}
+use Rattle.bound_calls.specs.binder.specs.Options.{from_two}
 use Rattle.bound_calls.specs.declared.term.Ending.{Ending}
 use Rattle.bound_calls.specs.declared.term.HostMember.{HostMember}
 use Rattle.bound_calls.specs.declared.term.Item.{Item}

@@ -8,9 +8,9 @@ use Rattle.vba_base.specs.declared.place.Place.{Place}
 use Rattle.bound_project.specs.Expressions.{ByName, Exprs, also}
 use Rattle.bound_project.specs.Expressions as bound
 use Rattle.bound_project.specs.Lists.{exprs_of}
-use Rattle.binder.specs.Options.{from_two}
-use Rattle.binder.specs.Terms.{Given, all_named, by_name_from, given_by_name, has_names, listed_values}
-use Rattle.binder.specs.Terms as terms
+use Rattle.bound_calls.specs.binder.specs.Options.{from_two}
+use Rattle.bound_calls.specs.binder.specs.Terms.{Given, all_named, by_name_from, given_by_name, has_names, listed_values}
+use Rattle.bound_calls.specs.binder.specs.Terms as terms
 use Rattle.bound_calls.specs.Standing.{AllGiven, GivenIs, NamesCame, missing_given, missing_value, nameless}
 use Rattle.bound_members.specs.Names.{is_next}
 

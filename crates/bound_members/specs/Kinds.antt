@@ -5,8 +5,8 @@ use Rattle.bound_project.specs.declared.node.NodeKind.TheVariants as node
 use Rattle.bound_project.specs.Expressions as bound
 use Rattle.bound_project.specs.Pieces.{Piece, Tables}
 use Rattle.bound_project.specs.View.{declared_view}
-use Rattle.binder.specs.ExpressionsBound.{host_kind}
-use Rattle.binder.specs.ExpressionsBound as plain
+use Rattle.bound_calls.specs.binder.specs.ExpressionsBound.{host_kind}
+use Rattle.bound_calls.specs.binder.specs.ExpressionsBound as plain
 use Rattle.bound_calls.specs.declared.term.Ending.{Ending}
 use Rattle.bound_calls.specs.Standing.{ValueEnds}
 use Rattle.bound_members.specs.declared.kinds.HostKind.{HostKind}

@@ -1,3 +1,8 @@
+pub use Rattle.bound_calls
+pub use Rattle.bound_calls.specs.binder
+pub use Rattle.bound_calls.specs.bound_declarations
+pub use Rattle.bound_calls.specs.constant_values
+pub use Rattle.bound_calls.specs.declared_names
 pub mod Kinds
 pub mod Members
 pub mod MemberCalls

@@ -13,9 +13,9 @@ use Rattle.bound_project.specs.declared.node.NodeKind.{NodeKind}
 use Rattle.bound_project.specs.declared.node.NodeKind.TheVariants as node
 use Rattle.bound_project.specs.Pieces.{Piece, Tables, by_name_in, order_in}
 use Rattle.bound_project.specs.Drafts.{Drafted, NodeNamed}
-use Rattle.binder.specs.Terms.{Env, Given}
-use Rattle.binder.specs.Terms as plain
-use Rattle.binder.specs.ExpressionsBound.{callee, givens, indexed, item_of, member_called, takes_names, term_of, place_told}
+use Rattle.bound_calls.specs.binder.specs.Terms.{Env, Given}
+use Rattle.bound_calls.specs.binder.specs.Terms as plain
+use Rattle.bound_calls.specs.binder.specs.ExpressionsBound.{callee, givens, indexed, item_of, member_called, takes_names, term_of, place_told}
 use Rattle.bound_calls.specs.declared.term.HostMember.{HostMember}
 use Rattle.bound_calls.specs.declared.term.Item.{Item}
 use Rattle.bound_calls.specs.declared.term.Item.TheVariants as item

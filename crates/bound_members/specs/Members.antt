@@ -3,9 +3,9 @@ use Rattle.std.specs.Prelude.{◌≡◌, ℕ, ◌<◌, length, List, []}
 use Rattle.bound_project.specs.Expressions as bound
 use Rattle.bound_project.specs.Drafts.{Drafted}
 use Rattle.bound_project.specs.View.{element_view}
-use Rattle.binder.specs.Terms.{a_host_member}
-use Rattle.binder.specs.Terms as terms
-use Rattle.binder.specs.ExpressionsBound.{HostKind, application, workbook, sheets, sheet, area, any_object, mark_members, sheets_members, sheet_members, area_members, member_of_kind}
+use Rattle.bound_calls.specs.binder.specs.Terms.{a_host_member}
+use Rattle.bound_calls.specs.binder.specs.Terms as terms
+use Rattle.bound_calls.specs.binder.specs.ExpressionsBound.{HostKind, application, workbook, sheets, sheet, area, any_object, mark_members, sheets_members, sheet_members, area_members, member_of_kind}
 use Rattle.bound_calls.specs.declared.term.HostMember.{HostMember}
 use Rattle.bound_calls.specs.Standing.{Grown, member_is}
 use Rattle.bound_members.specs.declared.kinds.HostKind as declared

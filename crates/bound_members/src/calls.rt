@@ -11,10 +11,10 @@ use crate::ahead::given_ahead;
 use crate::kinds::is_typed_kind;
 use crate::members::takes_arguments;
 use crate::names::{is_next, names_ahead, takes_names};
+use bound_calls::bound_declarations::NotYet;
 use bound_calls::{
     Ending, HostMember, MemberCall, Term, Tree, given_ending, nowhere, push_node, sum,
 };
-use bound_declarations::NotYet;
 use bound_project::{ArgumentNames, DeclaredType, Draft, ElementType, NodeKind};
 use std::alloc::Global;
 use vba_base::{OrMemory, Place};

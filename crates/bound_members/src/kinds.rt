@@ -2,7 +2,7 @@
 
 ghost use Rattle.std.specs.Prelude.{◌≡◌, IfSome, option_map, true};
 ghost use Rattle.bound_project.specs.View.{declared_view};
-ghost use Rattle.binder.specs.ExpressionsBound.{kind_by_type, kind_of_object};
+ghost use Rattle.bound_calls.specs.binder.specs.ExpressionsBound.{kind_by_type, kind_of_object};
 ghost use Rattle.bound_members.specs.Kinds.{EndingOfKind, is_typed_kind, kind_view};
 
 use bound_calls::Ending;

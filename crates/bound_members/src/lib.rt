@@ -12,3 +12,7 @@ pub use ahead::given_ahead;
 pub use calls::{add_given, add_missing, add_named, close_member, names_fit, open_member};
 pub use kinds::{HostKind, kind_of_ending, kind_of_type};
 pub use members::{find_member, is_word, takes_arguments};
+
+// What stands below, for the crates above.
+pub use bound_calls;
+pub use bound_calls::{binder, bound_declarations, constant_values, declared_names};

@@ -6,14 +6,14 @@ ghost use Rattle.vba_values.specs.Val.{text};
 ghost use Rattle.vba_values.specs.View.{view};
 ghost use Rattle.bound_project.specs.Pieces.{Tables};
 ghost use Rattle.bound_project.specs.View.{declared_view};
-ghost use Rattle.binder.specs.ExpressionsBound as bound;
+ghost use Rattle.bound_calls.specs.binder.specs.ExpressionsBound as bound;
 ghost use Rattle.bound_members.specs.Kinds.{kind_view};
 ghost use Rattle.bound_members.specs.Members.{FindsMember, entry_member, found_member, listed};
 ghost use Rattle.bound_calls.specs.Standing.{member_is};
 
 use crate::kinds::HostKind;
+use bound_calls::bound_declarations::NotYet;
 use bound_calls::{HostMember, constant_number};
-use bound_declarations::NotYet;
 use bound_project::{DeclaredType, Draft, ElementType};
 use vba_base::{OrMemory, Units};
 use vba_values::Value;

@@ -3,15 +3,15 @@
 ghost use Rattle.std.specs.Prelude.{◌≡◌, ◌+◌, ◌<◌, ◌^◌, [], IfOk, OnOk, Some, is_some, length, map};
 ghost use Rattle.bound_project.specs.DraftView.{draft_view};
 ghost use Rattle.bound_project.specs.Pieces.{by_name_in, name_in, names_in};
-ghost use Rattle.binder.specs.ExpressionsBound as bound;
+ghost use Rattle.bound_calls.specs.binder.specs.ExpressionsBound as bound;
 ghost use Rattle.vba_meaning.specs.ByName.{any_given, parameter_named, parameters_given};
 ghost use Rattle.bound_calls.specs.Standing.{member_is};
 ghost use Rattle.bound_members.specs.Names.{AddsName, TellsNames, is_next};
 
 use crate::ahead::{before_names, depth_behind, ends_all, named_at};
 use crate::members::is_word;
+use bound_calls::bound_declarations::NotYet;
 use bound_calls::{HostMember, constant_number, order_number};
-use bound_declarations::NotYet;
 use bound_project::{ArgumentNames, Draft};
 use std::alloc::Global;
 use vba_base::{NoMemory, OrMemory, Units};

@@ -13,29 +13,30 @@ use Rattle.bound_project.specs.Expressions as bound
 use Rattle.bound_project.specs.Pieces.{Piece, an_expr}
 use Rattle.bound_project.specs.Project as project
 use Rattle.bound_project.specs.Drafts.{Drafted}
-use Rattle.binder.specs.Constants.{home}
-use Rattle.binder.specs.Declarations.{Written, What, a_variable, a_constant, an_enum, a_member, a_type, an_event, a_procedure, Entry}
-use Rattle.binder.specs.Names.{scope_in}
-use Rattle.binder.specs.Scopes.{Space, Scope, first_at, is_named, seen_from}
-use Rattle.binder.specs.Storage.{bound_parameter, bound_parameters, takes_value}
-use Rattle.binder.specs.Terms.{Env, Given, a_routine, a_value, bound_arguments, expression_of}
-use Rattle.binder.specs.Terms as terms
-use Rattle.binder.specs.ExpressionsBound.{argument_of, bare_call, call_value, call_with, callee, element_type, if_there, indexed, indexed_value, indexes_value, is_get, is_property, item_of, node_or, numbers_of, operand_of, parameters_in, procedure_with, reader, term_of, with_type, place_told}
-use Rattle.declared_names.specs.View.{written_view}
-use Rattle.bound_calls.specs.declared.term.Ending.{Ending}
-use Rattle.bound_calls.specs.declared.term.Indexed.{Indexed}
-use Rattle.bound_calls.specs.declared.term.Item.TheVariants as items
-use Rattle.bound_calls.specs.declared.term.Routine.{Routine}
-use Rattle.bound_calls.specs.declared.term.Term.TheVariants as term
-use Rattle.bound_calls.specs.declared.term.Tree.{Tree}
-use Rattle.bound_calls.specs.Indexing.{OpensTerm}
-use Rattle.bound_calls.specs.Standing.{RoutineStands}
-use Rattle.bound_calls.specs.Taking.{CallsRoutine}
-use Rattle.bound_calls.proofs.Growing.{grown_twice}
-use Rattle.bound_terms.specs.Indexing.{IndexesValue, PushesWhole}
-use Rattle.bound_terms.specs.Properties.{first_wanted, is_wanted, property_with, wants}
-use Rattle.bound_terms.proofs.Elements.{opens_whole}
-use Rattle.bound_terms.proofs.Lookups.{get_same, property_found, with_entry}
+use Rattle.bound_names.specs.binder.specs.Constants.{home}
+use Rattle.bound_names.specs.binder.specs.Declarations.{Written, What, a_variable, a_constant, an_enum, a_member, a_type, an_event, a_procedure, Entry}
+use Rattle.bound_names.specs.binder.specs.Names.{scope_in}
+use Rattle.bound_names.specs.binder.specs.Scopes.{Space, Scope, first_at, is_named, seen_from}
+use Rattle.bound_names.specs.binder.specs.Storage.{bound_parameter, bound_parameters, takes_value}
+use Rattle.bound_names.specs.binder.specs.Terms.{Env, Given, a_routine, a_value, bound_arguments, expression_of}
+use Rattle.bound_names.specs.binder.specs.Terms as terms
+use Rattle.bound_names.specs.binder.specs.ExpressionsBound.{argument_of, bare_call, call_value, call_with, callee, element_type, if_there, indexed, indexed_value, indexes_value, is_get, is_property, item_of, node_or, numbers_of, operand_of, parameters_in, procedure_with, reader, term_of, with_type, place_told}
+use Rattle.bound_names.specs.declared_names.specs.View.{written_view}
+use Rattle.bound_names.specs.bound_calls.specs.declared.term.Ending.{Ending}
+use Rattle.bound_names.specs.bound_calls.specs.declared.term.Indexed.{Indexed}
+use Rattle.bound_names.specs.bound_calls.specs.declared.term.Item.TheVariants as items
+use Rattle.bound_names.specs.bound_calls.specs.declared.term.Routine.{Routine}
+use Rattle.bound_names.specs.bound_calls.specs.declared.term.Term.TheVariants as term
+use Rattle.bound_names.specs.bound_calls.specs.declared.term.Tree.{Tree}
+use Rattle.bound_names.specs.bound_calls.specs.Indexing.{OpensTerm}
+use Rattle.bound_names.specs.bound_calls.specs.Standing.{RoutineStands}
+use Rattle.bound_names.specs.bound_calls.specs.Taking.{CallsRoutine}
+use Rattle.bound_names.specs.bound_calls.proofs.Growing.{grown_twice}
+use Rattle.bound_operands.specs.Indexing.{PushesWhole}
+use Rattle.bound_terms.specs.Indexing.{IndexesValue}
+use Rattle.bound_names.specs.Properties.{first_wanted, is_wanted, property_with, wants}
+use Rattle.bound_operands.proofs.Elements.{opens_whole}
+use Rattle.bound_names.proofs.Lookups.{get_same, property_found, with_entry}
 
 -- ---- the Get of a property
 

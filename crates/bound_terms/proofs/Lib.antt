@@ -1,15 +1,3 @@
-pub mod Lookups
-pub mod NamedTerms
-pub mod NamedMembers
-pub mod Dotted
-pub mod Elements
+pub mod Beginnings
 pub mod IndexedProperties
-pub mod Library
-pub mod ItemTerms
-pub mod HostNames
-pub mod Sharing
-pub mod Fielding
-pub mod Callees
-pub mod RoutineTerms
-pub mod ParamArrays
 pub mod TypesAsked

@@ -17,18 +17,18 @@ use Rattle.bound_project.specs.Expressions.{is_type}
 use Rattle.bound_project.specs.Expressions as bound
 use Rattle.bound_project.specs.Pieces.{Piece, Tables, expr_of, of_value}
 use Rattle.bound_project.specs.Drafts.{Drafted}
-use Rattle.binder.specs.Types.{meant_type, plain_type}
-use Rattle.binder.specs.Terms.{Env, a_value}
-use Rattle.binder.specs.ExpressionsBound.{given_as, term_of, typed_term, place_told}
-use Rattle.bound_calls.specs.declared.term.Tree.{Tree}
-use Rattle.bound_calls.specs.declared.term.Term.{Term}
-use Rattle.bound_calls.specs.declared.term.Term.TheVariants as term
-use Rattle.bound_calls.specs.declared.term.Item.{Item}
-use Rattle.bound_calls.specs.declared.term.Item.TheVariants as item
-use Rattle.bound_calls.specs.References.{PushesGiven}
-use Rattle.bound_calls.specs.Standing.{AllNamed, PushedIs, ValueStands}
-use Rattle.bound_calls.specs.Steps.{Goes}
-use Rattle.bound_calls.proofs.Steps.{goes_made}
+use Rattle.bound_names.specs.binder.specs.Types.{meant_type, plain_type}
+use Rattle.bound_names.specs.binder.specs.Terms.{Env, a_value}
+use Rattle.bound_names.specs.binder.specs.ExpressionsBound.{given_as, term_of, typed_term, place_told}
+use Rattle.bound_names.specs.bound_calls.specs.declared.term.Tree.{Tree}
+use Rattle.bound_names.specs.bound_calls.specs.declared.term.Term.{Term}
+use Rattle.bound_names.specs.bound_calls.specs.declared.term.Term.TheVariants as term
+use Rattle.bound_names.specs.bound_calls.specs.declared.term.Item.{Item}
+use Rattle.bound_names.specs.bound_calls.specs.declared.term.Item.TheVariants as item
+use Rattle.bound_names.specs.bound_calls.specs.References.{PushesGiven}
+use Rattle.bound_names.specs.bound_calls.specs.Standing.{AllNamed, PushedIs, ValueStands}
+use Rattle.bound_names.specs.bound_calls.specs.Steps.{Goes}
+use Rattle.bound_names.specs.bound_calls.proofs.Steps.{goes_made}
 
 abbrev pub asked : DeclaredType → Term
 asked of = term.Value (record { kind = kinds.IsType of; of = Plain element.Boolean })

@@ -1,19 +1,15 @@
-ghost use Rattle.std.specs.Prelude.{◌≡◌, OnOk, Option, reverse};
-ghost use Rattle.vba_lexer.specs.declared.token.Token.{Token};
+ghost use Rattle.std.specs.Prelude.{OnOk, reverse};
 ghost use Rattle.vba_expression.specs.declared.node.ExpressionNode.TheVariants as node;
 ghost use Rattle.vba_expression.specs.Nodes.{behind_node};
 ghost use Rattle.bound_project.specs.DraftView.{draft_view};
-ghost use Rattle.binder.specs.Terms as plain;
-ghost use Rattle.bound_calls.specs.Calls.{passed_in, with_passed};
-ghost use Rattle.bound_calls.specs.Standing.{AllNamed};
-ghost use Rattle.bound_calls.specs.Steps.{Goes};
-ghost use Rattle.bound_terms.specs.View.{EnvStands, env_view};
+ghost use Rattle.bound_names.specs.bound_calls.specs.Standing.{AllNamed};
+ghost use Rattle.bound_names.specs.bound_calls.specs.Steps.{Goes};
+ghost use Rattle.bound_names.specs.View.{EnvStands, env_view};
 
-use crate::env::Env;
-use crate::gathering::{gather, gather_missing, gathers};
-use crate::indexing::{add_argument, begin_arguments, end_arguments, skip_argument};
-use bound_calls::{Call, Item, Passed, put_item, take_item};
-use bound_declarations::NotYet;
+use crate::indexing::begin_arguments;
+use bound_names::Env;
+use bound_names::bound_calls::{Item, put_item, take_item};
+use bound_names::bound_declarations::NotYet;
 use bound_project::Draft;
 use std::alloc::Global;
 use vba_base::OrMemory;
@@ -36,89 +32,5 @@ pub fn step_no_arguments<'a>(
     };
     let item = begin_arguments(alloc, draft, env, tree, nodes)?;
     put_item(stack, item)?;
-    Ok(())
-}
-
-/// The arguments of an item.
-pub fn passed_in<'a>(item: Item<'a>) -> Option<Passed<'a>>
-    ensures { result ≡ passed_in item.entry }
-{
-    match item {
-        Item::Call(call) => Some(call.passed),
-        Item::Listed(passed) => Some(passed),
-        _ => None,
-    }
-}
-
-/// An item with other arguments.
-pub fn with_passed<'a>(item: Item<'a>, passed: Passed<'a>) -> Item<'a>
-    ensures { result ≡ with_passed item.entry passed.entry }
-{
-    match item {
-        Item::Call(call) => Item::Call(Call { passed, ..call }),
-        Item::Listed(_) => Item::Listed(passed),
-        _ => item,
-    }
-}
-
-/// One more argument: the expression on top.
-pub fn step_plain_argument<'a>(
-    alloc: Global,
-    draft: &mut Draft,
-    stack: &mut Vec<Item<'a>>,
-) -> Result<(), OrMemory<NotYet>>
-    requires { AllNamed (draft_view draft.old).tables (reverse stack.old.items) }
-    ensures { OnOk result ((env : plain.Env) (comma : Option Token) → Goes env (draft_view draft.old) (reverse stack.old.items) (draft_view draft.new) (reverse stack.new.items) (behind_node (node.PlainArgument comma))) }
-{
-    let Some(Item::Tree(tree)) = take_item(stack) else {
-        return Err(OrMemory::NoMemory);
-    };
-    let Some(item) = take_item(stack) else {
-        return Err(OrMemory::NoMemory);
-    };
-    if gathers(item) {
-        gather(alloc, draft, stack, item, tree)?;
-        return Ok(());
-    }
-    let item = add_argument(alloc, draft, item, tree)?;
-    put_item(stack, item)?;
-    Ok(())
-}
-
-/// One more argument, which isn't written.
-pub fn step_missing_argument<'a>(
-    alloc: Global,
-    draft: &mut Draft,
-    stack: &mut Vec<Item<'a>>,
-) -> Result<(), OrMemory<NotYet>>
-    requires { AllNamed (draft_view draft.old).tables (reverse stack.old.items) }
-    ensures { OnOk result ((env : plain.Env) (comma : Option Token) → Goes env (draft_view draft.old) (reverse stack.old.items) (draft_view draft.new) (reverse stack.new.items) (behind_node (node.MissingArgument comma))) }
-{
-    let Some(item) = take_item(stack) else {
-        return Err(OrMemory::NoMemory);
-    };
-    if gathers(item) {
-        gather_missing(draft, stack, item)?;
-        return Ok(());
-    }
-    let item = skip_argument(alloc, draft, item)?;
-    put_item(stack, item)?;
-    Ok(())
-}
-
-/// Arguments end: a call, or an element.
-pub fn step_index<'a>(
-    alloc: Global,
-    draft: &mut Draft,
-    stack: &mut Vec<Item<'a>>,
-) -> Result<(), OrMemory<NotYet>>
-    requires { AllNamed (draft_view draft.old).tables (reverse stack.old.items) }
-    ensures { OnOk result ((env : plain.Env) (left right : Token) → Goes env (draft_view draft.old) (reverse stack.old.items) (draft_view draft.new) (reverse stack.new.items) (behind_node (node.Index left right))) }
-{
-    let Some(item) = take_item(stack) else {
-        return Err(OrMemory::NoMemory);
-    };
-    let tree = end_arguments(alloc, draft, item)?;
-    put_item(stack, Item::Tree(tree))?;
     Ok(())
 }

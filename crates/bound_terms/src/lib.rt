@@ -3,28 +3,17 @@
 #![tactic(auto)]
 
 mod call_steps;
-mod callee;
-mod env;
-mod fields;
-mod functions;
-mod gathering;
 mod indexing;
-mod items;
-mod members;
-mod named;
-mod names;
-mod operators;
 mod pass;
-mod properties;
-mod routines;
 mod step;
-mod types;
 
-pub use callee::callee_term;
-pub use env::{Env, Within};
-pub use gathering::{gathered_ending, take_gathered};
 pub use indexing::indexes_value;
-pub use items::{item_member, item_term, takes_item};
-pub use names::{meant_term, meant_variable};
 pub use pass::{bind_given, bind_operand, bind_reference, bind_value, push_value, run, tree_of};
-pub use properties::{Writer, writer_of};
+
+// What stands below, for the crates above.
+pub use bound_names;
+pub use bound_names::{
+    binder, bound_calls, bound_declarations, bound_members, constant_values, declared_names,
+    project_tables,
+};
+pub use bound_operands;

@@ -2,23 +2,22 @@ ghost use Rattle.std.specs.Prelude.{◌≡◌, OnOk, IfOk, Some, reverse};
 ghost use Rattle.vba_expression.specs.Nodes.{behind_node, behind_nodes, tree_in};
 ghost use Rattle.vba_expression.specs.View.{view as expression_view};
 ghost use Rattle.bound_project.specs.DraftView.{draft_view};
-ghost use Rattle.binder.specs.ExpressionsBound.{bound_as_given, bound_operand, bound_reference, bound_value};
-ghost use Rattle.bound_calls.specs.Standing.{AllNamed, TermNamed};
-ghost use Rattle.bound_calls.specs.Steps.{Binds, Goes, Leaves, PushesValue};
-ghost use Rattle.bound_terms.specs.View.{EnvStands, env_view};
+ghost use Rattle.bound_names.specs.binder.specs.ExpressionsBound.{bound_as_given, bound_operand, bound_reference, bound_value};
+ghost use Rattle.bound_names.specs.bound_calls.specs.Standing.{AllNamed, TermNamed};
+ghost use Rattle.bound_names.specs.bound_calls.specs.Steps.{Binds, Goes, Leaves, PushesValue};
+ghost use Rattle.bound_names.specs.View.{EnvStands, env_view};
 
-use crate::call_steps::{step_missing_argument, step_no_arguments, step_plain_argument};
-use crate::env::Env;
-use crate::fields::step_with_member;
-use crate::members::step_member;
-use crate::named::{step_index, step_named_argument};
-use crate::step::{
-    step_binary, step_literal, step_name, step_parenthesised, step_type_of, step_unary,
-};
-use bound_calls::{
+use crate::call_steps::step_no_arguments;
+use crate::step::{step_name, step_type_of};
+use bound_names::bound_calls::{
     Item, Tree, push_ending, push_given, push_operand, push_reference, take_item, value_ending,
 };
-use bound_declarations::NotYet;
+use bound_names::bound_declarations::NotYet;
+use bound_names::{Env, step_member, step_with_member};
+use bound_operands::{
+    step_binary, step_index, step_literal, step_missing_argument, step_named_argument,
+    step_parenthesised, step_plain_argument, step_unary,
+};
 use bound_project::{DeclaredType, Draft};
 use std::alloc::Global;
 use vba_base::OrMemory;

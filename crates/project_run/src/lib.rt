@@ -7,3 +7,10 @@ mod run;
 
 pub use outcome::{Outcome, RunFault};
 pub use run::run_project;
+
+// What stands below, for the crates above.
+pub use codegen;
+pub use pcode;
+pub use pcode_run;
+pub use pcode_vm;
+pub use sheet_host;

@@ -2,18 +2,18 @@
 use Rattle.std.proofs.Common.{◌≡◌, ℕ, suc, Bool, List, [], ◌∷◌, ◌++◌, map, refl, sym, ap, ◌∙◌}
 use Rattle.std.specs.Prelude.{flat_map}
 use Rattle.std.proofs.lemmas.List.{map-append}
-use Rattle.vba_words.specs.declared.identifier.Identifier.{Identifier}
-use Rattle.bound_project.specs.Project as bound
-use Rattle.bound_project.specs.View.{declaration_view, module_view, procedure_view}
-use Rattle.bound_project.specs.declared.declarations.Declaration.{Declaration}
-use Rattle.bound_project.specs.declared.declarations.Module.{Module}
-use Rattle.bound_project.specs.declared.declarations.Procedure.{Procedure}
-use Rattle.binder.specs.Bind.{numbered, class_of, bound_procedure, procedures_of}
-use Rattle.binder.specs.Constants.{home}
-use Rattle.binder.specs.Declarations.{Written, What, a_variable, a_constant, an_enum, a_member, a_type, an_event, a_procedure, Entry}
-use Rattle.binder.specs.Names.{scope_of, scope_in, locals_of}
-use Rattle.binder.specs.Scopes.{Space, Scope}
-use Rattle.binder.specs.Storage.{declarations_if, is_static, module_declarations, static_declarations, shared_of}
+use Rattle.bound_declarations.specs.vba_words.specs.declared.identifier.Identifier.{Identifier}
+use Rattle.bound_declarations.specs.bound_project.specs.Project as bound
+use Rattle.bound_declarations.specs.bound_project.specs.View.{declaration_view, module_view, procedure_view}
+use Rattle.bound_declarations.specs.bound_project.specs.declared.declarations.Declaration.{Declaration}
+use Rattle.bound_declarations.specs.bound_project.specs.declared.declarations.Module.{Module}
+use Rattle.bound_declarations.specs.bound_project.specs.declared.declarations.Procedure.{Procedure}
+use Rattle.bound_declarations.specs.binder.specs.Bind.{numbered, class_of, bound_procedure, procedures_of}
+use Rattle.bound_declarations.specs.binder.specs.Constants.{home}
+use Rattle.bound_declarations.specs.binder.specs.Declarations.{Written, What, a_variable, a_constant, an_enum, a_member, a_type, an_event, a_procedure, Entry}
+use Rattle.bound_declarations.specs.binder.specs.Names.{scope_of, scope_in, locals_of}
+use Rattle.bound_declarations.specs.binder.specs.Scopes.{Space, Scope}
+use Rattle.bound_declarations.specs.binder.specs.Storage.{declarations_if, is_static, module_declarations, static_declarations, shared_of}
 use Rattle.project_tables.specs.declared.rows.ProcedureRow.{ProcedureRow}
 use Rattle.project_tables.specs.Rows.{Row, row_of, row_view, AreRowsOf}
 use Rattle.project_tables.specs.Steps.{IsPlain, ArePlain, own_statics, statics_in, procedure_of}

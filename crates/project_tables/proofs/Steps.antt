@@ -2,16 +2,16 @@
 use Rattle.std.proofs.Common.{◌≡◌, ℕ, suc, ◌+◌, List, [], ◌∷◌, ◌++◌, map, refl, sym, ap, ◌∙◌, subst, Vec, length, take}
 use Rattle.std.specs.declared.alloc.Global.{Global}
 use Rattle.std.proofs.lemmas.List.{map-append}
-use Rattle.binder.specs.Bind.{numbered}
-use Rattle.binder.specs.Declarations.{Written, Local, What, a_variable, a_constant, an_enum, a_member, a_type, an_event, a_procedure, Entry}
-use Rattle.binder.specs.Scopes.{Space, Scope}
-use Rattle.binder.specs.Names.{scope_of, scope_in, locals_of}
-use Rattle.binder.specs.Storage.{is_static, declarations_if, static_declarations, first_static, shared_before, is_variable}
-use Rattle.binder.specs.Types.{counted}
-use Rattle.declared_names.specs.Outside.{the_outside}
-use Rattle.declared_names.specs.View.{local_view, written_view}
-use Rattle.constant_values.specs.Rounds.{IsPlaced}
-use Rattle.constant_values.specs.Tables.{AreOwnValues}
+use Rattle.bound_declarations.specs.binder.specs.Bind.{numbered}
+use Rattle.bound_declarations.specs.binder.specs.Declarations.{Written, Local, What, a_variable, a_constant, an_enum, a_member, a_type, an_event, a_procedure, Entry}
+use Rattle.bound_declarations.specs.binder.specs.Scopes.{Space, Scope}
+use Rattle.bound_declarations.specs.binder.specs.Names.{scope_of, scope_in, locals_of}
+use Rattle.bound_declarations.specs.binder.specs.Storage.{is_static, declarations_if, static_declarations, first_static, shared_before, is_variable}
+use Rattle.bound_declarations.specs.binder.specs.Types.{counted}
+use Rattle.bound_declarations.specs.declared_names.specs.Outside.{the_outside}
+use Rattle.bound_declarations.specs.declared_names.specs.View.{local_view, written_view}
+use Rattle.bound_declarations.specs.constant_values.specs.Rounds.{IsPlaced}
+use Rattle.bound_declarations.specs.constant_values.specs.Tables.{AreOwnValues}
 use Rattle.project_tables.specs.declared.rows.ProcedureRow.{ProcedureRow}
 use Rattle.project_tables.specs.Rows.{Row, row_of, row_view, HaveValues, AreRowsOf, AreRowsFrom}
 use Rattle.project_tables.specs.Steps.{with_names, row_at, rows_from, own_variables, row_lists, HasValues, HaveOwnValues}

@@ -1,5 +1,5 @@
 -- Serves the code: the macro to begin with.
-use Rattle.binder.specs.Bind as bind
+use Rattle.bound_declarations.specs.binder.specs.Bind as bind
 use Rattle.project_tables.specs.declared.startup.Startup.{Startup}
 
 abbrev pub startup_view : Startup → bind.Startup

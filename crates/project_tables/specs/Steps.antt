@@ -1,19 +1,19 @@
 -- Serves the code: the procedures of a module one after another.
 use Rattle.std.specs.Prelude.{◌≡◌, false, ℕ, suc, ◌+◌, ◌==◌, List, [], ◌∷◌, ◌++◌, length, map, if◌then◌else◌, Vec}
 use Rattle.std.specs.declared.alloc.Global.{Global}
-use Rattle.bound_project.specs.Project as bound
+use Rattle.bound_declarations.specs.bound_project.specs.Project as bound
 use Rattle.bound_declarations.specs.Whole.{procedure_in}
-use Rattle.binder.specs.Declarations.{Written, Local}
-use Rattle.binder.specs.Scopes.{Space, Scope}
-use Rattle.binder.specs.Names.{scope_of, locals_of}
-use Rattle.binder.specs.Storage.{declarations_if, is_static, is_variable, parameters_of}
-use Rattle.binder.specs.Types.{counted}
-use Rattle.declared_names.specs.Outside.{the_outside}
-use Rattle.declared_names.specs.View.{local_view, space_view}
-use Rattle.declared_names.specs.declared.space.Space.{Space as SpaceHere}
-use Rattle.constant_values.specs.Rounds.{IsPlaced}
-use Rattle.constant_values.specs.Tables.{AreOwnValues, AreProjectValues}
-use Rattle.constant_values.specs.declared.project.ProjectValues.{ProjectValues}
+use Rattle.bound_declarations.specs.binder.specs.Declarations.{Written, Local}
+use Rattle.bound_declarations.specs.binder.specs.Scopes.{Space, Scope}
+use Rattle.bound_declarations.specs.binder.specs.Names.{scope_of, locals_of}
+use Rattle.bound_declarations.specs.binder.specs.Storage.{declarations_if, is_static, is_variable, parameters_of}
+use Rattle.bound_declarations.specs.binder.specs.Types.{counted}
+use Rattle.bound_declarations.specs.declared_names.specs.Outside.{the_outside}
+use Rattle.bound_declarations.specs.declared_names.specs.View.{local_view, space_view}
+use Rattle.bound_declarations.specs.declared_names.specs.declared.space.Space.{Space as SpaceHere}
+use Rattle.bound_declarations.specs.constant_values.specs.Rounds.{IsPlaced}
+use Rattle.bound_declarations.specs.constant_values.specs.Tables.{AreOwnValues, AreProjectValues}
+use Rattle.bound_declarations.specs.constant_values.specs.declared.project.ProjectValues.{ProjectValues}
 use Rattle.project_tables.specs.declared.rows.ProcedureRow.{ProcedureRow}
 use Rattle.project_tables.specs.Rows.{Row, AreRowsOf}
 use Rattle.project_tables.specs.Signed.{Signed}

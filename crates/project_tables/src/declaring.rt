@@ -1,15 +1,15 @@
 //! All that a project declares.
 
 ghost use Rattle.std.specs.Prelude.{◌≡◌, [], ◌∷◌, ◌++◌, IfOk, OnOk, flat_map, if◌then◌else◌, map};
-ghost use Rattle.binder.specs.Bind as bind;
-ghost use Rattle.binder.specs.Constants.{home};
-ghost use Rattle.binder.specs.Names.{scope_of};
-ghost use Rattle.binder.specs.Storage as storage;
-ghost use Rattle.bound_project.specs.View.{declaration_view, declarations_view, module_view, procedure_view};
-ghost use Rattle.constant_values.specs.Rounds.{AreNumbered, IsPlaced};
-ghost use Rattle.constant_values.specs.Tables.{AreProjectValues};
-ghost use Rattle.declared_names.specs.Outside.{the_outside};
-ghost use Rattle.declared_names.specs.View.{scope_view, space_view};
+ghost use Rattle.bound_declarations.specs.binder.specs.Bind as bind;
+ghost use Rattle.bound_declarations.specs.binder.specs.Constants.{home};
+ghost use Rattle.bound_declarations.specs.binder.specs.Names.{scope_of};
+ghost use Rattle.bound_declarations.specs.binder.specs.Storage as storage;
+ghost use Rattle.bound_declarations.specs.bound_project.specs.View.{declaration_view, declarations_view, module_view, procedure_view};
+ghost use Rattle.bound_declarations.specs.constant_values.specs.Rounds.{AreNumbered, IsPlaced};
+ghost use Rattle.bound_declarations.specs.constant_values.specs.Tables.{AreProjectValues};
+ghost use Rattle.bound_declarations.specs.declared_names.specs.Outside.{the_outside};
+ghost use Rattle.bound_declarations.specs.declared_names.specs.View.{scope_view, space_view};
 ghost use Rattle.project_tables.specs.Rows.{AreRows, row_view};
 ghost use Rattle.project_tables.specs.Signed.{whole_scope};
 ghost use Rattle.project_tables.specs.Steps.{ArePlain, HasValues, IsModule, IsPlain, module_scope, own_statics, procedure_of, statics_in};
@@ -17,14 +17,14 @@ ghost use Rattle.project_tables.specs.Steps.{ArePlain, HasValues, IsModule, IsPl
 use crate::project_types::user_types;
 use crate::rows::{ProcedureRow, Rows};
 use crate::scopes::constants_of;
+use bound_declarations::bound_project::{Declaration, Declarations, Module, Procedure};
+use bound_declarations::constant_values::{ProjectValues, constants_in, own_values};
+use bound_declarations::declared_names::{Scope, Space};
+use bound_declarations::vba_base::{NoMemory, OrMemory};
 use bound_declarations::{
     Kept, NotYet, bound_module, bound_procedure, kept_declarations, module_variables,
 };
-use bound_project::{Declaration, Declarations, Module, Procedure};
-use constant_values::{ProjectValues, constants_in, own_values};
-use declared_names::{Scope, Space};
 use std::alloc::Global;
-use vba_base::{NoMemory, OrMemory};
 
 /// Goes on where a module is no class.
 fn check_plain(space: &Space) -> Result<(), OrMemory<NotYet>>

@@ -16,9 +16,10 @@ use crate::memory::Memory;
 use crate::path::Path;
 use arrays_udt::PathStep;
 use bound_project::Declarations;
+use library_calls::library;
 use std::alloc::Global;
 use vba_base::{NoMemory, OrMemory, Units};
-use vba_lib::{LibraryFunction, library};
+use vba_lib::LibraryFunction;
 use vba_values::{ArrayValue, Bad, Bound, Compare, ObjRef, VType, Value};
 
 /// Subscript out of range.

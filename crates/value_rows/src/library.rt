@@ -3,9 +3,10 @@ ghost use Rattle.std.specs.Prelude.{◌≤ℤ◌, pos};
 
 use crate::values::{push_value, value_of};
 use crate::words::{Answer, BadLine, push_fault, push_plain};
+use library_calls::library;
 use std::alloc::Global;
 use vba_base::{Name, OrMemory, Units, name_of};
-use vba_lib::{arity, is_outside_name, is_outside_type, library, library_constant, library_named};
+use vba_lib::{arity, is_outside_name, is_outside_type, library_constant, library_named};
 use vba_values::{ArrayValue, Bad, Compare, Value};
 
 /// `NAME VALUE ..`

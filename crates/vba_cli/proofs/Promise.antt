@@ -10,8 +10,8 @@ use Rattle.vba_base.specs.declared.outside.WriteAnswer.TheVariants as write
 use Rattle.vba_base.specs.declared.place.Place.{Place}
 use Rattle.sheet_host.specs.Books.{Sheets}
 use Rattle.bound_project.specs.Project.{Project}
-use Rattle.binder.specs.Bind as bind
-use Rattle.pcode_run.specs.declared.texts.Shows.{Shows}
+use Rattle.bind_project.specs.binder.specs.Bind as bind
+use Rattle.project_run.specs.pcode_run.specs.declared.texts.Shows.{Shows}
 use Rattle.project_run.specs.declared.outcome.Outcome.{Outcome}
 use Rattle.project_run.specs.declared.outcome.Outcome.TheVariants as outcome
 use Rattle.project_run.specs.Meant.{meant_book, meant_outcome}

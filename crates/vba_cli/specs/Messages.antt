@@ -8,8 +8,8 @@ use Rattle.csv_book.specs.declared.fault.BookFault.TheVariants.{NotUtf8, TooMany
 use Rattle.list_file.specs.Lists.{SheetAt}
 use Rattle.vba_values.specs.Messages.{message_of}
 use Rattle.vba_values.specs.declared.fault.OutKind.TheVariants as out
-use Rattle.pcode_vm.specs.declared.step.Why.{Why}
-use Rattle.pcode_vm.specs.declared.step.Why.TheVariants as why
+use Rattle.project_run.specs.pcode_vm.specs.declared.step.Why.{Why}
+use Rattle.project_run.specs.pcode_vm.specs.declared.step.Why.TheVariants as why
 use Rattle.vba_cli.specs.declared.status.Status.{Status}
 use Rattle.vba_cli.specs.declared.status.Status.TheVariants as status
 use Rattle.vba_cli.specs.Named.{Named, paths_named}

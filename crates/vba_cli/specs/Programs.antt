@@ -6,11 +6,11 @@ use Rattle.vba_base.specs.declared.fault.OrMemory.TheVariants.{Fault, NoMemory}
 use Rattle.vba_base.specs.declared.place.Place.{Place}
 use Rattle.vba_base.specs.declared.place.Refusal.{Refusal}
 use Rattle.bound_project.specs.Bodies.{Fits, project_view}
-use Rattle.binder.specs.Bind.{Answer, refused, not_built_at, bound_as}
+use Rattle.bind_project.specs.binder.specs.Bind.{Answer, refused, not_built_at, bound_as}
 use Rattle.bind_project.specs.declared.bound.Bound.{Bound}
 use Rattle.bind_project.specs.declared.bound.Bound.TheVariants as bound
-use Rattle.binder.specs.Scopes.{Space}
-use Rattle.binder.specs.Sources.{Source}
+use Rattle.bind_project.specs.binder.specs.Scopes.{Space}
+use Rattle.bind_project.specs.binder.specs.Sources.{Source}
 use Rattle.module_parts.specs.View.{parts_view}
 use Rattle.vba_lexer.specs.Lexed.{lines_view}
 use Rattle.vba_cli.specs.declared.kept.Kept.{Kept}

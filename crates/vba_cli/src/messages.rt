@@ -10,7 +10,7 @@ ghost use Rattle.vba_cli.specs.Told.{named_of};
 use crate::status::Status;
 use csv_book::BookFault;
 use list_file::{ModulePath, SheetPath};
-use pcode_vm::Why;
+use project_run::pcode_vm::Why;
 use std::alloc::{AllocError, Global};
 use vba_base::{NoMemory, Place};
 use vba_values::{OutKind, message_of};

@@ -2,7 +2,7 @@ ghost use Rattle.std.specs.Prelude.{◌≡◌};
 ghost use Rattle.vba_cli.specs.Contract.{code_of};
 
 use csv_book::BookFault;
-use pcode_vm::Why;
+use project_run::pcode_vm::Why;
 use vba_base::{Place, Refusal};
 
 /// How a command ended. The numbers in `ReadFault` and `TooLong` tell which file it was: 0 is the file that the command

@@ -1,5 +1,1 @@
-pub mod Counts
-pub mod FoldedFronts
-pub mod JoinLaws
-pub mod PartsLaws
 mod Rows

@@ -7,4 +7,3 @@ pub mod Names
 pub mod Numbers
 pub mod Searching
 pub mod Texts
-pub mod View

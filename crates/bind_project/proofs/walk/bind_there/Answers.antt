@@ -1,9 +1,9 @@
 use Rattle.std.proofs.Common.{◌≡◌, ℕ, subst}
-use Rattle.binder.specs.StatementsBound.{Around, next_number}
+use Rattle.bound_actions.specs.binder.specs.StatementsBound.{Around, next_number}
 use Rattle.bound_project.specs.DraftView.{draft_view}
 use Rattle.module_parts.specs.View.{part_view}
-use Rattle.statement_numbers.specs.View.{standing_view}
-use Rattle.bound_statements.specs.Walks.{Added, statements_of}
+use Rattle.bound_actions.specs.statement_numbers.specs.View.{standing_view}
+use Rattle.statement_nodes.specs.Walks.{Added, statements_of}
 use Rattle.bind_project.proofs.walk.bind_there.Goals as goal
 
 pub returns : goal.returns

@@ -1,13 +1,13 @@
 use Rattle.std.proofs.Common.{subst}
 use Rattle.bound_project.specs.DraftView.{draft_view}
-use Rattle.binder.specs.ExpressionsBound.{givens}
-use Rattle.binder.specs.StatementsBound.{called_with}
+use Rattle.bound_terms.specs.binder.specs.ExpressionsBound.{givens}
+use Rattle.bound_terms.specs.binder.specs.StatementsBound.{called_with}
 use Rattle.vba_expression.specs.Tree.{Args}
 use Rattle.vba_expression.specs.View.{view}
 use Rattle.std.proofs.Common.{Some}
-use Rattle.bound_actions.specs.Actions.{ActionStands}
-use Rattle.bound_terms.specs.View.{env_view}
-use Rattle.bound_actions.proofs.Called.{call_bound}
+use Rattle.statement_terms.specs.statement_nodes.specs.Pushed.{ActionStands}
+use Rattle.bound_terms.specs.bound_names.specs.View.{env_view}
+use Rattle.statement_terms.proofs.Called.{call_bound}
 use Rattle.bound_actions.proofs.actions.bind_call.Goals as goal
 
 pub returns : goal.returns

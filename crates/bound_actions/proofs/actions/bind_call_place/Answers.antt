@@ -4,11 +4,11 @@ use Rattle.vba_expression.specs.Tree.{Expr}
 use Rattle.vba_expression.specs.Nodes.{tree_in}
 use Rattle.vba_expression.specs.View.{view}
 use Rattle.bound_project.specs.DraftView.{draft_view}
-use Rattle.binder.specs.StatementsBound.{called_place}
-use Rattle.bound_terms.specs.View.{env_view}
-use Rattle.bound_actions.specs.Actions.{ActionStands}
-use Rattle.bound_actions.specs.Called.{IsBare}
-use Rattle.bound_actions.proofs.Called.{bare_bound, place_bound}
+use Rattle.bound_terms.specs.binder.specs.StatementsBound.{called_place}
+use Rattle.bound_terms.specs.bound_names.specs.View.{env_view}
+use Rattle.statement_terms.specs.statement_nodes.specs.Pushed.{ActionStands}
+use Rattle.statement_terms.specs.Called.{IsBare}
+use Rattle.statement_terms.proofs.Called.{bare_bound, place_bound}
 use Rattle.bound_actions.proofs.actions.bind_call_place.Goals as goal
 
 pub returns-then-ends_bare : goal.returns-then-ends_bare

@@ -2,9 +2,9 @@ use Rattle.vba_expression.specs.View.{view as expression_view}
 use Rattle.std.proofs.Common.{refl}
 use Rattle.std.proofs.lemmas.Result.{on_ok_weaker}
 use Rattle.bound_project.specs.DraftView.{draft_view}
-use Rattle.binder.specs.StatementsBound.{is_given_with}
-use Rattle.bound_terms.specs.View.{env_view}
-use Rattle.bound_actions.proofs.GivenValues.{value_bound}
+use Rattle.bound_terms.specs.binder.specs.StatementsBound.{is_given_with}
+use Rattle.bound_terms.specs.bound_names.specs.View.{env_view}
+use Rattle.statement_terms.proofs.GivenValues.{value_bound}
 use Rattle.bound_actions.proofs.assigned_values.bind_assigned.Goals as goal
 
 pub returns : goal.returns

@@ -4,11 +4,12 @@ use Rattle.std.proofs.lemmas.Result.{IfOk-weaker}
 use Rattle.bound_project.specs.DraftView.{draft_view}
 use Rattle.vba_expression.specs.View.{view}
 use Rattle.vba_expression.specs.Tree.{Expr}
-use Rattle.binder.specs.ExpressionsBound.{term_of}
-use Rattle.bound_actions.specs.Called.{AssignsTo}
-use Rattle.bound_actions.specs.Members.{AssignsTree, NamedBy}
-use Rattle.bound_terms.specs.View.{env_view}
-use Rattle.bound_actions.proofs.Assigned.{assigns_bare, assigns_tree, done_is}
+use Rattle.bound_terms.specs.binder.specs.ExpressionsBound.{term_of}
+use Rattle.statement_terms.specs.Called.{AssignsTo}
+use Rattle.statement_terms.specs.Members.{AssignsTree, NamedBy}
+use Rattle.bound_terms.specs.bound_names.specs.View.{env_view}
+use Rattle.bound_actions.proofs.Assigned.{assigns_bare}
+use Rattle.statement_terms.proofs.Assigned.{assigns_tree, done_is}
 use Rattle.bound_actions.proofs.assigning.assign_bare.Goals as goal
 
 pub let_bare-requires-clause-writer : goal.let_bare-requires-clause-writer

@@ -1,10 +1,11 @@
 use Rattle.std.proofs.Common.{true, refl, sym, ◌∙◌}
 use Rattle.bound_project.specs.DraftView.{draft_view}
 use Rattle.vba_expression.specs.Nodes.{tree_in}
-use Rattle.bound_actions.specs.Targets.{is_variant_term}
-use Rattle.bound_terms.specs.View.{env_view}
-use Rattle.bound_actions.proofs.Assigned.{assigns_indexed, assigns_member, assigns_split, done_is}
-use Rattle.bound_actions.proofs.NodeTrees.{still_named}
+use Rattle.statement_terms.specs.Targets.{is_variant_term}
+use Rattle.bound_terms.specs.bound_names.specs.View.{env_view}
+use Rattle.bound_actions.proofs.Assigned.{assigns_indexed, assigns_member, assigns_split}
+use Rattle.statement_terms.proofs.Assigned.{done_is}
+use Rattle.statement_terms.proofs.NodeTrees.{still_named}
 use Rattle.bound_actions.proofs.assigning.assign_split.Goals as goal
 
 pub let_given-requires-clause-writer : goal.let_given-requires-clause-writer

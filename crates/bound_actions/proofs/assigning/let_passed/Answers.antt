@@ -5,9 +5,9 @@ use Rattle.std.specs.Prelude.{map}
 use Rattle.bound_project.specs.DraftView.{draft_view}
 use Rattle.bound_project.specs.View.{parameter_view}
 use Rattle.bound_project.specs.declared.statement.ActionKind.{ActionKind}
-use Rattle.bound_terms.specs.View.{env_view}
-use Rattle.bound_actions.specs.Called.{LetsWith}
-use Rattle.bound_actions.proofs.NamedLets.{lets_named, lets_plain}
+use Rattle.bound_terms.specs.bound_names.specs.View.{env_view}
+use Rattle.statement_terms.specs.Called.{LetsWith}
+use Rattle.statement_terms.proofs.NamedLets.{lets_named, lets_plain}
 use Rattle.bound_actions.proofs.assigning.let_passed.Goals as goal
 
 pub returns-then-is_empty : goal.returns-then-is_empty

@@ -1,7 +1,7 @@
 use Rattle.std.proofs.lemmas.Result.{IfOk-weaker}
 use Rattle.bound_project.specs.DraftView.{draft_view}
-use Rattle.bound_terms.specs.View.{env_view}
-use Rattle.bound_actions.specs.Members.{AssignsItem, WritesCall}
+use Rattle.bound_terms.specs.bound_names.specs.View.{env_view}
+use Rattle.statement_terms.specs.Members.{AssignsItem, WritesCall}
 use Rattle.bound_actions.proofs.WrittenMembers.{item_assigned}
 use Rattle.bound_actions.proofs.member_targets.assign_item.Goals as goal
 

@@ -3,10 +3,10 @@ use Rattle.std.specs.Prelude.{IfOk}
 use Rattle.bound_project.specs.DraftView.{draft_view}
 use Rattle.bound_project.specs.View.{parameter_view}
 use Rattle.bound_project.specs.Project.{Parameter}
-use Rattle.binder.specs.StatementsBound.{raise_parameters}
+use Rattle.bound_terms.specs.binder.specs.StatementsBound.{raise_parameters}
 use Rattle.bound_project.specs.declared.declarations.Parameter.{Parameter as Held}
-use Rattle.bound_actions.specs.Called.{PassesAll}
-use Rattle.bound_terms.specs.View.{env_view}
+use Rattle.statement_terms.specs.Called.{PassesAll}
+use Rattle.bound_terms.specs.bound_names.specs.View.{env_view}
 use Rattle.bound_actions.proofs.raising.push_raised.Goals as goal
 
 pub returns : goal.returns

@@ -2,8 +2,8 @@ use Rattle.std.proofs.Common.{◌≡◌, true, false, [], length, sym, ap, ◌�
 use Rattle.std.proofs.lemmas.Bool.{eqb-true}
 use Rattle.std.proofs.lemmas.List.{nil_from_length}
 use Rattle.bound_project.specs.DraftView.{draft_view}
-use Rattle.bound_terms.specs.View.{env_view}
-use Rattle.bound_actions.proofs.NamedCalls.{acts_raise_named, acts_raise_plain}
+use Rattle.bound_terms.specs.bound_names.specs.View.{env_view}
+use Rattle.statement_terms.proofs.NamedCalls.{acts_raise_named, acts_raise_plain}
 use Rattle.bound_actions.proofs.raising.raise_with.Goals as goal
 
 pub returns-then-is_empty : goal.returns-then-is_empty

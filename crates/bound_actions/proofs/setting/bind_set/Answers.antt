@@ -1,8 +1,8 @@
 use Rattle.std.proofs.Common.{sym, ◌∙◌}
 use Rattle.vba_expression.specs.View.{view as expression_view}
 use Rattle.bound_project.specs.DraftView.{draft_view}
-use Rattle.bound_terms.specs.View.{env_view}
-use Rattle.bound_actions.proofs.SetTargets.{set_bound, set_broken}
+use Rattle.bound_terms.specs.bound_names.specs.View.{env_view}
+use Rattle.statement_terms.proofs.SetTargets.{set_bound, set_broken}
 use Rattle.bound_actions.proofs.setting.bind_set.Goals as goal
 
 pub returns-then-not-may_be_object : goal.returns-then-not-may_be_object

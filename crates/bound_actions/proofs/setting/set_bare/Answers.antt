@@ -1,9 +1,9 @@
 use Rattle.std.proofs.lemmas.Result.{IfOk-weaker}
 use Rattle.vba_expression.specs.View.{view}
 use Rattle.bound_project.specs.DraftView.{draft_view}
-use Rattle.bound_terms.specs.View.{env_view}
-use Rattle.bound_actions.specs.Setting.{SetsTerm, SetsTo}
-use Rattle.bound_actions.proofs.SetTargets.{sets_bare}
+use Rattle.bound_terms.specs.bound_names.specs.View.{env_view}
+use Rattle.statement_terms.specs.Setting.{SetsTerm, SetsTo}
+use Rattle.statement_terms.proofs.SetTargets.{sets_bare}
 use Rattle.bound_actions.proofs.setting.set_bare.Goals as goal
 
 pub returns : goal.returns

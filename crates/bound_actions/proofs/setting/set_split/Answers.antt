@@ -4,11 +4,11 @@ use Rattle.vba_base.specs.declared.place.Place.{Place}
 use Rattle.vba_expression.specs.Nodes.{tree_in}
 use Rattle.bound_project.specs.DraftView.{draft_view}
 use Rattle.bound_project.specs.Drafts.{Drafted}
-use Rattle.bound_calls.specs.declared.term.Term.TheVariants as term
-use Rattle.bound_terms.specs.View.{env_view}
-use Rattle.bound_actions.specs.Setting.{SetsTerm, SetsTo}
+use Rattle.bound_terms.specs.bound_calls.specs.declared.term.Term.TheVariants as term
+use Rattle.bound_terms.specs.bound_names.specs.View.{env_view}
+use Rattle.statement_terms.specs.Setting.{SetsTerm, SetsTo}
 use Rattle.bound_actions.proofs.SetTargets.{sets_split, sets_split_member}
-use Rattle.bound_actions.proofs.NodeTrees.{still_named}
+use Rattle.statement_terms.proofs.NodeTrees.{still_named}
 use Rattle.bound_actions.proofs.setting.set_split.Goals as goal
 
 pub continue_tree-requires-clause-named : goal.continue_tree-requires-clause-named

@@ -3,10 +3,10 @@ use Rattle.std.specs.Prelude.{MatchBool}
 use Rattle.std.proofs.lemmas.Result.{IfOk-weaker}
 use Rattle.vba_expression.specs.declared.node.ExpressionNode.TheVariants as node
 use Rattle.bound_project.specs.DraftView.{draft_view}
-use Rattle.binder.specs.Terms as plain
-use Rattle.bound_actions.specs.Called.{Acts, ActsOn}
-use Rattle.bound_terms.specs.View.{env_view}
-use Rattle.bound_actions.proofs.Called.{acts_none}
+use Rattle.bound_terms.specs.binder.specs.Terms as plain
+use Rattle.statement_terms.specs.Called.{Acts, ActsOn}
+use Rattle.bound_terms.specs.bound_names.specs.View.{env_view}
+use Rattle.statement_terms.proofs.Called.{acts_none}
 use Rattle.bound_actions.proofs.statement_calls.call_term.Goals as goal
 
 pub returns-then-are_none : goal.returns-then-are_none

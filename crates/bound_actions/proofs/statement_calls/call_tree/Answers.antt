@@ -1,10 +1,10 @@
 use Rattle.std.proofs.lemmas.Result.{IfOk-weaker}
 use Rattle.bound_project.specs.DraftView.{draft_view}
-use Rattle.bound_actions.specs.Called.{ActsOn, CallsTreeOn}
-use Rattle.bound_terms.specs.View.{env_view}
+use Rattle.statement_terms.specs.Called.{ActsOn, CallsTreeOn}
+use Rattle.bound_terms.specs.bound_names.specs.View.{env_view}
 use Rattle.bound_actions.proofs.Called.{calls_tree}
-use Rattle.bound_actions.proofs.IndexedCalls.{calls_later}
-use Rattle.bound_actions.proofs.NodeTrees.{still_named}
+use Rattle.statement_terms.proofs.IndexedCalls.{calls_later}
+use Rattle.statement_terms.proofs.NodeTrees.{still_named}
 use Rattle.bound_actions.proofs.statement_calls.call_tree.Goals as goal
 
 pub call_indexed-requires-clause-named : goal.call_indexed-requires-clause-named

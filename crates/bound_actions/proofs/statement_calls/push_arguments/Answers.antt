@@ -1,10 +1,10 @@
 use Rattle.bound_project.specs.DraftView.{draft_view}
-use Rattle.bound_terms.specs.View.{env_view}
+use Rattle.bound_terms.specs.bound_names.specs.View.{env_view}
 use Rattle.std.specs.Prelude.{map}
 use Rattle.std.proofs.lemmas.Result.{IfOk-weaker}
 use Rattle.bound_project.specs.View.{parameter_view}
-use Rattle.bound_actions.specs.Called.{PassesAll, RestPushed}
-use Rattle.bound_actions.proofs.Called.{all_passed}
+use Rattle.statement_terms.specs.Called.{PassesAll, RestPushed}
+use Rattle.statement_terms.proofs.Called.{all_passed}
 use Rattle.bound_actions.proofs.statement_calls.push_arguments.Goals as goal
 
 pub returns : goal.returns

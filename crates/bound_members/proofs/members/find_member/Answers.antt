@@ -1,6 +1,6 @@
 use Rattle.std.proofs.Common.{◌≡◌, ℕ, List, Some, subst}
 use Rattle.bound_project.specs.DraftView.{draft_view}
-use Rattle.binder.specs.ExpressionsBound.{member_in}
+use Rattle.bound_calls.specs.binder.specs.ExpressionsBound.{member_in}
 use Rattle.vba_values.specs.Val.{Val}
 use Rattle.bound_calls.specs.Steps.{AddsConstant}
 use Rattle.bound_members.specs.Kinds.{kind_view}

@@ -1,8 +1,8 @@
 use Rattle.std.proofs.Common.{◌∷◌, ap, ◌∙◌}
 use Rattle.std.specs.Prelude.{reverse}
 use Rattle.bound_project.specs.DraftView.{draft_view}
-use Rattle.bound_terms.specs.View.{env_view}
-use Rattle.bound_terms.proofs.Elements.{goes_begin}
+use Rattle.bound_names.specs.View.{env_view}
+use Rattle.bound_terms.proofs.Beginnings.{goes_begin}
 use Rattle.bound_terms.proofs.call_steps.step_no_arguments.Goals as goal
 
 pub returns : goal.returns

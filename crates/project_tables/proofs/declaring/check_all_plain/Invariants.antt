@@ -1,5 +1,5 @@
 use Rattle.std.proofs.Common.{map, drop}
-use Rattle.declared_names.specs.View.{space_view}
+use Rattle.bound_declarations.specs.declared_names.specs.View.{space_view}
 use Rattle.project_tables.specs.Steps.{ArePlain}
 use Rattle.project_tables.proofs.declaring.check_all_plain.Given as goal
 

@@ -1,6 +1,0 @@
-use Rattle.std.proofs.Common.{sym}
-use Rattle.bound_actions.proofs.SetTargets.{sets_late}
-use Rattle.bound_actions.proofs.setting.set_member.Goals as goal
-
-pub returns : goal.returns
-returns c = λ word d. sets_late word c.args.member d (sym c.if-not-is_late.ensures)

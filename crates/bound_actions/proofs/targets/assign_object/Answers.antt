@@ -1,7 +1,0 @@
-use Rattle.bound_project.specs.DraftView.{draft_view}
-use Rattle.bound_actions.proofs.WrittenTargets.{object_assigned}
-use Rattle.bound_actions.proofs.targets.assign_object.Goals as goal
-
-pub returns : goal.returns
-returns c =
-    object_assigned c.args.place c.args.at (draft_view c.args.draft.now) (draft_view c.push_node.new.draft) (draft_view c.push_node-2.new.draft) c.requires.object c.requires.written c.in_ok-push_node.ensures c.in_ok-push_node-2.ensures

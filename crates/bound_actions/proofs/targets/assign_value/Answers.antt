@@ -1,8 +1,0 @@
-use Rattle.std.proofs.Common.{sym}
-use Rattle.bound_project.specs.DraftView.{draft_view}
-use Rattle.bound_actions.proofs.WrittenTargets.{value_assigned}
-use Rattle.bound_actions.proofs.targets.assign_value.Goals as goal
-
-pub returns : goal.returns
-returns c =
-    value_assigned c.args.place c.args.ending (draft_view c.args.draft.now) (draft_view c.push_node.new.draft) c.if-not-gives_object.ensures (sym c.if-not-has_written_default.ensures) c.in_ok-push_node.ensures

@@ -1,6 +1,0 @@
-use Rattle.std.proofs.Common.{◌≡◌, drop}
-use Rattle.bound_actions.specs.Heights.{height_of}
-use Rattle.bound_actions.proofs.trees.adds_one.Given as goal
-
-abbrev pub invariant-loop-node : goal.invariant-loop-node
-invariant-loop-node l = height_of (drop l.node-index l.nodes) l.height ≡ height_of l.nodes 0

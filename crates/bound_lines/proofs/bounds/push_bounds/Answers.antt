@@ -1,0 +1,15 @@
+use Rattle.std.proofs.Common.{map}
+use Rattle.bound_terms.specs.binder.specs.StatementsBound.{redim_bounds}
+use Rattle.bound_project.specs.DraftView.{draft_view}
+use Rattle.bound_terms.specs.bound_names.specs.View.{env_view}
+use Rattle.vba_module.specs.Headers.{all_of, items_of}
+use Rattle.vba_tree.specs.View.{listed_view, dim_view}
+use Rattle.statement_nodes.proofs.Arrays.{bounds_begin}
+use Rattle.bound_lines.proofs.bounds.push_bounds.Goals as goal
+
+pub returns : goal.returns
+returns c =
+    let all = redim_bounds (env_view c.args.env) (all_of (listed_view dim_view c.args.list.now)) in
+    let rest = items_of (map (λ next. (next.mark, dim_view next.item)) c.args.list.now.others.items) in
+    let before = draft_view c.args.draft.now in
+    c.in_ok-count.ensures all before (rw (c.as_slice.ensures.value) (c.in_ok-pushed.ensures all rest before (bounds_begin all before)))

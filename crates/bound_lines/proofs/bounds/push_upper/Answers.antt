@@ -1,0 +1,18 @@
+use Rattle.bound_terms.specs.binder.specs.ExpressionsBound.{bound_operand}
+use Rattle.bound_terms.specs.binder.specs.Options.{from_two}
+use Rattle.bound_terms.specs.binder.specs.StatementsBound.{redim_bounds}
+use Rattle.bound_project.specs.DraftView.{draft_view}
+use Rattle.bound_project.specs.Expressions.{also}
+use Rattle.bound_terms.specs.bound_names.specs.View.{env_view}
+use Rattle.vba_expression.specs.View.{view as expression_view}
+use Rattle.statement_nodes.proofs.Arrays.{upper_read}
+use Rattle.bound_lines.proofs.bounds.push_upper.Goals as goal
+
+pub returns : goal.returns
+returns c =
+    let env = env_view c.args.env in
+    let high = expression_view c.args.high.now in
+    λ all rest base read.
+    c.in_ok-both.ensures all (redim_bounds env rest) base
+    (c.in_ok-low.ensures all (from_two also (bound_operand env high) (redim_bounds env rest)) base
+    (upper_read env high rest all c.args.before base (draft_view c.args.draft.now) read))

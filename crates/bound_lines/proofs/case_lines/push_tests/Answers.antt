@@ -1,0 +1,15 @@
+use Rattle.std.proofs.Common.{map}
+use Rattle.bound_terms.specs.binder.specs.StatementsBound.{case_tests}
+use Rattle.bound_project.specs.DraftView.{draft_view}
+use Rattle.bound_terms.specs.bound_names.specs.View.{env_view}
+use Rattle.vba_module.specs.Headers.{all_of, items_of}
+use Rattle.vba_tree.specs.View.{listed_view, test_view}
+use Rattle.statement_nodes.proofs.Items.{tests_begin}
+use Rattle.bound_lines.proofs.case_lines.push_tests.Goals as goal
+
+pub returns : goal.returns
+returns c =
+    let all = case_tests (env_view c.args.env) (all_of (listed_view test_view c.args.list.now)) in
+    let rest = items_of (map (λ next. (next.mark, test_view next.item)) c.args.list.now.others.items) in
+    let before = draft_view c.args.draft.now in
+    c.in_ok-count.ensures all before (rw (c.as_slice.ensures.value) (c.in_ok-pushed.ensures all rest before (tests_begin all before)))

@@ -1,0 +1,10 @@
+use bound_terms::bound_names::Env;
+use bound_terms::declared_names::PartRange;
+
+/// The procedure round a statement: its scope, its parts, and the number of its end.
+#[derive(Clone, Copy)]
+pub struct Around<'a> {
+    pub env: Env<'a>,
+    pub body: PartRange<'a>,
+    pub end: u32,
+}

@@ -1,0 +1,140 @@
+//! Expressions that stand for places: what ReDim and Erase name, and what With keeps.
+
+ghost use Rattle.std.specs.Prelude.{◌≡◌, [], IfOk, OnOk, option_map};
+ghost use Rattle.vba_expression.specs.View.{view as expression_view};
+ghost use Rattle.bound_project.specs.DraftView.{draft_view};
+ghost use Rattle.bound_project.specs.View.{declared_view};
+ghost use Rattle.bound_terms.specs.binder.specs.ExpressionsBound.{term_of, place_told};
+ghost use Rattle.bound_terms.specs.binder.specs.StatementsBound as plain;
+ghost use Rattle.statement_nodes.specs.Pushed.{ActionStands, PlacePushed};
+ghost use Rattle.bound_lines.specs.Kept.{Keeps};
+ghost use Rattle.bound_terms.specs.bound_names.specs.View.{EnvStands, env_view, within_view};
+
+use bound_project::{ActionKind, DeclaredType, Draft};
+use bound_terms::bound_calls::{Routine, Term, push_given, push_node, routine_ending};
+use bound_terms::bound_declarations::NotYet;
+use bound_terms::bound_names::{Env, Within};
+use bound_terms::tree_of;
+use statement_terms::{may_be_object, place_ending, with_place};
+use std::alloc::Global;
+use vba_base::{OrMemory, Place};
+use vba_expression::Expression;
+
+/// Pushes the place that an expression is.
+pub fn bind_place<'a>(
+    alloc: Global,
+    draft: &mut Draft,
+    env: Env<'a>,
+    expression: &'a Expression,
+) -> Result<(), OrMemory<NotYet>>
+    requires { EnvStands env }
+    ensures { OnOk result (PlacePushed (plain.place_in (term_of (env_view env.entry) (expression_view expression.now))) (draft_view draft.old) (draft_view draft.new)) }
+{
+    let tree = tree_of(alloc, draft, env, expression)?;
+    let Some(at) = place_ending(tree.term) else {
+        return Err(OrMemory::Fault(NotYet));
+    };
+    push_node(draft, at.kind, at.of, tree.place)?;
+    Ok(())
+}
+
+/// `With expression`
+pub fn bind_with<'a>(
+    alloc: Global,
+    draft: &mut Draft,
+    env: Env<'a>,
+    expression: &'a Expression,
+) -> Result<Option<ActionKind>, OrMemory<NotYet>>
+    requires env { EnvStands env }
+    requires empty { (draft_view draft.old).pieces ≡ [] }
+    ensures { IfOk result (λ kind. ActionStands kind
+        (plain.with_action (term_of (env_view env.entry) (expression_view expression.now)) (env_view env.entry) (place_told (expression_view expression.now)))
+        (draft_view draft.old) (draft_view draft.new)) }
+{
+    let tree = tree_of(alloc, draft, env, expression)?;
+    match place_ending(tree.term) {
+        Some(at) => {
+            if may_be_object(at.of) {
+                push_given(alloc, draft, tree)?;
+                return Ok(Some(ActionKind::WithValue));
+            }
+            with_place(draft, at.kind, at.of, tree.place)?;
+            Ok(Some(ActionKind::WithPlace))
+        }
+        None => {
+            push_given(alloc, draft, tree)?;
+            Ok(Some(ActionKind::WithValue))
+        }
+    }
+}
+
+/// What the With block of this number keeps: its type, and whether it is a place that is lent.
+fn kept_place(header: u32, of: DeclaredType, lends: bool) -> Within
+    ensures { within_view result ≡ record { header = header; of = declared_view of; lends = lends } }
+{
+    Within { header, of, lends }
+}
+
+/// What the With block of this number keeps of a procedure that is called.
+fn kept_call<'a>(
+    alloc: Global,
+    draft: &mut Draft,
+    header: u32,
+    routine: Routine<'a>,
+) -> Result<Within, OrMemory<NotYet>>
+    ensures { IfOk result (λ kept. Keeps header (Term.Routine routine.entry) (draft_view draft.old) kept) }
+{
+    let ending = routine_ending(alloc, draft, routine)?;
+    Ok(kept_place(header, ending.of, false))
+}
+
+/// What the With block of this number keeps of a term.
+fn kept_term<'a>(
+    alloc: Global,
+    draft: &mut Draft,
+    header: u32,
+    term: Term<'a>,
+) -> Result<Within, OrMemory<NotYet>>
+    ensures { IfOk result (λ kept. Keeps header term.entry (draft_view draft.old) kept) }
+{
+    match term {
+        Term::Place { of, lends, .. } => Ok(kept_place(header, of, lends)),
+        Term::Value(ending) => Ok(kept_place(header, ending.of, false)),
+        Term::Routine(routine) => kept_call(alloc, draft, header, routine),
+        Term::HostMember(member) => Ok(kept_place(header, member.of, false)),
+        Term::SheetMember(member) => Ok(kept_place(header, member.of, false)),
+        _ => Err(OrMemory::Fault(NotYet)),
+    }
+}
+
+/// What the With block of this number keeps, by nodes that nothing else has.
+fn kept_in<'a>(
+    alloc: Global,
+    draft: &mut Draft,
+    env: Env<'a>,
+    header: u32,
+    expression: &'a Expression,
+) -> Result<Option<Within>, OrMemory<NotYet>>
+    requires { EnvStands env }
+    ensures { IfOk result (λ kept. option_map within_view kept
+        ≡ plain.keeps header (plain.settled (env_view env.entry) (term_of (env_view env.entry) (expression_view expression.now)))) }
+{
+    let tree = tree_of(alloc, draft, env, expression)?;
+    let kept = kept_term(alloc, draft, header, tree.term)?;
+    Ok(Some(kept))
+}
+
+/// What the With block of this number keeps; none where that isn't bound.
+pub fn kept_by<'a>(
+    alloc: Global,
+    env: Env<'a>,
+    header: u32,
+    expression: &'a Expression,
+) -> Result<Option<Within>, OrMemory<NotYet>>
+    requires { EnvStands env }
+    ensures { IfOk result (λ kept. option_map within_view kept
+        ≡ plain.keeps header (plain.settled (env_view env.entry) (term_of (env_view env.entry) (expression_view expression.now)))) }
+{
+    let mut draft = Draft::new(alloc);
+    kept_in(alloc, &mut draft, env, header, expression)
+}

@@ -1,0 +1,67 @@
+//! Values that statements need.
+
+ghost use Rattle.std.specs.Prelude.{◌≡◌, Some, IfOk};
+ghost use Rattle.statement_nodes.specs.Actions.{ValuePushed};
+ghost use Rattle.bound_terms.specs.binder.specs.ExpressionsBound as plain;
+ghost use Rattle.bound_terms.specs.binder.specs.StatementsBound as statements;
+ghost use Rattle.bound_project.specs.DraftView.{draft_view};
+ghost use Rattle.bound_project.specs.View.{variable_view};
+ghost use Rattle.bound_terms.specs.bound_names.specs.View.{EnvStands, env_view};
+ghost use Rattle.vba_expression.specs.View.{view as expression_view};
+
+use crate::loop_variables::loop_variable;
+use bound_project::{DeclaredType, Draft, Variable};
+use bound_terms::bound_declarations::NotYet;
+use bound_terms::bound_names::Env;
+use bound_terms::{bind_given, bind_operand};
+use std::alloc::Global;
+use vba_base::OrMemory;
+use vba_expression::Expression;
+use vba_words::Identifier;
+
+/// Pushes a value; answers the type that it has as an operand.
+#[tactic(auto, using(statement_nodes::proofs::Ended::value_pushed))]
+pub(crate) fn push_operand<'a>(
+    alloc: Global,
+    draft: &mut Draft,
+    env: Env<'a>,
+    expression: &'a Expression,
+) -> Result<DeclaredType, OrMemory<NotYet>>
+    requires { EnvStands env }
+    ensures { IfOk result (λ of. ValuePushed (plain.bound_operand (env_view env.entry) (expression_view expression.now)) of (draft_view draft.old) (draft_view draft.new)) }
+{
+    match bind_operand(alloc, draft, env, expression)? {
+        Some(of) => Ok(of),
+        None => Err(OrMemory::Fault(NotYet)),
+    }
+}
+
+/// Pushes a value or an object as it is; answers its type.
+#[tactic(auto, using(statement_nodes::proofs::Ended::value_pushed))]
+pub(crate) fn push_given<'a>(
+    alloc: Global,
+    draft: &mut Draft,
+    env: Env<'a>,
+    expression: &'a Expression,
+) -> Result<DeclaredType, OrMemory<NotYet>>
+    requires { EnvStands env }
+    ensures { IfOk result (λ of. ValuePushed (plain.bound_as_given (env_view env.entry) (expression_view expression.now)) of (draft_view draft.old) (draft_view draft.new)) }
+{
+    let of = bind_given(alloc, draft, env, expression)?;
+    Ok(of)
+}
+
+/// The variable of a loop.
+pub(crate) fn counter_of<'a>(
+    alloc: Global,
+    env: Env<'a>,
+    name: &'a Identifier,
+) -> Result<Variable, OrMemory<NotYet>>
+    requires { EnvStands env }
+    ensures { IfOk result (λ found. Some (variable_view found) ≡ statements.loop_variable (env_view env.entry) name.now) }
+{
+    match loop_variable(alloc, env, name)? {
+        Some(found) => Ok(found),
+        None => Err(OrMemory::Fault(NotYet)),
+    }
+}

@@ -1,0 +1,391 @@
+-- Fields of places and values, and names behind dots that begin an expression.
+use Rattle.std.specs.Prelude.{◌==◌, ◌||◌, bytes_eq, codes}
+use Rattle.std.proofs.Common.{◌≡◌, ℕ, Bool, true, false, List, [], ◌∷◌, ◌++◌, map, Option, Some, None, is_some, option_map, if◌then◌else◌, refl, sym, ap, subst, ◌∙◌}
+use Rattle.vba_base.specs.declared.place.Place.{Place}
+use Rattle.vba_lexer.specs.declared.token.Token.{Token}
+use Rattle.vba_words.specs.declared.identifier.Identifier.{Identifier}
+use Rattle.vba_expression.specs.Tree.{Expr, literal, me, name, with_member, member, index, parenthesised, new, type_of, unary, binary}
+use Rattle.vba_expression.specs.Reader.{behind_dot}
+use Rattle.vba_expression.specs.declared.node.ExpressionNode.TheVariants as node
+use Rattle.vba_expression.specs.Nodes as nodes
+use Rattle.vba_expression.specs.Nodes.{behind_node}
+use Rattle.vba_values.specs.Types.{Declared}
+use Rattle.vba_values.specs.Types as type
+use Rattle.bound_project.specs.declared.declared_type.DeclaredType.{DeclaredType}
+use Rattle.vba_values.specs.declared.object.HostRef.TheVariants as host
+use Rattle.bound_project.specs.declared.declared_type.DeclaredType.TheVariants.{Plain, ArrayOf}
+use Rattle.bound_project.specs.declared.declared_type.ElementType.TheVariants as element
+use Rattle.bound_project.specs.declared.declarations.Declarations.{Declarations}
+use Rattle.bound_project.specs.declared.node.Node.{Node}
+use Rattle.bound_project.specs.declared.node.NodeKind.{NodeKind}
+use Rattle.bound_project.specs.declared.node.NodeKind.TheVariants as kinds
+use Rattle.bound_project.specs.Project.{Declaration, UserType, nowhere}
+use Rattle.bound_project.specs.Project as project
+use Rattle.bound_project.specs.View.{declared_view, declarations_view, user_type_view}
+use Rattle.bound_project.specs.Expressions.{active_sheet, host_member, host_object, load, no_exprs, Lvalue, field, field_value, kept_place}
+use Rattle.bound_project.specs.Expressions as bound
+use Rattle.bound_project.specs.Pieces.{Piece, a_place, expr_of, name_in, put, put_kind}
+use Rattle.bound_project.specs.Drafts.{Drafted}
+use Rattle.bound_members.specs.binder.specs.Bind.{declarations_of}
+use Rattle.bound_members.specs.binder.specs.Constants.{home}
+use Rattle.bound_members.specs.binder.specs.Scopes.{Space, Qualifier, qualifier_of, enum_behind}
+use Rattle.bound_members.specs.binder.specs.Storage.{types_from, types_of_space, user_types}
+use Rattle.bound_members.specs.binder.specs.Terms.{Env, Within, a_place as a_place_term, a_value, a_routine, a_host_member, err_object, no_term, expression_of}
+use Rattle.bound_members.specs.binder.specs.Terms as terms
+use Rattle.bound_members.specs.binder.specs.ExpressionsBound.{bare_call, behind_term, err_member, field_named, field_of_place, field_of_value, has_bounds, kept_member, member_of, node_or, object_member, sheets_value, term_of, with_field, given_as, typed_term, place_told}
+use Rattle.bound_members.specs.binder.specs.Types.{meant_type, type_meant}
+use Rattle.bound_members.specs.declared_names.specs.Outside.{the_outside}
+use Rattle.bound_members.specs.declared_names.specs.View.{scope_view}
+use Rattle.bound_members.specs.declared_names.specs.declared.scope.Scope.{Scope as ScopeHere}
+use Rattle.project_tables.specs.Signed.{whole_scope}
+use Rattle.bound_names.specs.declared.fields.Field.{Field}
+use Rattle.bound_members.specs.bound_calls.specs.declared.term.Ending.{Ending}
+use Rattle.bound_members.specs.bound_calls.specs.declared.term.HostMember.{HostMember}
+use Rattle.bound_members.specs.bound_calls.specs.declared.term.Routine.{Routine}
+use Rattle.bound_members.specs.bound_calls.specs.declared.term.Term.{Term}
+use Rattle.bound_members.specs.bound_calls.specs.declared.term.Term.TheVariants as term
+use Rattle.bound_members.specs.bound_calls.specs.declared.term.Tree.{Tree}
+use Rattle.bound_members.specs.bound_calls.specs.declared.term.Item.{Item}
+use Rattle.bound_members.specs.bound_calls.specs.declared.term.Item.TheVariants as items
+use Rattle.bound_members.specs.bound_calls.specs.Calls.{node_of}
+use Rattle.bound_names.specs.Fields.{FieldFound, KeepsField, MakesBehind, MakesField, MakesFieldValue, user_type_in, may_be_class}
+use Rattle.bound_names.specs.Items.{FindsBehindPlace, FindsBehindValue}
+use Rattle.bound_names.specs.Owned.{IsQualifier, IsSheets, MakesMember}
+use Rattle.bound_members.specs.bound_calls.specs.Standing.{TermStands, TreeStands, Stands, Base, member_is}
+use Rattle.bound_members.specs.bound_calls.specs.Steps.{Goes, MakesLeaf}
+use Rattle.bound_members.specs.bound_calls.specs.Taking.{CallsRoutine, PushesSheet, ReadsMember}
+use Rattle.bound_members.specs.bound_calls.proofs.Growing.{grown_same, grown_twice, grown_pieces, all_named, stands_grows}
+use Rattle.bound_members.specs.bound_calls.proofs.Taking.{sheet_stands}
+use Rattle.bound_names.proofs.Dotted.{looked, made_tree}
+
+-- ---- the fields of user types
+
+same_types : (scope : ScopeHere) (spaces : List Space) → types_from (whole_scope (scope_view scope).spaces) spaces ≡ types_from (scope_view scope) spaces
+same_types scope [] = refl
+same_types scope (space ∷ spaces) = ap (λ (ts : List UserType). types_of_space (home (scope_view scope) space) space.entries ++ ts) (same_types scope spaces)
+
+-- those that the project declares
+pub types_are : (scope : ScopeHere) (declared : Declarations) → declarations_view declared ≡ declarations_of the_outside (whole_scope (scope_view scope).spaces) (scope_view scope).spaces
+    → map user_type_view declared.types.items ≡ user_types (scope_view scope)
+types_are scope declared is = ap (λ (z : project.Declarations). z.types) is ∙ same_types scope (scope_view scope).spaces
+
+pub user_type_is : (of : DeclaredType) (number : ℕ) → user_type_in of ≡ Some number → declared_view of ≡ type.udt number
+user_type_is (Plain (element.UserType place)) number h = let e : place ≡ number = cc in ap (λ (n : ℕ). type.udt n) e
+user_type_is of number h = let e : None ≡ Some number = h in absurd cc
+
+-- ---- a field that was found
+
+field_term : (env : Env) (place : Place) (at : Lvalue) (number : ℕ) (lends : Bool) (f : Identifier) (x : Field) → FieldFound (field_named env number f) x
+    → field_of_place env place at (type.udt number) lends f ≡ a_place_term (field at x.number (declared_view x.of) x.is_bounded) (declared_view x.of) x.is_bounded lends
+field_term env place at number lends f x k =
+    let F : ℕ → Declaration → terms.Term = λ (i : ℕ) (d : Declaration). a_place_term (field at i d.of (has_bounds d)) d.of (has_bounds d) lends in
+    ap (λ (o : Option (ℕ × Declaration)). with_field o F) k.is
+    ∙ ap (λ (u : Declared). a_place_term (field at x.number u (has_bounds k.declaration)) u (has_bounds k.declaration) lends) k.of_is
+    ∙ ap (λ (b : Bool). a_place_term (field at x.number (declared_view x.of) b) (declared_view x.of) b lends) k.bounded_is
+
+pub makes_field : (env : Env) (of : DeclaredType) (number : ℕ) (lends : Bool) (f : Identifier) (x : Field) → user_type_in of ≡ Some number → FieldFound (field_named env number f) x
+    → MakesField env of lends f (term.Place (kinds.Field x.number x.of x.is_bounded) x.of x.is_bounded lends)
+makes_field env of number lends f x is k = record {
+  named = λ t. tt;
+  stands = λ t place at below. record {
+    at = field at x.number (declared_view x.of) x.is_bounded;
+    is = ap (λ (u : Declared). field_of_place env place at u lends f) (user_type_is of number is) ∙ field_term env place at number lends f x k;
+    ends = λ n. refl;
+  };
+}
+
+value_term : (env : Env) (place : Place) (made : bound.Node) (number : ℕ) (f : Identifier) (x : Field) → FieldFound (field_named env number f) x
+    → field_of_value env place made (type.udt number) f ≡ a_value (field_value (expression_of made place (type.udt number)) x.number) (declared_view x.of)
+value_term env place made number f x k =
+    let F : ℕ → Declaration → terms.Term = λ (i : ℕ) (d : Declaration). a_value (field_value (expression_of made place (type.udt number)) i) d.of in
+    ap (λ (o : Option (ℕ × Declaration)). with_field o F) k.is ∙ ap (λ (u : Declared). a_value (field_value (expression_of made place (type.udt number)) x.number) u) k.of_is
+
+pub makes_field_value : (env : Env) (of : DeclaredType) (number : ℕ) (f : Identifier) (x : Field) → user_type_in of ≡ Some number → FieldFound (field_named env number f) x
+    → MakesFieldValue env of f (term.Value (record { kind = kinds.FieldValue x.number; of = x.of }))
+makes_field_value env of number f x is k = record {
+  named = λ t. tt;
+  stands = λ t place made below.
+      let A : Declared → Type 0 = λ (u : Declared). field_of_value env place made u f ≡ a_value (field_value (expression_of made place u) x.number) (declared_view x.of) in
+      record {
+        made = field_value (expression_of made place (declared_view of)) x.number;
+        is = subst A (sym (user_type_is of number is)) (value_term env place made number f x k);
+        ends = λ n. refl;
+      };
+}
+
+-- ---- what With keeps
+
+pub keeps_field : (env : Env) (header : ℕ) (of : DeclaredType) (lends : Bool) (f : Identifier) (place : Place) (d e : Drafted) (x : Term) → env.within ≡ Some (record { header = header; of = declared_view of; lends = lends })
+    → MakesField env of lends f x → e ≡ record d { pieces = put d.tables (node_of (kinds.KeptPlace header) place of) d.pieces } → KeepsField env place f d e x
+keeps_field env header of lends f place d e x is m eq =
+    let P : Drafted → Type 0 = λ (z : Drafted). KeepsField env place f d z x in
+    let A : Option Within → Type 0 = λ (w : Option Within). TermStands env d.tables x (kept_member env place w f) (a_place (kept_place header) ∷ d.pieces) d.pieces in
+    subst P (sym eq) (record {
+      grown = grown_pieces d (put d.tables (node_of (kinds.KeptPlace header) place of) d.pieces);
+      named = m.named d.tables;
+      stands = subst A (sym is) (m.stands d.tables place (kept_place header) d.pieces);
+    })
+
+-- what is of no Type is looked at as an object
+no_type_place : (env : Env) (place : Place) (at : Lvalue) (of : DeclaredType) (lends : Bool) (f : Identifier) → user_type_in of ≡ None → field_of_place env place at (declared_view of) lends f ≡ object_member place (load at) (declared_view of) f.name
+no_type_place env place at (Plain element.Boolean) lends f h = refl
+no_type_place env place at (Plain element.Byte) lends f h = refl
+no_type_place env place at (Plain element.Integer) lends f h = refl
+no_type_place env place at (Plain element.Long) lends f h = refl
+no_type_place env place at (Plain element.LongLong) lends f h = refl
+no_type_place env place at (Plain element.Currency) lends f h = refl
+no_type_place env place at (Plain element.Text) lends f h = refl
+no_type_place env place at (Plain (element.FixedText n)) lends f h = refl
+no_type_place env place at (Plain element.Object) lends f h = refl
+no_type_place env place at (Plain (element.Class n)) lends f h = refl
+no_type_place env place at (Plain element.Collection) lends f h = refl
+no_type_place env place at (Plain element.Worksheet) lends f h = refl
+no_type_place env place at (Plain element.Range) lends f h = refl
+no_type_place env place at (Plain element.Variant) lends f h = refl
+no_type_place env place at (Plain (element.UserType n)) lends f h = let e : Some n ≡ None = h in absurd cc
+no_type_place env place at (ArrayOf u) lends f h = refl
+
+no_type_value : (env : Env) (place : Place) (node : bound.Node) (of : DeclaredType) (f : Identifier) → user_type_in of ≡ None → field_of_value env place node (declared_view of) f ≡ object_member place node (declared_view of) f.name
+no_type_value env place node (Plain element.Boolean) f h = refl
+no_type_value env place node (Plain element.Byte) f h = refl
+no_type_value env place node (Plain element.Integer) f h = refl
+no_type_value env place node (Plain element.Long) f h = refl
+no_type_value env place node (Plain element.LongLong) f h = refl
+no_type_value env place node (Plain element.Currency) f h = refl
+no_type_value env place node (Plain element.Text) f h = refl
+no_type_value env place node (Plain (element.FixedText n)) f h = refl
+no_type_value env place node (Plain element.Object) f h = refl
+no_type_value env place node (Plain (element.Class n)) f h = refl
+no_type_value env place node (Plain element.Collection) f h = refl
+no_type_value env place node (Plain element.Worksheet) f h = refl
+no_type_value env place node (Plain element.Range) f h = refl
+no_type_value env place node (Plain element.Variant) f h = refl
+no_type_value env place node (Plain (element.UserType n)) f h = let e : Some n ≡ None = h in absurd cc
+no_type_value env place node (ArrayOf u) f h = refl
+
+pub keeps_object : (env : Env) (header : ℕ) (of : DeclaredType) (lends : Bool) (f : Identifier) (place : Place) (d e : Drafted) (m : HostMember) → env.within ≡ Some (record { header = header; of = declared_view of; lends = lends })
+    → user_type_in of ≡ None → FindsBehindPlace place (record { kind = kinds.KeptPlace header; of = of }) f.name d e m → KeepsField env place f d e (term.HostMember m)
+keeps_object env header of lends f place d e m is none h =
+    let A : Option Within → Type 0 = λ (w : Option Within). TermStands env e.tables (term.HostMember m) (kept_member env place w f) e.pieces d.pieces in
+    let B : terms.Term → Type 0 = λ (w : terms.Term). TermStands env e.tables (term.HostMember m) w e.pieces d.pieces in
+    record {
+      grown = h.grown;
+      named = h.named;
+      stands = subst A (sym is) (subst B (sym (no_type_place env place (kept_place header) of lends f none)) (h.stands env (kept_place header) d.pieces (λ n. refl)));
+    }
+
+abbrev with_tree : Token → Term → Tree
+with_tree dot t = record { place = dot.place; name = None; dotted = None; term = t }
+
+kept_stands : (env : Env) (xs ys : List Item) (d e g : Drafted) (t : Term) (dot : Token) (f : Identifier) → Goes env d xs e ys (λ is. is) → KeepsField env dot.place f e g t → (is : List nodes.Item) (base : Base) → Stands env d.tables xs is d.pieces base
+    → Stands env g.tables (items.Tree (with_tree dot t) ∷ ys) (nodes.tree (with_member dot f) ∷ is) g.pieces base
+kept_stands env xs ys d e g t dot f s k is base h = (
+  e.pieces,
+  (
+    record { term_is = k.stands; place_is = refl; name_is = refl; qualifier_is = refl; leaf = tt },
+    stands_grows env e.tables g.tables k.grown.tables ys s.named is e.pieces base (s.stands is base h),
+  ),
+)
+
+pub goes_kept : (env : Env) (xs ys after : List Item) (d e g : Drafted) (t : Term) (dot : Token) (f : Identifier) → Goes env d xs e ys (λ is. is) → KeepsField env dot.place f e g t → after ≡ items.Tree (with_tree dot t) ∷ ys
+    → Goes env d xs g after (behind_node (node.WithMember dot f))
+goes_kept env xs ys after d e g t dot f s k eq =
+    let A : List Item → Type 0 = λ (l : List Item). Goes env d xs g l (behind_node (node.WithMember dot f)) in
+    subst A (sym eq) (record {
+      grown = grown_twice d e g s.grown k.grown;
+      named = (k.named, all_named e.tables g.tables k.grown.tables ys s.named);
+      stands = λ is base h. kept_stands env xs ys d e g t dot f s k is base h;
+    })
+
+-- ---- behind a term
+
+pub behind_place : (env : Env) (place : Place) (at : Ending) (bounded lends : Bool) (f : Identifier) (d e : Drafted) (y : Term) → MakesField env at.of lends f y
+    → e ≡ record d { pieces = put d.tables (node_of at.kind place at.of) d.pieces } → MakesBehind env place (term.Place at.kind at.of bounded lends) f d e y
+behind_place env place at bounded lends f d e y m eq =
+    let P : Drafted → Type 0 = λ (z : Drafted). MakesBehind env place (term.Place at.kind at.of bounded lends) f d z y in
+    subst P (sym eq) (record {
+      grown = grown_pieces d (put d.tables (node_of at.kind place at.of) d.pieces);
+      named = m.named d.tables;
+      stands = λ z below k.
+          let A : terms.Term → Type 0 = λ (w : terms.Term). TermStands env d.tables y (member_of env place w f) (put d.tables (node_of at.kind place at.of) d.pieces) below in
+          let B : List Piece → Type 0 = λ (ps : List Piece). TermStands env d.tables y (field_of_place env place k.at (declared_view at.of) lends f) ps below in
+          subst A (sym k.is) (subst B (sym (k.ends (node_of at.kind place at.of))) (m.stands d.tables place k.at below));
+      there = λ z below k. ap (λ (w : terms.Term). may_be_class w) k.is;
+    })
+
+-- neither a value of a user type nor one with members is a Boolean
+type_is_none : (made : bound.Node) (of : DeclaredType) → is_some (user_type_in of) ≡ true → may_be_class (a_value made (declared_view of)) ≡ false
+type_is_none (host_object reference) of h = refl
+type_is_none made (Plain (element.UserType number)) h = refl
+type_is_none made of h = let e : false ≡ true = h in absurd cc
+
+object_is_none : (place : Place) (made : bound.Node) (of : Declared) (fold : List ℕ) (object : bound.Expr) (m : terms.HostMember) → object_member place made of fold ≡ a_host_member object m → may_be_class (a_value made of) ≡ false
+object_is_none place (host_object reference) of fold object m h = refl
+object_is_none place made type.boolean fold object m h = let e : no_term ≡ a_host_member object m = h in absurd cc
+object_is_none place made of fold object m h = refl
+
+pub behind_value : (env : Env) (place : Place) (ending : Ending) (f : Identifier) (d e : Drafted) (y : Term) → is_some (user_type_in ending.of) ≡ true → MakesFieldValue env ending.of f y
+    → e ≡ record d { pieces = put d.tables (node_of ending.kind place ending.of) d.pieces } → MakesBehind env place (term.Value ending) f d e y
+behind_value env place ending f d e y typed m eq =
+    let P : Drafted → Type 0 = λ (z : Drafted). MakesBehind env place (term.Value ending) f d z y in
+    subst P (sym eq) (record {
+      grown = grown_pieces d (put d.tables (node_of ending.kind place ending.of) d.pieces);
+      named = m.named d.tables;
+      stands = λ z below k.
+          let A : terms.Term → Type 0 = λ (w : terms.Term). TermStands env d.tables y (member_of env place w f) (put d.tables (node_of ending.kind place ending.of) d.pieces) below in
+          let B : List Piece → Type 0 = λ (ps : List Piece). TermStands env d.tables y (field_of_value env place k.made (declared_view ending.of) f) ps below in
+          subst A (sym k.is) (subst B (sym (k.ends (node_of ending.kind place ending.of))) (m.stands d.tables place k.made below));
+      there = λ z below k. ap (λ (w : terms.Term). may_be_class w) k.is ∙ type_is_none k.made ending.of typed;
+    })
+
+-- an object at a place, and one that a value gives
+pub behind_object_place : (env : Env) (place : Place) (at : Ending) (bounded lends : Bool) (f : Identifier) (d e : Drafted) (m : HostMember) → user_type_in at.of ≡ None → FindsBehindPlace place at f.name d e m
+    → MakesBehind env place (term.Place at.kind at.of bounded lends) f d e (term.HostMember m)
+behind_object_place env place at bounded lends f d e m none h = record {
+  grown = h.grown;
+  named = h.named;
+  stands = λ z below k.
+      let A : terms.Term → Type 0 = λ (w : terms.Term). TermStands env e.tables (term.HostMember m) w e.pieces below in
+      subst A (sym (ap (λ (w : terms.Term). member_of env place w f) k.is ∙ no_type_place env place k.at at.of lends f none)) (h.stands env k.at below k.ends);
+  there = λ z below k. ap (λ (w : terms.Term). may_be_class w) k.is;
+}
+
+pub behind_object_value : (env : Env) (place : Place) (v : Ending) (f : Identifier) (d e : Drafted) (m : HostMember) → user_type_in v.of ≡ None → FindsBehindValue place v f.name d e m
+    → MakesBehind env place (term.Value v) f d e (term.HostMember m)
+behind_object_value env place v f d e m none h = record {
+  grown = h.grown;
+  named = h.named;
+  stands = λ z below k.
+      let A : terms.Term → Type 0 = λ (w : terms.Term). TermStands env e.tables (term.HostMember m) w e.pieces below in
+      subst A (sym (ap (λ (w : terms.Term). member_of env place w f) k.is ∙ no_type_value env place k.made v.of f none)) (h.stands env k.made below k.ends);
+  there = λ z below k.
+      let found = h.stands env k.made below k.ends in ap (λ (w : terms.Term). may_be_class w) k.is ∙ object_is_none place k.made (declared_view v.of) f.name found.object (member_is e.tables m) found.is;
+}
+
+-- a member that is read
+read_when : (b : Bool) (t : terms.Term) → b ≡ true → (if b then t else no_term) ≡ t
+read_when b t h = ap (λ (c : Bool). if c then t else no_term) h
+
+pub behind_member : (env : Env) (place : Place) (read : HostMember) (v : Ending) (f : Identifier) (d b e : Drafted) (m : HostMember) → ReadsMember read d b v → FindsBehindValue place v f.name b e m
+    → MakesBehind env place (term.HostMember read) f d e (term.HostMember m)
+behind_member env place read v f d b e m r h = record {
+  grown = grown_twice d b e r.grown h.grown;
+  named = h.named;
+  stands = λ z below k.
+      let node = host_member k.object (name_in d.tables read.name) no_exprs in
+      let T : DeclaredType → terms.Term = λ (of : DeclaredType). object_member place node (declared_view of) f.name in
+      let A : terms.Term → Type 0 = λ (w : terms.Term). TermStands env e.tables (term.HostMember m) w e.pieces below in
+      subst A (sym (ap (λ (w : terms.Term). member_of env place w f) k.is ∙ read_when (read.least == 0) (T read.of) (ap (λ (n : ℕ). n == 0) r.least_is) ∙ ap T (sym r.of_is)))
+      (h.stands env node below (r.ends k.object below k.on_top));
+  there = λ z below k. ap (λ (w : terms.Term). may_be_class w) k.is;
+}
+
+pub behind_sheet : (env : Env) (place : Place) (read : HostMember) (f : Identifier) (d s e : Drafted) (y : Term) → PushesSheet d s → MakesBehind env place (term.HostMember read) f s e y → MakesBehind env place (term.SheetMember read) f d e y
+behind_sheet env place read f d s e y p m = record {
+  grown = grown_twice d s e p.grown m.grown;
+  named = m.named;
+  stands = λ z below k. m.stands z below (sheet_stands read d s p env z below k);
+  there = λ z below k. ap (λ (w : terms.Term). may_be_class w) k.0;
+}
+
+-- the sheets of the workbook
+workbook_made : (n : Node) (made : bound.Node) (ps below : List Piece) → expr_of n (host_object host.Workbook) ∷ ps ≡ expr_of n made ∷ below → made ≡ host_object host.Workbook
+workbook_made n made ps below h = let e : host_object host.Workbook ≡ made = cc in sym e
+
+workbook_below : (n : Node) (made : bound.Node) (ps below : List Piece) → expr_of n (host_object host.Workbook) ∷ ps ≡ expr_of n made ∷ below → ps ≡ below
+workbook_below n made ps below h = cc
+
+any_node : Node
+any_node = record { kind = kinds.NotGiven; place = nowhere; of = Plain element.Variant; operand = Plain element.Variant }
+
+sheets_of : (place : Place) (of : Declared) (fold : List ℕ) → (bytes_eq fold (codes "worksheets") || bytes_eq fold (codes "sheets")) ≡ true → object_member place (host_object host.Workbook) of fold ≡ sheets_value
+sheets_of place of fold h = ap (λ (b : Bool). if b then sheets_value else no_term) h
+
+pub behind_workbook : (env : Env) (place : Place) (v : Ending) (f : Identifier) (d : Drafted) (y : Term) → v.kind ≡ kinds.HostObject host.Workbook → user_type_in v.of ≡ None → IsSheets f y → MakesBehind env place (term.Value v) f d d y
+behind_workbook env place v f d y book none s =
+    let P : Term → Type 0 = λ (t : Term). MakesBehind env place (term.Value v) f d d t in
+    subst P (sym s.is) (record {
+      grown = grown_same d;
+      named = tt;
+      stands = λ z below k.
+          let K : NodeKind → Type 0 = λ (x : NodeKind). put_kind d.tables any_node x d.pieces ≡ expr_of any_node k.made ∷ below in
+          let put = subst K book (k.ends any_node) in
+          let made = workbook_made any_node k.made d.pieces below put in
+          record {
+            made = host_object host.Sheets;
+            is = ap (λ (w : terms.Term). member_of env place w f) k.is ∙ no_type_value env place k.made v.of f none ∙ ap (λ (n : bound.Node). object_member place n (declared_view v.of) f.name) made
+                ∙ sheets_of place (declared_view v.of) f.name s.named;
+            ends = λ n. ap (λ (st : List Piece). expr_of n (host_object host.Sheets) ∷ st) (workbook_below any_node k.made d.pieces below put);
+          };
+      there = λ z below k.
+          let K : NodeKind → Type 0 = λ (x : NodeKind). put_kind d.tables any_node x d.pieces ≡ expr_of any_node k.made ∷ below in
+          let made = workbook_made any_node k.made d.pieces below (subst K book (k.ends any_node)) in
+          ap (λ (w : terms.Term). may_be_class w) k.is ∙ ap (λ (n : bound.Node). may_be_class (a_value n (declared_view v.of))) made;
+    })
+
+-- a procedure that is called
+pub behind_routine : (env : Env) (place : Place) (r : Routine) (ending : Ending) (f : Identifier) (d e g : Drafted) (y : Term) → CallsRoutine r d e ending → MakesBehind env place (term.Value ending) f e g y
+    → MakesBehind env place (term.Routine r) f d g y
+behind_routine env place r ending f d e g y b m = record {
+  grown = grown_twice d e g b.grown m.grown;
+  named = m.named;
+  stands = λ z below k.
+      let c = b.stands env z below k in
+      let V : bound.Node → Declared → terms.Term = λ (n : bound.Node) (u : Declared). field_of_value env place n u f in
+      let same : member_of env place (bare_call env c.space c.number c.written) f ≡ member_of env place z f =
+      ap (λ (w : terms.Term). member_of env place w f) c.called.is ∙ sym (ap (λ (w : terms.Term). member_of env place w f) c.is ∙ ap (λ (w : terms.Term). node_or w V) c.called.is) in
+      let A : terms.Term → Type 0 = λ (w : terms.Term). TermStands env g.tables y w g.pieces below in
+      subst A same (m.stands (bare_call env c.space c.number c.written) below c.called);
+  there = λ z below k. ap (λ (w : terms.Term). may_be_class w) k.is;
+}
+
+pub behind_err : (env : Env) (place : Place) (f : Identifier) (d : Drafted) (y : Term) → MakesLeaf env d d y (err_member f.name) → MakesBehind env place term.Err f d d y
+behind_err env place f d y m = record {
+  grown = grown_same d;
+  named = m.named;
+  stands = λ z below k.
+      let A : terms.Term → Type 0 = λ (w : terms.Term). TermStands env d.tables y (member_of env place w f) d.pieces below in
+      let B : List Piece → Type 0 = λ (ps : List Piece). TermStands env d.tables y (err_member f.name) d.pieces ps in
+      subst A (sym k.0) (subst B k.1 (m.stands d.pieces));
+  there = λ z below k. ap (λ (w : terms.Term). may_be_class w) k.0;
+}
+
+-- ---- behind an expression
+
+typed_class : (o : Option bound.Expr) (of : Declared) → may_be_class (typed_term o of) ≡ true
+typed_class None of = refl
+typed_class (Some e) of = refl
+
+dotted_base : (env : Env) (base : Expr) (dot : Token) (f : Identifier) → may_be_class (term_of env base) ≡ false → behind_dot base dot f ≡ member base dot f
+dotted_base env (literal l) dot f h = refl
+dotted_base env (me token) dot f h = refl
+dotted_base env (name y) dot f h = refl
+dotted_base env (with_member first y) dot f h = refl
+dotted_base env (member base first y) dot f h = refl
+dotted_base env (index base left args right) dot f h = refl
+dotted_base env (parenthesised left inner right) dot f h = refl
+dotted_base env (new word of) dot f h = let e : true ≡ false = h in absurd cc
+dotted_base env (type_of word operand is_word of) dot f h =
+    let e : true ≡ false = sym (typed_class (given_as env (term_of env operand) (place_told operand)) (meant_type (type_meant env.scope of))) ∙ h in absurd cc
+dotted_base env (unary o token operand) dot f h = refl
+dotted_base env (binary l o token r) dot f h = refl
+
+tree_stands : (env : Env) (x : Tree) (f : Identifier) (d e : Drafted) (y : Term) → MakesBehind env x.place x.term f d e y → IsQualifier env.scope x None
+    → (base : Expr) (dot : Token) (below : List Piece) → TreeStands env d.tables x base d.pieces below → TreeStands env e.tables (made_tree x None y) (behind_dot base dot f) e.pieces below
+tree_stands env x f d e y m k base dot below h =
+    let none : qualifier_of env.scope base ≡ None = looked env d.tables x base d.pieces below h ∙ sym k in
+    let member_is : term_of env (member base dot f) ≡ member_of env (place_told base) (term_of env base) f =
+    ap (λ (o : Option Qualifier). behind_term env o f (member_of env (place_told base) (term_of env base) f)) none in
+    let P : Place → Type 0 = λ (place : Place). TermStands env e.tables y (member_of env place (term_of env base) f) e.pieces below in
+    let Q : terms.Term → Type 0 = λ (z : terms.Term). TermStands env e.tables y z e.pieces below in
+    let A : Expr → Type 0 = λ (z : Expr). TreeStands env e.tables (made_tree x None y) z e.pieces below in
+    subst A (sym (dotted_base env base dot f (m.there (term_of env base) below h.term_is))) (record {
+      term_is = subst Q (sym member_is) (subst P h.place_is (m.stands (term_of env base) below h.term_is));
+      place_is = h.place_is;
+      name_is = refl;
+      qualifier_is = ap (λ (o : Option Qualifier). enum_behind env.scope o f) none;
+      leaf = tt;
+    })
+
+pub makes_member : (env : Env) (x : Tree) (f : Identifier) (d e : Drafted) (y : Term) → MakesBehind env x.place x.term f d e y → IsQualifier env.scope x None → MakesMember env x f d e (made_tree x None y)
+makes_member env x f d e y m k = record { grown = m.grown; named = m.named; stands = tree_stands env x f d e y m k }

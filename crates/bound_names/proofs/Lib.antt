@@ -1,0 +1,10 @@
+pub mod Lookups
+pub mod NamedTerms
+pub mod Dotted
+pub mod Library
+pub mod ItemTerms
+pub mod HostNames
+pub mod Sharing
+pub mod Fielding
+pub mod Callees
+pub mod RoutineTerms

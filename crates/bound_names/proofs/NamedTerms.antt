@@ -1,0 +1,94 @@
+-- What names of procedures and modules are.
+use Rattle.std.proofs.Common.{◌≡◌, ℕ, Bool, true, false, Option, Some, refl, ap, subst, ◌∙◌}
+use Rattle.std.specs.Prelude.{if◌then◌else◌, option_map}
+use Rattle.vba_values.specs.Val.{Val}
+use Rattle.vba_values.specs.Types.{Declared}
+use Rattle.vba_values.specs.Types as type
+use Rattle.vba_words.specs.declared.identifier.Identifier.{Identifier}
+use Rattle.vba_tree.specs.Tree.{Variable, Constant, Parameter, TypeClause}
+use Rattle.vba_expression.specs.Tree.{Expr}
+use Rattle.bound_project.specs.Expressions.{Storage, constant}
+use Rattle.bound_project.specs.Drafts.{Drafted}
+use Rattle.bound_members.specs.binder.specs.Declarations.{Written, the_result, a_parameter, a_local, an_array, undeclared, What, a_variable, a_constant, a_member, a_procedure}
+use Rattle.bound_members.specs.binder.specs.Scopes.{Space, Scope, Meant, of_module}
+use Rattle.bound_members.specs.binder.specs.Constants.{Known, home, meant_by, names_in}
+use Rattle.bound_project.specs.View.{declared_view}
+use Rattle.bound_members.specs.binder.specs.Storage.{result_type, parameter_type, plain_clause_type, declared_variable, own_storage, module_storage}
+use Rattle.bound_members.specs.binder.specs.Terms.{Env, a_routine, a_value}
+use Rattle.bound_members.specs.binder.specs.Terms as plain
+use Rattle.bound_members.specs.binder.specs.ExpressionsBound.{entry_term, constant_term, place_term, declared_place, has_bounds, if_there}
+use Rattle.bound_members.specs.bound_calls.specs.declared.term.Routine.{Routine}
+use Rattle.bound_members.specs.bound_calls.specs.declared.term.Term.{Term}
+use Rattle.bound_members.specs.bound_calls.specs.declared.term.Term.TheVariants as term
+use Rattle.bound_names.specs.declared.names.Shape.{Shape}
+use Rattle.bound_names.specs.Owned.{IsShape, OwnShaped, IsRoutine}
+use Rattle.bound_members.specs.bound_calls.specs.Steps.{MakesLeaf}
+use Rattle.bound_members.specs.bound_calls.proofs.Growing.{grown_same}
+
+-- a variable by its type
+pub shaped : (kept : Storage) (of : Declared) (bounded : Bool) (x : Shape) → IsShape of bounded x → place_term kept of bounded ≡ place_term kept (declared_view x.of) x.is_bounded
+shaped kept of bounded x k = ap (λ (u : Declared). place_term kept u bounded) k.of_is ∙ ap (λ (b : Bool). place_term kept (declared_view x.of) b) k.bounded_is
+
+pub own_result : (s : Scope) (n : Identifier) (w : Written) (x : Shape) → IsShape (result_type s w) false x → OwnShaped s (record { name = n; own = the_result w }) (declared_view x.of) x.is_bounded
+own_result s n w x k env y number h =
+    let kept = own_storage env.scope env.first number (the_result w) in
+    ap (λ (t : Scope). place_term kept (result_type t w) false) h ∙ shaped kept (result_type s w) false x k
+
+pub own_parameter : (s : Scope) (n : Identifier) (p : Parameter) (x : Shape) → IsShape (parameter_type s p) false x → OwnShaped s (record { name = n; own = a_parameter p }) (declared_view x.of) x.is_bounded
+own_parameter s n p x k env y number h =
+    let kept = own_storage env.scope env.first number (a_parameter p) in
+    ap (λ (t : Scope). place_term kept (parameter_type t p) false) h ∙ shaped kept (parameter_type s p) false x k
+
+pub own_variable : (s : Scope) (n : Identifier) (v : Variable) (static : Bool) (x : Shape) → IsShape (declared_variable s v).of (has_bounds (declared_variable s v)) x
+    → OwnShaped s (record { name = n; own = a_local v static }) (declared_view x.of) x.is_bounded
+own_variable s n v static x k env y number h =
+    let kept = own_storage env.scope env.first number (a_local v static) in
+    ap (λ (t : Scope). place_term kept (declared_variable t v).of (has_bounds (declared_variable t v))) h ∙ shaped kept (declared_variable s v).of (has_bounds (declared_variable s v)) x k
+
+pub own_array : (s : Scope) (n : Identifier) (clause : Option TypeClause) (static : Bool) (x : Shape) → IsShape (type.array_of (plain_clause_type s n clause)) false x
+    → OwnShaped s (record { name = n; own = an_array clause static }) (declared_view x.of) x.is_bounded
+own_array s n clause static x k env y number h =
+    let kept = own_storage env.scope env.first number (an_array clause static) in
+    ap (λ (t : Scope). place_term kept (type.array_of (plain_clause_type t n clause)) false) h ∙ shaped kept (type.array_of (plain_clause_type s n clause)) false x k
+
+pub own_undeclared : (s : Scope) (n : Identifier) (static : Bool) (x : Shape) → IsShape type.variant false x → OwnShaped s (record { name = n; own = undeclared static }) (declared_view x.of) x.is_bounded
+own_undeclared s n static x k env y number h = shaped (own_storage env.scope env.first number (undeclared static)) type.variant false x k
+
+-- ---- entries
+
+if_same : (b : Bool) (x : plain.Term) → (if b then x else x) ≡ x
+if_same true x = refl
+if_same false x = refl
+
+pub entry_constant : (env : Env) (x : Identifier) (space : Space) (number : ℕ) (name : Identifier) (public : Bool) (c : Constant)
+    → entry_term env x space number (record { name = name; is_public = public; what = a_constant c }) ≡ constant_term env x (Some (of_module space number (record { name = name; is_public = public; what = a_constant c })))
+entry_constant env x space number name public c = if_same space.source.is_class (constant_term env x (Some (of_module space number (record { name = name; is_public = public; what = a_constant c }))))
+
+pub entry_member : (env : Env) (x : Identifier) (space : Space) (number : ℕ) (name : Identifier) (public : Bool) (value : Option Expr) (steps : ℕ)
+    → entry_term env x space number (record { name = name; is_public = public; what = a_member value steps }) ≡ constant_term env x (Some (of_module space number (record { name = name; is_public = public; what = a_member value steps })))
+entry_member env x space number name public value steps =
+    if_same space.source.is_class (constant_term env x (Some (of_module space number (record { name = name; is_public = public; what = a_member value steps }))))
+
+-- those of a standard module
+pub entry_variable : (env : Env) (x : Identifier) (space : Space) (number : ℕ) (name : Identifier) (public : Bool) (v : Variable) → space.source.is_class ≡ false
+    → entry_term env x space number (record { name = name; is_public = public; what = a_variable v }) ≡ declared_place (module_storage env.scope space number) (Some (declared_variable (home env.scope space) v))
+entry_variable env x space number name public v h = ap (λ (b : Bool). if b then plain.no_term else declared_place (module_storage env.scope space number) (Some (declared_variable (home env.scope space) v))) h
+
+pub entry_procedure : (env : Env) (x : Identifier) (space : Space) (number : ℕ) (name : Identifier) (public : Bool) (w : Written) → space.source.is_class ≡ false
+    → entry_term env x space number (record { name = name; is_public = public; what = a_procedure w }) ≡ a_routine space number w
+entry_procedure env x space number name public w h = ap (λ (b : Bool). if b then plain.no_term else a_routine space number w) h
+
+-- ---- a term by another name of it
+
+pub leaf_as : (env : Env) (d e : Drafted) (x : Term) (y z : plain.Term) → y ≡ z → MakesLeaf env d e x y → MakesLeaf env d e x z
+leaf_as env d e x y z eq m = let A : plain.Term → Type 0 = λ (t : plain.Term). MakesLeaf env d e x t in subst A eq m
+
+pub routine_leaf : (env : Env) (d : Drafted) (r : Routine) (y : plain.Term) → IsRoutine env r y → MakesLeaf env d d (term.Routine r) y
+routine_leaf env d r y h = record { grown = grown_same d; pieces = refl; named = tt; stands = h }
+
+-- a constant, by its value
+pub constant_leaf : (env : Env) (x : Identifier) (m : Option Meant) (d e : Drafted) (t : Term) (known : Known) (v : Val) → Some known ≡ meant_by (names_in env.scope) env.scope x m → v ≡ known.value
+    → MakesLeaf env d e t (a_value (constant v) known.of) → MakesLeaf env d e t (constant_term env x m)
+constant_leaf env x m d e t known v k eq leaf =
+    let V : Val → Type 0 = λ (w : Val). MakesLeaf env d e t (a_value (constant w) known.of) in
+    leaf_as env d e t (a_value (constant known.value) known.of) (constant_term env x m) (ap (λ (o : Option Known). if_there (option_map (λ (i : Known). a_value (constant i.value) i.of) o)) k) (subst V eq leaf)

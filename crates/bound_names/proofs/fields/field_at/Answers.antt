@@ -1,0 +1,11 @@
+use Rattle.std.proofs.Common.{ℕ, Some, sym, ap, ◌∙◌}
+use Rattle.bound_project.specs.View.{declaration_view}
+use Rattle.bound_names.proofs.fields.field_at.Goals as goal
+
+pub returns : goal.returns
+returns c = record {
+  declaration = declaration_view c.in-Some.declaration.now;
+  is = sym c.in-Some.ensures ∙ ap (λ (n : ℕ). Some (n, declaration_view c.in-Some.declaration.now)) (sym c.in_ok-field.ensures.number);
+  of_is = sym c.in_ok-field.ensures.of;
+  bounded_is = sym c.in_ok-field.ensures.bounded;
+}

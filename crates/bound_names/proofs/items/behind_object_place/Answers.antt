@@ -1,0 +1,13 @@
+use Rattle.std.proofs.Common.{sym, ap, ◌∙◌}
+use Rattle.std.specs.Prelude.{option_map}
+use Rattle.std.proofs.lemmas.Result.{IfOk-weaker}
+use Rattle.bound_project.specs.DraftView.{draft_view}
+use Rattle.bound_members.specs.Kinds.{kind_view}
+use Rattle.bound_names.proofs.ItemTerms.{behind_place}
+use Rattle.bound_names.proofs.items.behind_object_place.Goals as goal
+
+pub returns : goal.returns
+returns c =
+    IfOk-weaker c.find_member.result _ _
+    (λ m h. behind_place c.args.place c.args.at c.args.name c.in-Some.kind (draft_view c.args.draft.now) (draft_view c.push_node.new.draft) (draft_view c.push_node-2.new.draft) (draft_view c.find_member.new.draft) m
+    (sym c.kind_of_type.ensures ∙ ap (λ o. option_map kind_view o) c.in-Some.is) c.in_ok-push_node.ensures c.in_ok-push_node-2.ensures h) c.find_member.ensures

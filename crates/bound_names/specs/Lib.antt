@@ -1,0 +1,14 @@
+pub use Rattle.bound_members
+pub use Rattle.project_tables
+pub use Rattle.bound_members.specs.binder
+pub use Rattle.bound_members.specs.bound_calls
+pub use Rattle.bound_members.specs.bound_declarations
+pub use Rattle.bound_members.specs.constant_values
+pub use Rattle.bound_members.specs.declared_names
+pub mod View
+pub mod Owned
+pub mod Fields
+pub mod Properties
+pub mod PropertyView
+pub mod Callee
+pub mod Items

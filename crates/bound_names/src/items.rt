@@ -1,0 +1,119 @@
+//! Objects behind a dot and before brackets: members of objects of the host.
+
+ghost use Rattle.std.specs.Prelude.{◌≡◌, true, IfOk};
+ghost use Rattle.bound_project.specs.DraftView.{draft_view};
+ghost use Rattle.bound_project.specs.Drafts.{NodeNamed};
+ghost use Rattle.bound_names.specs.Items.{FindsBehindPlace, FindsBehindValue, MakesItem, takes_item};
+ghost use Rattle.bound_members.specs.bound_calls.specs.Standing.{TermNamed};
+
+use bound_members::bound_calls::{Ending, HostMember, Term, is_host_type, push_node, push_sheet};
+use bound_members::bound_declarations::NotYet;
+use bound_members::{find_member, kind_of_ending, kind_of_type};
+use bound_project::{Draft, NodeKind};
+use std::alloc::Global;
+use vba_base::{NoMemory, OrMemory, Place, Units};
+
+/// An ASCII word.
+fn word(alloc: Global, bytes: &[u8]) -> Result<Units, NoMemory>
+    ensures { IfOk result (λ text. text ≡ bytes.now) }
+{
+    let mut text = Units::new(alloc);
+    for byte in bytes {
+        text.push(u16::from(*byte))?;
+    }
+    Ok(text)
+}
+
+/// A member of the object at a place, which is pushed.
+pub fn behind_object_place(
+    draft: &mut Draft,
+    place: Place,
+    at: Ending,
+    name: Units,
+) -> Result<HostMember, OrMemory<NotYet>>
+    requires { NodeNamed (draft_view draft.old).tables at.kind }
+    ensures { IfOk result (λ member. FindsBehindPlace place at name (draft_view draft.old) (draft_view draft.new) member) }
+{
+    let Some(kind) = kind_of_type(at.of) else {
+        return Err(OrMemory::Fault(NotYet));
+    };
+    push_node(draft, at.kind, at.of, place)?;
+    push_node(draft, NodeKind::Load, at.of, place)?;
+    find_member(draft, kind, name)
+}
+
+/// A member of the object that a value gives, which is pushed.
+pub fn behind_object_value(
+    draft: &mut Draft,
+    place: Place,
+    ending: Ending,
+    name: Units,
+) -> Result<HostMember, OrMemory<NotYet>>
+    requires { NodeNamed (draft_view draft.old).tables ending.kind }
+    ensures { IfOk result (λ member. FindsBehindValue place ending name (draft_view draft.old) (draft_view draft.new) member) }
+{
+    let Some(kind) = kind_of_ending(ending) else {
+        return Err(OrMemory::Fault(NotYet));
+    };
+    push_node(draft, ending.kind, ending.of, place)?;
+    find_member(draft, kind, name)
+}
+
+/// Do brackets behind a term take a member of an object?
+pub fn takes_item<'a>(term: Term<'a>) -> bool
+    ensures { result ≡ takes_item term.entry }
+{
+    match term {
+        Term::Place { of, .. } => is_host_type(of),
+        Term::Value(ending) => is_host_type(ending.of),
+        Term::HostMember(_) => true,
+        Term::SheetMember(_) => true,
+        _ => false,
+    }
+}
+
+/// The member that brackets behind a term take: of an object its default member with arguments. The object is pushed.
+pub fn item_member<'a>(
+    alloc: Global,
+    draft: &mut Draft,
+    place: Place,
+    term: Term<'a>,
+) -> Result<HostMember, OrMemory<NotYet>>
+    requires named { TermNamed (draft_view draft.old).tables term }
+    requires item { takes_item term ≡ true }
+    ensures { IfOk result (λ member. MakesItem place term.entry (draft_view draft.old) (draft_view draft.new) (Term.HostMember member)) }
+{
+    match term {
+        Term::Place { kind, of, .. } => {
+            let item = word(alloc, b"item")?;
+            behind_object_place(draft, place, Ending { kind, of }, item)
+        }
+        Term::Value(ending) => {
+            let item = word(alloc, b"item")?;
+            behind_object_value(draft, place, ending, item)
+        }
+        Term::HostMember(member) => Ok(member),
+        Term::SheetMember(member) => {
+            push_sheet(draft)?;
+            Ok(member)
+        }
+        _ => Err(OrMemory::Fault(NotYet)),
+    }
+}
+
+/// What brackets behind a term take: of an object its default member with arguments, whose object is pushed.
+pub fn item_term<'a>(
+    alloc: Global,
+    draft: &mut Draft,
+    place: Place,
+    term: Term<'a>,
+) -> Result<Term<'a>, OrMemory<NotYet>>
+    requires { TermNamed (draft_view draft.old).tables term }
+    ensures { IfOk result (λ item. MakesItem place term.entry (draft_view draft.old) (draft_view draft.new) item) }
+{
+    if takes_item(term) {
+        let member = item_member(alloc, draft, place, term)?;
+        return Ok(Term::HostMember(member));
+    }
+    Ok(term)
+}

@@ -1,0 +1,4 @@
+pub mod NamedMembers
+pub mod Elements
+pub mod Library
+pub mod ParamArrays

@@ -1,0 +1,13 @@
+use Rattle.std.proofs.Common.{◌∷◌, ap, ◌∙◌}
+use Rattle.std.specs.Prelude.{reverse}
+use Rattle.bound_project.specs.DraftView.{draft_view}
+use Rattle.bound_members.specs.bound_calls.specs.declared.term.Item.TheVariants as item
+use Rattle.bound_operands.proofs.ParamArrays.{goes_gathered}
+use Rattle.bound_operands.proofs.gathering.gather.Goals as goal
+
+pub returns : goal.returns
+returns c =
+    let d = draft_view c.args.draft.now in
+    let e = draft_view c.push_given.new.draft in
+    λ env comma. goes_gathered env c.args.tree c.args.item (reverse c.args.stack.now.items) (reverse c.put_item-2.new.stack.items) comma c.in_ok-push_given.field-0 d e (c.in_ok-put_item-2.ensures ∙ ap (λ l. item.Gathered ∷ l) c.in_ok-put_item.ensures)
+    c.requires.many c.requires.named c.in_ok-push_given.ensures

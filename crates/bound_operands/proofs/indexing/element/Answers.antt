@@ -1,0 +1,11 @@
+use Rattle.bound_operands.proofs.Elements.{ends_variable, ends_place, ends_value}
+use Rattle.bound_operands.proofs.indexing.element.Goals as goal
+
+pub returns-in-Variable : goal.returns-in-Variable
+returns-in-Variable c = ends_variable c.args.indexed c.in-Variable.variable c.in-Variable.is c.requires
+
+pub returns-in-Place : goal.returns-in-Place
+returns-in-Place c = ends_place c.args.indexed c.in-Place.is c.requires
+
+pub returns-in-Value : goal.returns-in-Value
+returns-in-Value c = ends_value c.args.indexed c.in-Value.is c.requires

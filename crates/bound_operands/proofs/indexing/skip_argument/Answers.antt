@@ -1,0 +1,20 @@
+use Rattle.std.proofs.Common.{sym, subst}
+use Rattle.bound_project.specs.DraftView.{draft_view}
+use Rattle.bound_members.specs.bound_calls.specs.declared.term.Item.{Item}
+use Rattle.bound_members.specs.bound_calls.specs.declared.term.Item.TheVariants as item
+use Rattle.bound_members.specs.bound_calls.specs.Indexing.{AddsMissing}
+use Rattle.bound_members.specs.bound_calls.specs.Standing.{ItemNamed}
+use Rattle.bound_operands.proofs.indexing.skip_argument.Goals as goal
+
+pub returns-in_ok-more-in-Function : goal.returns-in_ok-more-in-Function
+returns-in_ok-more-in-Function c =
+    let A : Item → Type 0 = λ (i : Item). AddsMissing i (draft_view c.args.draft.now) (draft_view c.add_missing_value.new.draft) (item.Function c.in_ok-more-in-Function.more) in
+    subst A (sym c.in-Function.is) c.in_ok-more-in-Function.ensures
+
+pub add_missing-requires : goal.add_missing-requires
+add_missing-requires c = (let N : Item → Type 0 = λ (i : Item). ItemNamed (draft_view c.args.draft.now).tables i in subst N c.in-Member.is c.requires)
+
+pub returns-in_ok-more-in-Member : goal.returns-in_ok-more-in-Member
+returns-in_ok-more-in-Member c =
+    let A : Item → Type 0 = λ (i : Item). AddsMissing i (draft_view c.args.draft.now) (draft_view c.add_missing.new.draft) (item.Member c.in_ok-more-in-Member.more) in
+    subst A (sym c.in-Member.is) c.in_ok-more-in-Member.ensures

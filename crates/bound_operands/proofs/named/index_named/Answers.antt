@@ -1,0 +1,11 @@
+use Rattle.std.proofs.Common.{◌∷◌, ap, ◌∙◌}
+use Rattle.std.specs.Prelude.{reverse}
+use Rattle.bound_project.specs.DraftView.{draft_view}
+use Rattle.bound_members.specs.bound_calls.proofs.NamedSteps.{goes_index}
+use Rattle.bound_operands.proofs.named.index_named.Goals as goal
+
+pub returns : goal.returns
+returns c =
+    let xs = reverse c.take_item.new.stack.items in
+    λ env left right. goes_index env c.in-Some-Call.call c.args.named.items c.in_ok-ending.ending left right xs (reverse c.args.stack.now.items) (reverse c.put_item.new.stack.items) (draft_view c.args.draft.now)
+    (draft_view c.named_ending.new.draft) c.requires.some (c.in-Some-Call.ensures ∙ ap (λ i. i ∷ xs) c.in-Some-Call.field-0-is) c.in_ok-put_item.ensures c.requires.named c.in_ok-ending.ensures

@@ -1,0 +1,208 @@
+//! Functions of the library: what their names are, and calls of them.
+
+ghost use Rattle.std.specs.Prelude.{◌≡◌, IfOk};
+ghost use Rattle.vba_lib.specs.Library.{declared_of};
+ghost use Rattle.bound_project.specs.DraftView.{draft_view};
+ghost use Rattle.bound_project.specs.Drafts.{Drafted};
+ghost use Rattle.bound_project.specs.View.{declared_view};
+ghost use Rattle.bound_members.specs.binder.specs.ExpressionsBound as bound;
+ghost use Rattle.bound_members.specs.binder.specs.Terms as plain;
+ghost use Rattle.bound_members.specs.bound_calls.specs.declared.term.Item.TheVariants as item;
+ghost use Rattle.bound_operands.specs.Functions.{EndsFunction, PushesTaken, taking_view};
+ghost use Rattle.vba_lib.specs.declared.function.LibraryFunction.TheVariants as function;
+ghost use Rattle.bound_members.specs.bound_calls.specs.Indexing.{AddsArgument, AddsMissing, OpensTerm};
+ghost use Rattle.bound_members.specs.bound_calls.specs.Standing.{TermNamed};
+
+use crate::types::element_type;
+use bound_members::bound_calls::{
+    Ending, Function, FunctionCall, Term, Tree, nowhere, push_given, push_if_any, push_node,
+    push_operand, sum,
+};
+use bound_members::bound_declarations::NotYet;
+use bound_project::{DeclaredType, Draft, ElementType, NodeKind};
+use std::alloc::Global;
+use vba_base::{NoMemory, OrMemory, Refusal};
+use vba_lib::{LibraryFunction, arity, declared_type};
+
+/// A function whose arguments are read from now on.
+pub fn open_function<'a>(tree: Tree<'a>, function: Function) -> FunctionCall
+    ensures { (env : plain.Env) (d : Drafted) → OpensTerm env tree.entry (Term.Function function) d d (item.Function result) }
+{
+    FunctionCall {
+        place: tree.place,
+        function,
+        count: 0,
+    }
+}
+
+/// Is a type a Type of the project?
+fn is_user_type(of: DeclaredType) -> bool
+    ensures { result ≡ bound.is_user_type (declared_view of) }
+{
+    match of {
+        DeclaredType::Plain(ElementType::UserType(_)) => true,
+        _ => false,
+    }
+}
+
+/// How a function takes an argument: an object as it is; its default value where it has one; or its default value.
+#[derive(Clone, Copy)]
+pub enum Taking {
+    AsItIs,
+    DefaultIfAny,
+    ByDefault,
+}
+
+/// Only the first argument as it is, by its number from 0.
+fn first_as_it_is(number: u32) -> Taking
+    ensures { taking_view result ≡ bound.first_as_it_is number }
+{
+    if number == 0 {
+        Taking::AsItIs
+    } else {
+        Taking::ByDefault
+    }
+}
+
+/// All arguments but the first as they are.
+fn others_as_they_are(number: u32) -> Taking
+    ensures { taking_view result ≡ bound.taking function.IIf number }
+{
+    if number == 0 {
+        Taking::ByDefault
+    } else {
+        Taking::AsItIs
+    }
+}
+
+/// How a function takes the argument with a number, from 0.
+fn taking_of(function: LibraryFunction, number: u32) -> Taking
+    ensures { taking_view result ≡ bound.taking function number }
+{
+    match function {
+        LibraryFunction::IsEmpty => Taking::DefaultIfAny,
+        LibraryFunction::IsNull => Taking::DefaultIfAny,
+        LibraryFunction::IsArray => Taking::DefaultIfAny,
+        LibraryFunction::VarType => Taking::DefaultIfAny,
+        LibraryFunction::IsObject => Taking::AsItIs,
+        LibraryFunction::IsMissing => Taking::AsItIs,
+        LibraryFunction::TypeName => Taking::AsItIs,
+        LibraryFunction::Array => Taking::AsItIs,
+        LibraryFunction::CVar => Taking::AsItIs,
+        LibraryFunction::Join => first_as_it_is(number),
+        LibraryFunction::UBound => first_as_it_is(number),
+        LibraryFunction::LBound => first_as_it_is(number),
+        LibraryFunction::IIf => others_as_they_are(number),
+        _ => Taking::ByDefault,
+    }
+}
+
+/// Pushes an argument as a function takes it; answers its type.
+fn push_taken<'a>(
+    alloc: Global,
+    draft: &mut Draft,
+    taking: Taking,
+    tree: Tree<'a>,
+) -> Result<DeclaredType, OrMemory<NotYet>>
+    requires { TermNamed (draft_view draft.old).tables tree.term }
+    ensures { IfOk result (λ of. PushesTaken taking tree.entry (draft_view draft.old) (draft_view draft.new) of) }
+{
+    match taking {
+        Taking::AsItIs => push_given(alloc, draft, tree),
+        Taking::DefaultIfAny => push_if_any(alloc, draft, tree),
+        Taking::ByDefault => {
+            let Some(of) = push_operand(alloc, draft, tree)? else {
+                return Err(OrMemory::Fault(NotYet));
+            };
+            Ok(of)
+        }
+    }
+}
+
+/// One more argument: the expression on top. A value of a Type is none.
+pub fn add_value<'a>(
+    alloc: Global,
+    draft: &mut Draft,
+    call: FunctionCall,
+    tree: Tree<'a>,
+) -> Result<FunctionCall, OrMemory<NotYet>>
+    requires { TermNamed (draft_view draft.old).tables tree.term }
+    ensures { IfOk result (λ more. AddsArgument (item.Function call) tree.entry (draft_view draft.old) (draft_view draft.new) (item.Function more)) }
+{
+    let count = sum(call.count, 1)?;
+    let taking = taking_of(call.function.function, call.count);
+    let of = push_taken(alloc, draft, taking, tree)?;
+    if is_user_type(of) {
+        return Err(OrMemory::Fault(NotYet));
+    }
+    Ok(FunctionCall { count, ..call })
+}
+
+/// One more argument, which isn't written: Missing.
+pub fn add_missing_value(
+    draft: &mut Draft,
+    call: FunctionCall,
+) -> Result<FunctionCall, OrMemory<NotYet>>
+    ensures { IfOk result (λ more. AddsMissing (item.Function call) (draft_view draft.old) (draft_view draft.new) (item.Function more)) }
+{
+    let count = sum(call.count, 1)?;
+    let variant = DeclaredType::Plain(ElementType::Variant);
+    push_node(draft, NodeKind::NotGiven, variant, nowhere())?;
+    Ok(FunctionCall { count, ..call })
+}
+
+/// Does a function take so many arguments? 255 is no limit.
+fn takes_count(function: LibraryFunction, count: u32) -> bool
+    ensures { result ≡ bound.takes_count function count }
+{
+    let (least, greatest) = arity(function);
+    u32::from(least) <= count && (greatest == 255 || count <= u32::from(greatest))
+}
+
+/// The declared type of a use.
+fn answer_type(
+    alloc: Global,
+    function: LibraryFunction,
+    is_text_form: bool,
+) -> Result<DeclaredType, NoMemory>
+    ensures { IfOk result (λ of. declared_view of ≡ declared_of function is_text_form) }
+{
+    if is_text_form {
+        return Ok(DeclaredType::Plain(ElementType::Text));
+    }
+    match function {
+        LibraryFunction::Split => Ok(DeclaredType::ArrayOf(ElementType::Text)),
+        _ => {
+            let of = declared_type(alloc, function, false)?;
+            Ok(DeclaredType::Plain(element_type(of)?))
+        }
+    }
+}
+
+/// What a function gives of its arguments; where it doesn't take so many they are marked as what breaks a static rule.
+pub fn close_function<'a>(alloc: Global, call: FunctionCall) -> Result<Term<'a>, OrMemory<NotYet>>
+    ensures { IfOk result (λ term. EndsFunction call term) }
+{
+    let function = call.function;
+    if !takes_count(function.function, call.count) {
+        let place = call.place;
+        return Ok(Term::Value(Ending {
+            kind: NodeKind::Marked {
+                broken: Refusal { rule: 25, place },
+                values: call.count,
+            },
+            of: DeclaredType::Plain(ElementType::Variant),
+        }));
+    }
+    let of = answer_type(alloc, function.function, function.is_text_form)?;
+    Ok(Term::Value(Ending {
+        kind: NodeKind::Library {
+            function: function.function,
+            is_text_form: function.is_text_form,
+            values: call.count,
+            compare: function.compare,
+            is_base_one: function.is_base_one,
+        },
+        of,
+    }))
+}

@@ -1,0 +1,350 @@
+//! What stands before brackets, and what the numbers in them make of it: elements of places and of values.
+
+ghost use Rattle.std.specs.Prelude.{◌≡◌, ◌<◌, Bool, IfOk, option_map};
+ghost use Rattle.bound_project.specs.DraftView.{draft_view};
+ghost use Rattle.bound_project.specs.Drafts.{Drafted, NodeNamed};
+ghost use Rattle.bound_project.specs.View.{declared_view};
+ghost use Rattle.bound_members.specs.binder.specs.ExpressionsBound.{element_type};
+ghost use Rattle.bound_members.specs.binder.specs.Terms as plain;
+ghost use Rattle.bound_members.specs.bound_calls.specs.Indexing.{AddsArgument, AddsMissing, Closes, EndsIndexed, OpensTerm, PushesTarget, is_part};
+ghost use Rattle.bound_members.specs.bound_calls.specs.Standing.{ItemNamed, TermNamed};
+ghost use Rattle.bound_operands.specs.Indexing.{PushesWhole};
+
+use crate::call_steps::{passed_in, with_passed};
+use crate::functions::{add_missing_value, add_value, close_function};
+use bound_members::bound_calls::{
+    Call, Ending, Indexed, Item, Passed, Routine, Target, Term, Tree, call_ending, pass_missing,
+    pass_plain, push_node, push_operand, sum,
+};
+use bound_members::bound_declarations::NotYet;
+use bound_members::{add_given, add_missing, close_member};
+use bound_project::{DeclaredType, Draft, ElementType, NodeKind};
+use std::alloc::Global;
+use vba_base::{OrMemory, Place};
+
+/// The type of what an index gives, where something can be indexed.
+fn element_type(of: DeclaredType) -> Option<DeclaredType>
+    ensures { option_map declared_view result ≡ element_type (declared_view of) }
+{
+    match of {
+        DeclaredType::ArrayOf(element) => Some(DeclaredType::Plain(element)),
+        DeclaredType::Plain(ElementType::Variant) => Some(DeclaredType::Plain(
+            ElementType::Variant,
+        )),
+        DeclaredType::Plain(_) => None,
+    }
+}
+
+/// Is a node part of another place?
+fn is_part(kind: NodeKind) -> bool
+    ensures { result ≡ is_part kind }
+{
+    match kind {
+        NodeKind::Item { .. } => true,
+        NodeKind::Element { .. } => true,
+        NodeKind::Field { .. } => true,
+        NodeKind::KeptPlace { .. } => true,
+        _ => false,
+    }
+}
+
+/// Pushes a part of another place, which is indexed.
+fn push_part(
+    draft: &mut Draft,
+    kind: NodeKind,
+    of: DeclaredType,
+    place: Place,
+) -> Result<Target, OrMemory<NotYet>>
+    requires { NodeNamed (draft_view draft.old).tables kind }
+    ensures { IfOk result (λ target. PushesTarget kind (draft_view draft.old) (draft_view draft.new) target) }
+{
+    if is_part(kind) {
+        push_node(draft, kind, of, place)?;
+        return Ok(Target::Place);
+    }
+    Err(OrMemory::Fault(NotYet))
+}
+
+/// A place that is indexed; it is pushed unless it is a plain variable.
+fn push_target(
+    draft: &mut Draft,
+    kind: NodeKind,
+    of: DeclaredType,
+    place: Place,
+) -> Result<Target, OrMemory<NotYet>>
+    requires { NodeNamed (draft_view draft.old).tables kind }
+    ensures { IfOk result (λ target. PushesTarget kind (draft_view draft.old) (draft_view draft.new) target) }
+{
+    match kind {
+        NodeKind::Variable(variable) => Ok(Target::Variable(variable)),
+        _ => push_part(draft, kind, of, place),
+    }
+}
+
+/// A place whose numbers in brackets are read from now on.
+pub fn open_place<'a>(
+    draft: &mut Draft,
+    tree: Tree<'a>,
+    kind: NodeKind,
+    of: DeclaredType,
+    lends: bool,
+) -> Result<Indexed, OrMemory<NotYet>>
+    requires { NodeNamed (draft_view draft.old).tables kind }
+    ensures { IfOk result (λ indexed. (env : plain.Env) (bounded : Bool) → OpensTerm env tree.entry (Term.Place kind of bounded lends) (draft_view draft.old) (draft_view draft.new) (Item.Indexed indexed)) }
+{
+    let Some(element) = element_type(of) else {
+        return Err(OrMemory::Fault(NotYet));
+    };
+    let target = push_target(draft, kind, of, tree.place)?;
+    Ok(Indexed {
+        place: tree.place,
+        target,
+        of: element,
+        lends,
+        count: 0,
+    })
+}
+
+/// Pushes a value that begins at a place, whose numbers in brackets are read from now on.
+pub fn push_whole(
+    draft: &mut Draft,
+    ending: Ending,
+    place: Place,
+) -> Result<Indexed, OrMemory<NotYet>>
+    requires { NodeNamed (draft_view draft.old).tables ending.kind }
+    ensures { IfOk result (λ indexed. PushesWhole ending place (draft_view draft.old) (draft_view draft.new) indexed) }
+{
+    let Some(element) = element_type(ending.of) else {
+        return Err(OrMemory::Fault(NotYet));
+    };
+    push_node(draft, ending.kind, ending.of, place)?;
+    Ok(Indexed {
+        place,
+        target: Target::Value,
+        of: element,
+        lends: false,
+        count: 0,
+    })
+}
+
+/// A value whose numbers in brackets are read from now on.
+pub fn open_value<'a>(
+    draft: &mut Draft,
+    tree: Tree<'a>,
+    ending: Ending,
+) -> Result<Indexed, OrMemory<NotYet>>
+    requires { NodeNamed (draft_view draft.old).tables ending.kind }
+    ensures { IfOk result (λ indexed. (env : plain.Env) → OpensTerm env tree.entry (Term.Value ending) (draft_view draft.old) (draft_view draft.new) (Item.Indexed indexed)) }
+{
+    push_whole(draft, ending, tree.place)
+}
+
+/// A call whose arguments are read from now on.
+pub fn open_call<'a>(tree: Tree<'a>, routine: Routine<'a>) -> Call<'a>
+    ensures { (env : plain.Env) (d : Drafted) → OpensTerm env tree.entry (Term.Routine routine.entry) d d (Item.Call result) }
+{
+    Call {
+        place: tree.place,
+        routine,
+        passed: Passed {
+            left: routine.parameters,
+            count: 0,
+        },
+    }
+}
+
+/// One more number: the expression on top.
+fn add_number<'a>(
+    alloc: Global,
+    draft: &mut Draft,
+    indexed: Indexed,
+    tree: Tree<'a>,
+) -> Result<Indexed, OrMemory<NotYet>>
+    requires { TermNamed (draft_view draft.old).tables tree.term }
+    ensures { IfOk result (λ more. AddsArgument (Item.Indexed indexed) tree.entry (draft_view draft.old) (draft_view draft.new) (Item.Indexed more)) }
+{
+    let count = sum(indexed.count, 1)?;
+    let Some(_found) = push_operand(alloc, draft, tree)? else {
+        return Err(OrMemory::Fault(NotYet));
+    };
+    Ok(Indexed { count, ..indexed })
+}
+
+/// One more argument of a procedure: the expression on top.
+fn add_passed<'a>(
+    alloc: Global,
+    draft: &mut Draft,
+    item: Item<'a>,
+    tree: Tree<'a>,
+) -> Result<Item<'a>, OrMemory<NotYet>>
+    requires { TermNamed (draft_view draft.old).tables tree.term }
+    ensures { IfOk result (λ more. AddsArgument item.entry tree.entry (draft_view draft.old) (draft_view draft.new) more) }
+{
+    let Some(passed) = passed_in(item) else {
+        return Err(OrMemory::NoMemory);
+    };
+    let passed = pass_plain(alloc, draft, passed, tree)?;
+    Ok(with_passed(item, passed))
+}
+
+/// One more argument: the expression on top.
+pub fn add_argument<'a>(
+    alloc: Global,
+    draft: &mut Draft,
+    item: Item<'a>,
+    tree: Tree<'a>,
+) -> Result<Item<'a>, OrMemory<NotYet>>
+    requires named { TermNamed (draft_view draft.old).tables tree.term }
+    requires item { ItemNamed (draft_view draft.old).tables item }
+    ensures { IfOk result (λ more. AddsArgument item.entry tree.entry (draft_view draft.old) (draft_view draft.new) more) }
+{
+    match item {
+        Item::Member(call) => {
+            let more = add_given(alloc, draft, call, tree)?;
+            Ok(Item::Member(more))
+        }
+        Item::Indexed(indexed) => {
+            let more = add_number(alloc, draft, indexed, tree)?;
+            Ok(Item::Indexed(more))
+        }
+        Item::Function(call) => {
+            let more = add_value(alloc, draft, call, tree)?;
+            Ok(Item::Function(more))
+        }
+        _ => add_passed(alloc, draft, item, tree),
+    }
+}
+
+/// One more argument of a procedure, which isn't written.
+fn skip_passed<'a>(
+    alloc: Global,
+    draft: &mut Draft,
+    item: Item<'a>,
+) -> Result<Item<'a>, OrMemory<NotYet>>
+    requires { ItemNamed (draft_view draft.old).tables item }
+    ensures { IfOk result (λ more. AddsMissing item.entry (draft_view draft.old) (draft_view draft.new) more) }
+{
+    let Some(passed) = passed_in(item) else {
+        return Err(OrMemory::Fault(NotYet));
+    };
+    let passed = pass_missing(alloc, draft, passed)?;
+    Ok(with_passed(item, passed))
+}
+
+/// One more argument, which isn't written.
+pub fn skip_argument<'a>(
+    alloc: Global,
+    draft: &mut Draft,
+    item: Item<'a>,
+) -> Result<Item<'a>, OrMemory<NotYet>>
+    requires { ItemNamed (draft_view draft.old).tables item }
+    ensures { IfOk result (λ more. AddsMissing item.entry (draft_view draft.old) (draft_view draft.new) more) }
+{
+    match item {
+        Item::Member(call) => {
+            let more = add_missing(draft, call)?;
+            Ok(Item::Member(more))
+        }
+        Item::Function(call) => {
+            let more = add_missing_value(draft, call)?;
+            Ok(Item::Function(more))
+        }
+        _ => skip_passed(alloc, draft, item),
+    }
+}
+
+/// An element, by what is indexed, behind so many numbers.
+fn element<'a>(indexed: Indexed) -> Term<'a>
+    requires { 0 < indexed.count }
+    ensures { EndsIndexed indexed result }
+{
+    let numbers = indexed.count;
+    let of = indexed.of;
+    match indexed.target {
+        Target::Variable(variable) => Term::Place {
+            kind: NodeKind::Item { variable, numbers },
+            of,
+            is_bounded: false,
+            lends: indexed.lends,
+        },
+        Target::Place => Term::Place {
+            kind: NodeKind::Element { numbers },
+            of,
+            is_bounded: false,
+            lends: indexed.lends,
+        },
+        Target::Value => Term::Value(Ending {
+            kind: NodeKind::ElementValue { numbers },
+            of,
+        }),
+    }
+}
+
+/// The element that numbers give; without a number there is none.
+fn close_indexed<'a>(indexed: Indexed) -> Result<Term<'a>, OrMemory<NotYet>>
+    ensures { IfOk result (λ term. EndsIndexed indexed term) }
+{
+    if indexed.count == 0 {
+        return Err(OrMemory::Fault(NotYet));
+    }
+    Ok(element(indexed))
+}
+
+/// The end of arguments: a call.
+fn close_call<'a>(
+    alloc: Global,
+    draft: &mut Draft,
+    call: Call<'a>,
+) -> Result<Tree<'a>, OrMemory<NotYet>>
+    ensures { IfOk result (λ tree. Closes (Item.Call call.entry) (draft_view draft.old) (draft_view draft.new) tree) }
+{
+    let ending = call_ending(alloc, draft, call.routine, call.passed)?;
+    Ok(Tree {
+        place: call.place,
+        name: None,
+        dotted: None,
+        term: Term::Value(ending),
+    })
+}
+
+/// The end of arguments: a call, an element, or what a function of the library gives.
+pub fn end_arguments<'a>(
+    alloc: Global,
+    draft: &mut Draft,
+    item: Item<'a>,
+) -> Result<Tree<'a>, OrMemory<NotYet>>
+    requires { ItemNamed (draft_view draft.old).tables item }
+    ensures { IfOk result (λ tree. Closes item.entry (draft_view draft.old) (draft_view draft.new) tree) }
+{
+    match item {
+        Item::Member(call) => {
+            let term = close_member(draft, call)?;
+            Ok(Tree {
+                place: call.place,
+                name: None,
+                dotted: None,
+                term,
+            })
+        }
+        Item::Call(call) => close_call(alloc, draft, call),
+        Item::Indexed(indexed) => {
+            let term = close_indexed(indexed)?;
+            Ok(Tree {
+                place: indexed.place,
+                name: None,
+                dotted: None,
+                term,
+            })
+        }
+        Item::Function(call) => {
+            let term = close_function(alloc, call)?;
+            Ok(Tree {
+                place: call.place,
+                name: None,
+                dotted: None,
+                term,
+            })
+        }
+        _ => Err(OrMemory::NoMemory),
+    }
+}

@@ -1,0 +1,19 @@
+//! Operands of expressions, which need no name looked up: literals, what operators make of the operands before them, and
+//! the numbers and arguments in brackets.
+#![tactic(auto)]
+
+mod call_steps;
+mod functions;
+mod gathering;
+mod indexing;
+mod named;
+mod operators;
+mod step;
+mod types;
+
+pub use call_steps::{step_missing_argument, step_plain_argument};
+pub use functions::open_function;
+pub use gathering::{gathered_ending, take_gathered};
+pub use indexing::{open_call, open_place, open_value, push_whole};
+pub use named::{step_index, step_named_argument};
+pub use step::{step_binary, step_literal, step_parenthesised, step_unary};

@@ -1,6 +1,0 @@
-use Rattle.std.proofs.lemmas.Result.{IfOk-weaker}
-use Rattle.bound_statements.proofs.Ended.{operand_is}
-use Rattle.bound_statements.proofs.case_lines.operand_type.Goals as goal
-
-pub returns : goal.returns
-returns c = IfOk-weaker c.push_operand.result _ _ (λ of v. operand_is _ of _ _ v) c.push_operand.ensures

@@ -1,5 +1,0 @@
-use Rattle.bound_statements.proofs.Broken.{loop_named}
-use Rattle.bound_statements.proofs.for_lines.loop_name.Goals as goal
-
-pub returns-in-Some : goal.returns-in-Some
-returns-in-Some c = loop_named _ c.in-Some.ensures.0 _ _ c.in-Some.ensures.1 c.opened_name.ensures

@@ -1,5 +1,0 @@
-use Rattle.bound_statements.proofs.Items.{shown_pushed}
-use Rattle.bound_statements.proofs.prints.push_shown.Goals as goal
-
-pub returns : goal.returns
-returns c = λ rest. shown_pushed _ _ rest _ _ _ c.in_ok-push_operand.ensures c.in_ok-show.ensures

@@ -1,5 +1,0 @@
-use Rattle.bound_terms.proofs.Library.{opens_function}
-use Rattle.bound_terms.proofs.functions.open_function.Goals as goal
-
-pub returns : goal.returns
-returns c = λ env d. opens_function env c.args.tree c.args.function d

@@ -1,5 +1,0 @@
-use Rattle.bound_terms.proofs.Elements.{opens_call}
-use Rattle.bound_terms.proofs.indexing.open_call.Goals as goal
-
-pub returns : goal.returns
-returns c = λ env d. opens_call env c.args.tree c.args.routine d

@@ -1,7 +1,0 @@
-use Rattle.std.proofs.lemmas.Result.{IfOk-weaker}
-use Rattle.bound_project.specs.DraftView.{draft_view}
-use Rattle.bound_terms.proofs.Elements.{opens_value}
-use Rattle.bound_terms.proofs.indexing.open_value.Goals as goal
-
-pub returns : goal.returns
-returns c = IfOk-weaker c.push_whole.result _ _ (λ i p env. opens_value env c.args.tree c.args.ending (draft_view c.args.draft.now) (draft_view c.push_whole.new.draft) i p) c.push_whole.ensures

@@ -1,6 +1,0 @@
-use Rattle.bound_project.specs.DraftView.{draft_view}
-use Rattle.bound_terms.proofs.Elements.{pushes_whole}
-use Rattle.bound_terms.proofs.indexing.push_whole.Goals as goal
-
-pub returns : goal.returns
-returns c = pushes_whole c.args.ending c.in-Some.element c.args.place (draft_view c.args.draft.now) (draft_view c.push_node.new.draft) c.in-Some.ensures c.in_ok-push_node.ensures

@@ -1,8 +1,0 @@
--- Serves the code: a procedure with the number of its entry.
-use Rattle.std.specs.Prelude.{ℕ}
-use Rattle.binder.specs.Declarations as plain
-use Rattle.declared_names.specs.declared.entry.Written.{Written}
-use Rattle.declared_names.specs.View.{written_view}
-
-abbrev pub row_view : ℕ × Written → ℕ × plain.Written
-row_view f = (f.0, written_view f.1)

@@ -1,0 +1,4 @@
+pub mod Counts
+pub mod FoldedFronts
+pub mod JoinLaws
+pub mod PartsLaws

@@ -1,0 +1,180 @@
+-- What the value of an assignment goes to.
+use Rattle.std.proofs.Common.{◌≡◌, ℕ, Bool, true, false, List, [], ◌∷◌, ◌++◌, map, length, Option, Some, None, is_some, if◌then◌else◌, refl, sym, ap, subst, ◌∙◌}
+use Rattle.std.specs.Prelude.{◌||◌, codes, option_and_then, slice_get}
+use Rattle.vba_base.specs.declared.place.Place.{Place}
+use Rattle.vba_lexer.specs.declared.token.Token.{Token}
+use Rattle.bound_project.specs.Project as project
+use Rattle.vba_expression.specs.Tree.{Expr, index, Args}
+use Rattle.vba_expression.specs.Nodes as nodes
+use Rattle.vba_expression.specs.Nodes.{behind_node, behind_nodes, last_arguments, last_tree, tree_in}
+use Rattle.vba_expression.specs.declared.node.ExpressionNode.{ExpressionNode}
+use Rattle.vba_expression.specs.declared.node.ExpressionNode.TheVariants as node
+use Rattle.vba_words.specs.declared.identifier.Identifier.{Identifier}
+use Rattle.bound_project.specs.declared.declared_type.DeclaredType.{DeclaredType}
+use Rattle.bound_project.specs.declared.declarations.Parameter.{Parameter}
+use Rattle.bound_project.specs.declared.statement.ActionKind.{ActionKind}
+use Rattle.bound_project.specs.declared.statement.ActionKind.TheVariants as action
+use Rattle.bound_project.specs.Expressions as bound
+use Rattle.bound_project.specs.Statements as to
+use Rattle.bound_project.specs.Bodies.{action_of, behind_value}
+use Rattle.bound_project.specs.View.{declared_view, parameter_view}
+use Rattle.bound_project.specs.Lists.{above, args_of}
+use Rattle.bound_project.proofs.Lists.{args_are}
+use Rattle.bound_project.specs.Pieces.{Piece, Tables, an_argument, an_expr}
+use Rattle.bound_project.specs.Drafts.{Drafted, ActionNamed}
+use Rattle.bound_members.specs.binder.specs.Types.{is_object}
+use Rattle.bound_members.specs.binder.specs.Declarations.{Written}
+use Rattle.bound_members.specs.binder.specs.Scopes.{Space}
+use Rattle.bound_members.specs.binder.specs.Terms.{Env, Given, a_routine}
+use Rattle.bound_members.specs.binder.specs.Terms as plain
+use Rattle.bound_members.specs.binder.specs.ExpressionsBound.{argument_of, item_of, givens, indexed, term_of, place_told}
+use Rattle.bound_members.specs.binder.specs.StatementsBound.{assigned, assigned_to, is_given_with, is_variant_place, takes_value, target_before, value_for}
+use Rattle.bound_members.specs.declared_names.specs.View.{space_view}
+use Rattle.statement_terms.specs.declared.trees.Split.{Split}
+use Rattle.bound_members.specs.bound_calls.specs.declared.term.Routine.{Routine}
+use Rattle.bound_members.specs.bound_calls.specs.declared.term.Term.{Term}
+use Rattle.bound_members.specs.bound_calls.specs.declared.term.Tree.{Tree}
+use Rattle.bound_members.specs.bound_calls.specs.Standing.{PropertyStands, RoutineStands, TreeStands}
+use Rattle.bound_members.specs.bound_calls.specs.Steps.{Leaves}
+use Rattle.statement_nodes.specs.Pushed.{ActionStands}
+use Rattle.statement_terms.specs.Assigning.{ValueFor}
+use Rattle.statement_terms.specs.Members.{AssignsTree, NamedBy}
+use Rattle.bound_members.specs.bound_calls.specs.Calls.{PassesRest}
+use Rattle.statement_terms.specs.Called.{AllPassed, AssignsTo, IsBare, LetMade, SplitAt, property_kind}
+use Rattle.statement_terms.specs.Heights.{AddsOne}
+use Rattle.statement_terms.specs.Targets.{is_variant_term}
+use Rattle.bound_members.specs.bound_calls.proofs.Growing.{grown_twice}
+use Rattle.bound_members.specs.bound_calls.proofs.Arguing.{left_long}
+use Rattle.bound_members.specs.bound_calls.proofs.CallSteps.{parameters_long}
+use Rattle.bound_members.specs.bound_calls.proofs.Passing.{arguments_bound}
+use Rattle.statement_terms.proofs.NodeTrees.{behind_both, behind_push}
+use Rattle.bound_members.specs.bound_calls.proofs.Reading.{written_by}
+
+-- ---- properties that are assigned to
+
+-- no arguments are written
+pub passes_front : (env : Env) (front : List Parameter) (d e : Drafted) (all : ℕ) → PassesRest front d e → all ≡ length front → AllPassed env (map parameter_view front) [] 0 all e.pieces d.pieces
+passes_front env front d e all h a = record {
+  made = h.made;
+  bound = arguments_bound (argument_of env) (map parameter_view front) [] [] (map parameter_view front) h.made refl h.left;
+  all_is = a ∙ sym (left_long (map parameter_view front) h.made h.left ∙ parameters_long front);
+  written_is = refl;
+  no_names = refl;
+  on_top = h.on_top;
+}
+
+-- what is given to a property, by its last parameter's type
+let_fits : (env : Env) (parameters : List project.Parameter) (gs : List Given) (written all procedure : ℕ) (of : DeclaredType) (t : Tables) (ps below : List Piece) (value : bound.Expr) → below ≡ an_expr value ∷ [] → (h : AllPassed env parameters gs written all ps below)
+    → action_of t (property_kind procedure all of) ps ≡ Some (written_by procedure (args_of h.made) value (declared_view of))
+let_fits env parameters gs written all procedure of t ps below value alone h =
+    let top : ps ≡ above (map an_argument h.made) (an_expr value ∷ []) = h.on_top ∙ ap (λ st. above (map an_argument h.made) st) alone in
+    ap (λ st. action_of t (property_kind procedure all of) st) top ∙ ap (λ n. action_of t (property_kind procedure n of) (above (map an_argument h.made) (an_expr value ∷ []))) h.all_is
+    ∙ by_type (is_object (declared_view of))
+  where
+    by_type : (b : Bool) → action_of t (if b then action.SetProperty procedure (length h.made) of else action.LetProperty procedure (length h.made) of) (above (map an_argument h.made) (an_expr value ∷ []))
+        ≡ Some (if b then to.set_property procedure (args_of h.made) value (declared_view of) else to.let_property procedure (args_of h.made) value (declared_view of))
+    by_type true = ap (λ o. behind_value o (λ args e. to.set_property procedure args e (declared_view of))) (args_are h.made (an_expr value ∷ []))
+    by_type false = ap (λ o. behind_value o (λ args e. to.let_property procedure args e (declared_view of))) (args_are h.made (an_expr value ∷ []))
+
+pub let_made : (env : Env) (parameters : List project.Parameter) (gs : List Given) (written all procedure : ℕ) (of : DeclaredType) (t : Tables) (ps below : List Piece) (value : bound.Expr) → AllPassed env parameters gs written all ps below → below ≡ an_expr value ∷ []
+    → LetMade env parameters procedure of gs value (property_kind procedure all of) t ps
+let_made env parameters gs written all procedure of t ps below value h alone = record { args = args_of h.made; bound_is = h.bound; fits = let_fits env parameters gs written all procedure of t ps below value alone h }
+
+pub property_named : (t : Tables) (procedure all : ℕ) (of : DeclaredType) → ActionNamed t (property_kind procedure all of)
+property_named t procedure all of = by_type (is_object (declared_view of))
+  where
+    by_type : (b : Bool) → ActionNamed t (if b then action.SetProperty procedure all of else action.LetProperty procedure all of)
+    by_type true = tt
+    by_type false = tt
+
+-- ---- assignments
+
+pub bare_assigned : (env : Env) (place : Expr) (value : bound.Expr) → IsBare place → assigned_to env place value ≡ assigned env (place_told place) value [] (term_of env place)
+bare_assigned env (index base left args right) value h = absurd h
+bare_assigned env e value h = refl
+
+pub bare_given : (env : Env) (place : Expr) → IsBare place → is_given_with env place ≡ takes_value env (term_of env place)
+bare_given env (index base left args right) h = absurd h
+bare_given env e h = refl
+
+-- to a property without arguments
+pub property_of : (env : Env) (r : Routine) (y : plain.Term) (ps below : List Piece) → RoutineStands env r y ps below → PropertyStands env (record { space = r.space; written = r.written }) y ps below
+property_of env r y ps below s =
+    let P : Space → Type 0 = λ q. slice_get env.scope.spaces q.number ≡ Some q in
+    record {
+      number = s.number;
+      is = s.is ∙ ap (λ q. a_routine q s.number s.written) s.space_is ∙ ap (λ q. a_routine (space_view r.space.now) s.number q) s.written_is;
+      placed = subst P s.space_is s.placed;
+      none_pushed = s.none_pushed;
+    }
+
+-- to another expression that doesn't end with arguments
+pub assigns_tree : (env : Env) (place : Expr) (x : Tree) (name : Option Identifier) (d f e : Drafted) (kind : ActionKind) (given : Bool) → IsBare place → NamedBy name (term_of env place) → Leaves env place d f x → AssignsTree x name f e kind given
+    → AssignsTo env place d e kind given
+assigns_tree env place x name d f e kind given bare called l a = record {
+  grown = grown_twice d f e l.grown a.grown;
+  named = a.named;
+  takes = a.takes env place d.pieces bare l.stands;
+  stands = λ value alone.
+      let T : List Piece → Type 0 = λ ps. TreeStands env f.tables x place f.pieces ps in
+      a.stands env place value bare called (subst T alone l.stands);
+}
+
+-- to a property with arguments
+pub item_itself : (place : Place) (y : plain.Term) (space : Space) (number : ℕ) (p : Written) → y ≡ a_routine space number p → item_of place y ≡ y
+item_itself place y space number p e = ap (λ z. item_of place z) e ∙ sym e
+
+pub split_given : (env : Env) (base : Expr) (left right : Token) (args : Args) → takes_value env (target_before env base) ≡ true → is_given_with env (index base left args right) ≡ true
+split_given env base left right args h = ap (λ (b : Bool). b || is_variant_place (target_before env base)) h
+
+pub split_assigned : (env : Env) (base : Expr) (left right : Token) (args : Args) (value : bound.Expr) → takes_value env (target_before env base) ≡ true
+    → assigned_to env (index base left args right) value ≡ assigned env (place_told base) value (givens env args) (target_before env base)
+split_assigned env base left right args value h =
+    let t = target_before env base in
+    ap (λ (b : Bool). if b then assigned env (place_told base) value (givens env args) t else assigned env (place_told base) value [] (indexed env (place_told base) t (givens env args))) h
+
+-- to a member with arguments
+pub all_is : (split : Split) (all : List ExpressionNode) (s : SplitAt split all) → behind_nodes [] split.target.now ≡ nodes.tree (tree_in split.target.now) ∷ []
+    → tree_in all ≡ last_tree (behind_nodes (nodes.tree (tree_in split.target.now) ∷ []) (split.arguments.now ++ node.Index s.left s.right ∷ []))
+all_is split all s alone =
+    let base = nodes.tree (tree_in split.target.now) ∷ [] in
+    ap tree_in s.is ∙ ap last_tree (behind_both [] split.target.now split.closed.now) ∙ ap (λ is. last_tree (behind_nodes is split.closed.now)) alone
+    ∙ ap (λ (l : List ExpressionNode). last_tree (behind_nodes base l)) s.closed_is
+
+-- to what brackets make of what takes no value with arguments
+pub record Untaken (env : Env) (place : Place) (x : Term) (z : plain.Term) : Type 0 where
+  pub same : item_of place z ≡ z
+  pub takes : takes_value env z ≡ false
+  pub variant : is_variant_place z ≡ is_variant_term x
+
+pub other_untaken : (env : Env) (place : Place) (x : Term) (z y : plain.Term) → z ≡ y → item_of place y ≡ y → takes_value env y ≡ false → is_variant_place y ≡ is_variant_term x → Untaken env place x z
+other_untaken env place x z y is a b c = record {
+  same = ap (λ (t : plain.Term). item_of place t) is ∙ a ∙ sym is;
+  takes = ap (λ (t : plain.Term). takes_value env t) is ∙ b;
+  variant = ap is_variant_place is ∙ c;
+}
+
+-- arguments that are one more item
+pub index_at : (split : Split) (all : List ExpressionNode) (s : SplitAt split all) → behind_nodes [] split.target.now ≡ nodes.tree (tree_in split.target.now) ∷ [] → AddsOne split.arguments.now
+    → (args : Args) × (tree_in all ≡ index (tree_in split.target.now) s.left args s.right)
+index_at split all s alone one =
+    let base = nodes.tree (tree_in split.target.now) ∷ [] in (
+      last_arguments (one.added ∷ base),
+      all_is split all s alone ∙ ap last_tree (behind_push base split.arguments.now (node.Index s.left s.right)) ∙ ap (λ (l : List nodes.Item). last_tree (behind_node (node.Index s.left s.right) l)) (one.is base),
+    )
+
+pub action_assigned : (env : Env) (value place : Expr) (d e g : Drafted) (kind : ActionKind) (given : Bool) → d.pieces ≡ [] → ValueFor (value_for env place value) d e → AssignsTo env place e g kind given
+    → ActionStands (Some kind) (option_and_then (assigned_to env place) (value_for env place value)) d g
+action_assigned env value place d e g kind given none b a =
+    let made = b.pushed.made in
+    let alone : e.pieces ≡ an_expr made ∷ [] = b.pushed.on_top ∙ ap (λ (ps : List Piece). an_expr made ∷ ps) none in
+    let s = a.stands made alone in
+    let all = grown_twice d e g b.grown a.grown in
+    record { statements = all.statements; bodies = all.bodies; named = a.named; made = s.made; is = ap (λ o. option_and_then (assigned_to env place) o) b.pushed.is ∙ s.is; fits = s.fits }
+
+-- what an assignment says
+pub done_is : (env : Env) (place : Expr) (d e : Drafted) (kind k : ActionKind) (given g : Bool) → k ≡ kind → g ≡ given → AssignsTo env place d e kind given → AssignsTo env place d e k g
+done_is env place d e kind k given g same is a =
+    let K : ActionKind → Type 0 = λ (x : ActionKind). AssignsTo env place d e x given in
+    let G : Bool → Type 0 = λ (b : Bool). AssignsTo env place d e k b in
+    subst G (sym is) (subst K (sym same) a)

@@ -1,0 +1,15 @@
+pub mod Acting
+pub mod NodeTrees
+pub mod Called
+pub mod Assigned
+pub mod Placing
+pub mod Folding
+pub mod NamedCalls
+pub mod NamesOfMembers
+pub mod WrittenMembers
+pub mod GivenValues
+pub mod Heights
+pub mod WrittenTargets
+pub mod IndexedCalls
+pub mod NamedLets
+pub mod SetTargets

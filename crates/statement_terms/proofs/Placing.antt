@@ -1,0 +1,145 @@
+-- Places that statements name, and what With keeps.
+use Rattle.std.proofs.Common.{◌≡◌, ℕ, Bool, true, false, List, [], ◌∷◌, Option, Some, None, option_map, if◌then◌else◌, refl, sym, ap, subst, ◌∙◌}
+use Rattle.vba_base.specs.declared.place.Place.{Place}
+use Rattle.vba_expression.specs.Tree.{Expr}
+use Rattle.bound_project.specs.declared.declared_type.DeclaredType.{DeclaredType}
+use Rattle.bound_project.specs.declared.node.NodeKind.{NodeKind}
+use Rattle.bound_project.specs.declared.statement.ActionKind.TheVariants as action
+use Rattle.bound_project.specs.View.{declared_view}
+use Rattle.bound_project.specs.Expressions as bound
+use Rattle.bound_project.specs.Expressions.{Lvalue}
+use Rattle.bound_project.specs.Bodies.{action_of}
+use Rattle.bound_project.specs.Pieces.{Piece, Tables, an_expr, a_place, put}
+use Rattle.bound_project.specs.Drafts.{Drafted}
+use Rattle.bound_project.specs.Statements.{with_place, with_value}
+use Rattle.bound_members.specs.binder.specs.Terms.{Env}
+use Rattle.bound_members.specs.binder.specs.Terms as terms
+use Rattle.bound_members.specs.binder.specs.ExpressionsBound.{given_as, term_of, place_told}
+use Rattle.bound_members.specs.binder.specs.StatementsBound.{place_in, with_action}
+use Rattle.bound_members.specs.bound_calls.specs.declared.term.Ending.{Ending}
+use Rattle.bound_members.specs.bound_calls.specs.declared.term.HostMember.{HostMember}
+use Rattle.bound_members.specs.bound_calls.specs.declared.term.Routine.{Routine}
+use Rattle.bound_members.specs.bound_calls.specs.declared.term.Term.{Term}
+use Rattle.bound_members.specs.bound_calls.specs.declared.term.Term.TheVariants as term
+use Rattle.bound_members.specs.bound_calls.specs.declared.term.Tree.{Tree}
+use Rattle.statement_nodes.specs.Pushed.{ActionStands, PlacePushed}
+use Rattle.statement_terms.specs.Terms.{may_be_object}
+use Rattle.bound_members.specs.bound_calls.specs.Calls.{node_of}
+use Rattle.statement_terms.specs.Kept.{WithPlacePushed, place_ending}
+use Rattle.bound_members.specs.bound_calls.specs.Standing.{TermStands, PlaceStands}
+use Rattle.bound_members.specs.bound_calls.specs.References.{PushesGiven}
+use Rattle.bound_members.specs.bound_calls.specs.Steps.{Leaves}
+use Rattle.bound_members.specs.bound_calls.proofs.Growing.{grown_twice, grown_pieces}
+
+-- a place by its last node and its type
+pub record PlaceThere (t : Tables) (e : Ending) (x : terms.Term) (ps below : List Piece) : Type 0 where
+  pub bounded : Bool
+  pub lends : Bool
+  pub stands : PlaceStands t e.kind e.of bounded lends x ps below
+
+place_there : (env : Env) (t : Tables) (x : Term) (e : Ending) (z : terms.Term) (ps below : List Piece) → place_ending x ≡ Some e → TermStands env t x z ps below → PlaceThere t e z ps below
+place_there env t (term.Place kind of bounded lends) e z ps below is h =
+    let here : Ending = record { kind = kind; of = of } in
+    let same : here ≡ e = (let k : Some here ≡ Some e = is in cc) in
+    let P : Ending → Type 0 = λ (y : Ending). PlaceThere t y z ps below in
+    subst P same (record { bounded = bounded; lends = lends; stands = h })
+place_there env t x e z ps below is h = let k : None ≡ Some e = is in absurd cc
+
+pub place_bound : (env : Env) (tree : Expr) (x : Tree) (at : Ending) (d e g : Drafted) → Leaves env tree d e x → place_ending x.term ≡ Some at
+    → g ≡ record e { pieces = put e.tables (node_of at.kind x.place at.of) e.pieces } → PlacePushed (place_in (term_of env tree)) d g
+place_bound env tree x at d e g l is eq =
+    let P : Drafted → Type 0 = λ (z : Drafted). PlacePushed (place_in (term_of env tree)) d z in
+    let p = (place_there env e.tables x.term at (term_of env tree) e.pieces d.pieces is l.stands.term_is).stands in
+    subst P (sym eq) (record {
+      grown = grown_twice d e (record e { pieces = put e.tables (node_of at.kind x.place at.of) e.pieces }) l.grown (grown_pieces e (put e.tables (node_of at.kind x.place at.of) e.pieces));
+      made = p.at;
+      is = ap (λ (z : terms.Term). place_in z) p.is;
+      on_top = p.ends (node_of at.kind x.place at.of);
+    })
+
+pub with_pushed : (kind : NodeKind) (of : DeclaredType) (place : Place) (d e : Drafted) → may_be_object of ≡ false → e ≡ record d { pieces = put d.tables (node_of kind place of) d.pieces } → WithPlacePushed kind of d e
+with_pushed kind of place d e none eq =
+    let P : Drafted → Type 0 = λ (z : Drafted). WithPlacePushed kind of d z in
+    subst P (sym eq) (record { grown = grown_pieces d (put d.tables (node_of kind place of) d.pieces); plain = none; stands = λ at below h. h (node_of kind place of) })
+
+kept_there : (at : Lvalue) (given : Option bound.Expr) (of : DeclaredType) → may_be_object of ≡ false → (if may_be_object of then option_map with_value given else Some (with_place at)) ≡ Some (with_place at)
+kept_there at given of h = ap (λ (b : Bool). if b then option_map with_value given else Some (with_place at)) h
+
+pub with_place_bound : (env : Env) (tree : Expr) (x : Tree) (at : Ending) (d e g : Drafted) → d.pieces ≡ [] → Leaves env tree d e x → place_ending x.term ≡ Some at → WithPlacePushed at.kind at.of e g
+    → ActionStands (Some action.WithPlace) (with_action (term_of env tree) env (place_told tree)) d g
+with_place_bound env tree x at d e g empty l is w =
+    let q = place_there env e.tables x.term at (term_of env tree) e.pieces d.pieces is l.stands.term_is in
+    let p = q.stands in
+    let all = grown_twice d e g l.grown w.grown in
+    let top : g.pieces ≡ a_place p.at ∷ [] = w.stands p.at d.pieces p.ends ∙ ap (λ (ps : List Piece). a_place p.at ∷ ps) empty in
+    record {
+      statements = all.statements;
+      bodies = all.bodies;
+      named = tt;
+      made = with_place p.at;
+      is = ap (λ (z : terms.Term). with_action z env (place_told tree)) p.is
+          ∙ kept_there p.at (given_as env (terms.a_place p.at (declared_view at.of) q.bounded q.lends) (place_told tree)) at.of w.plain;
+      fits = ap (λ (ps : List Piece). action_of g.tables action.WithPlace ps) top;
+    }
+
+-- what is kept as it is
+value_kept : (env : Env) (tree : Expr) (x : Tree) (of : DeclaredType) (d e g : Drafted) → d.pieces ≡ [] → Leaves env tree d e x
+    → with_action (term_of env tree) env (place_told tree) ≡ option_map with_value (given_as env (term_of env tree) (place_told tree)) → PushesGiven x e g of
+    → ActionStands (Some action.WithValue) (with_action (term_of env tree) env (place_told tree)) d g
+value_kept env tree x of d e g empty l kept p =
+    let m = p.stands env tree d.pieces l.stands in
+    let all = grown_twice d e g l.grown p.grown in
+    let top : g.pieces ≡ an_expr m.made ∷ [] = m.on_top ∙ ap (λ (ps : List Piece). an_expr m.made ∷ ps) empty in
+    record {
+      statements = all.statements;
+      bodies = all.bodies;
+      named = tt;
+      made = with_value m.made;
+      is = kept ∙ ap (λ (o : Option bound.Expr). option_map with_value o) m.is;
+      fits = ap (λ (ps : List Piece). action_of g.tables action.WithValue ps) top;
+    }
+
+-- a place of an object, or of what may be one, is kept as it is
+with_object : (env : Env) (place : Place) (at : Lvalue) (of : DeclaredType) (bounded lends : Bool) → may_be_object of ≡ true
+    → with_action (terms.a_place at (declared_view of) bounded lends) env place ≡ option_map with_value (given_as env (terms.a_place at (declared_view of) bounded lends) place)
+with_object env place at of bounded lends h =
+    let given = given_as env (terms.a_place at (declared_view of) bounded lends) place in
+    ap (λ (b : Bool). if b then option_map with_value given else Some (with_place at)) h
+
+pub with_object_bound : (env : Env) (tree : Expr) (x : Tree) (at : Ending) (of : DeclaredType) (d e g : Drafted) → d.pieces ≡ [] → Leaves env tree d e x → place_ending x.term ≡ Some at → may_be_object at.of ≡ true → PushesGiven x e g of
+    → ActionStands (Some action.WithValue) (with_action (term_of env tree) env (place_told tree)) d g
+with_object_bound env tree x at of d e g empty l is object p =
+    let q = place_there env e.tables x.term at (term_of env tree) e.pieces d.pieces is l.stands.term_is in
+    let place = place_told tree in
+    let P : terms.Term → Type 0 = λ (y : terms.Term). with_action y env place ≡ option_map with_value (given_as env y place) in
+    value_kept env tree x of d e g empty l (subst P (sym q.stands.is) (with_object env place q.stands.at at.of q.bounded q.lends object)) p
+
+-- what is no place is kept as it is
+no_place : (env : Env) (t : Tables) (x : Term) (z : terms.Term) (ps below : List Piece) (place : Place) → place_ending x ≡ None → TermStands env t x z ps below → with_action z env place ≡ option_map with_value (given_as env z place)
+no_place env t (term.Place kind of bounded lends) z ps below place is h = let e : Ending = record { kind = kind; of = of } in let k : Some e ≡ None = is in absurd cc
+no_place env t (term.Value e) z ps below place is h =
+    let P : terms.Term → Type 0 = λ (y : terms.Term). with_action y env place ≡ option_map with_value (given_as env y place) in subst P (sym h.is) refl
+no_place env t (term.Routine r) z ps below place is h =
+    let P : terms.Term → Type 0 = λ (y : terms.Term). with_action y env place ≡ option_map with_value (given_as env y place) in subst P (sym h.is) refl
+no_place env t (term.Property p) z ps below place is h =
+    let P : terms.Term → Type 0 = λ (y : terms.Term). with_action y env place ≡ option_map with_value (given_as env y place) in subst P (sym h.property.is) refl
+no_place env t (term.Function f) z ps below place is h =
+    let P : terms.Term → Type 0 = λ (y : terms.Term). with_action y env place ≡ option_map with_value (given_as env y place) in subst P (sym h.0.is) refl
+no_place env t (term.HostMember m) z ps below place is h =
+    let P : terms.Term → Type 0 = λ (y : terms.Term). with_action y env place ≡ option_map with_value (given_as env y place) in subst P (sym h.is) refl
+no_place env t (term.SheetMember m) z ps below place is h =
+    let P : terms.Term → Type 0 = λ (y : terms.Term). with_action y env place ≡ option_map with_value (given_as env y place) in subst P (sym h.0) refl
+no_place env t term.Err z ps below place is h =
+    let P : terms.Term → Type 0 = λ (y : terms.Term). with_action y env place ≡ option_map with_value (given_as env y place) in subst P (sym h.0) refl
+no_place env t term.ErrRaise z ps below place is h =
+    let P : terms.Term → Type 0 = λ (y : terms.Term). with_action y env place ≡ option_map with_value (given_as env y place) in subst P (sym h.0) refl
+no_place env t term.ErrClear z ps below place is h =
+    let P : terms.Term → Type 0 = λ (y : terms.Term). with_action y env place ≡ option_map with_value (given_as env y place) in subst P (sym h.0) refl
+no_place env t term.ErrorWord z ps below place is h =
+    let P : terms.Term → Type 0 = λ (y : terms.Term). with_action y env place ≡ option_map with_value (given_as env y place) in subst P (sym h.0) refl
+no_place env t term.Nothing z ps below place is h =
+    let P : terms.Term → Type 0 = λ (y : terms.Term). with_action y env place ≡ option_map with_value (given_as env y place) in subst P (sym h) refl
+
+pub with_value_bound : (env : Env) (tree : Expr) (x : Tree) (of : DeclaredType) (d e g : Drafted) → d.pieces ≡ [] → Leaves env tree d e x → place_ending x.term ≡ None → PushesGiven x e g of
+    → ActionStands (Some action.WithValue) (with_action (term_of env tree) env (place_told tree)) d g
+with_value_bound env tree x of d e g empty l is p = value_kept env tree x of d e g empty l (no_place env e.tables x.term (term_of env tree) e.pieces d.pieces (place_told tree) is l.stands.term_is) p

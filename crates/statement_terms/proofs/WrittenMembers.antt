@@ -1,0 +1,249 @@
+-- Members of objects that are assigned to.
+use Rattle.std.proofs.Common.{◌≡◌, ◌≢◌, ℕ, ◌+◌, ◌==◌, Bool, true, false, ◌&&◌, ◌||◌, not, is_some, List, [], ◌∷◌, map, length, Option, Some, None, option_map, if◌then◌else◌, refl, sym, ap, subst, ◌∙◌, arith}
+use Rattle.std.specs.Prelude.{◌<◌, bytes_eq, codes}
+use Rattle.std.specs.List.{list_any}
+use Rattle.std.proofs.lemmas.List.{length-map}
+use Rattle.vba_base.specs.declared.place.Place.{Place}
+use Rattle.vba_lexer.specs.declared.token.Token.{Token}
+use Rattle.vba_words.specs.declared.identifier.Identifier.{Identifier}
+use Rattle.vba_expression.specs.Tree.{Expr, Args, index}
+use Rattle.vba_expression.specs.Nodes as nodes
+use Rattle.vba_expression.specs.Nodes.{behind_node, last_tree}
+use Rattle.vba_expression.specs.declared.node.ExpressionNode.TheVariants as node
+use Rattle.bound_project.specs.declared.node.ArgumentNames.{ArgumentNames}
+use Rattle.bound_project.specs.declared.node.NodeKind.TheVariants as kinds
+use Rattle.bound_project.specs.declared.statement.ActionKind.{ActionKind}
+use Rattle.bound_project.specs.declared.statement.ActionKind.TheVariants as action
+use Rattle.bound_project.specs.Bodies.{action_of, member_found}
+use Rattle.bound_project.specs.Expressions.{Exprs, no_exprs, given_count, named_member}
+use Rattle.bound_project.specs.Expressions as bound
+use Rattle.bound_project.specs.Lists.{above, exprs_of}
+use Rattle.bound_project.proofs.Lists.{exprs_are, is_itself}
+use Rattle.bound_project.specs.Pieces.{Piece, Tables, a_member, an_expr, by_name_in, expr_of, exprs_off, name_in, of_value, order_in, put}
+use Rattle.bound_project.specs.Drafts.{Drafted}
+use Rattle.bound_project.specs.Statements.{Action, assign_default, assign_member}
+use Rattle.bound_project.specs.View.{declared_view}
+use Rattle.bound_members.specs.binder.specs.Types.{is_object}
+use Rattle.bound_members.specs.binder.specs.Terms.{Env, Given, a_host_member, expression_of, has_names}
+use Rattle.bound_members.specs.binder.specs.Terms as plain
+use Rattle.bound_members.specs.binder.specs.ExpressionsBound.{given_as, givens, host_arguments, indexed, mark_members, named_called, takes_arguments, term_of, place_told}
+use Rattle.bound_members.specs.binder.specs.StatementsBound.{arguments_written, assigned, assigned_to, fits_written, has_written_default, is_given_with, is_variant_place, is_written_member, member_written, named_written, takes_value, target_before}
+use Rattle.bound_members.specs.bound_calls.specs.declared.term.HostMember.{HostMember}
+use Rattle.bound_members.specs.bound_calls.specs.declared.term.MemberCall.{MemberCall}
+use Rattle.bound_members.specs.bound_calls.specs.declared.term.Item.{Item}
+use Rattle.bound_members.specs.bound_calls.specs.declared.term.Item.TheVariants as item
+use Rattle.bound_members.specs.bound_calls.specs.declared.term.Term.{Term}
+use Rattle.bound_members.specs.bound_calls.specs.declared.term.Term.TheVariants as term
+use Rattle.bound_members.specs.bound_calls.specs.declared.term.Tree.{Tree}
+use Rattle.bound_members.specs.bound_calls.specs.Calls.{node_of}
+use Rattle.bound_members.specs.bound_calls.specs.Standing.{AllGiven, MemberNamed, MemberStands, NamesCame, Stands, looked_for, member_is, names_told, on_pieces}
+use Rattle.bound_members.specs.bound_calls.specs.Taking.{PushesSheet, sheet_expression}
+use Rattle.bound_members.specs.bound_calls.proofs.Growing.{grown_pieces, grown_same, grown_twice}
+use Rattle.bound_members.specs.bound_calls.proofs.Taking.{sheet_stands}
+use Rattle.bound_members.proofs.Listing.{all_written}
+use Rattle.bound_members.proofs.MemberSteps.{by_name_called, named_ends}
+use Rattle.bound_members.proofs.Naming.{given_listed, given_long, none_named}
+use Rattle.bound_members.specs.MemberCalls.{NamesFit}
+use Rattle.statement_terms.specs.Called.{ActionIs}
+use Rattle.statement_terms.specs.Members.{AssignsTerm, AssignsTree, GivesMember, IsWritten, NamedBy, WritesCall, is_written}
+use Rattle.statement_terms.proofs.Assigned.{bare_assigned, bare_given}
+
+-- ---- which members are written
+
+-- a member of an object of an unknown kind, or one that gives an object with a default member
+late_or_default : (late named object written marked : Bool) → (late || object) ≡ true → written ≡ true → (((late || named) || (object && written)) || marked) ≡ true
+late_or_default true named object written marked h k = refl
+late_or_default false true object written marked h k = refl
+late_or_default false false true true marked h k = refl
+late_or_default false false true false marked h k = let e : false ≡ true = k in absurd cc
+late_or_default false false false written marked h k = let e : false ≡ true = h in absurd cc
+
+late_named : (late named default marked : Bool) → (late || default) ≡ true → (((late || named) || default) || marked) ≡ true
+late_named true named default marked h = refl
+late_named false true default marked h = refl
+late_named false false true marked h = refl
+late_named false false false marked h = let e : false ≡ true = h in absurd cc
+
+written_is : (name : Option Identifier) (object : bound.Expr) (m : plain.HostMember) → NamedBy name (a_host_member object m) → is_written name m.of m.greatest ≡ true → is_written_member m ≡ true
+written_is None object m k h =
+    late_named (not (is_some m.greatest)) (bytes_eq m.name (codes "value")) (is_object m.of && has_written_default m.of) (list_any (λ (w : plain.HostMember). bytes_eq m.name w.name) mark_members) h
+written_is (Some x) object m k h = ap (λ (n : List ℕ). is_written_member (record { name = n; of = m.of; least = 0; greatest = m.greatest })) k ∙ h
+
+-- ---- without arguments
+
+bare_written : (env : Env) (place : Place) (object : bound.Expr) (m : plain.HostMember) (value : bound.Expr) → is_written_member m ≡ true → m.least ≡ 0 → member_written env place object m [] value ≡ Some (assign_member object m.name no_exprs value)
+bare_written env place object m value w least =
+    let done : Option Action = Some (assign_member object m.name no_exprs value) in
+    ap (λ (b : Bool). if b && (m.least == 0) then done else None) w ∙ ap (λ (n : ℕ). if n == 0 then done else None) least
+
+bare_fits : (t : Tables) (name : ℕ) (object value : bound.Expr) → action_of t (action.AssignMember name 0) (a_member object (name_in t name) 0 ∷ an_expr value ∷ []) ≡ Some (assign_member object (name_in t name) no_exprs value)
+bare_fits t name object value =
+    let n = name_in t name in
+    ap (λ (b : Bool). if b then Some (assign_member object n no_exprs value) else None) (is_itself n no_exprs)
+
+pub member_assigned : (m : HostMember) (name : Option Identifier) (place : Place) (d e : Drafted) → m.name < length d.tables.constants → m.least ≡ 0 → is_written name (declared_view m.of) m.greatest ≡ true
+    → e ≡ record d { pieces = put d.tables (node_of (kinds.MemberThere m.name 0) place m.of) d.pieces } → AssignsTerm place (term.HostMember m) name d e (action.AssignMember m.name 0) true
+member_assigned m name place d e there least written eq =
+    let P : Drafted → Type 0 = λ (z : Drafted). AssignsTerm place (term.HostMember m) name d z (action.AssignMember m.name 0) true in
+    let t = d.tables in
+    let M = member_is t m in
+    subst P (sym eq) (record {
+      grown = grown_pieces d (put t (node_of (kinds.MemberThere m.name 0) place m.of) d.pieces);
+      named = there;
+      takes = λ env z ps below h. ap (λ (y : plain.Term). takes_value env y) h.is;
+      stands = λ env z value k h.
+          let N : plain.Term → Type 0 = λ (y : plain.Term). NamedBy name y in
+          record {
+            made = assign_member h.object M.name no_exprs value;
+            is = ap (λ (y : plain.Term). assigned env place value [] y) h.is ∙ bare_written env place h.object M value (written_is name h.object M (subst N h.is k) written) least;
+            fits = ap (λ (ps : List Piece). action_of t (action.AssignMember m.name 0) (of_value (λ x. a_member x (name_in t m.name) 0) ps)) h.on_top ∙ bare_fits t m.name h.object value;
+          };
+    })
+
+member_there : (m : HostMember) (d f : Drafted) → PushesSheet d f → (z : plain.Term) → z ≡ a_host_member sheet_expression (member_is d.tables m) → z ≡ a_host_member sheet_expression (member_is f.tables m)
+member_there m d f s z h = h ∙ ap (λ (t : Tables). a_host_member sheet_expression (member_is t m)) (sym s.tables_are)
+
+pub sheet_assigned : (m : HostMember) (name : Option Identifier) (place : Place) (d f e : Drafted) (kind : ActionKind) → PushesSheet d f → AssignsTerm place (term.HostMember m) name f e kind true → AssignsTerm place (term.SheetMember m) name d e kind true
+sheet_assigned m name place d f e kind s a = record {
+  grown = grown_twice d f e s.grown a.grown;
+  named = a.named;
+  takes = λ env z ps below h. a.takes env z (an_expr sheet_expression ∷ ps) below (record { object = sheet_expression; is = member_there m d f s z h.0; on_top = ap (λ (qs : List Piece). an_expr sheet_expression ∷ qs) h.1 });
+  stands = λ env z value k h. a.stands env z value k (sheet_stands m d f s env z (an_expr value ∷ []) h);
+}
+
+term_assigned : (x : Tree) (name : Option Identifier) (d e : Drafted) (kind : ActionKind) (given : Bool) → AssignsTerm x.place x.term name d e kind given → AssignsTree x name d e kind given
+term_assigned x name d e kind given a = record {
+  grown = a.grown;
+  named = a.named;
+  takes = λ env tree below bare h. bare_given env tree bare ∙ a.takes env (term_of env tree) d.pieces below h.term_is;
+  stands = λ env tree value bare k h.
+      let B : Place → Type 0 = λ (p : Place). ActionIs kind (assigned env p value [] (term_of env tree)) e.tables e.pieces in
+      let m = subst B h.place_is (a.stands env (term_of env tree) value k h.term_is) in
+      record { made = m.made; is = bare_assigned env tree value bare ∙ m.is; fits = m.fits };
+}
+
+pub tree_assigned : (x : Tree) (name : Option Identifier) (t : Term) (d e : Drafted) (kind k : ActionKind) (given g : Bool) → x.term ≡ t → k ≡ kind → g ≡ given → AssignsTerm x.place t name d e kind given → AssignsTree x name d e k g
+tree_assigned x name t d e kind k given g is same flag a =
+    let T : Term → Type 0 = λ (y : Term). AssignsTerm x.place y name d e kind given in
+    let K : ActionKind → Type 0 = λ (l : ActionKind). AssignsTree x name d e l given in
+    let G : Bool → Type 0 = λ (b : Bool). AssignsTree x name d e k b in
+    subst G (sym flag) (subst K (sym same) (term_assigned x name d e kind given (subst T (sym is) a)))
+
+-- ---- with arguments
+
+some_fit : (m : plain.HostMember) (gs : List Given) → length gs ≢ 0 → takes_arguments m (length gs) ≡ true → has_written_default m.of ≡ true → fits_written m gs ≡ true
+some_fit m [] some takes k = absurd (some refl)
+some_fit m (g ∷ gs) some takes k = ap (λ (b : Bool). b && has_written_default m.of) takes ∙ k
+
+-- a member with arguments is written with what these are
+is_arguments : (env : Env) (place : Place) (object : bound.Expr) (m : plain.HostMember) (count : ℕ) (gs : List Given) (value : bound.Expr) → count ≡ length gs → count ≢ 0 → takes_arguments m count ≡ true → has_written_default m.of ≡ true
+    → (not (is_some m.greatest) || is_object m.of) ≡ true → member_written env place object m gs value ≡ arguments_written env place object m gs value
+is_arguments env place object m count gs value long some takes k late =
+    let N : ℕ → Type 0 = λ (n : ℕ). n ≢ 0 in
+    let T : ℕ → Type 0 = λ (n : ℕ). takes_arguments m n ≡ true in
+    let written : is_written_member m ≡ true =
+    late_or_default (not (is_some m.greatest)) (bytes_eq m.name (codes "value")) (is_object m.of) (has_written_default m.of) (list_any (λ (w : plain.HostMember). bytes_eq m.name w.name) mark_members) late k in
+    let fits : fits_written m gs ≡ true = some_fit m gs (subst N long some) (subst T long takes) k in
+    let done = arguments_written env place object m gs value in
+    ap (λ (b : Bool). if b && fits_written m gs then done else None) written ∙ ap (λ (b : Bool). if b then done else None) fits
+
+call_written : (env : Env) (place : Place) (object : bound.Expr) (m : plain.HostMember) (named : ℕ) (gs : List Given) (es : List bound.Expr) (value : bound.Expr) → NamesCame [] named gs → AllGiven (given_as env) gs es
+    → arguments_written env place object m gs value ≡ Some (assign_member object m.name (exprs_of es) value)
+call_written env place object m named gs es value came values =
+    let done : Option Exprs → Option Action = λ (o : Option Exprs). option_map (λ (xs : Exprs). assign_member object m.name xs value) o in
+    ap (λ (b : Bool). if b then named_written env place object m gs value else done (host_arguments env gs)) (none_named named gs came) ∙ ap done (given_listed (given_as env) gs es values)
+
+by_name_written : (env : Env) (place : Place) (object : bound.Expr) (m : plain.HostMember) (gs : List Given) (made : bound.Node) (value : bound.Expr) → bytes_eq m.name (codes "raise") ≡ false → named_called env object m gs ≡ Some made → has_names gs ≡ true
+    → arguments_written env place object m gs value ≡ Some (assign_default (expression_of made place m.of) value)
+by_name_written env place object m gs made value other called names =
+    let plainly : Option Action = option_map (λ (xs : Exprs). assign_member object m.name xs value) (host_arguments env gs) in
+    let done : Option bound.Node → Option Action = λ (o : Option bound.Node). option_map (λ (node : bound.Node). assign_default (expression_of node place m.of) value) o in
+    ap (λ (b : Bool). if b then named_written env place object m gs value else plainly) names ∙ ap (λ (b : Bool). if b then None else done (named_called env object m gs)) other ∙ ap done called
+
+call_fits : (t : Tables) (name given count : ℕ) (object value : bound.Expr) (es : List bound.Expr) (ps : List Piece) → count ≡ length es → given ≡ given_count (exprs_of es)
+    → ps ≡ above (map an_expr es) (a_member object (name_in t name) given ∷ an_expr value ∷ []) → action_of t (action.AssignMember name count) ps ≡ Some (assign_member object (name_in t name) (exprs_of es) value)
+call_fits t name given count object value es ps c g on_top =
+    let n = name_in t name in
+    let top : ps ≡ above (map an_expr es) (a_member object n (given_count (exprs_of es)) ∷ an_expr value ∷ []) = on_top ∙ ap (λ (k : ℕ). above (map an_expr es) (a_member object n k ∷ an_expr value ∷ [])) g in
+    ap (λ (k : ℕ). member_found n (exprs_off k ps no_exprs)) c ∙ ap (λ (st : List Piece). member_found n (exprs_off (length es) st no_exprs)) top
+    ∙ ap (λ o. member_found n o) (exprs_are es (a_member object n (given_count (exprs_of es)) ∷ an_expr value ∷ []))
+    ∙ ap (λ (b : Bool). if b then Some (assign_member object n (exprs_of es) value) else None) (is_itself n (exprs_of es))
+
+indexed_given : (env : Env) (base : Expr) (left right : Token) (args : Args) (object : bound.Expr) (m : plain.HostMember) → target_before env base ≡ a_host_member object m → is_given_with env (index base left args right) ≡ true
+indexed_given env base left right args object m h = ap (λ (t : plain.Term). takes_value env t || is_variant_place t) h
+
+indexed_assigned : (env : Env) (base : Expr) (left right : Token) (args : Args) (object : bound.Expr) (m : plain.HostMember) (value : bound.Expr) → target_before env base ≡ a_host_member object m
+    → assigned_to env (index base left args right) value ≡ member_written env (place_told base) object m (givens env args) value
+indexed_assigned env base left right args object m value h =
+    let p = place_told base in
+    ap (λ (t : plain.Term). if takes_value env t then assigned env p value (givens env args) t else assigned env p value [] (indexed env p t (givens env args))) h
+
+-- an assignment to a member whose arguments have no names
+pub writes_plain : (x : MemberCall) (d : Drafted) → MemberNamed d.tables x → x.names ≡ None → IsWritten x → WritesCall x d d (action.AssignMember x.member.name x.count)
+writes_plain x d named none w = record {
+  grown = grown_same d;
+  named = named.0;
+  stands = λ env base args value s.
+      let t = d.tables in
+      let m = member_is t x.member in
+      let gs = givens env args in
+      let place = place_told base in
+      let N : Option ArgumentNames → Type 0 = λ (o : Option ArgumentNames). NamesCame (names_told t o) x.named gs in
+      let long : x.count ≡ length gs = omega (arith, s.count_is, given_long (given_as env) gs s.made s.values) in
+      record {
+        made = assign_member s.object m.name (exprs_of s.made) value;
+        is = is_arguments env place s.object m x.count gs value long w.some (w.takes t) w.default w.written ∙ call_written env place s.object m x.named gs s.made value (subst N none s.names) s.values;
+        fits = call_fits t x.member.name x.given x.count s.object value s.made d.pieces s.count_is (w.given_is ∙ sym (all_written s.made x.written s.written_is))
+            (s.on_top ∙ ap (λ (o : Option ArgumentNames). above (map an_expr s.made) (looked_for t x.member.name o x.given s.object ∷ an_expr value ∷ [])) none);
+      };
+}
+
+-- an assignment to what a member gives whose last arguments have names
+pub writes_named : (x : MemberCall) (by : ArgumentNames) (d e : Drafted) → x.names ≡ Some by → IsWritten x → bytes_eq (name_in d.tables x.member.name) (codes "raise") ≡ false → NamesFit d.tables x by
+    → e ≡ record d { pieces = put d.tables (node_of (kinds.NamedMember x.member.name by x.count) x.place x.member.of) d.pieces } → WritesCall x d e action.AssignDefault
+writes_named x by d e told w other fit eq =
+    let t = d.tables in
+    let n = node_of (kinds.NamedMember x.member.name by x.count) x.place x.member.of in
+    let P : Drafted → Type 0 = λ (z : Drafted). WritesCall x d z action.AssignDefault in
+    subst P (sym eq) (record {
+      grown = grown_pieces d (put t n d.pieces);
+      named = tt;
+      stands = λ env base args value s.
+          let m = member_is t x.member in
+          let gs = givens env args in
+          let how = by_name_in t by in
+          let N : Option ArgumentNames → Type 0 = λ (o : Option ArgumentNames). NamesCame (names_told t o) x.named gs in
+          let long : x.count ≡ length gs = omega (arith, s.count_is, given_long (given_as env) gs s.made s.values) in
+          let all : x.named ≡ length how.names = fit.all ∙ sym (length-map (order_in t by.order) (name_in t)) in
+          let count : length gs ≡ by.before + x.named = omega (arith, fit.count, long) in
+          let r = by_name_called env s.object m how x.named gs s.made fit.some all count fit.takes (subst N told s.names) s.values in
+          let made = named_member s.object (name_in t x.member.name) how (exprs_of s.made) in
+          let top : put t n d.pieces ≡ expr_of n made ∷ an_expr value ∷ [] =
+          named_ends t n x.member.name x.given x.count by s.object s.made d.pieces (an_expr value ∷ []) s.count_is (w.given_is ∙ sym (all_written s.made x.written s.written_is))
+          (s.on_top ∙ ap (λ (o : Option ArgumentNames). above (map an_expr s.made) (looked_for t x.member.name o x.given s.object ∷ an_expr value ∷ [])) told) in
+          let A : Place → Type 0 = λ (place : Place). ActionIs action.AssignDefault (member_written env place s.object m gs value) t (put t n d.pieces) in
+          subst A s.place_is (record {
+            made = assign_default (expression_of made x.place m.of) value;
+            is = is_arguments env x.place s.object m x.count gs value long w.some (w.takes t) w.default w.written ∙ by_name_written env x.place s.object m gs made value other r.0 r.1;
+            fits = ap (λ (ps : List Piece). action_of t action.AssignDefault ps) top;
+          });
+    })
+
+-- a member with its arguments, at the end of nodes
+pub member_given : (env : Env) (x : MemberCall) (kind : ActionKind) (left right : Token) (d e : Drafted) (is : List nodes.Item) (below : List Piece) → WritesCall x d e kind → Stands env d.tables (item.Member x ∷ []) is d.pieces (on_pieces below)
+    → GivesMember env (last_tree (behind_node (node.Index left right) is)) kind e.tables e.pieces below
+member_given env x kind left right d e [] below w h = absurd h
+member_given env x kind left right d e (nodes.tree u ∷ is) below w h = absurd h
+member_given env x kind left right d e (nodes.arguments args ∷ []) below w h = absurd h
+member_given env x kind left right d e (nodes.arguments args ∷ nodes.arguments more ∷ is) below w h = absurd h
+member_given env x kind left right d e (nodes.arguments args ∷ nodes.tree base ∷ is) below w h =
+    let s : MemberStands env d.tables x base args d.pieces h.0 = h.1.0 in
+    let M = member_is d.tables x.member in
+    let S : List Piece → Type 0 = λ (l : List Piece). MemberStands env d.tables x base args d.pieces l in
+    record {
+      given = indexed_given env base left right args s.object M s.is;
+      does = λ value alone.
+          let there : MemberStands env d.tables x base args d.pieces (an_expr value ∷ []) = subst S (h.1.1.1 ∙ alone) s in
+          let done = w.stands env base args value there in
+          record { made = done.made; is = indexed_assigned env base left right args there.object M value there.is ∙ done.is; fits = done.fits };
+    }

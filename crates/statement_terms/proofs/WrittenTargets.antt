@@ -1,0 +1,217 @@
+-- Places and values that are assigned to.
+use Rattle.std.proofs.Common.{◌≡◌, ℕ, Bool, true, false, List, [], ◌∷◌, Option, Some, None, if◌then◌else◌, refl, sym, ap, subst, ◌∙◌}
+use Rattle.std.specs.Prelude.{◌||◌, not, MatchBool}
+use Rattle.vba_base.specs.declared.place.Place.{Place}
+use Rattle.vba_values.specs.Types.{Declared}
+use Rattle.vba_words.specs.declared.identifier.Identifier.{Identifier}
+use Rattle.bound_project.specs.declared.node.NodeKind.{NodeKind}
+use Rattle.bound_project.specs.declared.node.NodeKind.TheVariants as kinds
+use Rattle.bound_project.specs.declared.node.Node.{Node}
+use Rattle.bound_project.specs.declared.statement.ActionKind.{ActionKind}
+use Rattle.bound_project.specs.declared.statement.ActionKind.TheVariants as action
+use Rattle.bound_project.specs.Bodies.{action_of, item_found}
+use Rattle.bound_project.specs.Expressions.{Exprs, Lvalue, no_exprs, expr, load, element_value, field_value, call, library, host_member, named_member, no_args, in_order}
+use Rattle.bound_project.specs.Expressions as bound
+use Rattle.bound_project.specs.Pieces.{Piece, Tables, a_place, an_expr, arguments_off, expr_of, exprs_off, misfit, by_name_in, name_in, of_place, of_value, of_value_found, order_in, put, put_kind}
+use Rattle.bound_project.specs.Drafts.{Drafted}
+use Rattle.bound_project.specs.Statements.{assign, assign_default, assign_item}
+use Rattle.bound_project.specs.View.{base_view, declared_view}
+use Rattle.bound_members.specs.binder.specs.Types.{is_object}
+use Rattle.bound_members.specs.binder.specs.Terms.{Env, expression_of}
+use Rattle.bound_members.specs.binder.specs.Terms as plain
+use Rattle.bound_members.specs.binder.specs.ExpressionsBound.{has_object}
+use Rattle.bound_members.specs.binder.specs.StatementsBound.{assigned, default_written, has_written_default, takes_value, value_written}
+use Rattle.bound_members.specs.bound_calls.specs.declared.term.Ending.{Ending}
+use Rattle.bound_members.specs.bound_calls.specs.declared.term.Term.{Term}
+use Rattle.bound_members.specs.bound_calls.specs.declared.term.Term.TheVariants as term
+use Rattle.bound_members.specs.bound_calls.specs.Calls.{node_of}
+use Rattle.bound_members.specs.bound_calls.specs.References.{EndingGives}
+use Rattle.bound_members.specs.bound_calls.specs.Standing.{ValueEnds}
+use Rattle.bound_members.specs.bound_calls.proofs.Growing.{grown_pieces, grown_same}
+use Rattle.bound_members.specs.bound_calls.proofs.LastNodes.{any_node, found_passes, member_found_passes, named_found_passes, place_passes, value_passes}
+use Rattle.statement_terms.specs.Members.{AssignsTerm}
+use Rattle.statement_terms.specs.Targets.{AssignsIndexed, EndsItem, EndsObject, ends_value, gives_object}
+
+-- ---- places
+
+to_place : (env : Env) (place : Place) (v : bound.Expr) (t : plain.Term) (x : Lvalue) (of : Declared) (bounded lends : Bool) → t ≡ plain.a_place x of bounded lends → is_object of ≡ false → assigned env place v [] t ≡ Some (assign x v)
+to_place env place v t x of bounded lends e h =
+    ap (λ (z : plain.Term). assigned env place v [] z) e
+    ∙ ap (λ (b : Bool). if b then default_written (expression_of (load x) place of) of v else Some (assign x v)) h
+
+pub plain_assigned : (place : Place) (at : Ending) (d e : Drafted) → is_object (declared_view at.of) ≡ false → e ≡ record d { pieces = put d.tables (node_of at.kind place at.of) d.pieces }
+    → (bounded lends : Bool) (name : Option Identifier) → AssignsTerm place (term.Place at.kind at.of bounded lends) name d e action.Assign false
+plain_assigned place at d e none eq bounded lends name =
+    let P : Drafted → Type 0 = λ (z : Drafted). AssignsTerm place (term.Place at.kind at.of bounded lends) name d z action.Assign false in
+    let n = node_of at.kind place at.of in
+    subst P (sym eq) (record {
+      grown = grown_pieces d (put d.tables n d.pieces);
+      named = tt;
+      takes = λ env z ps below h. ap (λ (y : plain.Term). takes_value env y) h.is;
+      stands = λ env z value k h.
+          record {
+            made = assign h.at value;
+            is = to_place env place value z h.at (declared_view at.of) bounded lends h.is none;
+            fits = ap (λ (ps : List Piece). action_of d.tables action.Assign ps) (h.ends n);
+          };
+    })
+
+to_object : (env : Env) (place : Place) (v : bound.Expr) (t : plain.Term) (x : Lvalue) (of : Declared) (bounded lends : Bool) → t ≡ plain.a_place x of bounded lends → is_object of ≡ true → has_written_default of ≡ true
+    → assigned env place v [] t ≡ Some (assign_default (expression_of (load x) place of) v)
+to_object env place v t x of bounded lends e h k =
+    let target = expression_of (load x) place of in
+    ap (λ (z : plain.Term). assigned env place v [] z) e ∙ ap (λ (b : Bool). if b then default_written target of v else Some (assign x v)) h
+    ∙ ap (λ (b : Bool). if b then Some (assign_default target v) else None) k
+
+pub object_assigned : (place : Place) (at : Ending) (d f e : Drafted) → is_object (declared_view at.of) ≡ true → has_written_default (declared_view at.of) ≡ true
+    → f ≡ record d { pieces = put d.tables (node_of at.kind place at.of) d.pieces } → e ≡ record f { pieces = put f.tables (node_of kinds.Load place at.of) f.pieces }
+    → (bounded lends : Bool) (name : Option Identifier) → AssignsTerm place (term.Place at.kind at.of bounded lends) name d e action.AssignDefault false
+object_assigned place at d f e object written first second bounded lends name =
+    let n = node_of at.kind place at.of in
+    let m = node_of kinds.Load place at.of in
+    let low = put d.tables n d.pieces in
+    let F : Drafted = record d { pieces = low } in
+    let E : Drafted = record d { pieces = put d.tables m low } in
+    let P : Drafted → Type 0 = λ (z : Drafted). AssignsTerm place (term.Place at.kind at.of bounded lends) name d z action.AssignDefault false in
+    let is : e ≡ E = second ∙ ap (λ (z : Drafted). record z { pieces = put z.tables m z.pieces }) first in
+    subst P (sym is) (record {
+      grown = grown_pieces d (put d.tables m low);
+      named = tt;
+      takes = λ env z ps below h. ap (λ (y : plain.Term). takes_value env y) h.is;
+      stands = λ env z value k h.
+          let target = expression_of (load h.at) place (declared_view at.of) in
+          record {
+            made = assign_default target value;
+            is = to_object env place value z h.at (declared_view at.of) bounded lends h.is object written;
+            fits = ap (λ (ps : List Piece). action_of d.tables action.AssignDefault (of_place (λ x. expr_of m (load x)) ps)) (h.ends n);
+          };
+    })
+
+-- ---- values that are no elements
+
+abbrev is_element : bound.Node → Bool
+is_element (element_value e es) = true
+is_element node = false
+
+-- no element is on top
+none_on_top : List Piece → Bool
+none_on_top (an_expr (expr made place of operand) ∷ st) = not (is_element made)
+none_on_top st = true
+
+no_element_there : (t : Tables) (n : Node) (k : NodeKind) (st : List Piece) → ends_value k ≡ true → none_on_top (put_kind t n k st) ≡ true
+unfolding none_on_top
+no_element_there t n kinds.Load st h = place_passes none_on_top refl (λ x. expr_of n (load x)) (λ x rest. refl) st
+no_element_there t n (kinds.FieldValue i) st h = value_passes none_on_top refl (λ e. expr_of n (field_value e i)) (λ e rest. refl) st
+no_element_there t n (kinds.Call p count) st h = found_passes none_on_top refl (λ args. expr_of n (call p args)) (λ args rest. refl) (arguments_off count st no_args)
+no_element_there t n (kinds.CallInOrder p count order) st h =
+    found_passes none_on_top refl (λ args. expr_of n (call p (in_order (order_in t order) args))) (λ args rest. refl) (arguments_off count st no_args)
+no_element_there t n (kinds.Library f text_form count compare one) st h =
+    found_passes none_on_top refl (λ es. expr_of n (library f text_form es compare (base_view one))) (λ es rest. refl) (exprs_off count st no_exprs)
+no_element_there t n (kinds.HostMember i count) st h =
+    member_found_passes none_on_top refl (name_in t i) (λ e es. expr_of n (host_member e (name_in t i) es)) (λ e es rest. refl) (exprs_off count st no_exprs)
+no_element_there t n (kinds.NamedMember i by count) st h =
+    named_found_passes none_on_top refl (name_in t i) (by_name_in t by) (λ e es. expr_of n (named_member e (name_in t i) (by_name_in t by) es)) (λ e es rest. refl) (exprs_off count st no_exprs)
+no_element_there t n (kinds.HostObject reference) st h = refl
+no_element_there t n kinds.ActiveSheet st h = refl
+no_element_there t n k st h = let e : false ≡ true = h in absurd cc
+
+not_true : (b : Bool) → not b ≡ true → b ≡ false
+not_true false h = refl
+not_true true h = absurd cc
+
+no_element : (t : Tables) (k : NodeKind) (made : bound.Node) (ps below : List Piece) → ends_value k ≡ true → ValueEnds t k made ps below → is_element made ≡ false
+unfolding none_on_top
+no_element t k made ps below h ends = not_true (is_element made) (sym (ap none_on_top (ends any_node)) ∙ no_element_there t any_node k ps h)
+
+or_left : (a b : Bool) → a ≡ true → (a || b) ≡ true
+or_left a b h = ap (λ (c : Bool). c || b) h
+
+or_right : (a b : Bool) → b ≡ true → (a || b) ≡ true
+or_right true b h = refl
+or_right false b h = h
+
+pub ends_object : (e : Ending) → is_object (declared_view e.of) ≡ true → EndsObject e
+ends_object e object t made ps below ends = any_made made
+  where
+    any_made : (made : bound.Node) → gives_object made (declared_view e.of) ≡ true
+    any_made (element_value x es) = object
+    any_made made = or_left (is_object (declared_view e.of)) (has_object made (declared_view e.of)) object
+
+variant_gives : (made : bound.Node) (of : Declared) → is_element made ≡ false → has_object made of ≡ true → gives_object made of ≡ true
+variant_gives (element_value x es) of n h = let e : true ≡ false = n in absurd cc
+variant_gives made of n h = or_right (is_object of) (has_object made of) h
+
+pub ends_variant : (e : Ending) (gives : Bool) → ends_value e.kind ≡ true → EndingGives e gives → MatchBool gives (EndsObject e) (Unit {0})
+ends_variant e true value g = λ t made ps below ends. variant_gives made (declared_view e.of) (no_element t e.kind made ps below value ends) (g t made ps below ends)
+ends_variant e false value g = tt
+
+value_done : (place : Place) (v : bound.Expr) (made : bound.Node) (of : Declared) → gives_object made of ≡ true → has_written_default of ≡ true
+    → value_written place v made of ≡ Some (assign_default (expression_of made place of) v)
+value_done place v (element_value x es) of h k =
+    let target = expression_of (element_value x es) place of in
+    ap (λ (b : Bool). if b then default_written target of v else Some (assign_item x es v)) h ∙ ap (λ (b : Bool). if b then Some (assign_default target v) else None) k
+value_done place v made of h k =
+    let target = expression_of made place of in
+    ap (λ (b : Bool). if b then default_written target of v else None) h ∙ ap (λ (b : Bool). if b then Some (assign_default target v) else None) k
+
+pub value_assigned : (place : Place) (ending : Ending) (d e : Drafted) → EndsObject ending → has_written_default (declared_view ending.of) ≡ true
+    → e ≡ record d { pieces = put d.tables (node_of ending.kind place ending.of) d.pieces } → (name : Option Identifier) → AssignsTerm place (term.Value ending) name d e action.AssignDefault false
+value_assigned place ending d e gives written eq name =
+    let P : Drafted → Type 0 = λ (z : Drafted). AssignsTerm place (term.Value ending) name d z action.AssignDefault false in
+    let n = node_of ending.kind place ending.of in
+    subst P (sym eq) (record {
+      grown = grown_pieces d (put d.tables n d.pieces);
+      named = tt;
+      takes = λ env z ps below h. ap (λ (y : plain.Term). takes_value env y) h.is;
+      stands = λ env z value k h.
+          let of = declared_view ending.of in
+          record {
+            made = assign_default (expression_of h.made place of) value;
+            is = ap (λ (y : plain.Term). assigned env place value [] y) h.is ∙ value_done place value h.made of (gives d.tables h.made d.pieces (an_expr value ∷ []) h.ends) written;
+            fits = ap (λ (ps : List Piece). action_of d.tables action.AssignDefault ps) (h.ends n);
+          };
+    })
+
+-- ---- elements
+
+-- numbers stand above a value of which they mean an item
+record ItemThere (made : bound.Node) (o : Option (Exprs × List Piece)) (below : List Piece) : Type 0 where
+  pub base : bound.Expr
+  pub numbers : Exprs
+  pub made_is : made ≡ element_value base numbers
+  pub is : o ≡ Some (numbers, an_expr base ∷ below)
+
+item_at : (made : bound.Node) (es : Exprs) (st below : List Piece) → of_value (λ x. expr_of any_node (element_value x es)) st ≡ expr_of any_node made ∷ below → ItemThere made (Some (es, st)) below
+item_at made es (an_expr x ∷ st) below h =
+    let same : element_value x es ≡ made = (let e : expr_of any_node (element_value x es) ∷ st ≡ expr_of any_node made ∷ below = h in cc) in
+    let rest : st ≡ below = (let e : expr_of any_node (element_value x es) ∷ st ≡ expr_of any_node made ∷ below = h in cc) in
+    record { base = x; numbers = es; made_is = sym same; is = ap (λ (l : List Piece). Some (es, an_expr x ∷ l)) rest }
+item_at made es st below h = let e : misfit ≡ expr_of any_node made ∷ below = h in absurd cc
+
+item_there : (made : bound.Node) (o : Option (Exprs × List Piece)) (below : List Piece) → of_value_found (λ x es. expr_of any_node (element_value x es)) o ≡ expr_of any_node made ∷ below → ItemThere made o below
+item_there made None below h = let e : misfit ≡ expr_of any_node made ∷ below = h in absurd cc
+item_there made (Some found) below h = item_at made found.0 found.1 below h
+
+item_written : (place : Place) (v base : bound.Expr) (numbers : Exprs) (of : Declared) → is_object of ≡ false → value_written place v (element_value base numbers) of ≡ Some (assign_item base numbers v)
+item_written place v base numbers of h =
+    ap (λ (b : Bool). if b then default_written (expression_of (element_value base numbers) place of) of v else Some (assign_item base numbers v)) h
+
+pub item_indexed : (place : Place) (ending : Ending) (count : ℕ) (d : Drafted) → EndsItem ending count → AssignsIndexed place (term.Value ending) d d (action.AssignItem count)
+item_indexed place ending count d ends = record {
+  grown = grown_same d;
+  named = tt;
+  stands = λ env z value h.
+      let of = declared_view ending.of in
+      let below : List Piece = an_expr value ∷ [] in
+      let K : NodeKind → Type 0 = λ (k : NodeKind). put_kind d.tables any_node k d.pieces ≡ expr_of any_node h.made ∷ below in
+      let there = item_there h.made (exprs_off count d.pieces no_exprs) below (subst K ends.kind_is (h.ends any_node)) in
+      record {
+        made = assign_item there.base there.numbers value;
+        is = ap (λ (y : plain.Term). assigned env place value [] y) h.is ∙ ap (λ (n : bound.Node). value_written place value n of) there.made_is ∙ item_written place value there.base there.numbers of ends.no_object;
+        fits = ap (λ o. item_found o) there.is;
+      };
+}
+
+-- what brackets made
+pub term_indexed : (place : Place) (x : Term) (d e : Drafted) (kind : ActionKind) → AssignsTerm place x None d e kind false → AssignsIndexed place x d e kind
+term_indexed place x d e kind a = record { grown = a.grown; named = a.named; stands = λ env z value h. a.stands env z value tt h }

@@ -1,0 +1,17 @@
+use Rattle.std.proofs.lemmas.Result.{IfOk-weaker}
+use Rattle.std.specs.Prelude.{option_map, true}
+use Rattle.bound_project.specs.DraftView.{draft_view}
+use Rattle.bound_members.specs.bound_calls.specs.declared.term.Term.TheVariants as term
+use Rattle.statement_terms.specs.Members.{AssignsTerm}
+use Rattle.statement_terms.proofs.WrittenMembers.{sheet_assigned}
+use Rattle.statement_terms.proofs.member_targets.assign_sheet.Goals as goal
+
+pub returns : goal.returns
+returns c =
+    let d = draft_view c.args.draft.now in
+    let f = draft_view c.push_sheet.new.draft in
+    let e = draft_view c.assign_member.new.draft in
+    let m = c.args.member in
+    let place = c.args.place in
+    let name = option_map (λ name. name.now) c.args.name in
+    IfOk-weaker c.assign_member.result (λ k. AssignsTerm place (term.HostMember m) name f e k true) (λ k. AssignsTerm place (term.SheetMember m) name d e k true) (λ k h. sheet_assigned m name place d f e k c.in_ok-push_sheet.ensures h) c.assign_member.ensures

@@ -1,0 +1,7 @@
+use Rattle.bound_project.specs.DraftView.{draft_view}
+use Rattle.statement_terms.proofs.WrittenTargets.{object_assigned}
+use Rattle.statement_terms.proofs.targets.assign_object.Goals as goal
+
+pub returns : goal.returns
+returns c =
+    object_assigned c.args.place c.args.at (draft_view c.args.draft.now) (draft_view c.push_node.new.draft) (draft_view c.push_node-2.new.draft) c.requires.object c.requires.written c.in_ok-push_node.ensures c.in_ok-push_node-2.ensures

@@ -1,0 +1,47 @@
+-- Serves the code: the value of an assignment.
+use Rattle.std.specs.Prelude.{◌≡◌, Bool, true, false, not, List, ◌∷◌, Option, Some}
+use Rattle.vba_base.specs.declared.place.Place.{Place}
+use Rattle.vba_expression.specs.Tree.{Expr}
+use Rattle.bound_project.specs.Expressions as bound
+use Rattle.bound_project.specs.Drafts.{Drafted}
+use Rattle.bound_project.specs.Pieces.{Piece, an_expr}
+use Rattle.bound_members.specs.binder.specs.Terms.{Env}
+use Rattle.bound_members.specs.binder.specs.Terms as plain
+use Rattle.bound_members.specs.binder.specs.ExpressionsBound.{given_as, operand_of, term_of, place_told}
+use Rattle.bound_members.specs.bound_calls.specs.declared.term.Term.{Term}
+use Rattle.bound_members.specs.bound_calls.specs.declared.term.Term.TheVariants as term
+use Rattle.bound_members.specs.bound_calls.specs.declared.term.Tree.{Tree}
+use Rattle.bound_members.specs.bound_calls.specs.Standing.{TermStands, TreeStands, Grown}
+use Rattle.statement_terms.specs.Terms.{may_be_object}
+
+-- an expression that was pushed
+pub record ExprPushed (found : Option bound.Expr) (ps below : List Piece) : Type 0 where
+  pub made : bound.Expr
+  pub is : found ≡ Some made
+  pub on_top : ps ≡ an_expr made ∷ below
+
+-- a place or a value that is no object and can be none
+abbrev pub is_plain : Term → Bool
+is_plain (term.Place kind of bounded lends) = not (may_be_object of)
+is_plain (term.Value e) = not (may_be_object e.of)
+is_plain x = false
+
+-- the value of an assignment, by whether the target takes it as it is
+abbrev pub taken_for : Bool → Env → plain.Term → Place → Option bound.Expr
+taken_for true env t place = given_as env t place
+taken_for false env t place = operand_of env t place
+
+pub record PushesFor (given : Bool) (x : Tree) (d e : Drafted) : Type 0 where
+  pub grown : Grown d e
+  pub stands : (env : Env) (tree : Expr) (below : List Piece) → TreeStands env d.tables x tree d.pieces below
+      → ExprPushed (taken_for given env (term_of env tree) (place_told tree)) e.pieces below
+
+-- a value was pushed
+pub record ValueFor (found : Option bound.Expr) (d e : Drafted) : Type 0 where
+  pub grown : Grown d e
+  pub pushed : ExprPushed found e.pieces d.pieces
+
+-- a term was pushed as it is
+pub record GivenPushed (x : Term) (place : Place) (d e : Drafted) : Type 0 where
+  pub grown : Grown d e
+  pub stands : (env : Env) (y : plain.Term) (below : List Piece) → TermStands env d.tables x y d.pieces below → ExprPushed (given_as env y place) e.pieces below

@@ -1,0 +1,11 @@
+pub use Rattle.statement_nodes
+pub use Rattle.statement_nodes.specs.statement_numbers
+pub mod Called
+pub mod Terms
+pub mod Kept
+pub mod NamedCalls
+pub mod Members
+pub mod Assigning
+pub mod Targets
+pub mod Heights
+pub mod Setting

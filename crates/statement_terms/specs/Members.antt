@@ -1,0 +1,98 @@
+-- Serves the code: members of objects, and other objects, that are assigned to.
+use Rattle.std.specs.Prelude.{◌≡◌, ◌≢◌, ℕ, Bool, true, ◌&&◌, ◌||◌, not, List, [], ◌∷◌, ◌++◌, Option, Some, None, is_some}
+use Rattle.vba_base.specs.declared.place.Place.{Place}
+use Rattle.vba_values.specs.Types.{Declared}
+use Rattle.vba_lexer.specs.declared.token.Token.{Token}
+use Rattle.vba_words.specs.declared.identifier.Identifier.{Identifier}
+use Rattle.vba_expression.specs.Tree.{Expr, Args}
+use Rattle.vba_expression.specs.Nodes as nodes
+use Rattle.vba_expression.specs.Nodes.{behind_nodes, last_tree}
+use Rattle.vba_expression.specs.declared.node.ExpressionNode.{ExpressionNode}
+use Rattle.vba_expression.specs.declared.node.ExpressionNode.TheVariants as node
+use Rattle.bound_project.specs.declared.statement.ActionKind.{ActionKind}
+use Rattle.bound_project.specs.View.{declared_view}
+use Rattle.bound_project.specs.Drafts.{Drafted, ActionNamed}
+use Rattle.bound_project.specs.Expressions as bound
+use Rattle.bound_project.specs.Pieces.{Piece, Tables, an_expr}
+use Rattle.bound_members.specs.binder.specs.Types.{is_object}
+use Rattle.bound_members.specs.binder.specs.Terms.{Env, a_host_member}
+use Rattle.bound_members.specs.binder.specs.Terms as plain
+use Rattle.bound_members.specs.binder.specs.ExpressionsBound.{callee, givens, takes_arguments, term_of, place_told}
+use Rattle.bound_members.specs.binder.specs.StatementsBound.{assigned, assigned_to, has_written_default, is_given_with, is_written_member, member_written, takes_value}
+use Rattle.bound_members.specs.bound_calls.specs.declared.term.MemberCall.{MemberCall}
+use Rattle.bound_members.specs.bound_calls.specs.declared.term.Term.{Term}
+use Rattle.bound_members.specs.bound_calls.specs.declared.term.Tree.{Tree}
+use Rattle.bound_members.specs.bound_calls.specs.declared.term.Item.TheVariants as item
+use Rattle.bound_members.specs.bound_calls.specs.Standing.{MemberStands, TermStands, TreeStands, Grown, member_is}
+use Rattle.bound_members.specs.bound_calls.specs.Steps.{Goes}
+use Rattle.statement_terms.specs.Called.{ActionIs, IsBare}
+
+-- ---- names of members
+
+-- a term has this name where it is a member of an object; the same where a name is known
+abbrev pub MemberNamed : List ℕ → plain.Term → Type 0
+MemberNamed fold (a_host_member e m) = m.name ≡ fold
+MemberNamed fold t = Unit {0}
+
+abbrev pub NamedBy : Option Identifier → plain.Term → Type 0
+NamedBy None t = Unit {0}
+NamedBy (Some x) t = MemberNamed x.name t
+
+-- whether a member is written, by its name, where that is known, the type of what it gives and the greatest number of its
+-- arguments
+abbrev pub is_written : Option Identifier → Declared → (greatest : Option ℕ) → Bool
+is_written None of greatest = not (is_some greatest) || (is_object of && has_written_default of)
+is_written (Some x) of greatest = is_written_member (record { name = x.name; of = of; least = 0; greatest = greatest })
+
+-- ---- without arguments
+
+-- a term at this place in the source is assigned the value that was pushed below it, and whether that comes as it is
+pub record AssignsTerm (place : Place) (x : Term) (name : Option Identifier) (d e : Drafted) (kind : ActionKind) (given : Bool) : Type 0 where
+  pub grown : Grown d e
+  pub named : ActionNamed e.tables kind
+  pub takes : (env : Env) (z : plain.Term) (ps below : List Piece) → TermStands env d.tables x z ps below → takes_value env z ≡ given
+  pub stands : (env : Env) (z : plain.Term) (value : bound.Expr) → NamedBy name z → TermStands env d.tables x z d.pieces (an_expr value ∷ [])
+      → ActionIs kind (assigned env place value [] z) e.tables e.pieces
+
+-- the same of an expression that doesn't end with arguments in brackets
+pub record AssignsTree (x : Tree) (name : Option Identifier) (d e : Drafted) (kind : ActionKind) (given : Bool) : Type 0 where
+  pub grown : Grown d e
+  pub named : ActionNamed e.tables kind
+  pub takes : (env : Env) (tree : Expr) (below : List Piece) → IsBare tree → TreeStands env d.tables x tree d.pieces below → is_given_with env tree ≡ given
+  pub stands : (env : Env) (tree : Expr) (value : bound.Expr) → IsBare tree → NamedBy name (term_of env tree) → TreeStands env d.tables x tree d.pieces (an_expr value ∷ [])
+      → ActionIs kind (assigned_to env tree value) e.tables e.pieces
+
+-- ---- with arguments
+
+-- arguments were read behind a member whose object was looked at
+pub record ReadsOnto (env : Env) (x : MemberCall) (ns : List ExpressionNode) (d e : Drafted) (y : MemberCall) : Type 0 where
+  pub behind : List ExpressionNode
+  pub is : ns ≡ node.NoArguments ∷ behind
+  pub goes : Goes env d (item.Member x ∷ []) e (item.Member y ∷ []) (λ is. behind_nodes is behind)
+
+-- a member has all its arguments, some, and what it gives is written
+pub record IsWritten (x : MemberCall) : Type 0 where
+  pub given_is : x.given ≡ x.written
+  pub some : x.count ≢ 0
+  pub takes : (t : Tables) → takes_arguments (member_is t x.member) x.count ≡ true
+  pub default : has_written_default (declared_view x.member.of) ≡ true
+  pub written : (not (is_some x.member.greatest) || is_object (declared_view x.member.of)) ≡ true
+
+-- a member with its arguments is assigned the value below its object
+pub record WritesCall (x : MemberCall) (d e : Drafted) (kind : ActionKind) : Type 0 where
+  pub grown : Grown d e
+  pub named : ActionNamed e.tables kind
+  pub stands : (env : Env) (base : Expr) (args : Args) (value : bound.Expr) (s : MemberStands env d.tables x base args d.pieces (an_expr value ∷ []))
+      → ActionIs kind (member_written env (place_told base) s.object (member_is d.tables x.member) (givens env args) value) e.tables e.pieces
+
+-- an expression that is a member with arguments is assigned the value below its object
+pub record GivesMember (env : Env) (place : Expr) (kind : ActionKind) (t : Tables) (ps below : List Piece) : Type 0 where
+  pub given : is_given_with env place ≡ true
+  pub does : (value : bound.Expr) → below ≡ an_expr value ∷ [] → ActionIs kind (assigned_to env place value) t ps
+
+-- what is called is assigned a value with these arguments
+pub record AssignsItem (env : Env) (place : Place) (x : Term) (ns : List ExpressionNode) (d e : Drafted) (kind : ActionKind) : Type 0 where
+  pub grown : Grown d e
+  pub named : ActionNamed e.tables kind
+  pub stands : (tree : Expr) (left right : Token) (below : List Piece) → place ≡ place_told tree → TermStands env d.tables x (callee env tree (term_of env tree)) d.pieces below
+      → GivesMember env (last_tree (behind_nodes (nodes.tree tree ∷ []) (ns ++ node.Index left right ∷ []))) kind e.tables e.pieces below

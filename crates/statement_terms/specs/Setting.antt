@@ -1,0 +1,26 @@
+-- Serves the code: what is given a reference to an object.
+use Rattle.std.specs.Prelude.{◌≡◌, [], ◌∷◌}
+use Rattle.vba_base.specs.declared.place.Place.{Place}
+use Rattle.vba_expression.specs.Tree.{Expr}
+use Rattle.bound_project.specs.declared.statement.ActionKind.{ActionKind}
+use Rattle.bound_project.specs.Drafts.{ActionNamed, Drafted}
+use Rattle.bound_project.specs.Expressions as bound
+use Rattle.bound_project.specs.Pieces.{an_expr}
+use Rattle.bound_members.specs.binder.specs.Terms.{Env}
+use Rattle.bound_members.specs.binder.specs.Terms as plain
+use Rattle.bound_members.specs.binder.specs.StatementsBound.{set_target, set_to}
+use Rattle.bound_members.specs.bound_calls.specs.declared.term.Term.{Term}
+use Rattle.bound_members.specs.bound_calls.specs.Standing.{Grown, TermStands}
+use Rattle.statement_terms.specs.Called.{ActionIs}
+
+-- a term is set to the reference that was pushed below it, by a Set with its word at this place
+pub record SetsTerm (word : Place) (x : Term) (d e : Drafted) (kind : ActionKind) : Type 0 where
+  pub grown : Grown d e
+  pub named : ActionNamed e.tables kind
+  pub stands : (env : Env) (y : plain.Term) (value : bound.Expr) → TermStands env d.tables x y d.pieces (an_expr value ∷ []) → ActionIs kind (set_to word y value) e.tables e.pieces
+
+-- an expression is set to the reference that was pushed
+pub record SetsTo (word : Place) (env : Env) (place : Expr) (d e : Drafted) (kind : ActionKind) : Type 0 where
+  pub grown : Grown d e
+  pub named : ActionNamed e.tables kind
+  pub stands : (value : bound.Expr) → d.pieces ≡ an_expr value ∷ [] → ActionIs kind (set_to word (set_target env place) value) e.tables e.pieces

@@ -1,0 +1,44 @@
+//! The value of an assignment, once its term is known.
+
+ghost use Rattle.std.specs.Prelude.{◌≡◌, OnOk};
+ghost use Rattle.bound_project.specs.DraftView.{draft_view};
+ghost use Rattle.statement_terms.specs.Assigning.{PushesFor, is_plain};
+ghost use Rattle.bound_members.specs.bound_calls.specs.Standing.{TermNamed};
+
+use crate::targets::may_be_object;
+use bound_members::bound_calls::{Term, Tree, push_given, push_operand};
+use bound_members::bound_declarations::NotYet;
+use bound_project::Draft;
+use std::alloc::Global;
+use vba_base::OrMemory;
+
+/// Is a term a place or a value that is no object and can be none?
+pub fn is_plain<'a>(term: Term<'a>) -> bool
+    ensures { result ≡ is_plain term.entry }
+{
+    match term {
+        Term::Place { of, .. } => !may_be_object(of),
+        Term::Value(ending) => !may_be_object(ending.of),
+        _ => false,
+    }
+}
+
+/// Pushes what is assigned, as it is or as an operand.
+pub fn push_assigned<'a>(
+    alloc: Global,
+    draft: &mut Draft,
+    tree: Tree<'a>,
+    given: bool,
+) -> Result<(), OrMemory<NotYet>>
+    requires { TermNamed (draft_view draft.old).tables tree.term }
+    ensures { OnOk result (PushesFor given tree.entry (draft_view draft.old) (draft_view draft.new)) }
+{
+    if given {
+        push_given(alloc, draft, tree)?;
+        return Ok(());
+    }
+    let Some(_of) = push_operand(alloc, draft, tree)? else {
+        return Err(OrMemory::Fault(NotYet));
+    };
+    Ok(())
+}

@@ -1,0 +1,83 @@
+//! Set: terms that are given a reference to an object.
+
+ghost use Rattle.std.specs.Prelude.{◌≡◌, Bool, IfOk, OnOk};
+ghost use Rattle.vba_base.specs.declared.place.Place as told;
+ghost use Rattle.bound_project.specs.DraftView.{draft_view};
+ghost use Rattle.bound_project.specs.Drafts.{Drafted, NodeNamed};
+ghost use Rattle.statement_terms.specs.Setting.{SetsTerm};
+ghost use Rattle.bound_members.specs.bound_calls.specs.declared.term.Term.TheVariants as term;
+ghost use Rattle.bound_members.specs.bound_calls.specs.Calls.{node_of};
+ghost use Rattle.bound_members.specs.bound_calls.specs.Standing.{TermNamed};
+ghost use Rattle.bound_project.specs.declared.declared_type.DeclaredType.TheVariants.{Plain};
+ghost use Rattle.bound_project.specs.declared.declared_type.ElementType.TheVariants.{Variant};
+ghost use Rattle.bound_project.specs.declared.node.NodeKind.TheVariants as node;
+ghost use Rattle.bound_project.specs.Pieces.{put};
+
+use crate::member_targets::is_late;
+use crate::targets::may_be_object;
+use bound_members::bound_calls::{Ending, HostMember, Term, push_node};
+use bound_members::bound_declarations::NotYet;
+use bound_project::{ActionKind, DeclaredType, Draft, ElementType, NodeKind};
+use vba_base::{NoMemory, OrMemory, Place, Refusal};
+
+/// What breaks a static rule: so many values that were pushed, at the word Set.
+pub fn push_broken(draft: &mut Draft, set_word: Place, values: u32) -> Result<(), NoMemory>
+    ensures { OnOk result (draft_view draft.new ≡ record (draft_view draft.old) { pieces = put (draft_view draft.old).tables (node_of (node.Marked (record { rule = 28; place = set_word }) values) set_word (Plain Variant)) (draft_view draft.old).pieces }) }
+{
+    let variant = DeclaredType::Plain(ElementType::Variant);
+    let broken = NodeKind::Marked {
+        broken: Refusal {
+            rule: 28,
+            place: set_word,
+        },
+        values,
+    };
+    push_node(draft, broken, variant, set_word)
+}
+
+/// A place, behind the reference that it is given: one that has no object breaks a static rule.
+fn set_place(
+    draft: &mut Draft,
+    set_word: Place,
+    at: Ending,
+    place: Place,
+) -> Result<ActionKind, OrMemory<NotYet>>
+    requires { NodeNamed (draft_view draft.old).tables at.kind }
+    ensures { IfOk result (λ kind. (bounded lends : Bool)
+        → SetsTerm set_word (term.Place at.kind at.of bounded lends) (draft_view draft.old) (draft_view draft.new) kind) }
+{
+    push_node(draft, at.kind, at.of, place)?;
+    if may_be_object(at.of) {
+        return Ok(ActionKind::Set);
+    }
+    push_node(draft, NodeKind::Load, at.of, set_word)?;
+    push_broken(draft, set_word, 2)?;
+    Ok(ActionKind::Evaluate)
+}
+
+/// A member of an object that is found in the run, behind the reference that it is given and the object.
+pub fn set_member(member: HostMember) -> Result<ActionKind, OrMemory<NotYet>>
+    ensures { IfOk result (λ kind. (word : told.Place) (d : Drafted) → SetsTerm word (term.HostMember member) d d kind) }
+{
+    if !is_late(member.greatest) {
+        return Err(OrMemory::Fault(NotYet));
+    }
+    Ok(ActionKind::SetMember)
+}
+
+/// A term, behind the reference that it is given.
+pub fn set_term<'a>(
+    draft: &mut Draft,
+    set_word: Place,
+    term: Term<'a>,
+    place: Place,
+) -> Result<ActionKind, OrMemory<NotYet>>
+    requires { TermNamed (draft_view draft.old).tables term }
+    ensures { IfOk result (λ kind. SetsTerm set_word term.entry (draft_view draft.old) (draft_view draft.new) kind) }
+{
+    match term {
+        Term::Place { kind, of, .. } => set_place(draft, set_word, Ending { kind, of }, place),
+        Term::HostMember(member) => set_member(member),
+        _ => Err(OrMemory::Fault(NotYet)),
+    }
+}

@@ -1,0 +1,192 @@
+//! Places and values that are assigned to, other than members of objects.
+
+ghost use Rattle.std.specs.Prelude.{◌≡◌, true, false, Bool, Option, IfOk, IfSome, MatchBool};
+ghost use Rattle.vba_words.specs.declared.identifier.Identifier.{Identifier};
+ghost use Rattle.bound_project.specs.DraftView.{draft_view};
+ghost use Rattle.bound_project.specs.Drafts.{NodeNamed};
+ghost use Rattle.bound_project.specs.View.{declared_view};
+ghost use Rattle.bound_members.specs.binder.specs.StatementsBound as plain;
+ghost use Rattle.bound_members.specs.binder.specs.Types as types;
+ghost use Rattle.statement_terms.specs.Terms.{may_be_object};
+ghost use Rattle.statement_terms.specs.Members.{AssignsTerm};
+ghost use Rattle.statement_terms.specs.Targets.{AssignsIndexed, EndsItem, EndsObject, ends_value, is_variant_term};
+ghost use Rattle.bound_members.specs.bound_calls.specs.declared.term.Term.TheVariants as term;
+ghost use Rattle.bound_members.specs.bound_calls.specs.Standing.{TermNamed};
+
+use bound_members::bound_calls::{Ending, Term, has_object, is_variant, push_node};
+use bound_members::bound_declarations::NotYet;
+use bound_members::declared_names::is_object;
+use bound_project::{ActionKind, DeclaredType, Draft, ElementType, NodeKind};
+use vba_base::{NoMemory, OrMemory, Place};
+
+/// Is a type one of what may be an object?
+pub fn may_be_object(of: DeclaredType) -> bool
+    ensures { result ≡ may_be_object of }
+{
+    is_object(of) || is_variant(of)
+}
+
+/// Has an object of a type a default member that is written? Of a Variant the run decides.
+pub fn has_written_default(of: DeclaredType) -> bool
+    ensures { result ≡ plain.has_written_default (declared_view of) }
+{
+    match of {
+        DeclaredType::Plain(ElementType::Object) => true,
+        DeclaredType::Plain(ElementType::Range) => true,
+        DeclaredType::Plain(ElementType::Variant) => true,
+        _ => false,
+    }
+}
+
+/// Is a term a place or a value of type Variant?
+pub fn is_variant_term<'a>(term: Term<'a>) -> bool
+    ensures { result ≡ is_variant_term term.entry }
+{
+    match term {
+        Term::Place { of, .. } => is_variant(of),
+        Term::Value(ending) => is_variant(ending.of),
+        _ => false,
+    }
+}
+
+/// Ends such a node a value, other than an element, that may give an object?
+fn ends_value(kind: NodeKind) -> bool
+    ensures { result ≡ ends_value kind }
+{
+    match kind {
+        NodeKind::Load => true,
+        NodeKind::FieldValue { .. } => true,
+        NodeKind::Call { .. } => true,
+        NodeKind::CallInOrder { .. } => true,
+        NodeKind::Library { .. } => true,
+        NodeKind::HostMember { .. } => true,
+        NodeKind::NamedMember { .. } => true,
+        NodeKind::HostObject(_) => true,
+        NodeKind::ActiveSheet => true,
+        _ => false,
+    }
+}
+
+/// Is a value an object, or, where it is no element, what may be one?
+fn gives_object(ending: Ending) -> bool
+    ensures { MatchBool result (EndsObject ending) (Unit {0}) }
+{
+    if is_object(ending.of) {
+        return true;
+    }
+    if !ends_value(ending.kind) {
+        return false;
+    }
+    match has_object(ending) {
+        Some(gives) => gives,
+        None => false,
+    }
+}
+
+/// A place of a type that is no object's, behind the value that it is given.
+fn assign_plain(draft: &mut Draft, at: Ending, place: Place) -> Result<ActionKind, NoMemory>
+    requires named { NodeNamed (draft_view draft.old).tables at.kind }
+    requires plain { types.is_object (declared_view at.of) ≡ false }
+    ensures { IfOk result (λ kind. (bounded lends : Bool) (name : Option Identifier)
+        → AssignsTerm place (term.Place at.kind at.of bounded lends) name (draft_view draft.old) (draft_view draft.new) kind false) }
+{
+    push_node(draft, at.kind, at.of, place)?;
+    Ok(ActionKind::Assign)
+}
+
+/// A place of an object, whose default member is written, behind the value that it is given.
+fn assign_object(draft: &mut Draft, at: Ending, place: Place) -> Result<ActionKind, NoMemory>
+    requires named { NodeNamed (draft_view draft.old).tables at.kind }
+    requires object { types.is_object (declared_view at.of) ≡ true }
+    requires written { plain.has_written_default (declared_view at.of) ≡ true }
+    ensures { IfOk result (λ kind. (bounded lends : Bool) (name : Option Identifier)
+        → AssignsTerm place (term.Place at.kind at.of bounded lends) name (draft_view draft.old) (draft_view draft.new) kind false) }
+{
+    push_node(draft, at.kind, at.of, place)?;
+    push_node(draft, NodeKind::Load, at.of, place)?;
+    Ok(ActionKind::AssignDefault)
+}
+
+/// A place, behind the value that it is given.
+pub fn assign_place(
+    draft: &mut Draft,
+    at: Ending,
+    place: Place,
+) -> Result<ActionKind, OrMemory<NotYet>>
+    requires { NodeNamed (draft_view draft.old).tables at.kind }
+    ensures { IfOk result (λ kind. (bounded lends : Bool) (name : Option Identifier)
+        → AssignsTerm place (term.Place at.kind at.of bounded lends) name (draft_view draft.old) (draft_view draft.new) kind false) }
+{
+    if !is_object(at.of) {
+        return Ok(assign_plain(draft, at, place)?);
+    }
+    if !has_written_default(at.of) {
+        return Err(OrMemory::Fault(NotYet));
+    }
+    Ok(assign_object(draft, at, place)?)
+}
+
+/// What a value gives, whose default member is written, behind the value that it is given.
+pub fn assign_value(
+    draft: &mut Draft,
+    ending: Ending,
+    place: Place,
+) -> Result<ActionKind, OrMemory<NotYet>>
+    requires { NodeNamed (draft_view draft.old).tables ending.kind }
+    ensures { IfOk result (λ kind. (name : Option Identifier)
+        → AssignsTerm place (term.Value ending) name (draft_view draft.old) (draft_view draft.new) kind false) }
+{
+    if !gives_object(ending) {
+        return Err(OrMemory::Fault(NotYet));
+    }
+    if !has_written_default(ending.of) {
+        return Err(OrMemory::Fault(NotYet));
+    }
+    push_node(draft, ending.kind, ending.of, place)?;
+    Ok(ActionKind::AssignDefault)
+}
+
+/// How many numbers of an item end a value, where it is an element that is no object.
+fn item_numbers(ending: Ending) -> Option<u32>
+    ensures { IfSome result (λ numbers. EndsItem ending numbers) }
+{
+    if is_object(ending.of) {
+        return None;
+    }
+    match ending.kind {
+        NodeKind::ElementValue { numbers } => Some(numbers),
+        _ => None,
+    }
+}
+
+/// A value that brackets made, behind the value that it is given. The run finds what an element is an item of, so that the
+/// last node of one isn't pushed.
+fn assign_indexed_value(
+    draft: &mut Draft,
+    ending: Ending,
+    place: Place,
+) -> Result<ActionKind, OrMemory<NotYet>>
+    requires { NodeNamed (draft_view draft.old).tables ending.kind }
+    ensures { IfOk result (λ kind. AssignsIndexed place (term.Value ending) (draft_view draft.old) (draft_view draft.new) kind) }
+{
+    match item_numbers(ending) {
+        Some(numbers) => Ok(ActionKind::AssignItem { numbers }),
+        None => assign_value(draft, ending, place),
+    }
+}
+
+/// What brackets made of a term, behind the value that it is given.
+pub fn assign_indexed<'a>(
+    draft: &mut Draft,
+    term: Term<'a>,
+    place: Place,
+) -> Result<ActionKind, OrMemory<NotYet>>
+    requires { TermNamed (draft_view draft.old).tables term }
+    ensures { IfOk result (λ kind. AssignsIndexed place term.entry (draft_view draft.old) (draft_view draft.new) kind) }
+{
+    match term {
+        Term::Place { kind, of, .. } => assign_place(draft, Ending { kind, of }, place),
+        Term::Value(ending) => assign_indexed_value(draft, ending, place),
+        _ => Err(OrMemory::Fault(NotYet)),
+    }
+}

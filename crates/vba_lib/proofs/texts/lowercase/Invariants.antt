@@ -1,6 +1,0 @@
-use Rattle.std.proofs.Common.{◌≡◌, map, take}
-use Rattle.std.specs.Char.{to_ascii_lowercase}
-use Rattle.vba_lib.proofs.texts.lowercase.Given as goal
-
-abbrev pub invariant-loop-unit : goal.invariant-loop-unit
-invariant-loop-unit l = l.text ≡ map to_ascii_lowercase (take l.unit-index l.units)
