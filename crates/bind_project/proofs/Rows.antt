@@ -1,11 +1,12 @@
 -- The rows of a project tell of its procedures what its modules say.
 use Rattle.std.proofs.Common.{◌≡◌, ◌<◌, ℕ, zero, suc, ◌+◌, length, true, List, [], ◌∷◌, drop, refl, ◌∙◌, sym, ap, subst, add-one, arith}
-use Rattle.std.specs.Prelude.{map, Option, Some, None, slice_get, slice_index_or}
+use Rattle.std.specs.Prelude.{map, Some, None, slice_get, slice_index_or}
 use Rattle.bound_actions.specs.binder.specs.Declarations.{Written}
 use Rattle.bound_actions.specs.binder.specs.Scopes.{Space, Scope}
 use Rattle.bound_actions.specs.binder.specs.Names.{locals_of}
 use Rattle.bound_actions.specs.binder.specs.Storage.{first_static}
-use Rattle.bound_actions.specs.binder.specs.Bind.{numbered, is_built_part}
+use Rattle.bound_actions.specs.binder.specs.Projects.{numbered}
+use Rattle.bound_actions.specs.bound_forms.specs.Bind.{is_built_part}
 use Rattle.bound_project.specs.Drafts.{Drafted}
 use Rattle.vba_module.specs.Parts.{Part}
 use Rattle.bind_project.specs.Modules.{is_header, ProcedureAdded, PartsWalked}

@@ -1,11 +1,12 @@
 -- What is told of a project that was bound.
-use Rattle.std.proofs.Common.{◌≡◌, ℕ, List, [], ◌++◌, refl, ◌∙◌, sym, ap}
-use Rattle.std.specs.Prelude.{Option, Some, None, is_some, option_map}
-use Rattle.bound_project.specs.Project.{Declarations, Body, Project}
-use Rattle.bound_project.specs.Drafts.{Drafted, no_tables}
+use Rattle.std.proofs.Common.{◌≡◌, ℕ, List, [], ◌++◌, ◌∙◌, sym, ap}
+use Rattle.std.specs.Prelude.{Some, None, is_some, option_map}
+use Rattle.bound_project.specs.Project.{Declarations, Project}
+use Rattle.bound_project.specs.Drafts.{Drafted}
 use Rattle.bound_actions.specs.binder.specs.Scopes.{Outside, Space}
 use Rattle.bound_actions.specs.binder.specs.Names.{scope_of}
-use Rattle.bound_actions.specs.binder.specs.Bind.{Startup, no_space, startup_number, declarations_of, all_bodies, project_with, left_in_spaces}
+use Rattle.bound_actions.specs.binder.specs.Projects.{Startup, no_space, startup_number, declarations_of}
+use Rattle.bound_actions.specs.bound_forms.specs.Bind.{all_bodies, project_with, left_in_spaces}
 use Rattle.bind_project.specs.Bound.{Runs}
 use Rattle.bind_project.specs.Modules.{SpacesAdded}
 

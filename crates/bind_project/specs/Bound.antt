@@ -1,11 +1,11 @@
 -- Serves the code: what binding the modules of a project gives, where they break no rule.
 use Rattle.std.specs.Prelude.{◌≡◌, List, Option, Some, None, IsSome, option_map}
-use Rattle.vba_base.specs.declared.place.Place.{Place}
 use Rattle.bound_project.specs.Project.{Project}
 use Rattle.bound_project.specs.Bodies.{Fits, project_view}
 use Rattle.bound_actions.specs.binder.specs.Scopes.{Outside, Space}
 use Rattle.bound_actions.specs.binder.specs.Names.{scope_of}
-use Rattle.bound_actions.specs.binder.specs.Bind.{Startup, no_space, startup_number, declarations_of, all_bodies, project_with, left_in_spaces}
+use Rattle.bound_actions.specs.binder.specs.Projects.{Startup, no_space, startup_number, declarations_of}
+use Rattle.bound_actions.specs.bound_forms.specs.Bind.{all_bodies, project_with, left_in_spaces}
 use Rattle.bind_project.specs.declared.bound.Bound.{Bound}
 use Rattle.bind_project.specs.declared.bound.Bound.TheVariants as bound
 

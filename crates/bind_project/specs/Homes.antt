@@ -1,6 +1,6 @@
 -- Serves the code: what is known of a project.
 use Rattle.std.specs.Prelude.{◌≡◌}
-use Rattle.bound_actions.specs.binder.specs.Bind.{declarations_of}
+use Rattle.bound_actions.specs.binder.specs.Projects.{declarations_of}
 use Rattle.bound_project.specs.View.{declarations_view}
 use Rattle.bound_actions.specs.declared_names.specs.Outside.{the_outside}
 use Rattle.bound_actions.specs.constant_values.specs.Rounds.{IsPlaced}

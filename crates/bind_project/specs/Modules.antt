@@ -7,7 +7,8 @@ use Rattle.bound_project.specs.Project.{Body}
 use Rattle.bound_project.specs.Drafts.{Drafted}
 use Rattle.bound_actions.specs.binder.specs.Declarations.{Written}
 use Rattle.bound_actions.specs.binder.specs.Scopes.{Outside, Space, Scope}
-use Rattle.bound_actions.specs.binder.specs.Bind.{around_of, bound_body, bodies_of, all_bodies, numbered, no_space, left_in_body, left_in_parts, left_in_space, left_in_spaces}
+use Rattle.bound_actions.specs.bound_forms.specs.Bind.{around_of, bound_body, bodies_of, all_bodies, left_in_body, left_in_parts, left_in_space, left_in_spaces}
+use Rattle.bound_actions.specs.binder.specs.Projects.{numbered, no_space}
 use Rattle.bound_actions.specs.binder.specs.Names.{scope_of}
 
 -- bodies before others

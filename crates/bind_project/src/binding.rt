@@ -2,7 +2,8 @@
 
 ghost use Rattle.std.specs.Prelude.{◌≡◌, Some, None, IfOk, map};
 ghost use Rattle.bind_project.specs.Bound.{IsBound, Runs};
-ghost use Rattle.bound_actions.specs.binder.specs.Bind as plain;
+ghost use Rattle.bound_actions.specs.binder.specs.Projects as declaring;
+ghost use Rattle.bound_actions.specs.bound_forms.specs.Bind as plain;
 ghost use Rattle.bound_actions.specs.binder.specs.Names.{scope_of};
 ghost use Rattle.bound_project.specs.Bodies.{Fits, project_view};
 ghost use Rattle.bound_project.specs.DraftView.{draft_view};
@@ -50,7 +51,7 @@ fn declared_in<'a>(
     requires numbered { AreNumbered (map space_view spaces.now) }
     requires rows { AreRows rows.now (map space_view spaces.now) }
     ensures { IfOk result (λ declared. declarations_view declared
-        ≡ plain.declarations_of the_outside (scope_of the_outside (map space_view spaces.now) plain.no_space) (map space_view spaces.now)) }
+        ≡ declaring.declarations_of the_outside (scope_of the_outside (map space_view spaces.now) declaring.no_space) (map space_view spaces.now)) }
 {
     match declarations(alloc, spaces, rows) {
         Ok(declared) => Ok(declared),
@@ -69,9 +70,9 @@ fn bind_bodies<'a>(
 ) -> Result<Draft, OrMemory<Place>>
     requires numbered { AreNumbered (map space_view spaces.now) }
     requires rows { AreRows rows.now (map space_view spaces.now) }
-    requires declared { declarations_view declared.now ≡ plain.declarations_of the_outside (scope_of the_outside (map space_view spaces.now) plain.no_space) (map space_view spaces.now) }
+    requires declared { declarations_view declared.now ≡ declaring.declarations_of the_outside (scope_of the_outside (map space_view spaces.now) declaring.no_space) (map space_view spaces.now) }
     ensures { IfOk result (λ draft. (plain.left_in_spaces the_outside (map space_view spaces.now) (map space_view spaces.now) ≡ None)
-        × (plain.all_bodies (scope_of the_outside (map space_view spaces.now) plain.no_space) (map space_view spaces.now) ≡ Some (draft_view draft).bodies)) }
+        × (plain.all_bodies (scope_of the_outside (map space_view spaces.now) declaring.no_space) (map space_view spaces.now) ≡ Some (draft_view draft).bodies)) }
 {
     let signatures = signatures_of(alloc, &*spaces, &*rows)?;
     let mut draft = Draft::new(alloc);
@@ -82,7 +83,7 @@ fn bind_bodies<'a>(
 /// The number of the macro to begin with.
 fn startup_of<'a>(spaces: &'a [Space<'a>], startup: Startup) -> Result<u32, OrMemory<Place>>
     ensures { IfOk result (λ number.
-        plain.startup_number (scope_of the_outside (map space_view spaces.now) plain.no_space) (startup_view startup.entry) (map space_view spaces.now) ≡ Some number) }
+        declaring.startup_number (scope_of the_outside (map space_view spaces.now) declaring.no_space) (startup_view startup.entry) (map space_view spaces.now) ≡ Some number) }
 {
     match startup_number(spaces, startup)? {
         Some(number) => Ok(number),
@@ -115,7 +116,7 @@ pub fn startup_fault<'a>(
     spaces: &'a [Space<'a>],
     startup: Startup,
 ) -> Result<Option<Refusal>, NoMemory>
-    ensures { IfOk result (λ fault. fault ≡ plain.startup_fault the_outside (map space_view spaces.now) (startup_view startup.entry)) }
+    ensures { IfOk result (λ fault. fault ≡ declaring.startup_fault the_outside (map space_view spaces.now) (startup_view startup.entry)) }
 {
     match startup_number(spaces, startup)? {
         Some(_) => Ok(None),

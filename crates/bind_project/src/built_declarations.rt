@@ -2,7 +2,7 @@
 
 ghost use Rattle.std.specs.Prelude.{◌≡◌, IfOk, option_map};
 ghost use Rattle.std.specs.List.{list_all};
-ghost use Rattle.bound_actions.specs.binder.specs.Bind as plain;
+ghost use Rattle.bound_actions.specs.bound_forms.specs.Bind as plain;
 ghost use Rattle.bound_project.specs.View.{declared_view, element_view};
 ghost use Rattle.bound_actions.specs.declared_names.specs.View.{scope_view, type_meant_view};
 ghost use Rattle.vba_module.specs.Headers.{all_of, parameters_of};

@@ -2,7 +2,7 @@
 
 ghost use Rattle.std.specs.Prelude.{◌≡◌, ◌&&◌, IfOk, option_map};
 ghost use Rattle.std.specs.List.{list_all};
-ghost use Rattle.bound_actions.specs.binder.specs.Bind as plain;
+ghost use Rattle.bound_actions.specs.bound_forms.specs.Bind as plain;
 ghost use Rattle.bound_actions.specs.declared_names.specs.View.{scope_view};
 ghost use Rattle.module_parts.specs.View.{part_view};
 ghost use Rattle.vba_module.specs.Headers.{parameters_of};

@@ -18,4 +18,4 @@ pub use bound::Bound;
 pub use bound_actions::project_tables::Startup;
 
 // What stands below, for the crates above.
-pub use bound_actions::{binder, constant_values, declared_names, project_tables};
+pub use bound_actions::{binder, bound_forms, constant_values, declared_names, project_tables};

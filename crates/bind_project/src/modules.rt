@@ -5,7 +5,7 @@ ghost use Rattle.bind_project.specs.Homes.{HomeStands};
 ghost use Rattle.bind_project.specs.Modules as modules;
 ghost use Rattle.bind_project.specs.Modules.{IsFront, PartsAdded, PartsWalked};
 ghost use Rattle.bind_project.specs.Procedures.{RowsFit, numbered_view};
-ghost use Rattle.bound_actions.specs.binder.specs.Bind as bind;
+ghost use Rattle.bound_actions.specs.bound_forms.specs.Bind as bind;
 ghost use Rattle.bound_actions.specs.binder.specs.Declarations as plain;
 ghost use Rattle.bound_project.specs.DraftView.{draft_view};
 ghost use Rattle.bound_project.specs.Drafts.{Drafted};

@@ -5,7 +5,7 @@ ghost use Rattle.bind_project.specs.Homes.{HomeStands};
 ghost use Rattle.bind_project.specs.Modules.{IsFront, ProcedureAdded};
 ghost use Rattle.bind_project.specs.Procedures.{RowFits, numbered_view};
 ghost use Rattle.bound_lines.specs.Round.{around_view};
-ghost use Rattle.bound_actions.specs.binder.specs.Bind as plain;
+ghost use Rattle.bound_actions.specs.bound_forms.specs.Bind as plain;
 ghost use Rattle.bound_project.specs.DraftView.{draft_view};
 ghost use Rattle.bound_actions.specs.bound_names.specs.View.{EnvStands, env_view};
 ghost use Rattle.bound_actions.specs.declared_names.specs.View.{scope_view};

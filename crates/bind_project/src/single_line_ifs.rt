@@ -4,7 +4,7 @@ ghost use Rattle.std.specs.Prelude.{◌≡◌, [], OnOk, map};
 ghost use Rattle.statement_nodes.specs.Nexts.{bound_next, bound_nexts};
 ghost use Rattle.bound_lines.specs.Round.{StandsAt, around_view};
 ghost use Rattle.statement_nodes.specs.Walks.{Added};
-ghost use Rattle.bound_actions.specs.binder.specs.StatementsBound as plain;
+ghost use Rattle.bound_actions.specs.bound_forms.specs.StatementsBound as plain;
 ghost use Rattle.bound_project.specs.DraftView.{draft_view};
 ghost use Rattle.bound_actions.specs.bound_names.specs.View.{EnvStands};
 ghost use Rattle.bound_actions.specs.statement_numbers.specs.View.{standing_view};

@@ -4,7 +4,8 @@ ghost use Rattle.std.specs.Prelude.{◌≡◌, OnOk, map, unwrap_or};
 ghost use Rattle.bind_project.specs.Homes.{HomeStands};
 ghost use Rattle.bind_project.specs.Modules as modules;
 ghost use Rattle.bind_project.specs.Modules.{IsFront, SpaceAdded, SpacesAdded};
-ghost use Rattle.bound_actions.specs.binder.specs.Bind as plain;
+ghost use Rattle.bound_actions.specs.binder.specs.Projects as declaring;
+ghost use Rattle.bound_actions.specs.bound_forms.specs.Bind as plain;
 ghost use Rattle.bound_project.specs.DraftView.{draft_view};
 ghost use Rattle.bound_actions.specs.constant_values.specs.Rounds.{AreNumbered};
 ghost use Rattle.bound_actions.specs.declared_names.specs.Outside.{the_outside};
@@ -79,7 +80,7 @@ pub(crate) fn bind_spaces<'a>(
     requires numbered { AreNumbered (map space_view spaces.now) }
     requires rows { AreRows rows.now (map space_view spaces.now) }
     requires signed { AreSignatures signatures.now (map space_view spaces.now) }
-    requires declared { declarations_view declared.now ≡ plain.declarations_of the_outside (whole_scope (map space_view spaces.now)) (map space_view spaces.now) }
+    requires declared { declarations_view declared.now ≡ declaring.declarations_of the_outside (whole_scope (map space_view spaces.now)) (map space_view spaces.now) }
     ensures { OnOk result (SpacesAdded the_outside (map space_view spaces.now) (draft_view draft.old) (draft_view draft.new)) }
 {
     let values = &rows.values;

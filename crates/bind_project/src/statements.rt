@@ -5,7 +5,7 @@ ghost use Rattle.statement_nodes.specs.Actions.{simple_in};
 ghost use Rattle.bound_lines.specs.Round.{StandsAt, around_view};
 ghost use Rattle.statement_nodes.specs.Walks.{Added};
 ghost use Rattle.bound_actions.specs.binder.specs.Numbering as numbering;
-ghost use Rattle.bound_actions.specs.binder.specs.StatementsBound.{one_statement, simple_action, unless_none};
+ghost use Rattle.bound_actions.specs.bound_forms.specs.StatementsBound.{one_statement, simple_action, unless_none};
 ghost use Rattle.bound_project.specs.DraftView.{draft_view};
 ghost use Rattle.statement_nodes.specs.Pushed.{ActionPushed};
 ghost use Rattle.bound_actions.specs.bound_names.specs.View.{EnvStands, env_view};

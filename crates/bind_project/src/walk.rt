@@ -3,7 +3,7 @@
 ghost use Rattle.std.specs.Prelude.{◌≡◌, ℕ, [], OnOk};
 ghost use Rattle.bound_lines.specs.Round.{StandsAt, around_view};
 ghost use Rattle.statement_nodes.specs.Walks.{Added, BodyAdded, PartAdded, statements_of};
-ghost use Rattle.bound_actions.specs.binder.specs.StatementsBound.{next_number};
+ghost use Rattle.bound_actions.specs.binder.specs.Blocks.{next_number};
 ghost use Rattle.bound_project.specs.DraftView.{draft_view};
 ghost use Rattle.bound_actions.specs.bound_names.specs.View.{EnvStands};
 ghost use Rattle.module_parts.specs.View.{part_view};

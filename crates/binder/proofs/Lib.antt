@@ -1,8 +1,3 @@
 mod FirstBroken
-mod Reading
-mod Bare
+pub mod Reading
 mod RuleRows
-mod BoundRows
-mod BrokenRows
-mod ProgramRows
-mod HostRows

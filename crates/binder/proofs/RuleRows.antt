@@ -4,7 +4,7 @@ use Rattle.std.specs.Fmt.{digits}
 use Rattle.caseless.proofs.Computing.{caseless}
 use Rattle.vba_base.specs.Fold.{folded}
 use Rattle.vba_values.specs.Arithmetic.{division}
-use Rattle.binder.proofs.Reading.{judged, ran, broken_rule, ends}
+use Rattle.binder.proofs.Reading.{judged, broken}
 
 -- a module that breaks no rule
 fine : judged ((false, codes "Option Explicit\nDim a As Long\nSub Main()\nDim b As Long\na = b\nEnd Sub") ∷ []) ≡ []
@@ -132,44 +132,44 @@ unfolding judged folded caseless digits division
 source_fine = refl
 
 -- S33: Main isn't there, or wants an argument; a rule of names is told before it
-no_startup : ran (codes "\nSub Other()\nEnd Sub") ≡ broken_rule ((33, 1, 1, 1) ∷ [])
-unfolding ran folded caseless digits division
+no_startup : broken (codes "\nSub Other()\nEnd Sub") ≡ (33, 1, 1, 1) ∷ []
+unfolding broken folded caseless digits division
 no_startup = refl
 
-wanting_startup : ran (codes "Sub Main(x, Optional y)\nEnd Sub") ≡ broken_rule ((33, 1, 1, 1) ∷ [])
-unfolding ran folded caseless digits division
+wanting_startup : broken (codes "Sub Main(x, Optional y)\nEnd Sub") ≡ (33, 1, 1, 1) ∷ []
+unfolding broken folded caseless digits division
 wanting_startup = refl
 
-names_first : ran (codes "Sub Other()\nGoTo a\nEnd Sub") ≡ broken_rule ((18, 1, 2, 6) ∷ [])
-unfolding ran folded caseless digits division
+names_first : broken (codes "Sub Other()\nGoTo a\nEnd Sub") ≡ (18, 1, 2, 6) ∷ []
+unfolding broken folded caseless digits division
 names_first = refl
 
-optional_startup : ran (codes "Private Sub Main(Optional x, ParamArray y())\nEnd Sub") ≡ ends []
-unfolding ran folded caseless digits division
+optional_startup : broken (codes "Private Sub Main(Optional x, ParamArray y())\nEnd Sub") ≡ []
+unfolding broken folded caseless digits division
 optional_startup = refl
 
 -- S23: a type, a suffix, a name of VBA that the library leaves out, also behind VBA and in an argument
-type_left_out : ran (codes "Sub Main()\nDim a As Long, d As Double\nEnd Sub") ≡ broken_rule ((23, 1, 2, 21) ∷ [])
-unfolding ran folded caseless digits division
+type_left_out : broken (codes "Sub Main()\nDim a As Long, d As Double\nEnd Sub") ≡ (23, 1, 2, 21) ∷ []
+unfolding broken folded caseless digits division
 type_left_out = refl
 
-suffix_left_out : ran (codes "Sub Main(Optional x#)\nEnd Sub") ≡ broken_rule ((23, 1, 1, 19) ∷ [])
-unfolding ran folded caseless digits division
+suffix_left_out : broken (codes "Sub Main(Optional x#)\nEnd Sub") ≡ (23, 1, 1, 19) ∷ []
+unfolding broken folded caseless digits division
 suffix_left_out = refl
 
-name_left_out : ran (codes "Sub Main()\nx = Left(Rnd, 1)\nEnd Sub") ≡ broken_rule ((23, 1, 2, 10) ∷ [])
-unfolding ran folded caseless digits division
+name_left_out : broken (codes "Sub Main()\nx = Left(Rnd, 1)\nEnd Sub") ≡ (23, 1, 2, 10) ∷ []
+unfolding broken folded caseless digits division
 name_left_out = refl
 
-qualified_left_out : ran (codes "Sub Main()\nx = VBA.Rnd(1)\nEnd Sub") ≡ broken_rule ((23, 1, 2, 9) ∷ [])
-unfolding ran folded caseless digits division
+qualified_left_out : broken (codes "Sub Main()\nx = VBA.Rnd(1)\nEnd Sub") ≡ (23, 1, 2, 9) ∷ []
+unfolding broken folded caseless digits division
 qualified_left_out = refl
 
 -- a name of the project's own is none; a rule of names is told before
-own_name : ran (codes "Function Rnd()\nEnd Function\nSub Main()\nx = Rnd\nEnd Sub") ≡ ends []
-unfolding ran folded caseless digits division
+own_name : broken (codes "Function Rnd()\nEnd Function\nSub Main()\nx = Rnd\nEnd Sub") ≡ []
+unfolding broken folded caseless digits division
 own_name = refl
 
-names_before : ran (codes "Sub Main()\nDim d As Double\nGoTo a\nEnd Sub") ≡ broken_rule ((18, 1, 3, 6) ∷ [])
-unfolding ran folded caseless digits division
+names_before : broken (codes "Sub Main()\nDim d As Double\nGoTo a\nEnd Sub") ≡ (18, 1, 3, 6) ∷ []
+unfolding broken folded caseless digits division
 names_before = refl

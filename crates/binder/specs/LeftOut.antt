@@ -1,6 +1,6 @@
 -- S23: what the language leaves out: the types Double, Single, Date and Decimal, the suffixes ! and #, and the functions
 -- that VBA's library has and this one hasn't.
-use Rattle.std.specs.Prelude.{Bool, List, [], ◌∷◌, ◌++◌, flat_map, map, Option, Some, None, if◌then◌else◌}
+use Rattle.std.specs.Prelude.{List, [], ◌∷◌, ◌++◌, flat_map, map, Option, Some, None, if◌then◌else◌}
 use Rattle.vba_base.specs.declared.place.Place.{Place}
 use Rattle.vba_base.specs.declared.place.Refusal.{Refusal}
 use Rattle.vba_lexer.specs.declared.number.TypeSuffix.{TypeSuffix}

@@ -10,7 +10,6 @@ pub mod Numbering
 pub mod Violations
 pub mod LeftOut
 pub mod Storage
-pub mod Terms
-pub mod ExpressionsBound
-pub mod StatementsBound
-pub mod Bind
+pub mod Signatures
+pub mod Blocks
+pub mod Projects

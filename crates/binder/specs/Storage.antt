@@ -1,5 +1,5 @@
 -- Declarations of the bound project, and where variables are kept: counted among those that are declared before them.
-use Rattle.std.specs.Prelude.{ℕ, suc, ◌+◌, Bool, true, false, ◌||◌, not, List, [], ◌∷◌, ◌++◌, length, map, take, Option, Some, None, is_some, if◌then◌else◌}
+use Rattle.std.specs.Prelude.{ℕ, suc, ◌+◌, ◌==◌, Bool, true, false, ◌||◌, not, List, [], ◌∷◌, ◌++◌, length, map, take, Option, Some, None, is_some, if◌then◌else◌}
 use Rattle.std.specs.Option.{option_map_or}
 use Rattle.vba_values.specs.Types.{Declared}
 use Rattle.vba_values.specs.Types as type
@@ -246,3 +246,7 @@ kind_of (words.Function token) = is_function
 kind_of (words.PropertyGet property_word get_word) = is_get
 kind_of (words.PropertyLet property_word let_word) = is_let
 kind_of (words.PropertySet property_word set_word) = is_set
+
+-- whether an array is declared with bounds
+abbrev pub has_bounds : Declaration → Bool
+has_bounds d = not (length d.bounds == 0)

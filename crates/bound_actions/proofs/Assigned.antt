@@ -15,10 +15,11 @@ use Rattle.bound_project.specs.Pieces.{Piece, Tables}
 use Rattle.bound_project.specs.Drafts.{Drafted}
 use Rattle.bound_terms.specs.binder.specs.Declarations.{Written}
 use Rattle.bound_terms.specs.binder.specs.Storage.{procedure_number}
-use Rattle.bound_terms.specs.binder.specs.Terms.{Env, Given, a_routine}
-use Rattle.bound_terms.specs.binder.specs.Terms as plain
-use Rattle.bound_terms.specs.binder.specs.ExpressionsBound.{callee, givens, indexed, object_member, parameters_in, term_of, place_told}
-use Rattle.bound_terms.specs.binder.specs.StatementsBound.{assigned, is_variant_place, takes_value, target_before}
+use Rattle.bound_terms.specs.bound_forms.specs.Terms.{Env, Given, a_routine}
+use Rattle.bound_terms.specs.bound_forms.specs.Terms as plain
+use Rattle.bound_terms.specs.bound_forms.specs.ExpressionsBound.{callee, givens, indexed, object_member, term_of, place_told}
+use Rattle.bound_terms.specs.binder.specs.Signatures.{parameters_in}
+use Rattle.bound_terms.specs.bound_forms.specs.StatementsBound.{assigned, is_variant_place, takes_value, target_before}
 use Rattle.bound_terms.specs.declared_names.specs.View.{space_view, written_view}
 use Rattle.statement_terms.specs.declared.trees.Split.{Split}
 use Rattle.bound_terms.specs.bound_names.specs.declared.properties.Writer.{Writer}
@@ -90,7 +91,7 @@ lets_given env w procedure parameters front last ns d e kind is number_is found 
 
 -- ---- assignments
 
-property_stands : (env : Env) (t : Tables) (x : Term) (p : Property) (y : plain.Term) (ps below : List Piece) → property_in x ≡ Some p → TermStands env t x y ps below → PropertyStands env p y ps below
+pub property_stands : (env : Env) (t : Tables) (x : Term) (p : Property) (y : plain.Term) (ps below : List Piece) → property_in x ≡ Some p → TermStands env t x y ps below → PropertyStands env p y ps below
 property_stands env t (term.Routine r) p y ps below e s =
     let q : Property = record { space = r.space; written = r.written } in
     let k : Some q ≡ Some p = e in
@@ -102,7 +103,7 @@ property_stands env t (term.Property q) p y ps below e s =
     let P : Property → Type 0 = λ z. PropertyStands env z y ps below in subst P same s.property
 property_stands env t x p y ps below e s = let k : None ≡ Some p = e in absurd cc
 
-has_writer : (env : Env) (w : Writer) (y : plain.Term) (ps below : List Piece) → IsWriter env.scope w → PropertyStands env w.property y ps below → takes_value env y ≡ true
+pub has_writer : (env : Env) (w : Writer) (y : plain.Term) (ps below : List Piece) → IsWriter env.scope w → PropertyStands env w.property y ps below → takes_value env y ≡ true
 has_writer env w y ps below is s = ap (λ z. takes_value env z) s.is ∙ ap (λ o. is_some o) is.found
 
 pub assigns_bare : (env : Env) (place : Expr) (x : Tree) (w : Writer) (d f e : Drafted) (kind : ActionKind) → IsBare place → Leaves env place d f x → WriterOf env.scope x.term w → Lets env w.property [] f e kind → AssignsTo env place d e kind true
@@ -157,13 +158,13 @@ assigns_member env split all x y d f g e kind at l c a =
       stands = m.does;
     })
 
-untaken : (env : Env) (t : Tables) (place : Place) (x : Term) (z : plain.Term) (ps below : List Piece) → takes_item x ≡ false → NoWriter env.scope x → TermStands env t x z ps below → Untaken env place x z
+pub untaken : (env : Env) (t : Tables) (place : Place) (x : Term) (z : plain.Term) (ps below : List Piece) → takes_item x ≡ false → NoWriter env.scope x → TermStands env t x z ps below → Untaken env place x z
 untaken env t place (term.Place kind of bounded lends) z ps below i n h =
     let y = plain.a_place h.at (declared_view of) bounded lends in
-    other_untaken env place (term.Place kind of bounded lends) z y h.is (ap (λ (b : Bool). if b then object_member place (bound.load h.at) (declared_view of) (codes "item") else y) i) refl refl
+    other_untaken env place (term.Place kind of bounded lends) z y h.is (ap (λ (b : Bool). if b then object_member place place (bound.load h.at) (declared_view of) (codes "item") else y) i) refl refl
 untaken env t place (term.Value e) z ps below i n h =
     let y = plain.a_value h.made (declared_view e.of) in
-    other_untaken env place (term.Value e) z y h.is (ap (λ (b : Bool). if b then object_member place h.made (declared_view e.of) (codes "item") else y) i) refl refl
+    other_untaken env place (term.Value e) z y h.is (ap (λ (b : Bool). if b then object_member place place h.made (declared_view e.of) (codes "item") else y) i) refl refl
 untaken env t place (term.Routine r) z ps below i n h =
     let s = property_of env r z ps below h in other_untaken env place (term.Routine r) z (a_routine (space_view r.space.now) s.number (written_view r.written)) s.is refl (ap (λ o. is_some o) n) refl
 untaken env t place (term.Property p) z ps below i n h =

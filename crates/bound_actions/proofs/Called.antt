@@ -5,9 +5,9 @@ use Rattle.vba_expression.specs.declared.node.ExpressionNode.{ExpressionNode}
 use Rattle.bound_project.specs.declared.statement.ActionKind.{ActionKind}
 use Rattle.bound_project.specs.Pieces.{Piece}
 use Rattle.bound_project.specs.Drafts.{Drafted}
-use Rattle.bound_terms.specs.binder.specs.Terms.{Env, Given}
-use Rattle.bound_terms.specs.binder.specs.ExpressionsBound.{callee, givens, term_of}
-use Rattle.bound_terms.specs.binder.specs.StatementsBound.{called_term}
+use Rattle.bound_terms.specs.bound_forms.specs.Terms.{Env, Given}
+use Rattle.bound_terms.specs.bound_forms.specs.ExpressionsBound.{callee, givens, term_of}
+use Rattle.bound_terms.specs.bound_forms.specs.StatementsBound.{called_term}
 use Rattle.bound_terms.specs.bound_calls.specs.declared.term.Term.{Term}
 use Rattle.bound_terms.specs.bound_calls.specs.declared.term.Tree.{Tree}
 use Rattle.bound_terms.specs.bound_calls.specs.Standing.{TermStands}

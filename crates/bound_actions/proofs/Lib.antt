@@ -3,3 +3,4 @@ pub mod Assigned
 pub mod NamedCalls
 pub mod WrittenMembers
 pub mod SetTargets
+pub mod Takings

@@ -16,9 +16,9 @@ use Rattle.bound_project.specs.View.{parameter_view}
 use Rattle.bound_project.specs.Pieces.{Piece, Tables}
 use Rattle.bound_project.specs.Project as project
 use Rattle.bound_project.specs.Drafts.{Drafted}
-use Rattle.bound_terms.specs.binder.specs.Terms.{Env, Given}
-use Rattle.bound_terms.specs.binder.specs.Terms as plain
-use Rattle.bound_terms.specs.binder.specs.ExpressionsBound.{givens, indexed}
+use Rattle.bound_terms.specs.bound_forms.specs.Terms.{Env, Given}
+use Rattle.bound_terms.specs.bound_forms.specs.Terms as plain
+use Rattle.bound_terms.specs.bound_forms.specs.ExpressionsBound.{givens, indexed}
 use Rattle.bound_terms.specs.bound_calls.specs.declared.term.Ending.{Ending}
 use Rattle.bound_terms.specs.bound_calls.specs.declared.term.Item.{Item}
 use Rattle.bound_terms.specs.bound_calls.specs.declared.term.Item.TheVariants as item

@@ -10,10 +10,10 @@ use Rattle.bound_project.specs.Drafts.{Drafted}
 use Rattle.bound_project.specs.Expressions as bound
 use Rattle.bound_project.specs.Pieces.{Piece, Tables, an_expr}
 use Rattle.bound_project.specs.View.{declared_view}
-use Rattle.bound_terms.specs.binder.specs.Terms.{Env, a_host_member, a_place, a_routine, a_value}
-use Rattle.bound_terms.specs.binder.specs.Terms as plain
-use Rattle.bound_terms.specs.binder.specs.ExpressionsBound.{callee, givens, item_of, object_member, term_of, place_told}
-use Rattle.bound_terms.specs.binder.specs.StatementsBound.{set_target, set_to, target_before}
+use Rattle.bound_terms.specs.bound_forms.specs.Terms.{Env, a_host_member, a_place, a_routine, a_value}
+use Rattle.bound_terms.specs.bound_forms.specs.Terms as plain
+use Rattle.bound_terms.specs.bound_forms.specs.ExpressionsBound.{callee, givens, item_of, object_member, term_of, place_told}
+use Rattle.bound_terms.specs.bound_forms.specs.StatementsBound.{set_target, set_to, target_before}
 use Rattle.bound_terms.specs.bound_calls.specs.declared.term.HostMember.{HostMember}
 use Rattle.bound_terms.specs.bound_calls.specs.declared.term.Term.{Term}
 use Rattle.bound_terms.specs.bound_calls.specs.declared.term.Term.TheVariants as term
@@ -62,10 +62,10 @@ sets_split_member word env split all x y m d f g h kind at one l c made s =
 no_member : (env : Env) (t : Tables) (place : Place) (x : Term) (z : plain.Term) (ps below : List Piece) → takes_item x ≡ false → TermStands env t x z ps below → is_member (item_of place z) ≡ false
 no_member env t place (term.Place kind of bounded lends) z ps below i h =
     let y = a_place h.at (declared_view of) bounded lends in
-    other_kept place z y h.is (ap (λ (b : Bool). if b then object_member place (bound.load h.at) (declared_view of) (codes "item") else y) i) refl
+    other_kept place z y h.is (ap (λ (b : Bool). if b then object_member place place (bound.load h.at) (declared_view of) (codes "item") else y) i) refl
 no_member env t place (term.Value e) z ps below i h =
     let y = a_value h.made (declared_view e.of) in
-    other_kept place z y h.is (ap (λ (b : Bool). if b then object_member place h.made (declared_view e.of) (codes "item") else y) i) refl
+    other_kept place z y h.is (ap (λ (b : Bool). if b then object_member place place h.made (declared_view e.of) (codes "item") else y) i) refl
 no_member env t place (term.Routine r) z ps below i h = other_kept place z (a_routine h.space h.number h.written) h.is refl refl
 no_member env t place (term.Property p) z ps below i h = other_kept place z _ h.property.is refl refl
 no_member env t place (term.Function f) z ps below i h = other_kept place z _ h.0.is refl refl

@@ -9,8 +9,8 @@ use Rattle.vba_expression.specs.declared.node.ExpressionNode.{ExpressionNode}
 use Rattle.vba_expression.specs.declared.node.ExpressionNode.TheVariants as node
 use Rattle.bound_project.specs.declared.statement.ActionKind.{ActionKind}
 use Rattle.bound_project.specs.Drafts.{Drafted}
-use Rattle.bound_terms.specs.binder.specs.Terms.{Env}
-use Rattle.bound_terms.specs.binder.specs.ExpressionsBound.{callee, item_of, term_of}
+use Rattle.bound_terms.specs.bound_forms.specs.Terms.{Env}
+use Rattle.bound_terms.specs.bound_forms.specs.ExpressionsBound.{callee, item_of, term_of}
 use Rattle.bound_terms.specs.bound_calls.specs.declared.term.HostMember.{HostMember}
 use Rattle.bound_terms.specs.bound_calls.specs.declared.term.MemberCall.{MemberCall}
 use Rattle.bound_terms.specs.bound_calls.specs.declared.term.Item.{Item}

@@ -1,4 +1,5 @@
 pub use Rattle.bound_terms.specs.binder
+pub use Rattle.bound_terms.specs.bound_forms
 pub use Rattle.bound_terms.specs.bound_declarations
 pub use Rattle.bound_terms.specs.bound_names
 pub use Rattle.bound_terms.specs.constant_values

@@ -3,18 +3,19 @@
 ghost use Rattle.std.specs.Prelude.{◌≡◌, true, Bool, IfOk, OnOk};
 ghost use Rattle.vba_expression.specs.View.{view as expression_view};
 ghost use Rattle.bound_project.specs.DraftView.{draft_view};
-ghost use Rattle.bound_terms.specs.binder.specs.StatementsBound as plain;
+ghost use Rattle.bound_terms.specs.bound_forms.specs.StatementsBound as plain;
 ghost use Rattle.statement_terms.specs.Assigning.{PushesFor, ValueFor, is_plain};
 ghost use Rattle.bound_terms.specs.bound_calls.specs.Standing.{TermNamed};
 ghost use Rattle.bound_terms.specs.bound_names.specs.View.{EnvStands, env_view};
 
 use crate::assigning::assign_to;
-use bound_project::Draft;
+use crate::takers::taker_in;
+use bound_project::{DeclaredType, Draft};
 use bound_terms::bound_calls::Tree;
 use bound_terms::bound_declarations::NotYet;
 use bound_terms::bound_names::Env;
 use bound_terms::{push_value, tree_of};
-use statement_terms::{is_plain, push_assigned};
+use statement_terms::{is_plain, mark_taken, may_break, push_assigned};
 use std::alloc::Global;
 use vba_base::OrMemory;
 use vba_expression::Expression;
@@ -46,19 +47,43 @@ fn is_given_with<'a>(
     is_given_in(alloc, &mut draft, env, place)
 }
 
-/// Pushes a value that is assigned and is no object: it is the same as it is and as an operand.
-fn push_plain<'a>(alloc: Global, draft: &mut Draft, tree: Tree<'a>) -> Result<(), OrMemory<NotYet>>
+/// Pushes a value that is assigned and is no object: it is the same as it is and as an operand; answers its type.
+fn push_plain<'a>(
+    alloc: Global,
+    draft: &mut Draft,
+    tree: Tree<'a>,
+) -> Result<DeclaredType, OrMemory<NotYet>>
     requires named { TermNamed (draft_view draft.old).tables tree.term }
     requires plain { is_plain tree.term ≡ true }
-    ensures { (given : Bool) → OnOk result (PushesFor given tree.entry (draft_view draft.old) (draft_view draft.new)) }
+    ensures { (given : Bool) → IfOk result (λ of. PushesFor given tree.entry (draft_view draft.old) (draft_view draft.new) of) }
 {
-    let Some(_of) = push_value(alloc, draft, tree)? else {
+    let Some(of) = push_value(alloc, draft, tree)? else {
         return Err(OrMemory::Fault(NotYet));
     };
-    Ok(())
+    Ok(of)
 }
 
-/// Pushes the value of an assignment to this expression.
+/// Pushes a value as an assignment to this expression takes it; answers its type.
+fn push_for<'a>(
+    alloc: Global,
+    draft: &mut Draft,
+    env: Env<'a>,
+    place: &'a Expression,
+    tree: Tree<'a>,
+) -> Result<DeclaredType, OrMemory<NotYet>>
+    requires env { EnvStands env }
+    requires named { TermNamed (draft_view draft.old).tables tree.term }
+    ensures { IfOk result (λ of. PushesFor (plain.is_given_with (env_view env.entry) (expression_view place.now)) tree.entry (draft_view draft.old) (draft_view draft.new) of) }
+{
+    if is_plain(tree.term) {
+        return push_plain(alloc, draft, tree);
+    }
+    let given = is_given_with(alloc, env, place)?;
+    push_assigned(alloc, draft, tree, given)
+}
+
+/// Pushes the value of an assignment to this expression, marked where that doesn't take it. What takes it is looked up only
+/// for values that aren't taken everywhere.
 pub fn bind_assigned<'a>(
     alloc: Global,
     draft: &mut Draft,
@@ -67,12 +92,14 @@ pub fn bind_assigned<'a>(
     value: &'a Expression,
 ) -> Result<(), OrMemory<NotYet>>
     requires { EnvStands env }
-    ensures { OnOk result (ValueFor (plain.value_for (env_view env.entry) (expression_view place.now) (expression_view value.now)) (draft_view draft.old) (draft_view draft.new)) }
+    ensures { OnOk result (ValueFor (plain.value_given (env_view env.entry) (expression_view place.now) (expression_view value.now)) (draft_view draft.old) (draft_view draft.new)) }
 {
     let tree = tree_of(alloc, draft, env, value)?;
-    if is_plain(tree.term) {
-        return push_plain(alloc, draft, tree);
+    let of = push_for(alloc, draft, env, place, tree)?;
+    if !may_break(of) {
+        return Ok(());
     }
-    let given = is_given_with(alloc, env, place)?;
-    push_assigned(alloc, draft, tree, given)
+    let taker = taker_in(alloc, env, place)?;
+    mark_taken(draft, taker, of, tree.place)?;
+    Ok(())
 }

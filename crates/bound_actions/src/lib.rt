@@ -9,6 +9,7 @@ mod member_targets;
 mod raising;
 mod setting;
 mod statement_calls;
+mod takers;
 mod trees;
 
 pub use actions::{bind_assignment, bind_call, bind_call_place};
@@ -16,6 +17,7 @@ pub use setting::bind_set;
 
 // What stands below, for the crates above.
 pub use bound_terms::{
-    binder, bound_declarations, bound_names, constant_values, declared_names, project_tables,
+    binder, bound_declarations, bound_forms, bound_names, constant_values, declared_names,
+    project_tables,
 };
 pub use statement_terms::statement_numbers;

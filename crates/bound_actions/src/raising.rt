@@ -4,7 +4,7 @@ ghost use Rattle.std.specs.Prelude.{◌≡◌, IfOk, map};
 ghost use Rattle.vba_base.specs.declared.place.Place as place;
 ghost use Rattle.bound_project.specs.DraftView.{draft_view};
 ghost use Rattle.bound_project.specs.View.{parameter_view};
-ghost use Rattle.bound_terms.specs.binder.specs.StatementsBound as plain;
+ghost use Rattle.bound_terms.specs.bound_forms.specs.StatementsBound as plain;
 ghost use Rattle.statement_terms.specs.Called.{ActsOn, PassesAll};
 ghost use Rattle.bound_terms.specs.bound_names.specs.View.{EnvStands, env_view};
 ghost use Rattle.bound_terms.specs.bound_calls.specs.declared.term.Term.TheVariants as term;

@@ -11,8 +11,6 @@ use Rattle.vba_expression.specs.Tree.{Expr, Args, missing}
 use Rattle.vba_expression.specs.Tree as tree
 use Rattle.bound_project.specs.declared.declarations.Parameter.{Parameter}
 use Rattle.bound_project.specs.declared.declared_type.DeclaredType.{DeclaredType}
-use Rattle.bound_project.specs.declared.declared_type.DeclaredType.TheVariants.{Plain}
-use Rattle.bound_project.specs.declared.declared_type.ElementType.TheVariants.{Variant}
 use Rattle.bound_project.specs.declared.node.NodeKind.{NodeKind}
 use Rattle.bound_project.specs.declared.node.NodeKind.TheVariants as node
 use Rattle.bound_project.specs.View.{declared_view, parameter_view, variable_view}
@@ -25,9 +23,9 @@ use Rattle.bound_project.specs.Project as project
 use Rattle.bound_project.specs.Drafts.{Drafted, NodeNamed, with_constant}
 use Rattle.bound_project.proofs.Drafts.{constant_last}
 use Rattle.bound_declarations.specs.binder.specs.Types.{is_object}
-use Rattle.bound_declarations.specs.binder.specs.Terms.{Env, Given, a_place, taken_by, by_reference, by_copy, is_lent_to, is_copied_to}
-use Rattle.bound_declarations.specs.binder.specs.Terms as plain
-use Rattle.bound_declarations.specs.binder.specs.ExpressionsBound.{argument_of, given_as, operand_of, term_of, givens, place_told}
+use Rattle.bound_forms.specs.Terms.{Env, Given, a_place, given_to, taken_by, by_reference, by_copy, is_lent_to, is_copied_to, other_rule}
+use Rattle.bound_forms.specs.Terms as plain
+use Rattle.bound_forms.specs.ExpressionsBound.{argument_of, given_as, operand_of, taken_for, term_of, givens, place_told}
 use Rattle.bound_calls.specs.declared.term.Ending.{Ending}
 use Rattle.bound_calls.specs.declared.term.Term.{Term}
 use Rattle.bound_calls.specs.declared.term.Term.TheVariants as term
@@ -37,10 +35,11 @@ use Rattle.bound_calls.specs.Passing.{Taken, AllTaken, NotGiven, AllLeft}
 use Rattle.bound_calls.specs.Standing.{PlaceEnds, TermStands, TermNamed, TreeStands, PassedStands, Grown, plain_given}
 use Rattle.bound_calls.specs.Steps.{AddsConstant, PushesOperand}
 use Rattle.bound_calls.specs.References.{PushesGiven}
-use Rattle.bound_calls.specs.Calls.{node_of, lent_in, may_be_item, is_copied, keeps_object, PushesArgument, Lends, MarksOther, Copies, TakenIs, PassesTree, PassesNone, PassesRest, PassesPlain, PassesMissing}
+use Rattle.bound_calls.specs.Calls.{node_of, lent_in, may_be_item, is_copied, keeps_object, MarksGiven, PushesArgument, PushesTaken, Lends, MarksOther, Copies, TakenIs, PassesTree, PassesNone, PassesRest, PassesPlain, PassesMissing}
 use Rattle.bound_calls.proofs.Growing.{grown_same, grown_twice, grown_pieces, grown_constant}
 use Rattle.bound_calls.proofs.LastNodes.{any_node, found_passes}
 use Rattle.bound_calls.proofs.PlaceNodes.{no_item}
+use Rattle.bound_calls.proofs.Referring.{variant}
 use Rattle.bound_calls.proofs.Passing.{taken_push}
 
 -- a draft with one more node
@@ -62,22 +61,24 @@ lent kind place of d d1 e a b =
       stands = λ x below h. ap (λ st. of_place (λ y. an_argument (place_lent y)) st) (h (node_of kind place of));
     })
 
-abbrev variant : DeclaredType
-variant = Plain Variant
+-- the node that marks the last value
+abbrev pub marked_by : (rule : ℕ) → Place → NodeKind
+marked_by rule place = node.Marked (record { rule = rule; place = place }) 1
 
 pub marked_other : (lent : Ending) (parameter : DeclaredType) (place : Place) (d d1 d2 d3 e : Drafted) → d1 ≡ behind lent.kind place lent.of d → d2 ≡ behind node.Load place lent.of d1
-    → d3 ≡ behind (node.Marked (record { rule = 26; place = place }) 1) place variant d2 → e ≡ behind (node.ByCopy parameter) place parameter d3 → MarksOther lent parameter place d e
+    → d3 ≡ behind (marked_by (other_rule (declared_view parameter)) place) place variant d2 → e ≡ behind (node.ByCopy parameter) place parameter d3 → MarksOther lent parameter place d e
 marked_other lent parameter place d d1 d2 d3 e a b c f =
+    let mark = marked_by (other_rule (declared_view parameter)) place in
     let m1 = behind lent.kind place lent.of d in
     let m2 = behind node.Load place lent.of m1 in
-    let m3 = behind (node.Marked (record { rule = 26; place = place }) 1) place variant m2 in
+    let m3 = behind mark place variant m2 in
     let m4 = behind (node.ByCopy parameter) place parameter m3 in
     let is2 : d2 ≡ m2 = b ∙ ap (λ x. behind node.Load place lent.of x) a in
-    let is3 : d3 ≡ m3 = c ∙ ap (λ x. behind (node.Marked (record { rule = 26; place = place }) 1) place variant x) is2 in
+    let is3 : d3 ≡ m3 = c ∙ ap (λ x. behind mark place variant x) is2 in
     let is4 : e ≡ m4 = f ∙ ap (λ x. behind (node.ByCopy parameter) place parameter x) is3 in
     let P : Drafted → Type 0 = λ x. MarksOther lent parameter place d x in
     let after : List Piece → List Piece = λ st.
-    put d.tables (node_of (node.ByCopy parameter) place parameter) (put d.tables (node_of (node.Marked (record { rule = 26; place = place }) 1) place variant) (put d.tables (node_of node.Load place lent.of) st)) in
+    put d.tables (node_of (node.ByCopy parameter) place parameter) (put d.tables (node_of mark place variant) (put d.tables (node_of node.Load place lent.of) st)) in
     subst P (sym is4) (record {
       grown = grown_pieces d m4.pieces;
       stands = λ x below h. ap after (h (node_of lent.kind place lent.of));
@@ -94,23 +95,34 @@ copied of x place d d1 e h b =
     })
 
 -- an expression as a parameter of a type takes it
-argument_given : (env : Env) (of : DeclaredType) (t : plain.Term) (place : Place) (b : Bool) → keeps_object of ≡ b → argument_of env (declared_view of) t place ≡ (if b then given_as env t place else operand_of env t place)
-argument_given env of t place b h = ap (λ c. if c then given_as env t place else operand_of env t place) h
+taken_as : (env : Env) (of : DeclaredType) (t : plain.Term) (place : Place) (b : Bool) → keeps_object of ≡ b → taken_for env (declared_view of) t place ≡ (if b then given_as env t place else operand_of env t place)
+taken_as env of t place b h = ap (λ c. if c then given_as env t place else operand_of env t place) h
 
-pub argument_kept : (of : DeclaredType) (x : Tree) (u : DeclaredType) (d e : Drafted) → keeps_object of ≡ true → PushesGiven x d e u → PushesArgument of x d e
-argument_kept of x u d e keeps h = record {
+pub taken_kept : (of : DeclaredType) (x : Tree) (u : DeclaredType) (d e : Drafted) → keeps_object of ≡ true → PushesGiven x d e u → PushesTaken of x d e u
+taken_kept of x u d e keeps h = record {
   grown = h.grown;
   stands = λ env tree below k.
       let p = h.stands env tree below k in
-      record { made = p.made; is = argument_given env of (term_of env tree) (place_told tree) true keeps ∙ p.is; on_top = p.on_top };
+      record { made = p.made; is = taken_as env of (term_of env tree) (place_told tree) true keeps ∙ p.is; operand = p.operand; on_top = p.on_top };
 }
 
-pub argument_operand : (of : DeclaredType) (x : Tree) (u : DeclaredType) (d e : Drafted) → keeps_object of ≡ false → PushesOperand x d e (Some u) → PushesArgument of x d e
-argument_operand of x u d e keeps h = record {
+pub taken_operand : (of : DeclaredType) (x : Tree) (u : DeclaredType) (d e : Drafted) → keeps_object of ≡ false → PushesOperand x d e (Some u) → PushesTaken of x d e u
+taken_operand of x u d e keeps h = record {
   grown = h.grown;
   stands = λ env tree below k.
       let p = h.stands env tree below k in
-      record { made = p.made; is = argument_given env of (term_of env tree) (place_told tree) false keeps ∙ p.is; on_top = p.on_top };
+      record { made = p.made; is = taken_as env of (term_of env tree) (place_told tree) false keeps ∙ p.is; operand = p.operand; on_top = p.on_top };
+}
+
+-- the same, marked where it breaks a rule
+pub argument_marked : (of : DeclaredType) (x : Tree) (u after : DeclaredType) (d m e : Drafted) → PushesTaken of x d m u → MarksGiven (declared_view of) false x.place u m e after → PushesArgument of x d e
+argument_marked of x u after d m e h g = record {
+  grown = grown_twice d m e h.grown g.grown;
+  stands = λ env tree below k.
+      let found = taken_for env (declared_view of) (term_of env tree) (place_told tree) in
+      let p = g.stands found below (h.stands env tree below k) in
+      let A : Place → Type 0 = λ place. option_map (given_to (declared_view of) false place) found ≡ Some p.made in
+      record { made = p.made; is = subst A k.place_is p.is; on_top = p.on_top };
 }
 
 -- a parameter takes a copy
@@ -177,7 +189,7 @@ abbrev by_place : Env → project.Parameter → Lvalue → Declared → Bool →
 by_place env p at of bounded place rest lent copied =
     if lent then Some (bound.by_place at rest)
     else if copied then by_copy (argument_of env) p (a_place at of bounded true) place rest
-    else Some (bound.by_copy (plain.of_other_type at of place) p.of rest)
+    else Some (bound.by_copy (plain.of_other_type at of p.of place) p.of rest)
 
 reference_taken : (env : Env) (p : Parameter) (t : plain.Term) (at : Lvalue) (of : Declared) (bounded : Bool) (place : Place) (rest : bound.Args) (lent copied : Bool) → p.is_by_reference ≡ true → t ≡ a_place at of bounded true
     → is_lent_to of (declared_view p.of) ≡ lent → is_copied_to at of (declared_view p.of) ≡ copied
@@ -252,7 +264,7 @@ placed_other p x lent bounded d e many reference is fits copies h = record {
   stands = λ env tree below k.
       let A : Term → Type 0 = λ y. TermStands env d.tables y (term_of env tree) d.pieces below in
       let s = subst A is k.term_is in
-      let marked = plain.of_other_type s.at (declared_view lent.of) (place_told tree) in
+      let marked = plain.of_other_type s.at (declared_view lent.of) (declared_view p.of) (place_told tree) in
       record {
         made = value_copied marked (declared_view p.of);
         taken = record {
@@ -261,7 +273,7 @@ placed_other p x lent bounded d e many reference is fits copies h = record {
           makes = λ rest. reference_taken env p (term_of env tree) s.at (declared_view lent.of) bounded (place_told tree) rest false false reference s.is fits (not_copied_to d.tables lent.kind lent.of p.of s.at d.pieces below copies s.ends);
         };
         on_top = h.stands s.at below s.ends
-            ∙ ap (λ place. an_argument (value_copied (plain.of_other_type s.at (declared_view lent.of) place) (declared_view p.of)) ∷ below) k.place_is;
+            ∙ ap (λ place. an_argument (value_copied (plain.of_other_type s.at (declared_view lent.of) (declared_view p.of) place) (declared_view p.of)) ∷ below) k.place_is;
       };
 }
 

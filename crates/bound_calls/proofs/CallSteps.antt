@@ -1,5 +1,5 @@
 -- What the nodes of a call do to the stack.
-use Rattle.std.proofs.Common.{◌≡◌, T, ℕ, ◌+◌, false, List, [], ◌∷◌, ◌++◌, map, length, Option, Some, None, is_some, refl, sym, ap, subst, ◌∙◌, arith, length-append}
+use Rattle.std.proofs.Common.{◌≡◌, T, ℕ, ◌+◌, List, [], ◌∷◌, ◌++◌, map, length, Option, Some, None, is_some, refl, sym, ap, subst, ◌∙◌, arith, length-append}
 use Rattle.std.proofs.lemmas.List.{map-append}
 use Rattle.std.specs.Prelude.{unwrap_or}
 use Rattle.vba_base.specs.declared.place.Place.{Place}
@@ -24,9 +24,9 @@ use Rattle.bound_project.proofs.Drafts.{Extends}
 use Rattle.vba_values.specs.Types.{Declared}
 use Rattle.bound_declarations.specs.binder.specs.Declarations.{Written}
 use Rattle.bound_declarations.specs.binder.specs.Scopes.{Space}
-use Rattle.bound_declarations.specs.binder.specs.Terms.{Env, Given, a_value, a_routine, value_with}
-use Rattle.bound_declarations.specs.binder.specs.Terms as plain_terms
-use Rattle.bound_declarations.specs.binder.specs.ExpressionsBound.{argument_of, call_with, bare_call, callee, indexed, item_of, term_of, value_of, givens, place_told}
+use Rattle.bound_forms.specs.Terms.{Env, Given, a_value, a_routine, value_with}
+use Rattle.bound_forms.specs.Terms as plain_terms
+use Rattle.bound_forms.specs.ExpressionsBound.{argument_of, call_with, bare_call, callee, indexed, item_of, operand_of, term_of, value_of, givens, place_told}
 use Rattle.bound_calls.specs.declared.term.Ending.{Ending}
 use Rattle.bound_calls.specs.declared.term.Routine.{Routine}
 use Rattle.bound_calls.specs.declared.term.Term.{Term}
@@ -75,15 +75,15 @@ call_ends t procedure count xs ds ps between below counted a b n =
     ap (λ st. A (arguments_off count st bound.no_args)) all ∙ ap (λ m. A (arguments_off m (above (map an_argument (xs ++ ds)) below) bound.no_args)) number ∙ ap A (args_are (xs ++ ds) below)
 
 -- arguments that were pushed, and the others
-call_made : (value : Declared → plain_terms.Term → Place → Option bound.Expr) (env : Env) (t : Tables) (r : Routine) (x : Passed) (d e : Drafted) (ending : Ending) (y : plain_terms.Term) (place : Place) (gs : List Given) (xs : List Argument)
+call_made : (value : Declared → plain_terms.Term → Place → Option bound.Expr) (number_of : plain_terms.Term → Place → Option bound.Expr) (env : Env) (t : Tables) (r : Routine) (x : Passed) (d e : Drafted) (ending : Ending) (y : plain_terms.Term) (place : Place) (gs : List Given) (xs : List Argument)
     (qs : List Piece) (below : List Piece) → EndsCall r x d e ending → (s : RoutineStands env r y qs qs) → AllTaken value (map parameter_view r.parameters.now) gs xs (map parameter_view x.left.now) → x.count ≡ length xs
-    → d.pieces ≡ above (map an_argument xs) below → ValueStands t ending (call_with value env place gs s.space s.number s.written) e.pieces below
-call_made value env t r x d e ending y place gs xs qs below h s taken counted on_top =
+    → d.pieces ≡ above (map an_argument xs) below → ValueStands t ending (call_with value number_of env place gs s.space s.number s.written) e.pieces below
+call_made value number_of env t r x d e ending y place gs xs qs below h s taken counted on_top =
     let args = args_of (xs ++ h.made) in
-    let P : Ending → Type 0 = λ z. ValueStands t z (call_with value env place gs s.space s.number s.written) e.pieces below in
+    let P : Ending → Type 0 = λ z. ValueStands t z (call_with value number_of env place gs s.space s.number s.written) e.pieces below in
     subst P (sym h.ending_is) (record {
       made = bound.call r.procedure args;
-      is = call_is value env place gs s.space s.number s.written s.read r.procedure (declared_view r.of) (map parameter_view r.parameters.now) args xs (map parameter_view x.left.now) s.reads s.procedure_is s.parameters_are s.of_is taken
+      is = call_is value number_of env place gs s.space s.number s.written s.read r.procedure (declared_view r.of) (map parameter_view r.parameters.now) args xs (map parameter_view x.left.now) s.reads s.procedure_is s.parameters_are s.of_is taken
           (arguments_bound value (map parameter_view r.parameters.now) gs xs (map parameter_view x.left.now) h.made taken h.left);
       ends = call_ends t r.procedure (x.count + length h.made) xs h.made e.pieces d.pieces below (omega (arith, counted)) on_top h.on_top;
     })
@@ -93,7 +93,7 @@ pub call_stands : (env : Env) (t : Tables) (r : Routine) (x : Passed) (d e : Dra
     → RoutineStands env r y qs qs → PassedStands env (map parameter_view r.parameters.now) x args d.pieces below → ValueStands t ending (indexed env place y (givens env args)) e.pieces below
 call_stands env t r x d e ending y place args qs below h s p =
     let A : plain_terms.Term → Type 0 = λ z. ValueStands t ending (indexed env place z (givens env args)) e.pieces below in
-    subst A (sym s.is) (call_made (argument_of env) env t r x d e ending y place (givens env args) p.made qs below h s p.taken p.count_is p.on_top)
+    subst A (sym s.is) (call_made (argument_of env) (operand_of env) env t r x d e ending y place (givens env args) p.made qs below h s p.taken p.count_is p.on_top)
 
 ending_call : (r : Routine) (x : Passed) (d e : Drafted) (ending : Ending) → EndsCall r x d e ending → NodeNamed e.tables ending.kind
 ending_call r x d e ending h = let P : Ending → Type 0 = λ z. NodeNamed e.tables z.kind in subst P (sym h.ending_is) tt
@@ -127,7 +127,7 @@ routine_stands r x d e ending left count h env y below s =
       number = s.number;
       written = s.written;
       is = s.is;
-      called = call_made (λ of t place. None) env e.tables r x d e ending y s.written.place [] [] below below h t (ap (λ l. map parameter_view l) (sym left)) count s.none_pushed;
+      called = call_made (λ of t place. None) (λ t place. None) env e.tables r x d e ending y s.written.place [] [] below below h t (ap (λ l. map parameter_view l) (sym left)) count s.none_pushed;
     }
 
 pub calls_routine : (r : Routine) (x : Passed) (d e : Drafted) (ending : Ending) → x.left.now ≡ r.parameters.now → x.count ≡ 0 → EndsCall r x d e ending → CallsRoutine r d e ending

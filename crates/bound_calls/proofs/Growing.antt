@@ -16,9 +16,9 @@ use Rattle.bound_project.specs.Pieces.{Piece, a_member, a_named_member, an_argum
 use Rattle.bound_project.specs.Drafts.{Drafted, NodeNamed, with_constant}
 use Rattle.bound_project.proofs.Drafts.{Extends, by_name_same, constant_extends, names_named}
 use Rattle.vba_values.specs.Types as type
-use Rattle.bound_declarations.specs.binder.specs.Terms.{Env, a_host_member, expression_of}
-use Rattle.bound_declarations.specs.binder.specs.Terms as terms
-use Rattle.bound_declarations.specs.binder.specs.ExpressionsBound.{givens, term_of}
+use Rattle.bound_forms.specs.Terms.{Env, a_host_member, expression_of}
+use Rattle.bound_forms.specs.Terms as terms
+use Rattle.bound_forms.specs.ExpressionsBound.{givens, term_of}
 use Rattle.bound_calls.specs.declared.term.Term.{Term}
 use Rattle.bound_calls.specs.declared.term.Term.TheVariants as term
 use Rattle.bound_calls.specs.declared.term.HostMember.{HostMember}

@@ -9,7 +9,7 @@ use Rattle.bound_project.specs.Expressions as bound
 use Rattle.bound_project.specs.Pieces.{Argument, with_argument}
 use Rattle.bound_project.specs.Lists.{args_before, args_of}
 use Rattle.bound_project.specs.Project.{Parameter}
-use Rattle.bound_declarations.specs.binder.specs.Terms.{Term, Given, Item, taken_by, not_given_to, parameter_named, cons_if, named_item, by_names, by_position, left_over, built, place_among, order_from, are_apart, has_names, bound_arguments}
+use Rattle.bound_forms.specs.Terms.{Term, Given, Item, taken_by, not_given_to, parameter_named, cons_if, named_item, by_names, by_position, left_over, built, place_among, order_from, are_apart, has_names, bound_arguments}
 use Rattle.bound_calls.specs.Passing.{AllTaken, AllLeft}
 use Rattle.bound_calls.specs.InOrder.{is_there, place_in, all_apart, counted_from, places_from, other_numbers, others, numbers_given, numbers_pushed, AllNamedTaken}
 

@@ -12,7 +12,7 @@ use Rattle.bound_project.specs.Pieces.{Piece, nothing, an_expr, a_place, a_membe
 use Rattle.bound_project.specs.Project.{nowhere}
 use Rattle.bound_project.specs.View.{base_view, declared_view}
 use Rattle.bound_declarations.specs.binder.specs.Constants.{is_variant}
-use Rattle.bound_declarations.specs.binder.specs.ExpressionsBound.{may_be_object, may_give_object}
+use Rattle.bound_forms.specs.ExpressionsBound.{may_be_object, may_give_object}
 use Rattle.bound_calls.specs.declared.term.Ending.{Ending}
 use Rattle.bound_calls.specs.References.{EndingGives, kind_gives}
 
@@ -177,7 +177,7 @@ kind_agrees t n (node.NamedMember i by count) st b h =
 kind_agrees t n (node.Library f text_form count compare one) st b h =
     found_passes (gives_on_top b) refl (λ es. expr_of n (library f text_form es compare (base_view one))) (λ es rest. agree_same (may_give_object f) b h) (exprs_off count st no_exprs)
 kind_agrees t n (node.Marked broken count) st b h =
-    found_passes (gives_on_top b) refl (λ es. expr_of n (marked broken es)) (λ es rest. agree_same false b h) (exprs_off count st no_exprs)
+    found_passes (gives_on_top b) refl (λ es. expr_of n (marked broken es)) (λ es rest. agree_same true b h) (exprs_off count st no_exprs)
 kind_agrees t n (node.Constant i) st b h = agree_same false b h
 kind_agrees t n (node.Unary o of) st b h = value_passes (gives_on_top b) refl (λ a. expr_of n (unary o (as_operand of a))) (λ e rest. agree_same false b h) st
 kind_agrees t n (node.Binary o compare left right) st b h =

@@ -2,10 +2,12 @@ pub mod Growing
 pub mod Taking
 pub mod LastNodes
 pub mod PlaceNodes
+pub mod TypedNodes
 pub mod Referring
 pub mod Steps
 pub mod Passing
 pub mod Arguing
+pub mod Giving
 pub mod Reading
 pub mod CallSteps
 pub mod InOrder

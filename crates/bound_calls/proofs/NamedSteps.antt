@@ -12,7 +12,6 @@ use Rattle.vba_expression.specs.Nodes as nodes
 use Rattle.vba_expression.specs.Nodes.{behind_node, last_arguments, rest}
 use Rattle.vba_tree.specs.Tree.{Parameter as Written_parameter}
 use Rattle.vba_values.specs.Types.{Declared}
-use Rattle.vba_values.specs.Types as type
 use Rattle.bound_project.specs.declared.declarations.Parameter.{Parameter}
 use Rattle.bound_project.specs.declared.node.NodeKind.TheVariants as kind
 use Rattle.bound_project.specs.declared.node.Node.{Node}
@@ -30,9 +29,10 @@ use Rattle.bound_declarations.specs.binder.specs.Declarations.{Written}
 use Rattle.bound_declarations.specs.binder.specs.Names.{scope_in}
 use Rattle.bound_declarations.specs.binder.specs.Scopes.{Scope, Space}
 use Rattle.bound_declarations.specs.binder.specs.Storage.{bound_parameters, procedure_number}
-use Rattle.bound_declarations.specs.binder.specs.Terms.{Env, Given, a_value, bound_arguments, parameter_named}
-use Rattle.bound_declarations.specs.binder.specs.Terms as plain_terms
-use Rattle.bound_declarations.specs.binder.specs.ExpressionsBound.{is_get, reader, parameters_in, call_type, call_value, call_with, if_there, indexes_value, indexed_value, node_or, numbers_of, argument_of, callee, indexed, term_of, givens, place_told}
+use Rattle.bound_forms.specs.Terms.{Env, Given, a_value, bound_arguments, parameter_named}
+use Rattle.bound_forms.specs.Terms as plain_terms
+use Rattle.bound_declarations.specs.binder.specs.Signatures.{is_get, reader, parameters_in, call_type}
+use Rattle.bound_forms.specs.ExpressionsBound.{call_value, call_with, if_there, indexes_value, indexed_value, node_or, numbers_of, argument_of, callee, indexed, operand_of, term_of, givens, place_told}
 use Rattle.bound_calls.specs.declared.term.Ending.{Ending}
 use Rattle.bound_calls.specs.declared.term.Routine.{Routine}
 use Rattle.bound_calls.specs.declared.term.Term.TheVariants as term
@@ -416,15 +416,15 @@ no_index : (value : Declared → plain_terms.Term → Place → Option bound.Exp
 no_index value w [] h = refl
 no_index value w (g ∷ gs) h = ap (λ b. is_get w.kind && b) h ∙ and_no (is_get w.kind)
 
-pub call_is : (value : Declared → plain_terms.Term → Place → Option bound.Expr) (env : Env) (place : Place) (gs : List Given) (space : Space) (number : ℕ) (w : Written) (read : ℕ × Written) (procedure : ℕ) (of : Declared) (parameters : List project.Parameter)
+pub call_is : (value : Declared → plain_terms.Term → Place → Option bound.Expr) (number_of : plain_terms.Term → Place → Option bound.Expr) (env : Env) (place : Place) (gs : List Given) (space : Space) (number : ℕ) (w : Written) (read : ℕ × Written) (procedure : ℕ) (of : Declared) (parameters : List project.Parameter)
     (args : bound.Args) → reader env.scope space number w ≡ Some read → procedure ≡ procedure_number env.scope space read.0 → parameters ≡ parameters_in env.scope space read.1 → of ≡ call_type env.scope space read.1
-    → (length read.1.parameters == 0) ≡ false → bound_arguments value parameters gs ≡ Some args → call_with value env place gs space number w ≡ a_value (call procedure args) of
-call_is value env place gs space number w read procedure of parameters args reads number_is parameters_are of_is some given =
+    → (length read.1.parameters == 0) ≡ false → bound_arguments value parameters gs ≡ Some args → call_with value number_of env place gs space number w ≡ a_value (call procedure args) of
+call_is value number_of env place gs space number w read procedure of parameters args reads number_is parameters_are of_is some given =
     let all : bound_arguments value (parameters_in env.scope space read.1) gs ≡ Some args = ap (λ l. bound_arguments value l gs) (sym parameters_are) ∙ given in
     let called_as : ℕ × Written → plain_terms.Term = λ (f : ℕ × Written).
-    if indexes_value f.1 gs then node_or (call_value env space f.0 f.1 (Some bound.no_args)) (λ n u. indexed_value place n u (numbers_of (value type.long) gs))
+    if indexes_value f.1 gs then node_or (call_value env space f.0 f.1 (Some bound.no_args)) (λ n u. indexed_value place n u (numbers_of number_of gs))
     else call_value env space f.0 f.1 (bound_arguments value (parameters_in env.scope space f.1) gs) in
-    let found : call_with value env place gs space number w ≡ called_as read = ap (λ o. if_there (option_map called_as o)) reads in
+    let found : call_with value number_of env place gs space number w ≡ called_as read = ap (λ o. if_there (option_map called_as o)) reads in
     found ∙ rw (no_index value read.1 gs some, all, number_is, of_is) refl
 
 names_long : (value : Declared → plain_terms.Term → Place → Option bound.Expr) (n : ℕ) (ps : List project.Parameter) (gs : List Given) (ks : List ℕ) (xs : List Argument) → AllNamedTaken value n ps gs ks xs → length ks ≡ length xs
@@ -486,7 +486,7 @@ call_stands env t r x d e named ending y place gs xs g ns ys qs between below h 
     let B : plain_terms.Term → Type 0 = λ z. indexed env place z (gs ++ g ∷ ns) ≡ a_value (call r.procedure args) (declared_view r.of) in
     subst P (sym h.ending_is) (record {
       made = call r.procedure args;
-      is = subst B (sym s.is) (call_is value env place (gs ++ g ∷ ns) s.space s.number s.written s.read r.procedure (declared_view r.of) ps args s.reads s.procedure_is s.parameters_are s.of_is some m.bound);
+      is = subst B (sym s.is) (call_is value (operand_of env) env place (gs ++ g ∷ ns) s.space s.number s.written s.read r.procedure (declared_view r.of) ps args s.reads s.procedure_is s.parameters_are s.of_is some m.bound);
       ends = call_ends t r.procedure o.arguments o.order m.places m.all e.pieces below m.arguments_is m.order_is m.on_top;
     })
 

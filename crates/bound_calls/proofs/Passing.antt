@@ -8,7 +8,7 @@ use Rattle.bound_project.specs.Expressions as bound
 use Rattle.bound_project.specs.Pieces.{Argument}
 use Rattle.bound_project.specs.Lists.{args_of}
 use Rattle.bound_project.specs.Project.{Parameter}
-use Rattle.bound_declarations.specs.binder.specs.Terms.{Term, Given, Item, taken_by, not_given_to, by_position, left_over, built, are_apart, has_names, bound_arguments}
+use Rattle.bound_forms.specs.Terms.{Term, Given, Item, taken_by, not_given_to, by_position, left_over, built, are_apart, has_names, bound_arguments}
 use Rattle.bound_calls.specs.Passing.{Taken, AllTaken, AllLeft}
 
 -- what parameters take, by their numbers from a number on

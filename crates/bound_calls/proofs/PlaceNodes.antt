@@ -1,12 +1,12 @@
 -- Where the last node of a place is no element of a Variant variable, neither is the place.
-use Rattle.std.proofs.Common.{◌≡◌, ℕ, Bool, true, false, not, List, [], ◌∷◌, Option, Some, None, option_map, refl, sym, ap, ◌∙◌}
+use Rattle.std.proofs.Common.{◌≡◌, Bool, true, false, not, List, [], ◌∷◌, Option, Some, None, option_map, refl, sym, ap, ◌∙◌}
 use Rattle.bound_project.specs.declared.node.Node.{Node}
 use Rattle.bound_project.specs.declared.node.NodeKind.{NodeKind}
 use Rattle.bound_project.specs.declared.node.NodeKind.TheVariants as node
 use Rattle.bound_project.specs.Expressions.{Expr, load, element_value, field_value, unary, binary, call, default_of, default_if_any, same, is_type, library, bound_of, host_member, named_member, no_args, in_order, Exprs, no_exprs, Lvalue, item, element, field, marked}
 use Rattle.bound_project.specs.Pieces.{Piece, nothing, an_expr, a_place, a_member, a_named_member, an_argument, place_lent, value_copied, values_listed, a_value_shown, a_zone, a_test_begun, a_test_is, a_test_range, a_resize, an_erased, Tables, arguments_off, as_operand, expr_of, exprs_off, misfit, by_name_in, name_in, order_in, of_test, of_range, of_place_found, put_kind}
 use Rattle.bound_project.specs.View.{base_view, declared_view, variable_view}
-use Rattle.bound_declarations.specs.binder.specs.Terms as plain
+use Rattle.bound_forms.specs.Terms as plain
 use Rattle.bound_calls.specs.Standing.{PlaceEnds}
 use Rattle.bound_calls.specs.Calls.{may_be_item}
 use Rattle.bound_calls.proofs.LastNodes.{value_passes, place_passes, both_pass, found_passes, value_found_passes, member_found_passes, named_found_passes, any_node}

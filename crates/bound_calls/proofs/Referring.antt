@@ -1,6 +1,6 @@
 -- How terms are taken as references, and operands that are objects.
 use Rattle.std.proofs.Common.{◌≡◌, Bool, true, false, List, ◌∷◌, Some, None, refl, sym, ap, subst, ◌∙◌}
-use Rattle.std.specs.Prelude.{ℕ, ◌==◌, ◌||◌, [], Option, if◌then◌else◌, option_map, option_and_then}
+use Rattle.std.specs.Prelude.{ℕ, ◌==◌, ◌||◌, [], Option, if◌then◌else◌, option_map}
 use Rattle.vba_base.specs.declared.place.Place.{Place}
 use Rattle.vba_values.specs.declared.object.HostRef.TheVariants as host
 use Rattle.vba_values.specs.Types.{Declared}
@@ -14,7 +14,7 @@ use Rattle.bound_project.specs.declared.node.NodeKind.TheVariants as node
 use Rattle.bound_project.specs.View.{declared_view}
 use Rattle.bound_project.specs.Expressions.{load, err_value, err_number, host_object, host_member, default_of, default_if_any, no_exprs}
 use Rattle.bound_project.specs.Expressions as bound
-use Rattle.bound_project.specs.Pieces.{Piece, Tables, name_in, of_place, of_value, expr_of, put}
+use Rattle.bound_project.specs.Pieces.{Piece, Tables, an_expr, name_in, of_place, of_value, expr_of, put}
 use Rattle.bound_project.specs.Drafts.{Drafted, NodeNamed}
 use Rattle.bound_declarations.specs.binder.specs.Options.{or_else}
 use Rattle.bound_declarations.specs.binder.specs.Types.{is_object}
@@ -22,9 +22,10 @@ use Rattle.bound_declarations.specs.binder.specs.Declarations.{Written}
 use Rattle.bound_declarations.specs.binder.specs.Scopes.{Space}
 use Rattle.bound_declarations.specs.binder.specs.Storage.{procedure_number}
 use Rattle.bound_declarations.specs.binder.specs.Constants.{is_variant}
-use Rattle.bound_declarations.specs.binder.specs.Terms.{Env, a_routine, a_value, bound_arguments, expression_of, typed_value, value_with}
-use Rattle.bound_declarations.specs.binder.specs.Terms as plain
-use Rattle.bound_declarations.specs.binder.specs.ExpressionsBound.{bare_call, call_type, call_value, parameters_in, if_there, is_host_type, has_default, has_object, plain_operand, if_any, default_value, typed_reference, value_of, operand_of, reference_of, given_as, term_of, place_told}
+use Rattle.bound_forms.specs.Terms.{Env, a_routine, a_value, bound_arguments, expression_of, typed_value, value_with}
+use Rattle.bound_forms.specs.Terms as plain
+use Rattle.bound_forms.specs.ExpressionsBound.{bare_call, call_value, if_there, is_host_type, has_object, plain_operand, if_any, given_way, default_value, typed_reference, value_of, operand_of, reference_of, given_as, term_of, place_told}
+use Rattle.bound_declarations.specs.binder.specs.Signatures.{call_type, parameters_in}
 use Rattle.bound_calls.specs.declared.term.Ending.{Ending}
 use Rattle.bound_calls.specs.declared.term.HostMember.{HostMember}
 use Rattle.bound_calls.specs.declared.term.Routine.{Routine}
@@ -34,7 +35,7 @@ use Rattle.bound_calls.specs.declared.term.Tree.{Tree}
 use Rattle.bound_calls.specs.Standing.{RoutineStands, TermStands, EndingIs}
 use Rattle.bound_calls.specs.Steps.{PushesLeft, PushesOperand}
 use Rattle.bound_calls.specs.Taking.{CallsRoutine, PushesSheet, ReadsMember, TakesValue, sheet_expression}
-use Rattle.bound_calls.specs.References.{is_referring, refers, may_refer, gives_way, EndingGives, PushesAs, TakesReference, PushesReference, TakesGiven, PushesGiven, PushesIfAny}
+use Rattle.bound_calls.specs.References.{is_referring, refers, may_refer, gives_way, default_node, DefaultBreaks, EndingGives, PushesAs, TakesReference, PushesReference, TakesGiven, PushesGiven, PushesIfAny}
 use Rattle.bound_calls.proofs.Growing.{grown_same, grown_pieces, grown_twice}
 use Rattle.bound_calls.proofs.Taking.{node_of, operand_split, not_err, sheet_stands}
 
@@ -278,32 +279,45 @@ gives_no_err term.ErrClear h = tt
 gives_no_err term.ErrorWord h = tt
 gives_no_err term.Nothing h = tt
 
-abbrev variant : DeclaredType
+abbrev pub variant : DeclaredType
 variant = Plain element.Variant
 
-default_found : (place : Place) (made : bound.Node) (at : Place) (of : Declared) → has_default of ≡ true
-    → default_value place (expression_of made at of) ≡ Some (expression_of (default_of (expression_of made at of)) place type.variant)
-default_found place made at of h = ap (λ b. if b then Some (expression_of (default_of (expression_of made at of)) place type.variant) else None) h
+given_operand : (rule : Option ℕ) (place : Place) (e : bound.Expr) → bound.operand_type (given_way rule place e) ≡ type.variant
+given_operand None place e = refl
+given_operand (Some rule) place e = refl
 
-pub pushes_default : (x : Tree) (d m e : Drafted) (of : DeclaredType) → gives_way x.term ≡ true → PushesReference x d m of → has_default (declared_view of) ≡ true
-    → e ≡ record m { pieces = put m.tables (node_of node.DefaultOf x.place variant) m.pieces } → PushesOperand x d e (Some variant)
-pushes_default x d m e of w p has eq =
+given_pushed : (t : Tables) (rule : Option ℕ) (place : Place) (e : bound.Expr) (below : List Piece) → put t (node_of (default_node rule place) place variant) (an_expr e ∷ below) ≡ an_expr (given_way rule place e) ∷ below
+given_pushed t None place e below = refl
+given_pushed t (Some rule) place e below = refl
+
+pub default_named : (t : Tables) (rule : Option ℕ) (place : Place) → NodeNamed t (default_node rule place)
+default_named t None place = tt
+default_named t (Some rule) place = tt
+
+pub pushes_default : (x : Tree) (d m n e : Drafted) (v : Ending) (rule : Option ℕ) → gives_way x.term ≡ true → TakesReference x.term d m v → DefaultBreaks v rule → n ≡ record m { pieces = put m.tables (node_of v.kind x.place v.of) m.pieces }
+    → e ≡ record n { pieces = put n.tables (node_of (default_node rule x.place) x.place variant) n.pieces } → PushesOperand x d e (Some variant)
+pushes_default x d m n e v rule w t breaks one two =
+    let n1 : Drafted = record m { pieces = put m.tables (node_of v.kind x.place v.of) m.pieces } in
+    let e1 : Drafted = record n1 { pieces = put n1.tables (node_of (default_node rule x.place) x.place variant) n1.pieces } in
+    let all : e ≡ e1 = two ∙ ap (λ (z : Drafted). record z { pieces = put z.tables (node_of (default_node rule x.place) x.place variant) z.pieces }) one in
     let P : Drafted → Type 0 = λ z. PushesOperand x d z (Some variant) in
-    subst P (sym eq) (record {
-      grown = grown_twice d m (record m { pieces = put m.tables (node_of node.DefaultOf x.place variant) m.pieces }) p.grown (grown_pieces m (put m.tables (node_of node.DefaultOf x.place variant) m.pieces));
+    subst P (sym all) (record {
+      grown = grown_twice d m e1 t.grown (grown_twice m n1 e1 (grown_pieces m n1.pieces) (grown_pieces n1 e1.pieces));
       stands = λ env tree below k.
-          let h = p.stands env tree below k in
           let place = place_told tree in
           let y = term_of env tree in
-          let reference = expression_of h.made h.place (declared_view of) in
+          let h = t.stands env y below k.term_is in
+          let reference = expression_of h.made x.place (declared_view v.of) in
+          let A : Place → Type 0 = λ (q : Place). reference_of env y q ≡ Some reference in
           record {
-            made = expression_of (default_of reference) x.place type.variant;
+            made = given_way rule x.place reference;
             is = operand_split env d.tables x.term (gives_no_err x.term w) y d.pieces below k.term_is place
-                ∙ ap (λ o. or_else (option_map plain_operand o) (option_and_then (default_value place) (reference_of env y place))) (no_value_there env d.tables x.term y d.pieces below (gives_refers x.term w) k.term_is place)
-                ∙ ap (λ o. option_and_then (default_value place) o) h.is ∙ default_found place h.made h.place (declared_view of) has
-                ∙ ap (λ (q : Place). Some (expression_of (default_of reference) q type.variant)) (sym k.place_is);
-            operand = refl;
-            on_top = ap (λ st. of_value (λ v. expr_of (node_of node.DefaultOf x.place variant) (default_of v)) st) h.on_top;
+                ∙ ap (λ o. or_else (option_map plain_operand o) (option_map (default_value place) (reference_of env y place))) (no_value_there env d.tables x.term y d.pieces below (gives_refers x.term w) k.term_is place)
+                ∙ ap (λ o. option_map (default_value place) o) (subst A k.place_is (h.is x.place))
+                ∙ ap (λ (r : Option ℕ). Some (given_way r place reference)) (breaks m.tables h.made m.pieces below h.ends)
+                ∙ ap (λ (q : Place). Some (given_way rule q reference)) (sym k.place_is);
+            operand = given_operand rule x.place reference;
+            on_top = ap (λ st. put m.tables (node_of (default_node rule x.place) x.place variant) st) (h.ends (node_of v.kind x.place v.of)) ∙ given_pushed m.tables rule x.place reference below;
           };
     })
 
@@ -416,8 +430,8 @@ value_plainly x d m e v of n t p = record {
       let here : value_of env y place ≡ Some (expression_of h.made x.place (declared_view v.of)) = h.is place ∙ ap (λ (q : Place). Some (expression_of h.made q (declared_view v.of))) (sym k.place_is) in
       record {
         made = s.made;
-        is = operand_split env d.tables x.term n y d.pieces below k.term_is place ∙ ap (λ o. or_else (option_map plain_operand o) (option_and_then (default_value place) (reference_of env y place))) here
-            ∙ ap (λ o. or_else o (option_and_then (default_value place) (reference_of env y place))) s.is;
+        is = operand_split env d.tables x.term n y d.pieces below k.term_is place ∙ ap (λ o. or_else (option_map plain_operand o) (option_map (default_value place) (reference_of env y place))) here
+            ∙ ap (λ o. or_else o (option_map (default_value place) (reference_of env y place))) s.is;
         operand = s.operand;
         on_top = s.on_top;
       };

@@ -4,7 +4,6 @@ use Rattle.std.proofs.Common.{◌≡◌, ℕ, Bool, true, false, ◌<◌, ◌≤
 use Rattle.std.specs.Prelude.{option_map}
 use Rattle.vba_base.specs.declared.place.Place.{Place}
 use Rattle.vba_lexer.specs.declared.token.Token.{Token}
-use Rattle.vba_words.specs.Spelling.{read}
 use Rattle.vba_values.specs.declared.types.Compare.{Compare}
 use Rattle.vba_values.specs.Val.{Val}
 use Rattle.vba_expression.specs.declared.operator.UnaryOperator.{UnaryOperator}
@@ -28,9 +27,9 @@ use Rattle.bound_project.specs.Pieces.{Piece, Tables, an_expr, expr_of, of_both}
 use Rattle.bound_project.specs.Drafts.{Drafted}
 use Rattle.bound_project.proofs.Drafts.{constant_last}
 use Rattle.bound_declarations.specs.binder.specs.Constants.{compare_in, operator_kind, value_type}
-use Rattle.bound_declarations.specs.binder.specs.Terms.{Env, a_value, expression_of}
-use Rattle.bound_declarations.specs.binder.specs.Terms as plain
-use Rattle.bound_declarations.specs.binder.specs.ExpressionsBound.{term_of, value_of, operand_of, reference_of, given_as, as_value, binary_term, same_term, if_there, value_term, literal_term, bound_value, bound_operand, place_told}
+use Rattle.bound_forms.specs.Terms.{Env, a_value, expression_of}
+use Rattle.bound_forms.specs.Terms as plain
+use Rattle.bound_forms.specs.ExpressionsBound.{term_of, value_of, operand_of, reference_of, given_as, as_value, binary_term, same_term, if_there, value_term, literal_term, bound_value, bound_operand, place_told}
 use Rattle.vba_words.specs.declared.identifier.Identifier.{Identifier}
 use Rattle.bound_calls.specs.declared.term.Ending.{Ending}
 use Rattle.bound_calls.specs.declared.term.Term.{Term}

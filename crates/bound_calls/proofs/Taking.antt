@@ -1,6 +1,6 @@
 -- How terms are taken.
 use Rattle.std.proofs.Common.{◌≡◌, ℕ, ◌<◌, length, Bool, true, false, List, [], ◌∷◌, Option, Some, None, refl, sym, ap, subst, ◌∙◌}
-use Rattle.std.specs.Prelude.{◌==◌, if◌then◌else◌, option_map, option_and_then}
+use Rattle.std.specs.Prelude.{◌==◌, if◌then◌else◌, option_map}
 use Rattle.vba_base.specs.declared.place.Place.{Place}
 use Rattle.vba_values.specs.Types as type
 use Rattle.bound_project.specs.declared.declared_type.DeclaredType.{DeclaredType}
@@ -20,9 +20,10 @@ use Rattle.bound_declarations.specs.binder.specs.Options.{or_else}
 use Rattle.bound_declarations.specs.binder.specs.Types.{is_object}
 use Rattle.bound_declarations.specs.binder.specs.Declarations.{Written}
 use Rattle.bound_declarations.specs.binder.specs.Scopes.{Space}
-use Rattle.bound_declarations.specs.binder.specs.Terms.{Env, a_host_member, a_routine, bound_arguments, expression_of, no_term, typed_value, value_with}
-use Rattle.bound_declarations.specs.binder.specs.Terms as plain
-use Rattle.bound_declarations.specs.binder.specs.ExpressionsBound.{bare_call, call_value, if_there, parameters_in, plain_operand, reader, value_of, reference_of, default_value, operand_of}
+use Rattle.bound_forms.specs.Terms.{Env, a_host_member, a_routine, bound_arguments, expression_of, no_term, typed_value, value_with}
+use Rattle.bound_forms.specs.Terms as plain
+use Rattle.bound_forms.specs.ExpressionsBound.{bare_call, call_value, if_there, plain_operand, value_of, reference_of, default_value, operand_of}
+use Rattle.bound_declarations.specs.binder.specs.Signatures.{parameters_in, reader}
 use Rattle.bound_declarations.specs.declared_names.specs.View.{space_view, written_view}
 use Rattle.bound_calls.specs.declared.term.Ending.{Ending}
 use Rattle.bound_calls.specs.declared.term.HostMember.{HostMember}
@@ -193,10 +194,10 @@ not_err term.Err = ⊥
 not_err x = Unit {0}
 
 Splits : Env → Place → plain.Term → Type 0
-Splits env place z = operand_of env z place ≡ or_else (option_map plain_operand (value_of env z place)) (option_and_then (default_value place) (reference_of env z place))
+Splits env place z = operand_of env z place ≡ or_else (option_map plain_operand (value_of env z place)) (option_map (default_value place) (reference_of env z place))
 
 pub operand_split : (env : Env) (t : Tables) (x : Term) → not_err x → (y : plain.Term) (ps below : List Piece) → TermStands env t x y ps below → (place : Place)
-    → operand_of env y place ≡ or_else (option_map plain_operand (value_of env y place)) (option_and_then (default_value place) (reference_of env y place))
+    → operand_of env y place ≡ or_else (option_map plain_operand (value_of env y place)) (option_map (default_value place) (reference_of env y place))
 unfolding not_err Splits
 operand_split env t (term.Place kind of bounded lends) n y ps below h place = subst (Splits env place) (sym h.is) refl
 operand_split env t (term.Value e) n y ps below h place = subst (Splits env place) (sym h.is) refl

@@ -1,6 +1,7 @@
 -- Serves the code: how arguments and calls are pushed.
-use Rattle.std.specs.Prelude.{◌≡◌, ◌+◌, length, Bool, true, false, ◌&&◌, ◌||◌, List, ◌∷◌, map, Option, Some, None}
+use Rattle.std.specs.Prelude.{◌≡◌, ◌+◌, length, Bool, true, false, ◌&&◌, ◌||◌, List, ◌∷◌, map, Option, Some, None, option_map}
 use Rattle.vba_base.specs.declared.place.Place.{Place}
+use Rattle.vba_values.specs.Types.{Declared}
 use Rattle.vba_lexer.specs.declared.token.Token.{Token}
 use Rattle.vba_expression.specs.Tree.{Expr, Args, missing}
 use Rattle.vba_expression.specs.Tree as tree
@@ -18,8 +19,8 @@ use Rattle.bound_project.specs.Project as project
 use Rattle.bound_project.specs.Drafts.{Drafted}
 use Rattle.bound_declarations.specs.binder.specs.Constants.{is_variant}
 use Rattle.bound_declarations.specs.binder.specs.Types.{is_object}
-use Rattle.bound_declarations.specs.binder.specs.Terms.{Env, Given, of_other_type}
-use Rattle.bound_declarations.specs.binder.specs.ExpressionsBound.{argument_of, term_of, place_told}
+use Rattle.bound_forms.specs.Terms.{Env, Given, given_to, of_other_type}
+use Rattle.bound_forms.specs.ExpressionsBound.{argument_of, taken_for, term_of, place_told}
 use Rattle.bound_calls.specs.declared.term.Ending.{Ending}
 use Rattle.bound_calls.specs.declared.term.Routine.{Routine}
 use Rattle.bound_calls.specs.declared.term.Term.{Term}
@@ -29,7 +30,7 @@ use Rattle.bound_calls.specs.declared.term.Passed.{Passed}
 use Rattle.bound_calls.specs.declared.term.Item.{Item}
 use Rattle.bound_calls.specs.declared.term.Item.TheVariants as item
 use Rattle.bound_calls.specs.Passing.{Taken, NotGiven, AllLeft}
-use Rattle.bound_calls.specs.Standing.{PlaceEnds, TreeStands, PassedStands, Grown, plain_given}
+use Rattle.bound_calls.specs.Standing.{PlaceEnds, PushedIs, TreeStands, PassedStands, Grown, plain_given}
 
 -- ---- one argument
 
@@ -42,11 +43,16 @@ pub record Lends (kind : NodeKind) (d e : Drafted) : Type 0 where
   pub grown : Grown d e
   pub stands : (x : Lvalue) (below : List Piece) → PlaceEnds d.tables kind x d.pieces below → e.pieces ≡ an_argument (place_lent x) ∷ below
 
+-- a value of a type that is given to what has a type is marked where that breaks a rule
+pub record MarksGiven (of : Declared) (bounded : Bool) (place : Place) (given : DeclaredType) (d e : Drafted) (after : DeclaredType) : Type 0 where
+  pub grown : Grown d e
+  pub stands : (found : Option bound.Expr) (below : List Piece) → PushedIs given found d.pieces below → PushedIs after (option_map (given_to of bounded place) found) e.pieces below
+
 -- a place of another type than the one that a parameter takes is marked
 pub record MarksOther (lent : Ending) (parameter : DeclaredType) (place : Place) (d e : Drafted) : Type 0 where
   pub grown : Grown d e
   pub stands : (x : Lvalue) (below : List Piece) → PlaceEnds d.tables lent.kind x d.pieces below
-      → e.pieces ≡ an_argument (value_copied (of_other_type x (declared_view lent.of) place) (declared_view parameter)) ∷ below
+      → e.pieces ≡ an_argument (value_copied (of_other_type x (declared_view lent.of) (declared_view parameter) place) (declared_view parameter)) ∷ below
 
 -- the place that a term lends, and its type
 abbrev pub lent_in : Term → Option Ending
@@ -70,6 +76,11 @@ pub record ArgumentIs (found : Option bound.Expr) (ps below : List Piece) : Type
   pub made : bound.Expr
   pub is : found ≡ Some made
   pub on_top : ps ≡ an_expr made ∷ below
+
+pub record PushesTaken (of : DeclaredType) (x : Tree) (d e : Drafted) (given : DeclaredType) : Type 0 where
+  pub grown : Grown d e
+  pub stands : (env : Env) (tree : Expr) (below : List Piece) → TreeStands env d.tables x tree d.pieces below
+      → PushedIs given (taken_for env (declared_view of) (term_of env tree) (place_told tree)) e.pieces below
 
 pub record PushesArgument (of : DeclaredType) (x : Tree) (d e : Drafted) : Type 0 where
   pub grown : Grown d e

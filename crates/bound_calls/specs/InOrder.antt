@@ -11,7 +11,7 @@ use Rattle.bound_project.specs.Lists.{above}
 use Rattle.bound_project.specs.Pieces.{Argument, an_argument, order_in, with_argument}
 use Rattle.bound_project.specs.Project.{Parameter}
 use Rattle.bound_project.specs.Drafts.{Drafted, with_order}
-use Rattle.bound_declarations.specs.binder.specs.Terms.{Term, Given, parameter_named, taken_by}
+use Rattle.bound_forms.specs.Terms.{Term, Given, parameter_named, taken_by}
 use Rattle.bound_calls.specs.declared.term.Ending.{Ending}
 use Rattle.bound_calls.specs.declared.term.Routine.{Routine}
 use Rattle.bound_calls.specs.declared.term.Ordered.{Ordered}

@@ -13,8 +13,8 @@ use Rattle.bound_project.specs.Expressions as bound
 use Rattle.bound_project.specs.Pieces.{Piece, Tables}
 use Rattle.bound_project.specs.Pieces as piece
 use Rattle.bound_project.specs.Drafts.{Drafted}
-use Rattle.bound_declarations.specs.binder.specs.Terms.{Env}
-use Rattle.bound_declarations.specs.binder.specs.ExpressionsBound.{callee, element_place, givens, indexed, item_of, term_of, place_told}
+use Rattle.bound_forms.specs.Terms.{Env}
+use Rattle.bound_forms.specs.ExpressionsBound.{callee, element_place, givens, indexed, item_of, term_of, place_told}
 use Rattle.bound_calls.specs.declared.term.Term.{Term}
 use Rattle.bound_calls.specs.declared.term.Tree.{Tree}
 use Rattle.bound_calls.specs.declared.term.Target.{Target}

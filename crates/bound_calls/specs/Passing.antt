@@ -6,7 +6,7 @@ use Rattle.bound_project.specs.Expressions.{Args}
 use Rattle.bound_project.specs.Expressions as bound
 use Rattle.bound_project.specs.Pieces.{Argument, with_argument}
 use Rattle.bound_project.specs.Project.{Parameter}
-use Rattle.bound_declarations.specs.binder.specs.Terms.{Term, Given, taken_by, not_given_to}
+use Rattle.bound_forms.specs.Terms.{Term, Given, taken_by, not_given_to}
 
 -- a parameter that is no ParamArray takes what is given without a name
 pub record Taken (value : Declared → Term → Place → Option bound.Expr) (p : Parameter) (g : Given) (x : Argument) : Type 0 where

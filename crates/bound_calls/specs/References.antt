@@ -1,5 +1,5 @@
 -- Serves the code: terms that are taken as references to objects.
-use Rattle.std.specs.Prelude.{◌≡◌, Bool, true, false, ◌||◌, List, ◌∷◌, Option, Some, None, option_map}
+use Rattle.std.specs.Prelude.{◌≡◌, ℕ, Bool, true, false, ◌||◌, List, ◌∷◌, Option, Some, None, option_map}
 use Rattle.vba_base.specs.declared.place.Place.{Place}
 use Rattle.vba_expression.specs.Tree.{Expr}
 use Rattle.bound_project.specs.declared.declared_type.DeclaredType.{DeclaredType}
@@ -10,9 +10,9 @@ use Rattle.bound_project.specs.Expressions as bound
 use Rattle.bound_project.specs.Pieces.{Piece, Tables, an_expr}
 use Rattle.bound_project.specs.Drafts.{Drafted, NodeNamed}
 use Rattle.bound_declarations.specs.binder.specs.Constants.{is_variant}
-use Rattle.bound_declarations.specs.binder.specs.Terms.{Env, expression_of}
-use Rattle.bound_declarations.specs.binder.specs.Terms as plain
-use Rattle.bound_declarations.specs.binder.specs.ExpressionsBound.{is_host_type, may_give_object, has_object, if_any, reference_of, given_as, term_of, place_told}
+use Rattle.bound_forms.specs.Terms.{Env, expression_of}
+use Rattle.bound_forms.specs.Terms as plain
+use Rattle.bound_forms.specs.ExpressionsBound.{is_host_type, may_give_object, has_object, if_any, host_kind, default_rule, reference_of, given_as, term_of, place_told}
 use Rattle.bound_calls.specs.declared.term.Ending.{Ending}
 use Rattle.bound_calls.specs.declared.term.Term.{Term}
 use Rattle.bound_calls.specs.declared.term.Term.TheVariants as term
@@ -59,7 +59,7 @@ kind_gives (node.CallInOrder p count order) = Some true
 kind_gives (node.HostMember i count) = Some true
 kind_gives (node.NamedMember i by count) = Some true
 kind_gives (node.Library f text_form count compare one) = Some (may_give_object f)
-kind_gives (node.Marked broken count) = Some false
+kind_gives (node.Marked broken count) = Some true
 kind_gives (node.Constant i) = Some false
 kind_gives (node.Unary o of) = Some false
 kind_gives (node.Binary o compare left right) = Some false
@@ -72,6 +72,36 @@ kind_gives kind = None
 -- whether a value whose last node isn't pushed is a Variant that may be an object
 abbrev pub EndingGives : Ending → Bool → Type 0
 EndingGives e gives = (t : Tables) (made : bound.Node) (ps below : List Piece) → ValueEnds t e.kind made ps below → has_object made (declared_view e.of) ≡ gives
+
+-- the last nodes of values, but for those of the objects that are always there
+abbrev pub is_typed_kind : NodeKind → Bool
+is_typed_kind (node.Constant i) = true
+is_typed_kind node.Load = true
+is_typed_kind (node.ElementValue count) = true
+is_typed_kind (node.FieldValue i) = true
+is_typed_kind (node.Unary o of) = true
+is_typed_kind (node.Binary o compare left right) = true
+is_typed_kind (node.Call p count) = true
+is_typed_kind (node.CallInOrder p count order) = true
+is_typed_kind (node.ErrValue _) = true
+is_typed_kind (node.Library f text_form count compare one) = true
+is_typed_kind (node.Marked broken count) = true
+is_typed_kind node.Same = true
+is_typed_kind (node.IsType of) = true
+is_typed_kind node.ActiveSheet = true
+is_typed_kind (node.HostMember i count) = true
+is_typed_kind (node.NamedMember i by count) = true
+is_typed_kind k = false
+
+-- the rule that an object breaks where it gives way to the value of its default member: of one that is always there by
+-- which it is, and else by its type
+abbrev pub DefaultBreaks : Ending → Option ℕ → Type 0
+DefaultBreaks e rule = (t : Tables) (made : bound.Node) (ps below : List Piece) → ValueEnds t e.kind made ps below → default_rule (host_kind made (declared_view e.of)) ≡ rule
+
+-- the node with which an object gives way, or is marked
+abbrev pub default_node : Option ℕ → Place → NodeKind
+default_node None place = node.DefaultOf
+default_node (Some rule) place = node.Marked (record { rule = rule; place = place }) 1
 
 -- the last node of a value is pushed, and what stands behind it
 pub record PushesAs (wrap : bound.Expr → bound.Expr) (v : Ending) (place : Place) (d e : Drafted) (of : DeclaredType) : Type 0 where

@@ -30,9 +30,10 @@ use Rattle.bound_declarations.specs.binder.specs.Options.{from_two}
 use Rattle.bound_declarations.specs.binder.specs.Scopes.{Space, qualifier_of}
 use Rattle.bound_declarations.specs.binder.specs.Constants.{compare_in}
 use Rattle.bound_declarations.specs.binder.specs.Storage.{procedure_number}
-use Rattle.bound_declarations.specs.binder.specs.Terms.{Env, Given, a_place, a_value, a_routine, a_function, a_host_member, err_object, err_raise, err_clear, error_word, no_term, expression_of, listed_values, parameter_named, taken_by}
-use Rattle.bound_declarations.specs.binder.specs.Terms as plain
-use Rattle.bound_declarations.specs.binder.specs.ExpressionsBound.{reader, parameters_in, call_type, callee, item_of, element_place, element_type, argument_of, function_values, givens, given_as, indexed, numbers_of, term_of, operand_of, reference_of, place_told}
+use Rattle.bound_forms.specs.Terms.{Env, Given, a_place, a_value, a_routine, a_function, a_host_member, err_object, err_raise, err_clear, error_word, no_term, expression_of, listed_values, parameter_named, taken_by}
+use Rattle.bound_forms.specs.Terms as plain
+use Rattle.bound_declarations.specs.binder.specs.Signatures.{reader, parameters_in, call_type}
+use Rattle.bound_forms.specs.ExpressionsBound.{callee, item_of, element_place, element_type, argument_of, first_given, function_values, givens, indexed, is_wrong, numbers_of, term_of, operand_of, reference_of, place_told}
 use Rattle.bound_calls.specs.declared.term.Dotted.{Dotted}
 use Rattle.bound_calls.specs.declared.term.Ending.{Ending}
 use Rattle.bound_calls.specs.declared.term.Property.{Property}
@@ -275,9 +276,8 @@ AllListed value [] [] = Unit {0}
 AllListed value (g ∷ gs) (e ∷ es) = ValueIs value g e × AllListed value gs es
 AllListed value gs es = ⊥
 
--- the same of a function that is called, by the numbers of its arguments
+-- the same of a function that is called, by the numbers of its arguments, which may have names
 pub record ArgumentIs (env : Env) (f : LibraryFunction) (i : ℕ) (g : Given) (e : bound.Expr) : Type 0 where
-  pub no_name : g.name ≡ None
   pub is : (gs : List Given) → function_values env f i (g ∷ gs) ≡ from_two also (Some e) (function_values env f (suc i) gs)
 
 abbrev pub AllValues : Env → LibraryFunction → ℕ → List Given → List bound.Expr → Type 0
@@ -290,6 +290,8 @@ pub record FunctionStands (env : Env) (x : FunctionCall) (e : Expr) (args : Args
   pub place_is : x.place ≡ place_told e
   pub made : List bound.Expr
   pub values : AllValues env x.function.function 0 (givens env args) made
+  pub wrong_is : is_wrong x.function.function (givens env args) ≡ x.is_wrong
+  pub first_is : first_given (givens env args) ≡ x.is_started
   pub count_is : x.count ≡ length made
   pub on_top : ps ≡ above (map an_expr made) below
 
@@ -330,7 +332,7 @@ pub record MemberStands (env : Env) (t : Tables) (x : MemberCall) (e : Expr) (ar
   pub is : item_of (place_told e) (callee env e (term_of env e)) ≡ a_host_member object (member_is t x.member)
   pub place_is : x.place ≡ place_told e
   pub made : List bound.Expr
-  pub values : AllGiven (given_as env) (givens env args) made
+  pub values : AllGiven (argument_of env type.variant) (givens env args) made
   pub names : NamesCame (names_told t x.names) x.named (givens env args)
   pub written_is : (more : List bound.Expr) → given_count (exprs_of (made ++ more)) ≡ x.written + given_count (exprs_of more)
   pub count_is : x.count ≡ length made
@@ -372,7 +374,7 @@ gathered_below items = None
 pub record GatheredStands (env : Env) (passed : Passed) (g : Given) (ps below : List Piece) : Type 0 where
   pub many : is_gathering (map parameter_view passed.left.now) ≡ true
   pub made : bound.Expr
-  pub is : ValueIs (given_as env) g made
+  pub is : ValueIs (argument_of env type.variant) g made
   pub on_top : ps ≡ an_expr made ∷ below
 
 abbrev pub GatheredAbove : Env → Option Passed → Given → (ps below : List Piece) → Type 0

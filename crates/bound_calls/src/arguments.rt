@@ -4,13 +4,14 @@ ghost use Rattle.bound_project.specs.Drafts.{NodeNamed};
 ghost use Rattle.bound_project.specs.Project.{nowhere};
 ghost use Rattle.bound_project.specs.View.{declared_view};
 ghost use Rattle.bound_declarations.specs.binder.specs.Constants.{is_variant};
-ghost use Rattle.bound_declarations.specs.binder.specs.Terms.{is_lent_to};
+ghost use Rattle.bound_forms.specs.Terms.{is_lent_to, other_rule};
 ghost use Rattle.vba_values.specs.Coerce.{is_same_type};
 ghost use Rattle.vba_values.specs.Types as type;
 ghost use Rattle.bound_calls.specs.Standing.{TermNamed};
-ghost use Rattle.bound_calls.specs.Calls.{Copies, Lends, MarksOther, PassesMissing, PassesNone, PassesPlain, PassesRest, PassesTree, PushesArgument, is_copied, keeps_object, lent_in, may_be_item};
+ghost use Rattle.bound_calls.specs.Calls.{Copies, Lends, MarksOther, PassesMissing, PassesNone, PassesPlain, PassesRest, PassesTree, PushesArgument, PushesTaken, is_copied, keeps_object, lent_in, may_be_item};
 
 use crate::constants::constant_number;
+use crate::given::{is_same_declared, is_user_type, mark_given};
 use crate::references::{push_given, push_operand};
 use crate::take::push_node;
 use crate::term::{Ending, Passed, Term, Tree};
@@ -19,7 +20,7 @@ use bound_declarations::declared_names::is_object;
 use bound_project::{DeclaredType, Draft, ElementType, NodeKind, Parameter};
 use std::alloc::Global;
 use vba_base::{NoMemory, OrMemory, Place, Refusal};
-use vba_values::{copy_value, is_same_type};
+use vba_values::copy_value;
 
 /// Is a type Variant?
 pub fn is_variant(of: DeclaredType) -> bool
@@ -41,17 +42,13 @@ fn is_any_object(of: DeclaredType) -> bool
     }
 }
 
-/// Is a place of a type lent to a parameter of a type? A Variant takes one of any type, and an Object one of any object
-/// type.
-fn is_fitting(alloc: Global, parameter: DeclaredType, of: DeclaredType) -> Result<bool, NoMemory>
-    ensures { IfOk result (λ fits. fits ≡ is_lent_to (declared_view of) (declared_view parameter)) }
+/// Is a place of a type lent to a parameter of a type? A Variant takes one of any type but the project's Types, and an
+/// Object one of any object type.
+fn is_fitting(parameter: DeclaredType, of: DeclaredType) -> bool
+    ensures { result ≡ is_lent_to (declared_view of) (declared_view parameter) }
 {
-    let own = of.value_type(alloc)?;
-    let taken = parameter.value_type(alloc)?;
-    Ok(
-        is_variant(parameter)
-            || (is_same_type(&own, &taken) || (is_object(of) && is_any_object(parameter))),
-    )
+    (is_variant(parameter) && !is_user_type(of))
+        || (is_same_declared(of, parameter) || (is_object(of) && is_any_object(parameter)))
 }
 
 /// Is a place that isn't lent to a parameter of a type copied for it? One of another object type is, and so is an element
@@ -88,8 +85,28 @@ fn lend(draft: &mut Draft, kind: NodeKind, of: DeclaredType, place: Place) -> Re
     push_node(draft, NodeKind::ByPlace, of, place)
 }
 
-/// Pushes an expression as a parameter of a type takes it: as it is, or as an operand.
-fn push_argument<'a>(
+/// Pushes an expression as a parameter of a type takes it, as it is or as an operand; answers the type that stands there.
+fn push_taken<'a>(
+    alloc: Global,
+    draft: &mut Draft,
+    of: DeclaredType,
+    tree: Tree<'a>,
+) -> Result<DeclaredType, OrMemory<NotYet>>
+    requires { TermNamed (draft_view draft.old).tables tree.term }
+    ensures { IfOk result (λ given. PushesTaken of tree.entry (draft_view draft.old) (draft_view draft.new) given) }
+{
+    if keeps_object(of) {
+        return push_given(alloc, draft, tree);
+    }
+    let Some(given) = push_operand(alloc, draft, tree)? else {
+        return Err(OrMemory::Fault(NotYet));
+    };
+    Ok(given)
+}
+
+/// Pushes an expression as an argument for a parameter of a type: as the parameter takes it, and marked where it breaks a
+/// rule that it is given to that.
+pub fn push_argument<'a>(
     alloc: Global,
     draft: &mut Draft,
     of: DeclaredType,
@@ -98,13 +115,8 @@ fn push_argument<'a>(
     requires { TermNamed (draft_view draft.old).tables tree.term }
     ensures { OnOk result (PushesArgument of tree.entry (draft_view draft.old) (draft_view draft.new)) }
 {
-    if keeps_object(of) {
-        push_given(alloc, draft, tree)?;
-        return Ok(());
-    }
-    let Some(_of) = push_operand(alloc, draft, tree)? else {
-        return Err(OrMemory::Fault(NotYet));
-    };
+    let given = push_taken(alloc, draft, of, tree)?;
+    mark_given(draft, of, false, given, tree.place)?;
     Ok(())
 }
 
@@ -138,6 +150,17 @@ fn lent_in<'a>(term: Term<'a>) -> Option<Ending>
     }
 }
 
+/// The rule that a variable of another type breaks where a parameter of a type takes a place: for a Variant it is one of a
+/// Type of the project.
+fn other_rule(parameter: DeclaredType) -> u8
+    ensures { result ≡ other_rule (declared_view parameter) }
+{
+    match parameter {
+        DeclaredType::Plain(ElementType::Variant) => 27,
+        _ => 26,
+    }
+}
+
 /// A place of another type than the one that a parameter takes: its value is marked as what breaks a static rule.
 fn mark_other(
     draft: &mut Draft,
@@ -149,8 +172,9 @@ fn mark_other(
     ensures { OnOk result (MarksOther lent parameter place (draft_view draft.old) (draft_view draft.new)) }
 {
     let variant = DeclaredType::Plain(ElementType::Variant);
+    let rule = other_rule(parameter);
     let other_type = NodeKind::Marked {
-        broken: Refusal { rule: 26, place },
+        broken: Refusal { rule, place },
         values: 1,
     };
     push_node(draft, lent.kind, lent.of, place)?;
@@ -173,8 +197,7 @@ fn pass_lent<'a>(
     requires lends { lent_in tree.term ≡ Some lent }
     ensures { OnOk result (PassesTree parameter.now tree.entry (draft_view draft.old) (draft_view draft.new)) }
 {
-    let fits = is_fitting(alloc, parameter.of, lent.of)?;
-    if fits {
+    if is_fitting(parameter.of, lent.of) {
         lend(draft, lent.kind, lent.of, tree.place)?;
         return Ok(());
     }

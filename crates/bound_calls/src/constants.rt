@@ -3,8 +3,8 @@ ghost use Rattle.vba_values.specs.View.{view as value_view};
 ghost use Rattle.bound_project.specs.DraftView.{draft_view};
 ghost use Rattle.bound_project.specs.View.{declared_view};
 ghost use Rattle.bound_project.specs.Expressions.{constant};
-ghost use Rattle.bound_declarations.specs.binder.specs.Terms.{a_value};
-ghost use Rattle.bound_declarations.specs.binder.specs.Terms as plain;
+ghost use Rattle.bound_forms.specs.Terms.{a_value};
+ghost use Rattle.bound_forms.specs.Terms as plain;
 ghost use Rattle.bound_calls.specs.Steps.{AddsConstant, MakesLeaf};
 
 use crate::term::{Ending, Term};

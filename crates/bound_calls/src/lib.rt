@@ -5,19 +5,23 @@
 mod arguments;
 mod calls;
 mod constants;
+mod given;
 mod orders;
 mod references;
 mod stack;
 mod take;
 mod term;
 
-pub use arguments::{is_variant, nowhere, pass_missing, pass_plain, pass_rest, pass_tree, sum};
+pub use arguments::{
+    is_variant, nowhere, pass_missing, pass_plain, pass_rest, pass_tree, push_argument, sum,
+};
 pub use calls::{bare_call, call_ending, count_of, routine_ending};
 pub use constants::{constant_number, value_term};
+pub use given::{is_same_declared, is_user_type, mark_given};
 pub use orders::{named_ending, order_number, push_in_order, take_numbers};
 pub use references::{
-    given_ending, has_object, is_host_type, may_refer, push_given, push_if_any, push_operand,
-    push_reference, refers,
+    given_ending, has_object, is_host_type, is_typed_kind, may_refer, push_given, push_if_any,
+    push_operand, push_reference, refers,
 };
 pub use stack::{put_item, settle, take_item};
 pub use take::{member_ending, no_object, push_ending, push_node, push_sheet, value_ending};
@@ -29,3 +33,4 @@ pub use term::{
 // What stands below, for the crates above.
 pub use bound_declarations;
 pub use bound_declarations::{binder, constant_values, declared_names};
+pub use bound_forms;

@@ -6,8 +6,8 @@ ghost use Rattle.bound_project.specs.DraftView.{draft_view};
 ghost use Rattle.bound_project.specs.Drafts.{NodeNamed};
 ghost use Rattle.bound_project.specs.View.{declared_view};
 ghost use Rattle.bound_declarations.specs.binder.specs.Types.{is_object};
-ghost use Rattle.bound_declarations.specs.binder.specs.ExpressionsBound.{has_default, if_any, is_host_type, may_give_object, plain_operand};
-ghost use Rattle.bound_calls.specs.References.{EndingGives, PushesAs, PushesGiven, PushesIfAny, PushesReference, TakesGiven, TakesReference, gives_way, is_referring, kind_gives, may_refer, refers};
+ghost use Rattle.bound_forms.specs.ExpressionsBound.{default_rule, if_any, is_host_type, kind_by_type, kind_of_object, may_give_object, plain_operand};
+ghost use Rattle.bound_calls.specs.References.{DefaultBreaks, EndingGives, PushesAs, PushesGiven, PushesIfAny, PushesReference, TakesGiven, TakesReference, gives_way, default_node, is_referring, is_typed_kind, kind_gives, may_refer, refers};
 ghost use Rattle.bound_calls.specs.Standing.{TermNamed};
 ghost use Rattle.bound_calls.specs.Steps.{PushesOperand};
 
@@ -19,7 +19,7 @@ use bound_declarations::NotYet;
 use bound_declarations::declared_names::is_object;
 use bound_project::{DeclaredType, Draft, ElementType, ErrMember, NodeKind};
 use std::alloc::Global;
-use vba_base::{NoMemory, OrMemory, Place};
+use vba_base::{NoMemory, OrMemory, Place, Refusal};
 use vba_lib::LibraryFunction;
 use vba_values::HostRef;
 
@@ -82,13 +82,76 @@ fn gives_way<'a>(term: Term<'a>) -> bool
     }
 }
 
-/// Has an object of a type a default member?
-fn has_default(of: DeclaredType) -> bool
-    ensures { result ≡ has_default (declared_view of) }
+/// The rule that an object breaks which is always there, where it gives way to the value of its default member.
+fn object_rule(reference: HostRef) -> Option<u8>
+    ensures { result ≡ default_rule (kind_of_object reference) }
+{
+    match reference {
+        HostRef::Application => Some(34),
+        HostRef::Workbook => Some(34),
+        HostRef::Sheets => Some(25),
+        _ => None,
+    }
+}
+
+/// The same of an object of a type: a sheet has no default member.
+fn type_rule(of: DeclaredType) -> Option<u8>
+    ensures { result ≡ default_rule (kind_by_type (declared_view of)) }
 {
     match of {
-        DeclaredType::Plain(ElementType::Worksheet) => false,
-        _ => true,
+        DeclaredType::Plain(ElementType::Worksheet) => Some(34),
+        _ => None,
+    }
+}
+
+/// Is a node the last one of a value, and none of an object that is always there?
+pub fn is_typed_kind(kind: NodeKind) -> bool
+    ensures { result ≡ is_typed_kind kind }
+{
+    match kind {
+        NodeKind::Constant { .. } => true,
+        NodeKind::Load => true,
+        NodeKind::ElementValue { .. } => true,
+        NodeKind::FieldValue { .. } => true,
+        NodeKind::Unary { .. } => true,
+        NodeKind::Binary { .. } => true,
+        NodeKind::Call { .. } => true,
+        NodeKind::CallInOrder { .. } => true,
+        NodeKind::ErrValue(_) => true,
+        NodeKind::Library { .. } => true,
+        NodeKind::Marked { .. } => true,
+        NodeKind::Same => true,
+        NodeKind::IsType(_) => true,
+        NodeKind::ActiveSheet => true,
+        NodeKind::HostMember { .. } => true,
+        NodeKind::NamedMember { .. } => true,
+        _ => false,
+    }
+}
+
+/// The same of an object whose last node isn't pushed yet.
+fn default_rule(ending: Ending) -> Result<Option<u8>, OrMemory<NotYet>>
+    ensures { IfOk result (λ rule. DefaultBreaks ending rule) }
+{
+    if is_typed_kind(ending.kind) {
+        return Ok(type_rule(ending.of));
+    }
+    match ending.kind {
+        NodeKind::HostObject(reference) => Ok(object_rule(reference)),
+        _ => Err(OrMemory::Fault(NotYet)),
+    }
+}
+
+/// The node with which an object gives way to the value of its default member, or is marked as what breaks a rule.
+fn default_kind(rule: Option<u8>, place: Place) -> NodeKind
+    ensures { result ≡ default_node rule place }
+{
+    match rule {
+        None => NodeKind::DefaultOf,
+        Some(rule) => NodeKind::Marked {
+            broken: Refusal { rule, place },
+            values: 1,
+        },
     }
 }
 
@@ -116,7 +179,7 @@ fn kind_gives(kind: NodeKind) -> Option<bool>
         NodeKind::HostMember { .. } => Some(true),
         NodeKind::NamedMember { .. } => Some(true),
         NodeKind::Library { function, .. } => Some(may_give_object(function)),
-        NodeKind::Marked { .. } => Some(false),
+        NodeKind::Marked { .. } => Some(true),
         NodeKind::Constant { .. } => Some(false),
         NodeKind::Unary { .. } => Some(false),
         NodeKind::Binary { .. } => Some(false),
@@ -199,12 +262,12 @@ fn push_default<'a>(
     requires gives { gives_way tree.term ≡ true }
     ensures { IfOk result (λ of. PushesOperand tree.entry (draft_view draft.old) (draft_view draft.new) of) }
 {
-    let of = push_reference(alloc, draft, tree)?;
-    if !has_default(of) {
-        return Err(OrMemory::Fault(NotYet));
-    }
+    let ending = reference_ending(alloc, draft, tree.term, tree.place)?;
+    let rule = default_rule(ending)?;
+    push_node(draft, ending.kind, ending.of, tree.place)?;
     let variant = DeclaredType::Plain(ElementType::Variant);
-    push_node(draft, NodeKind::DefaultOf, variant, tree.place)?;
+    let behind = default_kind(rule, tree.place);
+    push_node(draft, behind, variant, tree.place)?;
     Ok(Some(variant))
 }
 

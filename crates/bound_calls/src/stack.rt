@@ -1,6 +1,6 @@
 ghost use Rattle.std.specs.Prelude.{◌≡◌, ◌∷◌, IfOk, OnOk, reverse};
 ghost use Rattle.bound_project.specs.DraftView.{draft_view};
-ghost use Rattle.bound_declarations.specs.binder.specs.Terms.{Env};
+ghost use Rattle.bound_forms.specs.Terms.{Env};
 ghost use Rattle.bound_calls.specs.Standing.{AllNamed, TermNamed};
 ghost use Rattle.bound_calls.specs.Steps.{Goes, PushesLeft, taken};
 

@@ -131,12 +131,17 @@ pub struct Call<'a> {
     pub passed: Passed<'a>,
 }
 
-/// A function of the library whose arguments are read: the place of its first token, and how many were pushed.
+/// A function of the library whose arguments are read: the place of its first token, how many were pushed, and what they
+/// say of whether it takes them.
 #[derive(Clone, Copy)]
 pub struct FunctionCall {
     pub place: Place,
     pub function: Function,
     pub count: u32,
+    /// Has an argument a name, or isn't one written that is needed?
+    pub is_wrong: bool,
+    /// Is the first argument, if there is one, written?
+    pub is_started: bool,
 }
 
 /// A member of an object of the host whose arguments are read: the place of its first token, the member, how the arguments

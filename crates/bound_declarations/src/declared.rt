@@ -1,7 +1,7 @@
 //! Variables and results as they are declared.
 
 ghost use Rattle.std.specs.Prelude.{◌≡◌, [], IfOk, option_map};
-ghost use Rattle.binder.specs.ExpressionsBound.{has_bounds};
+ghost use Rattle.binder.specs.Storage.{has_bounds};
 ghost use Rattle.binder.specs.Storage as storage;
 ghost use Rattle.bound_declarations.specs.Forms.{declared_as, redimmed_as};
 ghost use Rattle.bound_project.specs.Project as project;

@@ -1,7 +1,7 @@
 //! The kinds of procedures.
 
 ghost use Rattle.std.specs.Prelude.{◌≡◌};
-ghost use Rattle.binder.specs.ExpressionsBound as expressions;
+ghost use Rattle.binder.specs.Signatures as signatures;
 ghost use Rattle.binder.specs.Storage as storage;
 ghost use Rattle.bound_project.specs.View.{kind_view};
 
@@ -56,7 +56,7 @@ pub fn is_by_val(passing: Option<PassingWord>) -> bool
 
 /// Is it a property?
 pub fn is_property(words: ProcedureWords) -> bool
-    ensures { result ≡ expressions.is_property words }
+    ensures { result ≡ signatures.is_property words }
 {
     match words {
         ProcedureWords::PropertyGet { .. }

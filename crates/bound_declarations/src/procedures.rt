@@ -1,7 +1,7 @@
 //! Procedures and modules as they are bound.
 
 ghost use Rattle.std.specs.Prelude.{◌≡◌, map, IfOk};
-ghost use Rattle.binder.specs.Bind as bind;
+ghost use Rattle.binder.specs.Projects as projects;
 ghost use Rattle.binder.specs.Storage as storage;
 ghost use Rattle.bound_declarations.specs.Whole.{procedure_in};
 ghost use Rattle.bound_project.specs.View.{declaration_view, module_view, procedure_view, spelled_view};
@@ -80,7 +80,7 @@ fn copy_name(alloc: Global, name: &Spelled) -> Result<Spelled, NoMemory>
 
 /// A module.
 pub fn bound_module(alloc: Global, space: &Space) -> Result<Module, NoMemory>
-    ensures { IfOk result (λ made. module_view made ≡ bind.bound_module (space_view space.now)) }
+    ensures { IfOk result (λ made. module_view made ≡ projects.bound_module (space_view space.now)) }
 {
     Ok(Module {
         name: copy_name(alloc, &space.name)?,

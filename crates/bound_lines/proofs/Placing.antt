@@ -1,15 +1,15 @@
 -- What With keeps.
-use Rattle.std.proofs.Common.{◌≡◌, ℕ, Bool, true, false, List, [], ◌∷◌, Option, Some, None, option_map, if◌then◌else◌, refl, sym, ap, subst, ◌∙◌}
+use Rattle.std.proofs.Common.{◌≡◌, ℕ, Bool, false, Some, sym, ap, ◌∙◌}
 use Rattle.vba_base.specs.declared.place.Place.{Place}
 use Rattle.vba_expression.specs.Tree.{Expr}
 use Rattle.bound_project.specs.declared.declared_type.DeclaredType.{DeclaredType}
 use Rattle.bound_project.specs.declared.node.NodeKind.{NodeKind}
 use Rattle.bound_project.specs.View.{declared_view}
 use Rattle.bound_project.specs.Drafts.{Drafted}
-use Rattle.bound_terms.specs.binder.specs.Terms.{Env}
-use Rattle.bound_terms.specs.binder.specs.Terms as terms
-use Rattle.bound_terms.specs.binder.specs.ExpressionsBound.{term_of}
-use Rattle.bound_terms.specs.binder.specs.StatementsBound.{keeps, settled}
+use Rattle.bound_terms.specs.bound_forms.specs.Terms.{Env}
+use Rattle.bound_terms.specs.bound_forms.specs.Terms as terms
+use Rattle.bound_terms.specs.bound_forms.specs.ExpressionsBound.{term_of}
+use Rattle.bound_terms.specs.bound_forms.specs.StatementsBound.{keeps, settled}
 use Rattle.bound_terms.specs.bound_names.specs.declared.env.Within.{Within}
 use Rattle.bound_terms.specs.bound_calls.specs.declared.term.Ending.{Ending}
 use Rattle.bound_terms.specs.bound_calls.specs.declared.term.HostMember.{HostMember}

@@ -1,20 +1,20 @@
 -- The With blocks round a part.
-use Rattle.std.proofs.Common.{◌≡◌, ◌≤◌, ℕ, ◌-◌, length, Bool, true, false, List, [], ◌∷◌, ◌++◌, take, drop, get_or, refl, ◌∙◌, sym, ap, subst, arith}
+use Rattle.std.proofs.Common.{◌≡◌, ◌≤◌, ℕ, ◌-◌, length, List, [], ◌∷◌, take, drop, get_or, refl, ◌∙◌, sym, ap, subst, arith}
 use Rattle.std.proofs.lemmas.List.{take_rest}
-use Rattle.std.specs.Prelude.{map, Option, Some, None, if◌then◌else◌}
+use Rattle.std.specs.Prelude.{map, Option, Some, None}
 use mathlib.Core.List.{reverse_aux}
 use Rattle.vba_expression.specs.Tree.{Expr}
 use Rattle.module_parts.specs.View.{parts_view}
 use Rattle.module_parts.specs.declared.part.Part.{Part}
 use Rattle.bound_terms.specs.declared_names.specs.Range.{range_items}
-use Rattle.bound_terms.specs.binder.specs.Bind.{around_of}
+use Rattle.bound_terms.specs.bound_forms.specs.Bind.{around_of}
 use Rattle.bound_terms.specs.binder.specs.Declarations.{Written}
 use Rattle.bound_terms.specs.binder.specs.Scopes.{Scope}
 use Rattle.bound_terms.specs.binder.specs.Numbering as numbering
 use Rattle.bound_terms.specs.binder.specs.Numbering.{standings_in, body_count}
-use Rattle.bound_terms.specs.binder.specs.Terms.{Within, Env, Term, a_routine}
-use Rattle.bound_terms.specs.binder.specs.ExpressionsBound.{term_of}
-use Rattle.bound_terms.specs.binder.specs.StatementsBound.{settled, keeps, with_object, with_or, within}
+use Rattle.bound_terms.specs.bound_forms.specs.Terms.{Within, Env, Term, a_routine}
+use Rattle.bound_terms.specs.bound_forms.specs.ExpressionsBound.{term_of}
+use Rattle.bound_terms.specs.bound_forms.specs.StatementsBound.{settled, keeps, with_object, with_or, within}
 use Rattle.statement_terms.specs.statement_numbers.specs.declared.opened.Opened.{Opened}
 use Rattle.statement_terms.specs.statement_numbers.specs.View.{part_at, opened_view, stack_view}
 use Rattle.bound_terms.specs.bound_names.specs.declared.env.Env.{Env as EnvHere}

@@ -2,9 +2,9 @@
 use Rattle.std.specs.Prelude.{◌≡◌, ℕ, List, Some}
 use Rattle.bound_project.specs.Pieces.{Piece}
 use Rattle.bound_project.specs.Drafts.{Drafted}
-use Rattle.bound_terms.specs.binder.specs.Terms.{Env}
-use Rattle.bound_terms.specs.binder.specs.Terms as plain
-use Rattle.bound_terms.specs.binder.specs.StatementsBound.{keeps, settled}
+use Rattle.bound_terms.specs.bound_forms.specs.Terms.{Env}
+use Rattle.bound_terms.specs.bound_forms.specs.Terms as plain
+use Rattle.bound_terms.specs.bound_forms.specs.StatementsBound.{keeps, settled}
 use Rattle.bound_terms.specs.bound_names.specs.declared.env.Within.{Within}
 use Rattle.bound_terms.specs.bound_calls.specs.declared.term.Term.{Term}
 use Rattle.bound_terms.specs.bound_calls.specs.Standing.{TermStands}

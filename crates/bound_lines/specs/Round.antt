@@ -4,9 +4,9 @@ use Rattle.module_parts.specs.View.{parts_view}
 use Rattle.module_parts.specs.declared.part.Part.{Part}
 use Rattle.bound_terms.specs.declared_names.specs.Range.{range_items}
 use Rattle.bound_terms.specs.binder.specs.Numbering.{Standing, standings_in}
-use Rattle.bound_terms.specs.binder.specs.Terms.{Within}
-use Rattle.bound_terms.specs.binder.specs.Terms as terms
-use Rattle.bound_terms.specs.binder.specs.StatementsBound as plain
+use Rattle.bound_terms.specs.bound_forms.specs.Terms.{Within}
+use Rattle.bound_terms.specs.bound_forms.specs.Terms as terms
+use Rattle.bound_terms.specs.bound_forms.specs.StatementsBound as plain
 use Rattle.statement_terms.specs.statement_numbers.specs.declared.opened.Opened.{Opened}
 use Rattle.statement_terms.specs.statement_numbers.specs.View.{part_at, stack_view}
 use Rattle.bound_terms.specs.bound_names.specs.declared.env.Env.{Env}

@@ -3,10 +3,10 @@
 ghost use Rattle.std.specs.Prelude.{◌∷◌, List, Option, Some, IfOk, map};
 ghost use Rattle.statement_nodes.specs.Reads.{Read};
 ghost use Rattle.bound_terms.specs.binder.specs.Constants.{place_of_expression};
-ghost use Rattle.bound_terms.specs.binder.specs.ExpressionsBound.{bound_operand};
+ghost use Rattle.bound_terms.specs.bound_forms.specs.ExpressionsBound.{bound_operand};
 ghost use Rattle.bound_terms.specs.binder.specs.Options.{from_two};
 ghost use Rattle.bound_terms.specs.binder.specs.Sources.{base_of};
-ghost use Rattle.bound_terms.specs.binder.specs.StatementsBound as plain;
+ghost use Rattle.bound_terms.specs.bound_forms.specs.StatementsBound as plain;
 ghost use Rattle.bound_project.specs.DraftView.{draft_view};
 ghost use Rattle.bound_project.specs.Drafts.{Drafted};
 ghost use Rattle.bound_project.specs.Expressions.{Exprs, also, no_exprs};

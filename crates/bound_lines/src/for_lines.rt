@@ -2,8 +2,8 @@
 
 ghost use Rattle.std.specs.Prelude.{◌≡◌, true, [], Some, IfOk, option_map};
 ghost use Rattle.statement_nodes.specs.Actions.{ForValues, ValuePushed, counted_in, done_alone, each_in, for_in, is_alone, next_in};
-ghost use Rattle.bound_terms.specs.binder.specs.ExpressionsBound.{bound_operand};
-ghost use Rattle.bound_terms.specs.binder.specs.StatementsBound as plain;
+ghost use Rattle.bound_terms.specs.bound_forms.specs.ExpressionsBound.{bound_operand};
+ghost use Rattle.bound_terms.specs.bound_forms.specs.StatementsBound as plain;
 ghost use Rattle.bound_project.specs.DraftView.{draft_view};
 ghost use Rattle.bound_project.specs.View.{variable_view};
 ghost use Rattle.statement_nodes.specs.Pushed.{ActionPushed};
@@ -12,15 +12,15 @@ ghost use Rattle.statement_terms.specs.statement_numbers.specs.View.{standing_vi
 ghost use Rattle.vba_expression.specs.View.{view as expression_view};
 ghost use Rattle.vba_tree.specs.View.{step_view};
 
-use crate::values::{counter_of, push_given, push_operand};
+use crate::values::{counter_of, push_operand, push_told};
 use bound_project::{ActionKind, DeclaredType, Draft, ElementType, NodeKind, Variable};
 use bound_terms::bound_calls::push_node;
 use bound_terms::bound_declarations::NotYet;
 use bound_terms::bound_names::Env;
 use module_parts::{expression_place, place_of};
 use statement_nodes::{
-    goes_over, innermost_block, is_counting, is_other_name, loop_name, mark, name_place,
-    opening_line, push_integer, step_place,
+    goes_over, innermost_block, is_counting, is_other_name, loop_name, mark, mark_walked,
+    name_place, opening_line, push_integer, step_place,
 };
 use statement_terms::statement_numbers::{Sought, Standing};
 use std::alloc::Global;
@@ -160,8 +160,8 @@ pub(crate) fn bind_for_each<'a>(
     let first = standing.sought_behind(Sought::Here)?;
     let behind = standing.sought_behind(Sought::BehindBlock(0))?;
     let control = counter_of(alloc, env, element)?;
-    let of = push_given(alloc, draft, env, group)?;
-    if !goes_over(control.of, of) {
+    let told = push_told(alloc, draft, env, group)?;
+    if !goes_over(control.of, told.of) {
         let variant = DeclaredType::Plain(ElementType::Variant);
         let place = element.token.place;
         let broken = NodeKind::Marked {
@@ -171,6 +171,7 @@ pub(crate) fn bind_for_each<'a>(
         push_node(draft, broken, variant, place)?;
         return Ok(ActionKind::Evaluate);
     }
+    mark_walked(draft, told.of, told.place)?;
     Ok(ActionKind::ForEach {
         control,
         first,

@@ -3,9 +3,9 @@
 ghost use Rattle.std.specs.Prelude.{◌≡◌, true, [], IfOk, option_map};
 ghost use Rattle.statement_nodes.specs.Actions.{block_in, branch_in, done_alone, is_alone};
 ghost use Rattle.bound_lines.specs.Round.{StandsAt, around_view};
-ghost use Rattle.bound_terms.specs.binder.specs.ExpressionsBound.{bound_as_given, bound_operand};
+ghost use Rattle.bound_terms.specs.bound_forms.specs.ExpressionsBound.{bound_as_given, bound_operand};
 ghost use Rattle.bound_terms.specs.binder.specs.Numbering.{an_arm, sought_behind};
-ghost use Rattle.bound_terms.specs.binder.specs.StatementsBound as plain;
+ghost use Rattle.bound_terms.specs.bound_forms.specs.StatementsBound as plain;
 ghost use Rattle.bound_project.specs.DraftView.{draft_view};
 ghost use Rattle.bound_project.specs.Statements as plain_to;
 ghost use Rattle.statement_nodes.specs.Pushed.{ActionPushed};

@@ -2,7 +2,7 @@
 
 ghost use Rattle.std.specs.Prelude.{◌≡◌, IfOk, option_map};
 ghost use Rattle.bound_project.specs.View.{variable_view};
-ghost use Rattle.bound_terms.specs.binder.specs.StatementsBound as plain;
+ghost use Rattle.bound_terms.specs.bound_forms.specs.StatementsBound as plain;
 ghost use Rattle.bound_terms.specs.bound_names.specs.View.{EnvStands, env_view};
 
 use bound_project::Variable;

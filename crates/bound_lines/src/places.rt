@@ -4,12 +4,14 @@ ghost use Rattle.std.specs.Prelude.{◌≡◌, [], IfOk, OnOk, option_map};
 ghost use Rattle.vba_expression.specs.View.{view as expression_view};
 ghost use Rattle.bound_project.specs.DraftView.{draft_view};
 ghost use Rattle.bound_project.specs.View.{declared_view};
-ghost use Rattle.bound_terms.specs.binder.specs.ExpressionsBound.{term_of, place_told};
-ghost use Rattle.bound_terms.specs.binder.specs.StatementsBound as plain;
+ghost use Rattle.bound_terms.specs.bound_forms.specs.ExpressionsBound.{term_of, place_told};
+ghost use Rattle.bound_terms.specs.bound_forms.specs.StatementsBound as plain;
 ghost use Rattle.statement_nodes.specs.Pushed.{ActionStands, PlacePushed};
+ghost use Rattle.statement_nodes.specs.Resizing.{ArrayTold};
 ghost use Rattle.bound_lines.specs.Kept.{Keeps};
 ghost use Rattle.bound_terms.specs.bound_names.specs.View.{EnvStands, env_view, within_view};
 
+use crate::values::Told;
 use bound_project::{ActionKind, DeclaredType, Draft};
 use bound_terms::bound_calls::{Routine, Term, push_given, push_node, routine_ending};
 use bound_terms::bound_declarations::NotYet;
@@ -20,7 +22,29 @@ use std::alloc::Global;
 use vba_base::{OrMemory, Place};
 use vba_expression::Expression;
 
+/// Pushes the place that an expression is; answers its type, and where it is told.
+pub(crate) fn bind_array<'a>(
+    alloc: Global,
+    draft: &mut Draft,
+    env: Env<'a>,
+    expression: &'a Expression,
+) -> Result<Told, OrMemory<NotYet>>
+    requires { EnvStands env }
+    ensures { IfOk result (λ told. ArrayTold (env_view env.entry) (expression_view expression.now) told.of told.place (draft_view draft.old) (draft_view draft.new)) }
+{
+    let tree = tree_of(alloc, draft, env, expression)?;
+    let Some(at) = place_ending(tree.term) else {
+        return Err(OrMemory::Fault(NotYet));
+    };
+    push_node(draft, at.kind, at.of, tree.place)?;
+    Ok(Told {
+        of: at.of,
+        place: tree.place,
+    })
+}
+
 /// Pushes the place that an expression is.
+#[tactic(auto, using(statement_terms::proofs::Placing::array_place))]
 pub fn bind_place<'a>(
     alloc: Global,
     draft: &mut Draft,
@@ -30,11 +54,7 @@ pub fn bind_place<'a>(
     requires { EnvStands env }
     ensures { OnOk result (PlacePushed (plain.place_in (term_of (env_view env.entry) (expression_view expression.now))) (draft_view draft.old) (draft_view draft.new)) }
 {
-    let tree = tree_of(alloc, draft, env, expression)?;
-    let Some(at) = place_ending(tree.term) else {
-        return Err(OrMemory::Fault(NotYet));
-    };
-    push_node(draft, at.kind, at.of, tree.place)?;
+    bind_array(alloc, draft, env, expression)?;
     Ok(())
 }
 

@@ -4,7 +4,8 @@ ghost use Rattle.std.specs.Prelude.{◌≡◌, true, IfOk, Some, option_map};
 ghost use Rattle.statement_nodes.specs.Actions.{done_alone, is_alone};
 ghost use Rattle.bound_lines.specs.Round.{around_view};
 ghost use Rattle.bound_terms.specs.binder.specs.Numbering.{behind_kind, sought_behind};
-ghost use Rattle.bound_terms.specs.binder.specs.StatementsBound as plain;
+ghost use Rattle.bound_terms.specs.binder.specs.Blocks as numbered;
+ghost use Rattle.bound_terms.specs.bound_forms.specs.StatementsBound as plain;
 ghost use Rattle.bound_project.specs.Statements as plain_to;
 ghost use Rattle.statement_terms.specs.statement_numbers.specs.View.{standing_view};
 ghost use Rattle.vba_module.specs.Blocks.{for_loop};
@@ -21,7 +22,7 @@ use vba_tree::{ErrorHandling, ExitKind, LabelName, ResumeTarget};
 
 /// The number of what runs behind a label of the procedure.
 fn number_of(alloc: Global, around: Around, label: &LabelName) -> Result<u32, OrMemory<NotYet>>
-    ensures { IfOk result (λ number. plain.label_number (around_view around.entry).parts label.now ≡ Some number) }
+    ensures { IfOk result (λ number. numbered.label_number (around_view around.entry).parts label.now ≡ Some number) }
 {
     match label_number(alloc, around.body.slice(), label)? {
         Some(number) => Ok(number),
@@ -36,7 +37,7 @@ pub(crate) fn go_to(
     label: &LabelName,
 ) -> Result<ActionKind, OrMemory<NotYet>>
     ensures alone { IfOk result (λ kind. is_alone kind ≡ true) }
-    ensures is { IfOk result (λ kind. (option_map plain_to.go_to (plain.label_number (around_view around.entry).parts label.now)) ≡ done_alone kind) }
+    ensures is { IfOk result (λ kind. (option_map plain_to.go_to (numbered.label_number (around_view around.entry).parts label.now)) ≡ done_alone kind) }
 {
     let to = number_of(alloc, around, label)?;
     Ok(ActionKind::GoTo { to })
@@ -49,7 +50,7 @@ pub(crate) fn go_sub(
     label: &LabelName,
 ) -> Result<ActionKind, OrMemory<NotYet>>
     ensures alone { IfOk result (λ kind. is_alone kind ≡ true) }
-    ensures is { IfOk result (λ kind. (option_map plain_to.go_sub (plain.label_number (around_view around.entry).parts label.now)) ≡ done_alone kind) }
+    ensures is { IfOk result (λ kind. (option_map plain_to.go_sub (numbered.label_number (around_view around.entry).parts label.now)) ≡ done_alone kind) }
 {
     let to = number_of(alloc, around, label)?;
     Ok(ActionKind::GoSub { to })

@@ -2,7 +2,7 @@
 
 ghost use Rattle.std.specs.Prelude.{◌≡◌, [], ◌∷◌, List, Option, Some, IfOk, OnOk, map, option_map};
 ghost use Rattle.statement_nodes.specs.Reads.{ItemPushed, Read};
-ghost use Rattle.bound_terms.specs.binder.specs.StatementsBound as plain;
+ghost use Rattle.bound_terms.specs.bound_forms.specs.StatementsBound as plain;
 ghost use Rattle.bound_project.specs.DraftView.{draft_view};
 ghost use Rattle.bound_project.specs.Drafts.{Drafted};
 ghost use Rattle.bound_project.specs.Expressions.{no_exprs};
@@ -18,12 +18,12 @@ ghost use Rattle.vba_tree.specs.Tree as tree;
 ghost use Rattle.vba_tree.specs.View.{array_view, listed_view, type_clause_view};
 
 use crate::bounds::push_bounds;
-use crate::places::bind_place;
+use crate::places::bind_array;
 use bound_project::{ActionKind, DeclaredType, Draft, Node, NodeKind};
 use bound_terms::bound_declarations::NotYet;
 use bound_terms::bound_names::Env;
 use bound_terms::constant_values::written_type;
-use statement_nodes::blank_node;
+use statement_nodes::{blank_node, mark_bounds};
 use statement_terms::statement_numbers::plus;
 use std::alloc::Global;
 use vba_base::{NoMemory, OrMemory};
@@ -69,8 +69,9 @@ fn push_array<'a>(
         (draft_view draft.old) (draft_view draft.new)) }
 {
     let of = resized_type(alloc, env, &array.type_clause)?;
-    bind_place(alloc, draft, env, &array.place)?;
+    let told = bind_array(alloc, draft, env, &array.place)?;
     let bounds = push_bounds(alloc, draft, env, &array.dims)?;
+    mark_bounds(draft, bounds, told.of, of, told.place)?;
     end_array(draft, bounds, of)?;
     Ok(())
 }

@@ -2,8 +2,8 @@
 
 ghost use Rattle.std.specs.Prelude.{◌≡◌, true, [], OnOk, option_map};
 ghost use Rattle.statement_nodes.specs.Walks.{Added};
-ghost use Rattle.bound_terms.specs.binder.specs.ExpressionsBound.{bound_operand};
-ghost use Rattle.bound_terms.specs.binder.specs.StatementsBound as plain;
+ghost use Rattle.bound_terms.specs.bound_forms.specs.ExpressionsBound.{bound_operand};
+ghost use Rattle.bound_terms.specs.bound_forms.specs.StatementsBound as plain;
 ghost use Rattle.bound_project.specs.DraftView.{draft_view};
 ghost use Rattle.bound_project.specs.Statements as plain_to;
 ghost use Rattle.bound_terms.specs.bound_names.specs.View.{EnvStands, env_view};

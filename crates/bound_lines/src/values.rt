@@ -1,9 +1,9 @@
 //! Values that statements need.
 
 ghost use Rattle.std.specs.Prelude.{◌≡◌, Some, IfOk};
-ghost use Rattle.statement_nodes.specs.Actions.{ValuePushed};
-ghost use Rattle.bound_terms.specs.binder.specs.ExpressionsBound as plain;
-ghost use Rattle.bound_terms.specs.binder.specs.StatementsBound as statements;
+ghost use Rattle.statement_nodes.specs.Actions.{ToldPushed, ValuePushed};
+ghost use Rattle.bound_terms.specs.bound_forms.specs.ExpressionsBound as plain;
+ghost use Rattle.bound_terms.specs.bound_forms.specs.StatementsBound as statements;
 ghost use Rattle.bound_project.specs.DraftView.{draft_view};
 ghost use Rattle.bound_project.specs.View.{variable_view};
 ghost use Rattle.bound_terms.specs.bound_names.specs.View.{EnvStands, env_view};
@@ -11,11 +11,12 @@ ghost use Rattle.vba_expression.specs.View.{view as expression_view};
 
 use crate::loop_variables::loop_variable;
 use bound_project::{DeclaredType, Draft, Variable};
+use bound_terms::bound_calls::push_given as given_pushed;
 use bound_terms::bound_declarations::NotYet;
 use bound_terms::bound_names::Env;
-use bound_terms::{bind_given, bind_operand};
+use bound_terms::{bind_given, bind_operand, tree_of};
 use std::alloc::Global;
-use vba_base::OrMemory;
+use vba_base::{OrMemory, Place};
 use vba_expression::Expression;
 use vba_words::Identifier;
 
@@ -64,4 +65,30 @@ pub(crate) fn counter_of<'a>(
         Some(found) => Ok(found),
         None => Err(OrMemory::Fault(NotYet)),
     }
+}
+
+/// Something that was pushed: its type, and the place where it is told.
+#[derive(Clone, Copy)]
+pub(crate) struct Told {
+    pub of: DeclaredType,
+    pub place: Place,
+}
+
+/// Pushes a value or an object as it is; answers its type, and the place where it is told.
+#[tactic(auto, using(statement_nodes::proofs::Walking::told_pushed))]
+pub(crate) fn push_told<'a>(
+    alloc: Global,
+    draft: &mut Draft,
+    env: Env<'a>,
+    expression: &'a Expression,
+) -> Result<Told, OrMemory<NotYet>>
+    requires { EnvStands env }
+    ensures { IfOk result (λ told. ToldPushed (env_view env.entry) (expression_view expression.now) told.of told.place (draft_view draft.old) (draft_view draft.new)) }
+{
+    let tree = tree_of(alloc, draft, env, expression)?;
+    let of = given_pushed(alloc, draft, tree)?;
+    Ok(Told {
+        of,
+        place: tree.place,
+    })
 }

@@ -2,7 +2,7 @@
 
 ghost use Rattle.std.specs.Prelude.{◌≡◌, [], IfOk, option_map};
 ghost use Rattle.bound_lines.specs.Round.{Inside, StandsAt, around_view};
-ghost use Rattle.bound_terms.specs.binder.specs.StatementsBound as plain;
+ghost use Rattle.bound_terms.specs.bound_forms.specs.StatementsBound as plain;
 ghost use Rattle.bound_terms.specs.bound_names.specs.View.{EnvStands, env_view, within_view};
 ghost use Rattle.statement_terms.specs.statement_numbers.specs.View.{part_at, standing_view};
 

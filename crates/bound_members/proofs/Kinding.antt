@@ -1,23 +1,19 @@
 -- What the object is that a value gives.
-use Rattle.std.proofs.Common.{◌≡◌, true, List, ◌∷◌, Option, Some, None, sym, ap, subst, ◌∙◌}
+use Rattle.std.proofs.Common.{◌≡◌, true, ◌∷◌, Option, Some, None, sym, ap, subst, ◌∙◌}
 use Rattle.std.specs.Prelude.{IfSome, option_map}
 use Rattle.vba_values.specs.declared.object.HostRef.{HostRef}
-use Rattle.bound_project.specs.declared.node.Node.{Node}
 use Rattle.bound_project.specs.declared.node.NodeKind.{NodeKind}
 use Rattle.bound_project.specs.declared.node.NodeKind.TheVariants as node
-use Rattle.bound_project.specs.Expressions.{host_object}
 use Rattle.bound_project.specs.Expressions as bound
-use Rattle.bound_project.specs.Pieces.{Piece, expr_of, put_kind}
+use Rattle.bound_project.specs.Pieces.{expr_of, put_kind}
 use Rattle.bound_project.specs.View.{declared_view}
-use Rattle.bound_calls.specs.binder.specs.ExpressionsBound.{host_kind, kind_by_type, kind_of_object}
+use Rattle.bound_calls.specs.bound_forms.specs.ExpressionsBound.{host_kind, kind_by_type, kind_of_object}
 use Rattle.bound_calls.specs.declared.term.Ending.{Ending}
 use Rattle.bound_calls.proofs.LastNodes.{any_node}
 use Rattle.bound_members.specs.declared.kinds.HostKind.{HostKind}
-use Rattle.bound_members.specs.Kinds.{EndingOfKind, is_typed_kind, kind_view}
-use Rattle.bound_members.proofs.Counting.{typed_made}
-
-object_made : (n : Node) (made : bound.Node) (r : HostRef) (ps below : List Piece) → expr_of n (host_object r) ∷ ps ≡ expr_of n made ∷ below → made ≡ host_object r
-object_made n made r ps below h = let e : host_object r ≡ made = cc in sym e
+use Rattle.bound_calls.specs.References.{is_typed_kind}
+use Rattle.bound_calls.proofs.TypedNodes.{object_made, typed_made}
+use Rattle.bound_members.specs.Kinds.{EndingOfKind, kind_view}
 
 pub host_ending : (e : Ending) (r : HostRef) (o : Option HostKind) → e.kind ≡ node.HostObject r → option_map kind_view o ≡ kind_of_object r → IfSome o (λ k. EndingOfKind e k)
 host_ending e r None is h = tt

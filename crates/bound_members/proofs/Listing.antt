@@ -8,8 +8,8 @@ use Rattle.bound_project.specs.Lists.{above, exprs_of}
 use Rattle.bound_project.proofs.Lists.{exprs_are}
 use Rattle.bound_project.specs.Pieces.{Piece, an_expr, exprs_off}
 use Rattle.bound_calls.specs.binder.specs.Options.{from_two}
-use Rattle.bound_calls.specs.binder.specs.Terms.{Given, has_names, listed_values}
-use Rattle.bound_calls.specs.binder.specs.Terms as terms
+use Rattle.bound_calls.specs.bound_forms.specs.Terms.{Given, has_names, listed_values}
+use Rattle.bound_calls.specs.bound_forms.specs.Terms as terms
 use Rattle.bound_calls.specs.Standing.{NumberIs, AllNumbers, ValueIs, AllListed, missing_given, missing_value}
 
 one_listed : (value : terms.Term → Place → Option bound.Expr) (given : Option (List ℕ)) (t : terms.Term) (place : Place) (e : bound.Expr) (gs : List Given) → value t place ≡ Some e

@@ -1,8 +1,9 @@
 -- Calls of members.
 use Rattle.std.proofs.lemmas.List.{length-map, map-append}
-use Rattle.std.proofs.Common.{◌≡◌, ◌≢◌, ℕ, ◌<◌, ◌+◌, Bool, true, false, List, [], ◌∷◌, ◌++◌, map, length, Option, Some, None, if◌then◌else◌, refl, sym, ap, subst, ◌∙◌, arith, length-append}
-use Rattle.std.specs.Prelude.{option_and_then, option_map}
+use Rattle.std.proofs.Common.{◌≡◌, ◌≢◌, ℕ, suc, ◌<◌, ◌+◌, Bool, true, false, List, [], ◌∷◌, ◌++◌, map, length, Option, Some, None, if◌then◌else◌, refl, sym, ap, subst, ◌∙◌, arith, length-append}
+use Rattle.std.specs.Prelude.{option_and_then, option_map, unwrap_or}
 use Rattle.vba_base.specs.declared.place.Place.{Place}
+use Rattle.vba_values.specs.Types as type
 use Rattle.vba_lexer.specs.declared.token.Token.{Token}
 use Rattle.vba_expression.specs.Tree.{Expr, Args, no_args, plain}
 use Rattle.vba_expression.specs.Tree as tree_of
@@ -14,19 +15,20 @@ use Rattle.bound_project.specs.declared.node.NodeKind.{NodeKind}
 use Rattle.bound_project.specs.declared.node.NodeKind.TheVariants as kinds
 use Rattle.bound_project.specs.declared.node.ArgumentNames.{ArgumentNames}
 use Rattle.bound_project.specs.declared.node.Node.{Node}
-use Rattle.bound_project.specs.Expressions.{Exprs, no_exprs, given_count, host_member, named_member, ByName}
+use Rattle.bound_project.specs.Expressions.{Exprs, no_exprs, also, given_count, host_member, named_member, ByName}
 use Rattle.bound_project.specs.Expressions as bound
 use Rattle.bound_project.specs.Lists.{above, exprs_of}
 use Rattle.bound_project.proofs.Lists.{above_push, member_put, named_put}
 use Rattle.bound_project.specs.Pieces.{Piece, Tables, a_member, a_named_member, an_expr, exprs_off, by_name_in, name_in, names_in, order_in, of_member_found, of_named_found, expr_of, put, put_kind}
 use Rattle.bound_project.specs.Drafts.{Drafted, NamesNamed, NodeNamed}
 use Rattle.bound_project.specs.Project.{nowhere}
+use Rattle.bound_project.specs.declared.declared_type.DeclaredType.{DeclaredType}
 use Rattle.bound_project.specs.declared.declared_type.DeclaredType.TheVariants.{Plain}
 use Rattle.bound_project.specs.declared.declared_type.ElementType.TheVariants as element
 use Rattle.bound_project.specs.View.{declared_view}
-use Rattle.bound_calls.specs.binder.specs.Terms.{Env, Given, a_value, expression_of, has_names, no_term}
-use Rattle.bound_calls.specs.binder.specs.Terms as terms
-use Rattle.bound_calls.specs.binder.specs.ExpressionsBound.{callee, given_as, givens, host_arguments, if_there, indexed, item_of, member_called, named_called, names_taken, takes_arguments, takes_names, term_of, place_told}
+use Rattle.bound_calls.specs.bound_forms.specs.Terms.{Env, Given, a_value, expression_of, given_rule, given_to, has_names, no_term, unless_broken}
+use Rattle.bound_calls.specs.bound_forms.specs.Terms as terms
+use Rattle.bound_calls.specs.bound_forms.specs.ExpressionsBound.{argument_of, callee, given_as, givens, host_arguments, if_there, indexed, item_of, member_called, named_called, names_taken, takes_arguments, takes_names, term_of, place_told}
 use Rattle.bound_calls.specs.binder.specs.Options.{from_two}
 use Rattle.bound_calls.specs.declared.term.Ending.{Ending}
 use Rattle.bound_calls.specs.declared.term.HostMember.{HostMember}
@@ -36,15 +38,15 @@ use Rattle.bound_calls.specs.declared.term.MemberCall.{MemberCall}
 use Rattle.bound_calls.specs.declared.term.Term.{Term}
 use Rattle.bound_calls.specs.declared.term.Term.TheVariants as term
 use Rattle.bound_calls.specs.declared.term.Tree.{Tree}
-use Rattle.bound_calls.specs.Calls.{node_of}
+use Rattle.bound_calls.specs.Calls.{node_of, MarksGiven}
 use Rattle.bound_calls.specs.Indexing.{AddsArgument, AddsMissing, Closes}
 use Rattle.bound_calls.specs.References.{TakesGiven}
-use Rattle.bound_calls.specs.Standing.{AllGiven, MemberStands, NamesCame, Stands, TermStands, TreeStands, AreNamed, AllNamed, MemberNamed, Grown, Base, looked_for, member_is, missing_given, missing_value, names_told, plain_given}
+use Rattle.bound_calls.specs.Standing.{AllGiven, EndingIs, MemberStands, NamesCame, Stands, TermStands, TreeStands, AreNamed, AllNamed, MemberNamed, Grown, Base, looked_for, member_is, missing_given, missing_value, names_told, plain_given}
 use Rattle.bound_calls.proofs.Growing.{grown_same, grown_pieces, grown_twice, item_named, member_grows, stands_grows, term_grows, told_same}
 use Rattle.bound_members.proofs.Listing.{all_written, none_written, one_written}
 use Rattle.bound_members.proofs.Naming.{all_came, given_listed, given_long, given_more, missing_is, named_more, none_came, none_named, unnamed_more, value_is}
 use Rattle.bound_calls.proofs.CallSteps.{tree_ended}
-use Rattle.bound_members.specs.MemberCalls.{OpensMember, AddsNamed, AddsValue, EndsCall, EndsMember, NamesFit, given_as_named, is_value_kind, there_kind}
+use Rattle.bound_members.specs.MemberCalls.{OpensMember, AddsNamed, AddsValue, EndsCall, EndsMember, NamesFit, PushesWritten, WrittenIs, given_as_named, is_value_kind, there_kind}
 use Rattle.bound_members.specs.Names.{TellsNames, is_next}
 use Rattle.bound_members.proofs.Counting.{counts}
 
@@ -99,41 +101,75 @@ opens_member place m names given d n e named told eq =
 
 -- ---- one more argument
 
-valued : (x : MemberCall) (y : Tree) (v : Ending) (count written named : ℕ) (d m : Drafted) → count ≡ x.count + 1 → written ≡ x.written + 1 → MemberNamed d.tables x → is_value_kind v.kind ≡ true → TakesGiven y.term d m v
-    → (env : Env) (a b : Expr) (name : Option (List ℕ)) (args more : Args) (ps below : List Piece) → TreeStands env d.tables y a d.pieces ps → MemberStands env d.tables x b args ps below
-    → givens env more ≡ givens env args ++ given_as_named env name a ∷ [] → NamesCame (names_told m.tables x.names) named (givens env more)
-    → MemberStands env m.tables (record x { count = count; written = written; named = named }) b more (put m.tables (node_of v.kind y.place v.of) m.pieces) below
-valued x y v count written named d m c w k given t env a b name args more ps below tree h gs came =
-    let s = member_grows env d.tables m.tables t.grown.tables x k b args ps below h in
-    let g = t.stands env (term_of env a) ps tree.term_is in
+-- what is given counts as given, marked or not
+given_counts : (rule : Option ℕ) (place : Place) (e : bound.Expr) → ((rest : Exprs) → given_count (also e rest) ≡ suc (given_count rest)) → (rest : Exprs) → given_count (also (unless_broken rule place e) rest) ≡ suc (given_count rest)
+given_counts None place e h rest = h rest
+given_counts (Some rule) place e h rest = refl
+
+-- the value of an argument, and its mark
+written : (env : Env) (tree : Expr) (at : Place) (v : Ending) (after : DeclaredType) (t : Tables) (f e : Drafted) (n : Node) (ps below : List Piece) → n ≡ node_of v.kind at v.of → at ≡ place_told tree → is_value_kind v.kind ≡ true
+    → EndingIs t v (λ place. given_as env (term_of env tree) place) ps below → f.pieces ≡ put t n ps → MarksGiven type.variant false at v.of f e after
+    → WrittenIs (argument_of env type.variant (term_of env tree) (place_told tree)) e.pieces below
+written env tree at v after t f e n ps below node_is at_is given h pushed marks =
+    let y = term_of env tree in
+    let made = expression_of h.made at (declared_view v.of) in
+    let found = given_as env y (place_told tree) in
+    let there : found ≡ Some made = ap (λ (place : Place). given_as env y place) (sym at_is) ∙ h.is at in
+    let ends : put_kind t (node_of v.kind at v.of) v.kind ps ≡ an_expr made ∷ below = h.ends (node_of v.kind at v.of) in
+    let q = marks.stands found below (record { made = made; is = there; operand = refl; on_top = pushed ∙ ap (λ (m : Node). put t m ps) node_is ∙ ends }) in
+    let same : given_to type.variant false at made ≡ q.made =
+    ap (λ (o : Option bound.Expr). unwrap_or o made) (sym (ap (λ (o : Option bound.Expr). option_map (given_to type.variant false at) o) there) ∙ q.is) in
+    let C : bound.Expr → Type 0 = λ (x : bound.Expr). (rest : Exprs) → given_count (also x rest) ≡ suc (given_count rest) in
+    let I : Place → Type 0 = λ (place : Place). option_map (given_to type.variant false place) found ≡ Some q.made in
+    record {
+      made = q.made;
+      is = subst I at_is q.is;
+      counts = subst C same (given_counts (given_rule type.variant false (declared_view v.of)) at made (counts t (node_of v.kind at v.of) v.kind h.made ps below given ends));
+      on_top = q.on_top;
+    }
+
+pub pushes_written : (y : Tree) (v : Ending) (after : DeclaredType) (d m f e : Drafted) → is_value_kind v.kind ≡ true → TakesGiven y.term d m v → f ≡ record m { pieces = put m.tables (node_of v.kind y.place v.of) m.pieces }
+    → MarksGiven type.variant false y.place v.of f e after → PushesWritten y d e
+pushes_written y v after d m f e given t eq marks =
     let n = node_of v.kind y.place v.of in
-    let made = expression_of g.made y.place (declared_view v.of) in
-    let low = looked_for m.tables x.member.name x.names x.given s.object ∷ below in
-    let A : Place → Type 0 = λ (place : Place). given_as env (term_of env a) place ≡ Some made in
-    let G : List Given → Type 0 = λ (l : List Given). AllGiven (given_as env) l (s.made ++ made ∷ []) in
+    let pushed : Drafted = record m { pieces = put m.tables n m.pieces } in
+    let G : Drafted → Type 0 = λ (z : Drafted). Grown z e in
+    record {
+      grown = grown_twice d m e t.grown (grown_twice m pushed e (grown_pieces m (put m.tables n m.pieces)) (subst G eq marks.grown));
+      stands = λ env tree below k.
+          written env tree y.place v after m.tables f e n m.pieces below refl k.place_is given (t.stands env (term_of env tree) below k.term_is) (ap (λ (z : Drafted). z.pieces) eq) marks;
+    }
+
+valued : (x : MemberCall) (y : Tree) (count written named : ℕ) (d e : Drafted) → count ≡ x.count + 1 → written ≡ x.written + 1 → MemberNamed d.tables x → PushesWritten y d e
+    → (env : Env) (a b : Expr) (name : Option (List ℕ)) (args more : Args) (ps below : List Piece) → TreeStands env d.tables y a d.pieces ps → MemberStands env d.tables x b args ps below
+    → givens env more ≡ givens env args ++ given_as_named env name a ∷ [] → NamesCame (names_told e.tables x.names) named (givens env more)
+    → MemberStands env e.tables (record x { count = count; written = written; named = named }) b more e.pieces below
+valued x y count written named d e c w k t env a b name args more ps below tree h gs came =
+    let value = argument_of env type.variant in
+    let s = member_grows env d.tables e.tables t.grown.tables x k b args ps below h in
+    let g = t.stands env a ps tree in
+    let low = looked_for e.tables x.member.name x.names x.given s.object ∷ below in
+    let G : List Given → Type 0 = λ (l : List Given). AllGiven value l (s.made ++ g.made ∷ []) in
     record {
       object = s.object;
       is = s.is;
       place_is = s.place_is;
-      made = s.made ++ made ∷ [];
-      values = subst G (sym gs) (given_more (given_as env) (givens env args) s.made (given_as_named env name a) made s.values
-          (value_is (given_as env) name (term_of env a) (place_told a) made (subst A tree.place_is (g.is y.place))));
+      made = s.made ++ g.made ∷ [];
+      values = subst G (sym gs) (given_more value (givens env args) s.made (given_as_named env name a) g.made s.values (value_is value name (term_of env a) (place_told a) g.made g.is));
       names = came;
-      written_is = one_written made s.made x.written written w s.written_is (counts m.tables n v.kind g.made m.pieces ps given (g.ends n));
-      count_is = omega (arith, c, s.count_is, length-append s.made (made ∷ []));
-      on_top = g.ends n ∙ ap (λ (l : List Piece). an_expr made ∷ l) s.on_top ∙ sym (above_push (map an_expr s.made) (an_expr made) low)
-          ∙ ap (λ (l : List Piece). above l low) (sym (map-append an_expr s.made (made ∷ [])));
+      written_is = one_written g.made s.made x.written written w s.written_is g.counts;
+      count_is = omega (arith, c, s.count_is, length-append s.made (g.made ∷ []));
+      on_top = g.on_top ∙ ap (λ (l : List Piece). an_expr g.made ∷ l) s.on_top ∙ sym (above_push (map an_expr s.made) (an_expr g.made) low)
+          ∙ ap (λ (l : List Piece). above l low) (sym (map-append an_expr s.made (g.made ∷ [])));
     }
 
-pub adds_value : (x : MemberCall) (y : Tree) (v : Ending) (count written named : ℕ) (d m e : Drafted) → count ≡ x.count + 1 → written ≡ x.written + 1 → MemberNamed d.tables x → is_value_kind v.kind ≡ true → TakesGiven y.term d m v
-    → e ≡ record m { pieces = put m.tables (node_of v.kind y.place v.of) m.pieces } → AddsValue x y named d e (record x { count = count; written = written; named = named })
-adds_value x y v count written named d m e c w k given t eq =
-    let P : Drafted → Type 0 = λ (z : Drafted). AddsValue x y named d z (record x { count = count; written = written; named = named }) in
-    subst P (sym eq) (record {
-      grown = grown_twice d m (record m { pieces = put m.tables (node_of v.kind y.place v.of) m.pieces }) t.grown (grown_pieces m (put m.tables (node_of v.kind y.place v.of) m.pieces));
-      is_named = item_named d.tables m.tables t.grown.tables (item.Member x) k;
-      stands = λ env a b name args more ps below tree h gs came. valued x y v count written named d m c w k given t env a b name args more ps below tree h gs came;
-    })
+pub adds_value : (x : MemberCall) (y : Tree) (count written named : ℕ) (d e : Drafted) → count ≡ x.count + 1 → written ≡ x.written + 1 → MemberNamed d.tables x → PushesWritten y d e
+    → AddsValue x y named d e (record x { count = count; written = written; named = named })
+adds_value x y count written named d e c w k t = record {
+  grown = t.grown;
+  is_named = item_named d.tables e.tables t.grown.tables (item.Member x) k;
+  stands = λ env a b name args more ps below tree h gs came. valued x y count written named d e c w k t env a b name args more ps below tree h gs came;
+}
 
 -- names that were told stay when the tables grow
 came_still : (d e : Drafted) (x : MemberCall) (named : ℕ) (gs : List Given) → Grown d e → MemberNamed d.tables x → NamesCame (names_told d.tables x.names) named gs → NamesCame (names_told e.tables x.names) named gs
@@ -209,7 +245,7 @@ skipped env x count comma xs d c none (nodes.arguments args ∷ nodes.tree b ∷
           is = s.is;
           place_is = s.place_is;
           made = s.made ++ missing_value ∷ [];
-          values = given_more (given_as env) (givens env args) s.made missing_given missing_value s.values (missing_is (given_as env));
+          values = given_more (argument_of env type.variant) (givens env args) s.made missing_given missing_value s.values (missing_is (argument_of env type.variant));
           names = subst N (sym none) (unnamed_more (names_told d.tables x.names) x.named (givens env args) missing_given none refl s.names);
           written_is = none_written s.made x.written s.written_is;
           count_is = omega (arith, c, s.count_is, length-append s.made (missing_value ∷ []));
@@ -247,11 +283,11 @@ named_ends t n name given count by object es ps below c same on_top =
     ∙ named_put (name_in t name) how make object es below
 
 -- a member whose arguments have no names
-plain_called : (env : Env) (object : bound.Expr) (m : terms.HostMember) (named : ℕ) (gs : List Given) (es : List bound.Expr) → NamesCame [] named gs → AllGiven (given_as env) gs es
+plain_called : (env : Env) (object : bound.Expr) (m : terms.HostMember) (named : ℕ) (gs : List Given) (es : List bound.Expr) → NamesCame [] named gs → AllGiven (argument_of env type.variant) gs es
     → member_called env object m gs ≡ Some (host_member object m.name (exprs_of es))
 plain_called env object m named gs es came values =
     let found : Option bound.Node = option_map (λ (xs : Exprs). host_member object m.name xs) (host_arguments env gs) in
-    ap (λ (b : Bool). if b then named_called env object m gs else found) (none_named named gs came) ∙ ap (λ (o : Option Exprs). option_map (λ (xs : Exprs). host_member object m.name xs) o) (given_listed (given_as env) gs es values)
+    ap (λ (b : Bool). if b then named_called env object m gs else found) (none_named named gs came) ∙ ap (λ (o : Option Exprs). option_map (λ (xs : Exprs). host_member object m.name xs) o) (given_listed (argument_of env type.variant) gs es values)
 
 -- what is no Some is None
 pub none_of : (o : Option ArgumentNames) → ((names : ArgumentNames) → (o ≡ Some names) → ⊥) → o ≡ None
@@ -273,16 +309,16 @@ plain_ends x t none = record {
 
 -- one whose last arguments have names
 pub by_name_called : (env : Env) (object : bound.Expr) (m : terms.HostMember) (by : ByName) (named : ℕ) (gs : List Given) (es : List bound.Expr) → named ≢ 0 → named ≡ length by.names → length gs ≡ by.before + named → takes_names m by ≡ true
-    → NamesCame by.names named gs → AllGiven (given_as env) gs es → (named_called env object m gs ≡ Some (named_member object m.name by (exprs_of es))) × (has_names gs ≡ true)
+    → NamesCame by.names named gs → AllGiven (argument_of env type.variant) gs es → (named_called env object m gs ≡ Some (named_member object m.name by (exprs_of es))) × (has_names gs ≡ true)
 by_name_called env object m by named gs es some all count takes came values =
     let both = all_came by.names named by.before gs some all count came in
     let made : Option ByName → Option Exprs → Option bound.Node = λ (o : Option ByName) (xs : Option Exprs). from_two (λ (how : ByName) (ys : Exprs). named_member object m.name how ys) o xs in
     let taken : names_taken m gs ≡ Some by =
     ap (λ (o : Option ByName). option_and_then (λ (how : ByName). if takes_names m how then Some how else None) o) both.1 ∙ ap (λ (b : Bool). if b then Some by else None) takes in
-    (ap (λ (o : Option ByName). made o (host_arguments env gs)) taken ∙ ap (λ (o : Option Exprs). made (Some by) o) (given_listed (given_as env) gs es values), both.0)
+    (ap (λ (o : Option ByName). made o (host_arguments env gs)) taken ∙ ap (λ (o : Option Exprs). made (Some by) o) (given_listed (argument_of env type.variant) gs es values), both.0)
 
 named_call : (env : Env) (object : bound.Expr) (m : terms.HostMember) (by : ByName) (named : ℕ) (gs : List Given) (es : List bound.Expr) → named ≢ 0 → named ≡ length by.names → length gs ≡ by.before + named → takes_names m by ≡ true
-    → NamesCame by.names named gs → AllGiven (given_as env) gs es → member_called env object m gs ≡ Some (named_member object m.name by (exprs_of es))
+    → NamesCame by.names named gs → AllGiven (argument_of env type.variant) gs es → member_called env object m gs ≡ Some (named_member object m.name by (exprs_of es))
 named_call env object m by named gs es some all count takes came values =
     let r = by_name_called env object m by named gs es some all count takes came values in
     let found : Option bound.Node = option_map (λ (xs : Exprs). host_member object m.name xs) (host_arguments env gs) in
@@ -302,7 +338,7 @@ by_name_ends x t by told fit = record {
       let gs = givens env args in
       let N : Option ArgumentNames → Type 0 = λ (o : Option ArgumentNames). NamesCame (names_told t o) x.named gs in
       let all : x.named ≡ length (by_name_in t by).names = fit.all ∙ sym (length-map (order_in t by.order) (name_in t)) in
-      let count : length gs ≡ by.before + x.named = omega (arith, fit.count, s.count_is, given_long (given_as env) gs s.made s.values) in
+      let count : length gs ≡ by.before + x.named = omega (arith, fit.count, s.count_is, given_long (argument_of env type.variant) gs s.made s.values) in
       record {
         made = named_member s.object (name_in t x.member.name) (by_name_in t by) (exprs_of s.made);
         is = named_call env s.object (member_is t x.member) (by_name_in t by) x.named gs s.made fit.some all count fit.takes (subst N told s.names) s.values;
@@ -320,7 +356,7 @@ ends_member x t kind g takes ended = record {
       let gs = givens env args in
       let m = member_is t x.member in
       let c = ended.stands g env e args ps below s in
-      let long : length gs ≡ x.count = omega (arith, s.count_is, given_long (given_as env) gs s.made s.values) in
+      let long : length gs ≡ x.count = omega (arith, s.count_is, given_long (argument_of env type.variant) gs s.made s.values) in
       let found : Option bound.Node → terms.Term = λ (o : Option bound.Node). if_there (option_map (λ (made : bound.Node). a_value made m.of) o) in
       record {
         made = c.made;

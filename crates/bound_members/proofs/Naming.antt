@@ -1,16 +1,16 @@
 -- Names of arguments: which ones came, and how arguments are given by them.
-use Rattle.std.proofs.Common.{◌≡◌, ◌≢◌, ℕ, zero, suc, ◌+◌, ◌≤◌, Bool, true, false, ◌||◌, List, [], ◌∷◌, ◌++◌, map, take, length, Option, Some, None, is_some, refl, sym, ap, subst, ◌∙◌, arith, append_assoc, append-nil, length-append}
+use Rattle.std.proofs.Common.{◌≡◌, ◌≢◌, ℕ, zero, suc, ◌+◌, ◌≤◌, Bool, true, false, ◌||◌, List, [], ◌∷◌, ◌++◌, map, take, length, Option, Some, None, is_some, refl, sym, ap, subst, ◌∙◌, arith, append_assoc}
 use Rattle.std.proofs.lemmas.List.{map-append, length-map, take_all}
 use Rattle.std.proofs.lemmas.Slice.Eq.{bytes_eq-Decides}
-use Rattle.std.specs.Prelude.{bytes_eq, option_map}
+use Rattle.std.specs.Prelude.{option_map}
 use Rattle.std.specs.List.{list_any}
 use Rattle.vba_base.specs.declared.place.Place.{Place}
 use Rattle.bound_project.specs.Expressions.{ByName, Exprs, also}
 use Rattle.bound_project.specs.Expressions as bound
 use Rattle.bound_project.specs.Lists.{exprs_of}
 use Rattle.bound_calls.specs.binder.specs.Options.{from_two}
-use Rattle.bound_calls.specs.binder.specs.Terms.{Given, all_named, by_name_from, given_by_name, has_names, listed_values}
-use Rattle.bound_calls.specs.binder.specs.Terms as terms
+use Rattle.bound_calls.specs.bound_forms.specs.Terms.{Given, all_named, by_name_from, given_by_name, has_names, listed_values}
+use Rattle.bound_calls.specs.bound_forms.specs.Terms as terms
 use Rattle.bound_calls.specs.Standing.{AllGiven, GivenIs, NamesCame, missing_given, missing_value, nameless}
 use Rattle.bound_members.specs.Names.{is_next}
 

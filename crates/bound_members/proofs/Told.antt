@@ -4,7 +4,7 @@ use Rattle.std.specs.Prelude.{slice_get}
 use Rattle.std.proofs.Math.Seq.{get_or-append_seam}
 use Rattle.vba_values.specs.Val.{Val}
 use Rattle.bound_project.specs.Pieces.{order_in}
-use Rattle.bound_project.specs.Drafts.{Drafted, AllBelow, with_constant, with_order}
+use Rattle.bound_project.specs.Drafts.{Drafted, AllBelow, with_order}
 use Rattle.bound_project.proofs.Drafts.{order_extends}
 use Rattle.bound_calls.specs.InOrder.{AddsOrder}
 use Rattle.bound_calls.specs.Steps.{AddsConstant}

@@ -1,6 +1,7 @@
 -- Serves the code: calls of members.
-use Rattle.std.specs.Prelude.{◌≡◌, ◌≢◌, ℕ, ◌+◌, length, Bool, true, List, [], ◌∷◌, ◌++◌, Option, Some, None}
+use Rattle.std.specs.Prelude.{◌≡◌, ◌≢◌, ℕ, suc, ◌+◌, length, Bool, true, List, [], ◌∷◌, ◌++◌, Option, Some, None}
 use Rattle.vba_base.specs.declared.place.Place.{Place}
+use Rattle.vba_values.specs.Types as type
 use Rattle.vba_expression.specs.Tree.{Expr, Args, no_args}
 use Rattle.vba_expression.specs.Nodes as nodes
 use Rattle.vba_expression.specs.Nodes.{behind_node}
@@ -8,14 +9,15 @@ use Rattle.vba_expression.specs.declared.node.ExpressionNode.TheVariants as node
 use Rattle.vba_lexer.specs.declared.token.Token.{Token}
 use Rattle.vba_words.specs.declared.identifier.Identifier.{Identifier}
 use Rattle.bound_project.specs.declared.node.ArgumentNames.{ArgumentNames}
+use Rattle.bound_project.specs.Expressions.{Exprs, also, given_count}
 use Rattle.bound_project.specs.Expressions as bound
 use Rattle.bound_project.specs.declared.node.NodeKind.{NodeKind}
 use Rattle.bound_project.specs.declared.node.NodeKind.TheVariants as node
-use Rattle.bound_project.specs.Pieces.{Piece, Tables, by_name_in, order_in}
+use Rattle.bound_project.specs.Pieces.{Piece, Tables, an_expr, by_name_in, order_in}
 use Rattle.bound_project.specs.Drafts.{Drafted, NodeNamed}
-use Rattle.bound_calls.specs.binder.specs.Terms.{Env, Given}
-use Rattle.bound_calls.specs.binder.specs.Terms as plain
-use Rattle.bound_calls.specs.binder.specs.ExpressionsBound.{callee, givens, indexed, item_of, member_called, takes_names, term_of, place_told}
+use Rattle.bound_calls.specs.bound_forms.specs.Terms.{Env, Given}
+use Rattle.bound_calls.specs.bound_forms.specs.Terms as plain
+use Rattle.bound_calls.specs.bound_forms.specs.ExpressionsBound.{argument_of, callee, givens, indexed, item_of, member_called, takes_names, term_of, place_told}
 use Rattle.bound_calls.specs.declared.term.HostMember.{HostMember}
 use Rattle.bound_calls.specs.declared.term.Item.{Item}
 use Rattle.bound_calls.specs.declared.term.Item.TheVariants as item
@@ -23,7 +25,7 @@ use Rattle.bound_calls.specs.declared.term.MemberCall.{MemberCall}
 use Rattle.bound_calls.specs.declared.term.Term.{Term}
 use Rattle.bound_calls.specs.declared.term.Term.TheVariants as term
 use Rattle.bound_calls.specs.declared.term.Tree.{Tree}
-use Rattle.bound_members.specs.Kinds.{is_typed_kind}
+use Rattle.bound_calls.specs.References.{is_typed_kind}
 use Rattle.bound_calls.specs.Standing.{AllNamed, ItemNamed, MemberNamed, MemberStands, NamesCame, Stands, TermNamed, TermStands, TreeStands, ValueEnds, Base, Grown, member_is, names_told}
 
 -- the node that looks for a member
@@ -42,6 +44,17 @@ pub record OpensMember (place : Place) (m : HostMember) (d e : Drafted) (c : Mem
 -- what an argument is given, with a name or without one
 abbrev pub given_as_named : Env → Option (List ℕ) → Expr → Given
 given_as_named env name e = record { name = name; term = Some (term_of env e); place = place_told e }
+
+-- a value that was pushed for an argument, and that counts as given
+pub record WrittenIs (found : Option bound.Expr) (ps below : List Piece) : Type 0 where
+  pub made : bound.Expr
+  pub is : found ≡ Some made
+  pub counts : (rest : Exprs) → given_count (also made rest) ≡ suc (given_count rest)
+  pub on_top : ps ≡ an_expr made ∷ below
+
+pub record PushesWritten (y : Tree) (d e : Drafted) : Type 0 where
+  pub grown : Grown d e
+  pub stands : (env : Env) (tree : Expr) (below : List Piece) → TreeStands env d.tables y tree d.pieces below → WrittenIs (argument_of env type.variant (term_of env tree) (place_told tree)) e.pieces below
 
 -- the expression on top was pushed as one more value, so that so many of the values have names
 pub record AddsValue (x : MemberCall) (y : Tree) (named : ℕ) (d e : Drafted) (z : MemberCall) : Type 0 where

@@ -1,11 +1,12 @@
 -- Serves the code: members of objects, as the binder says them.
-use Rattle.std.specs.Prelude.{◌≡◌, ℕ, ◌<◌, length, List, []}
+use Rattle.std.specs.Prelude.{◌≡◌, ℕ, ◌<◌, length, Bool, true, false, List, [], Option, Some, None}
+use Rattle.vba_base.specs.declared.place.Place.{Place}
 use Rattle.bound_project.specs.Expressions as bound
 use Rattle.bound_project.specs.Drafts.{Drafted}
 use Rattle.bound_project.specs.View.{element_view}
-use Rattle.bound_calls.specs.binder.specs.Terms.{a_host_member}
-use Rattle.bound_calls.specs.binder.specs.Terms as terms
-use Rattle.bound_calls.specs.binder.specs.ExpressionsBound.{HostKind, application, workbook, sheets, sheet, area, any_object, mark_members, sheets_members, sheet_members, area_members, member_of_kind}
+use Rattle.bound_calls.specs.bound_forms.specs.Terms.{a_host_member}
+use Rattle.bound_calls.specs.bound_forms.specs.Terms as terms
+use Rattle.bound_calls.specs.bound_forms.specs.ExpressionsBound.{HostKind, application, workbook, sheets, sheet, area, any_object, mark_members, sheets_members, sheet_members, area_members, member_of_kind, unknown_member}
 use Rattle.bound_calls.specs.declared.term.HostMember.{HostMember}
 use Rattle.bound_calls.specs.Standing.{Grown, member_is}
 use Rattle.bound_members.specs.declared.kinds.HostKind as declared
@@ -28,9 +29,23 @@ listed sheet = sheet_members
 listed area = area_members
 listed any_object = []
 
+-- the workbook, whose sheets are found in another way
+abbrev pub is_workbook : HostKind → Bool
+is_workbook workbook = true
+is_workbook kind = false
+
 -- a member was found; its name is one more constant, and nothing is pushed
 pub record FindsMember (k : declared.HostKind) (fold : List ℕ) (d e : Drafted) (m : HostMember) : Type 0 where
   pub grown : Grown d e
   pub pieces : e.pieces ≡ d.pieces
   pub named : m.name < length e.tables.constants
-  pub is : (object : bound.Expr) → member_of_kind (kind_view k) object fold ≡ a_host_member object (member_is e.tables m)
+  pub is : (dot : Place) (object : bound.Expr) → member_of_kind (kind_view k) dot object fold ≡ a_host_member object (member_is e.tables m)
+
+-- there is none, and nothing changes
+pub record FindsNone (k : declared.HostKind) (fold : List ℕ) (d e : Drafted) : Type 0 where
+  pub same : e ≡ d
+  pub is : (dot : Place) (object : bound.Expr) → member_of_kind (kind_view k) dot object fold ≡ unknown_member dot object
+
+abbrev pub Finds : declared.HostKind → List ℕ → Drafted → Drafted → Option HostMember → Type 0
+Finds k fold d e None = FindsNone k fold d e
+Finds k fold d e (Some m) = FindsMember k fold d e m

@@ -1,5 +1,5 @@
 -- Serves the code: names of arguments that are told before the arguments are read.
-use Rattle.std.specs.Prelude.{◌≡◌, ℕ, ◌<◌, length, Bool, false, bytes_eq, List, [], Option, Some, None, slice_get}
+use Rattle.std.specs.Prelude.{◌≡◌, ℕ, length, Bool, false, bytes_eq, List, Option, Some, None, slice_get}
 use Rattle.bound_project.specs.declared.node.ArgumentNames.{ArgumentNames}
 use Rattle.bound_project.specs.Drafts.{Drafted, AllBelow}
 use Rattle.bound_calls.specs.Standing.{AreNamed, Grown}

@@ -1,19 +1,19 @@
 //! Members that are called: their objects are looked at, and their arguments are pushed.
 
-ghost use Rattle.std.specs.Prelude.{◌≡◌, ◌<◌, length, IfOk, MatchBool};
+ghost use Rattle.std.specs.Prelude.{◌≡◌, ◌<◌, length, IfOk, MatchBool, OnOk};
 ghost use Rattle.bound_project.specs.DraftView.{draft_view};
 ghost use Rattle.bound_calls.specs.declared.term.Item.TheVariants as item;
 ghost use Rattle.bound_calls.specs.Indexing.{AddsArgument, AddsMissing};
 ghost use Rattle.bound_calls.specs.Standing.{MemberNamed, TermNamed};
-ghost use Rattle.bound_members.specs.MemberCalls.{AddsNamed, AddsValue, EndsCall, EndsMember, NamesFit, OpensMember, is_value_kind, there_kind};
+ghost use Rattle.bound_members.specs.MemberCalls.{AddsNamed, AddsValue, EndsCall, EndsMember, NamesFit, OpensMember, PushesWritten, is_value_kind, there_kind};
 
 use crate::ahead::given_ahead;
-use crate::kinds::is_typed_kind;
 use crate::members::takes_arguments;
 use crate::names::{is_next, names_ahead, takes_names};
 use bound_calls::bound_declarations::NotYet;
 use bound_calls::{
-    Ending, HostMember, MemberCall, Term, Tree, given_ending, nowhere, push_node, sum,
+    Ending, HostMember, MemberCall, Term, Tree, given_ending, is_typed_kind, mark_given, nowhere,
+    push_node, sum,
 };
 use bound_project::{ArgumentNames, DeclaredType, Draft, ElementType, NodeKind};
 use std::alloc::Global;
@@ -67,7 +67,26 @@ fn is_value_kind(kind: NodeKind) -> bool
     }
 }
 
-/// One more argument, with this name or without one: the expression on top, as it is; so many have names then.
+/// Pushes an expression as an argument of a member: as it is, and marked where a Variant doesn't take it.
+fn push_written<'a>(
+    alloc: Global,
+    draft: &mut Draft,
+    tree: Tree<'a>,
+) -> Result<(), OrMemory<NotYet>>
+    requires { TermNamed (draft_view draft.old).tables tree.term }
+    ensures { OnOk result (PushesWritten tree.entry (draft_view draft.old) (draft_view draft.new)) }
+{
+    let ending = given_ending(alloc, draft, tree)?;
+    if !is_value_kind(ending.kind) {
+        return Err(OrMemory::Fault(NotYet));
+    }
+    push_node(draft, ending.kind, ending.of, tree.place)?;
+    let variant = DeclaredType::Plain(ElementType::Variant);
+    mark_given(draft, variant, false, ending.of, tree.place)?;
+    Ok(())
+}
+
+/// One more argument, with this name or without one: the expression on top; so many have names then.
 fn add_value<'a>(
     alloc: Global,
     draft: &mut Draft,
@@ -81,11 +100,7 @@ fn add_value<'a>(
 {
     let count = sum(call.count, 1)?;
     let written = sum(call.written, 1)?;
-    let ending = given_ending(alloc, draft, tree)?;
-    if !is_value_kind(ending.kind) {
-        return Err(OrMemory::Fault(NotYet));
-    }
-    push_node(draft, ending.kind, ending.of, tree.place)?;
+    push_written(alloc, draft, tree)?;
     Ok(MemberCall {
         count,
         written,
@@ -94,7 +109,7 @@ fn add_value<'a>(
     })
 }
 
-/// One more argument without a name: the expression on top, as it is.
+/// One more argument without a name: the expression on top.
 pub fn add_given<'a>(
     alloc: Global,
     draft: &mut Draft,

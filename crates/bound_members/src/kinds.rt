@@ -2,10 +2,11 @@
 
 ghost use Rattle.std.specs.Prelude.{◌≡◌, IfSome, option_map, true};
 ghost use Rattle.bound_project.specs.View.{declared_view};
-ghost use Rattle.bound_calls.specs.binder.specs.ExpressionsBound.{kind_by_type, kind_of_object};
-ghost use Rattle.bound_members.specs.Kinds.{EndingOfKind, is_typed_kind, kind_view};
+ghost use Rattle.bound_calls.specs.bound_forms.specs.ExpressionsBound.{kind_by_type, kind_of_object};
+ghost use Rattle.bound_calls.specs.References.{is_typed_kind};
+ghost use Rattle.bound_members.specs.Kinds.{EndingOfKind, kind_view};
 
-use bound_calls::Ending;
+use bound_calls::{Ending, is_typed_kind};
 use bound_project::{DeclaredType, ElementType, NodeKind};
 use vba_values::HostRef;
 
@@ -41,31 +42,6 @@ fn kind_of_object(reference: HostRef) -> Option<HostKind>
         HostRef::Workbook => Some(HostKind::Workbook),
         HostRef::Sheets => Some(HostKind::Sheets),
         _ => None,
-    }
-}
-
-/// Is a node the last one of a value, and none of an object that is always there?
-pub fn is_typed_kind(kind: NodeKind) -> bool
-    ensures { result ≡ is_typed_kind kind }
-{
-    match kind {
-        NodeKind::Constant { .. } => true,
-        NodeKind::Load => true,
-        NodeKind::ElementValue { .. } => true,
-        NodeKind::FieldValue { .. } => true,
-        NodeKind::Unary { .. } => true,
-        NodeKind::Binary { .. } => true,
-        NodeKind::Call { .. } => true,
-        NodeKind::CallInOrder { .. } => true,
-        NodeKind::ErrValue(_) => true,
-        NodeKind::Library { .. } => true,
-        NodeKind::Marked { .. } => true,
-        NodeKind::Same => true,
-        NodeKind::IsType(_) => true,
-        NodeKind::ActiveSheet => true,
-        NodeKind::HostMember { .. } => true,
-        NodeKind::NamedMember { .. } => true,
-        _ => false,
     }
 }
 

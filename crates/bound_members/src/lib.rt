@@ -15,4 +15,4 @@ pub use members::{find_member, is_word, takes_arguments};
 
 // What stands below, for the crates above.
 pub use bound_calls;
-pub use bound_calls::{binder, bound_declarations, constant_values, declared_names};
+pub use bound_calls::{binder, bound_declarations, bound_forms, constant_values, declared_names};

@@ -1,21 +1,22 @@
 //! The members of objects, by their folded names.
 
-ghost use Rattle.std.specs.Prelude.{◌≡◌, IfOk, IfSome, Some, bytes_eq, map, option_map};
+ghost use Rattle.std.specs.Prelude.{◌≡◌, IfOk, Some, bytes_eq, map, option_map};
 ghost use Rattle.bound_project.specs.DraftView.{draft_view};
 ghost use Rattle.vba_values.specs.Val.{text};
 ghost use Rattle.vba_values.specs.View.{view};
 ghost use Rattle.bound_project.specs.Pieces.{Tables};
 ghost use Rattle.bound_project.specs.View.{declared_view};
-ghost use Rattle.bound_calls.specs.binder.specs.ExpressionsBound as bound;
+ghost use Rattle.bound_calls.specs.bound_forms.specs.ExpressionsBound as bound;
 ghost use Rattle.bound_members.specs.Kinds.{kind_view};
-ghost use Rattle.bound_members.specs.Members.{FindsMember, entry_member, found_member, listed};
+ghost use Rattle.bound_members.specs.declared.kinds.HostKind as declared;
+ghost use Rattle.bound_members.specs.Members.{Finds, FindsMember, entry_member, found_member, is_workbook, listed};
 ghost use Rattle.bound_calls.specs.Standing.{member_is};
 
 use crate::kinds::HostKind;
 use bound_calls::bound_declarations::NotYet;
 use bound_calls::{HostMember, constant_number};
 use bound_project::{DeclaredType, Draft, ElementType};
-use vba_base::{OrMemory, Units};
+use vba_base::{NoMemory, OrMemory, Units};
 use vba_values::Value;
 
 /// A member: the type of what it gives, and the least and, where it is known, the greatest number of its arguments.
@@ -272,7 +273,7 @@ fn first_named(name: &[u16], members: Members) -> Option<Known>
 
 /// The member with a name of a kind of objects; of an object of an unknown kind the run decides.
 fn known_member(kind: HostKind, name: &[u16]) -> Option<Known>
-    ensures { IfSome result (λ known. bound.member_in (kind_view kind) name.now ≡ Some (found_member name.now known)) }
+    ensures { option_map (found_member name.now) result ≡ bound.member_in (kind_view kind) name.now }
 {
     match kind {
         HostKind::AnyObject => Some(Known {
@@ -290,18 +291,21 @@ fn text_value(units: Units) -> Value
     Value::Text(units)
 }
 
-/// A member of an object of a kind, by its folded name, which becomes a constant. The sheets of the workbook are found
-/// in another way.
-pub fn find_member(
-    draft: &mut Draft,
-    kind: HostKind,
-    name: Units,
-) -> Result<HostMember, OrMemory<NotYet>>
-    ensures { IfOk result (λ member. FindsMember kind name (draft_view draft.old) (draft_view draft.new) member) }
+/// Is it the workbook, whose sheets are found in another way?
+fn is_workbook(kind: HostKind) -> bool
+    ensures { result ≡ is_workbook (kind_view kind) }
 {
-    let Some(known) = known_member(kind, name.units()) else {
-        return Err(OrMemory::Fault(NotYet));
-    };
+    match kind {
+        HostKind::Workbook => true,
+        _ => false,
+    }
+}
+
+/// A member of which this is known, by its folded name, which becomes a constant.
+fn named_member(draft: &mut Draft, known: Known, name: Units) -> Result<HostMember, NoMemory>
+    ensures { IfOk result (λ member. (kind : declared.HostKind) → bound.member_in (kind_view kind) name ≡ Some (found_member name known)
+        → FindsMember kind name (draft_view draft.old) (draft_view draft.new) member) }
+{
     let constant = constant_number(draft, text_value(name))?;
     Ok(HostMember {
         name: constant,
@@ -309,6 +313,27 @@ pub fn find_member(
         least: known.least,
         greatest: known.greatest,
     })
+}
+
+/// A member of an object of a kind, by its folded name, which becomes a constant; none where there is none. The sheets of
+/// the workbook are found in another way.
+pub fn find_member(
+    draft: &mut Draft,
+    kind: HostKind,
+    name: Units,
+) -> Result<Option<HostMember>, OrMemory<NotYet>>
+    ensures { IfOk result (λ found. Finds kind name (draft_view draft.old) (draft_view draft.new) found) }
+{
+    if is_workbook(kind) {
+        return Err(OrMemory::Fault(NotYet));
+    }
+    match known_member(kind, name.units()) {
+        None => Ok(None),
+        Some(known) => {
+            let member = named_member(draft, known, name)?;
+            Ok(Some(member))
+        }
+    }
 }
 
 /// Is a range, or another object, indexed by so many numbers behind a member that takes none?

@@ -3,7 +3,7 @@
 ghost use Rattle.std.specs.Prelude.{◌≡◌, ◌+◌, ◌<◌, ◌^◌, [], IfOk, OnOk, Some, is_some, length, map};
 ghost use Rattle.bound_project.specs.DraftView.{draft_view};
 ghost use Rattle.bound_project.specs.Pieces.{by_name_in, name_in, names_in};
-ghost use Rattle.bound_calls.specs.binder.specs.ExpressionsBound as bound;
+ghost use Rattle.bound_calls.specs.bound_forms.specs.ExpressionsBound as bound;
 ghost use Rattle.vba_meaning.specs.ByName.{any_given, parameter_named, parameters_given};
 ghost use Rattle.bound_calls.specs.Standing.{member_is};
 ghost use Rattle.bound_members.specs.Names.{AddsName, TellsNames, is_next};

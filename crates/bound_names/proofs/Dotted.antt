@@ -11,9 +11,9 @@ use Rattle.bound_project.specs.Pieces.{Piece, Tables}
 use Rattle.bound_project.specs.Drafts.{Drafted}
 use Rattle.bound_members.specs.binder.specs.Declarations.{What, a_variable, a_constant, an_enum, a_member, a_type, an_event, a_procedure, Entry}
 use Rattle.bound_members.specs.binder.specs.Scopes.{Space, Scope, Qualifier, module_qualifier, enum_qualifier, library_qualifier, of_module, plainly, before_dot, counts, declares, behind, as_qualifier, first_at, is_named, qualifier_of, seen_from, enum_behind}
-use Rattle.bound_members.specs.binder.specs.Terms.{Env}
-use Rattle.bound_members.specs.binder.specs.Terms as plain
-use Rattle.bound_members.specs.binder.specs.ExpressionsBound.{term_of, meant_term, member_of, behind_term, from_zero, place_told}
+use Rattle.bound_members.specs.bound_forms.specs.Terms.{Env}
+use Rattle.bound_members.specs.bound_forms.specs.Terms as plain
+use Rattle.bound_members.specs.bound_forms.specs.ExpressionsBound.{term_of, meant_term, member_of, behind_term, from_zero, place_told}
 use Rattle.bound_members.specs.bound_calls.specs.declared.term.Dotted.{Dotted}
 use Rattle.bound_members.specs.bound_calls.specs.declared.term.Term.{Term}
 use Rattle.bound_members.specs.bound_calls.specs.declared.term.Tree.{Tree}
@@ -130,7 +130,7 @@ behind_stands env x f q d e t y m j k base dot below h =
     let is : qualifier_of env.scope base ≡ Some q = looked env d.tables x base d.pieces below h ∙ sym k in
     let same : d.pieces ≡ below = alone env d.tables x base q d.pieces below h k in
     let A : Expr → Type 0 = λ (z : Expr). TreeStands env e.tables (made_tree x y t) z e.pieces below in
-    let T : Option Qualifier → Type 0 = λ (o : Option Qualifier). TermStands env e.tables t (behind_term env o f (member_of env (place_told base) (term_of env base) f)) e.pieces below in
+    let T : Option Qualifier → Type 0 = λ (o : Option Qualifier). TermStands env e.tables t (behind_term env o f (member_of env (place_told base) dot.place (term_of env base) f)) e.pieces below in
     subst A (sym (no_class env base dot f q is)) (record {
       term_is = subst T (sym is) (leaf_above env d e t (from_zero (meant_term env f (behind plainly env.scope q f))) below same m);
       place_is = h.place_is;
@@ -140,12 +140,12 @@ behind_stands env x f q d e t y m j k base dot below h =
     })
 
 pub makes_behind : (env : Env) (x : Tree) (f : Identifier) (q : Qualifier) (d e : Drafted) (t : Term) (y : Option Dotted) → MakesLeaf env d e t (from_zero (meant_term env f (behind plainly env.scope q f))) → JoinedTo x f y
-    → IsQualifier env.scope x (Some q) → MakesMember env x f d e (made_tree x y t)
-makes_behind env x f q d e t y m j k = record { grown = m.grown; named = m.named; stands = behind_stands env x f q d e t y m j k }
+    → (dot : Token) → IsQualifier env.scope x (Some q) → MakesMember env x dot f d e (made_tree x y t)
+makes_behind env x f q d e t y m j dot k = record { grown = m.grown; named = m.named; stands = λ base below h. behind_stands env x f q d e t y m j k base dot below h }
 
 -- ---- on the stack
 
-pub goes_member : (env : Env) (x y : Tree) (f : Identifier) (dot : Token) (xs old after : List Item) (d e : Drafted) → old ≡ item.Tree x ∷ xs → after ≡ item.Tree y ∷ xs → AllNamed d.tables old → MakesMember env x f d e y
+pub goes_member : (env : Env) (x y : Tree) (f : Identifier) (dot : Token) (xs old after : List Item) (d e : Drafted) → old ≡ item.Tree x ∷ xs → after ≡ item.Tree y ∷ xs → AllNamed d.tables old → MakesMember env x dot f d e y
     → Goes env d old e after (behind_node (node.Member dot f))
 goes_member env x y f dot xs old after d e o n k m =
-    goes_made env x y xs old after d e (λ base. behind_dot base dot f) o n m.grown k m.named (λ base below h. m.stands base dot below h) (behind_node (node.Member dot f)) (λ tree is. refl)
+    goes_made env x y xs old after d e (λ base. behind_dot base dot f) o n m.grown k m.named (λ base below h. m.stands base below h) (behind_node (node.Member dot f)) (λ tree is. refl)

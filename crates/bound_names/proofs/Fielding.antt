@@ -1,6 +1,6 @@
 -- Fields of places and values, and names behind dots that begin an expression.
-use Rattle.std.specs.Prelude.{◌==◌, ◌||◌, bytes_eq, codes}
-use Rattle.std.proofs.Common.{◌≡◌, ℕ, Bool, true, false, List, [], ◌∷◌, ◌++◌, map, Option, Some, None, is_some, option_map, if◌then◌else◌, refl, sym, ap, subst, ◌∙◌}
+use Rattle.std.specs.Prelude.{◌==◌}
+use Rattle.std.proofs.Common.{◌≡◌, ℕ, Bool, true, false, List, [], ◌∷◌, ◌++◌, map, Option, Some, None, is_some, if◌then◌else◌, refl, sym, ap, subst, ◌∙◌}
 use Rattle.vba_base.specs.declared.place.Place.{Place}
 use Rattle.vba_lexer.specs.declared.token.Token.{Token}
 use Rattle.vba_words.specs.declared.identifier.Identifier.{Identifier}
@@ -22,17 +22,18 @@ use Rattle.bound_project.specs.declared.node.NodeKind.TheVariants as kinds
 use Rattle.bound_project.specs.Project.{Declaration, UserType, nowhere}
 use Rattle.bound_project.specs.Project as project
 use Rattle.bound_project.specs.View.{declared_view, declarations_view, user_type_view}
-use Rattle.bound_project.specs.Expressions.{active_sheet, host_member, host_object, load, no_exprs, Lvalue, field, field_value, kept_place}
+use Rattle.bound_project.specs.Expressions.{host_member, host_object, load, no_exprs, Lvalue, field, field_value, kept_place}
 use Rattle.bound_project.specs.Expressions as bound
-use Rattle.bound_project.specs.Pieces.{Piece, a_place, expr_of, name_in, put, put_kind}
+use Rattle.bound_project.specs.Pieces.{Piece, Tables, expr_of, name_in, of_place, put, put_kind}
 use Rattle.bound_project.specs.Drafts.{Drafted}
-use Rattle.bound_members.specs.binder.specs.Bind.{declarations_of}
+use Rattle.bound_members.specs.binder.specs.Projects.{declarations_of}
 use Rattle.bound_members.specs.binder.specs.Constants.{home}
 use Rattle.bound_members.specs.binder.specs.Scopes.{Space, Qualifier, qualifier_of, enum_behind}
 use Rattle.bound_members.specs.binder.specs.Storage.{types_from, types_of_space, user_types}
-use Rattle.bound_members.specs.binder.specs.Terms.{Env, Within, a_place as a_place_term, a_value, a_routine, a_host_member, err_object, no_term, expression_of}
-use Rattle.bound_members.specs.binder.specs.Terms as terms
-use Rattle.bound_members.specs.binder.specs.ExpressionsBound.{bare_call, behind_term, err_member, field_named, field_of_place, field_of_value, has_bounds, kept_member, member_of, node_or, object_member, sheets_value, term_of, with_field, given_as, typed_term, place_told}
+use Rattle.bound_members.specs.bound_forms.specs.Terms.{Env, Within, a_place as a_place_term, a_value, no_term, expression_of}
+use Rattle.bound_members.specs.bound_forms.specs.Terms as terms
+use Rattle.bound_members.specs.bound_forms.specs.ExpressionsBound.{bare_call, behind_term, err_member, field_named, field_of_place, field_of_value, kept_member, member_of, node_or, object_member, sheets_value, unknown_member, term_of, with_field, given_as, typed_term, place_told}
+use Rattle.bound_members.specs.binder.specs.Storage.{has_bounds}
 use Rattle.bound_members.specs.binder.specs.Types.{meant_type, type_meant}
 use Rattle.bound_members.specs.declared_names.specs.Outside.{the_outside}
 use Rattle.bound_members.specs.declared_names.specs.View.{scope_view}
@@ -48,15 +49,16 @@ use Rattle.bound_members.specs.bound_calls.specs.declared.term.Tree.{Tree}
 use Rattle.bound_members.specs.bound_calls.specs.declared.term.Item.{Item}
 use Rattle.bound_members.specs.bound_calls.specs.declared.term.Item.TheVariants as items
 use Rattle.bound_members.specs.bound_calls.specs.Calls.{node_of}
-use Rattle.bound_names.specs.Fields.{FieldFound, KeepsField, MakesBehind, MakesField, MakesFieldValue, user_type_in, may_be_class}
-use Rattle.bound_names.specs.Items.{FindsBehindPlace, FindsBehindValue}
-use Rattle.bound_names.specs.Owned.{IsQualifier, IsSheets, MakesMember}
-use Rattle.bound_members.specs.bound_calls.specs.Standing.{TermStands, TreeStands, Stands, Base, member_is}
+use Rattle.bound_names.specs.Fields.{FieldFound, FieldIs, FieldOrNone, KeepsField, LacksField, MakesBehind, MakesField, MakesFieldValue, PlacesField, ValueOrNone, place_found, user_type_in, value_found}
+use Rattle.bound_names.specs.Items.{FindsBehindPlace, FindsBehindValue, found_term, may_be_class, unknown_term}
+use Rattle.bound_names.specs.Owned.{IsQualifier, MakesMember, names_sheets}
+use Rattle.bound_members.specs.bound_calls.specs.Standing.{TermStands, TreeStands, Stands, Base, ValueEnds}
 use Rattle.bound_members.specs.bound_calls.specs.Steps.{Goes, MakesLeaf}
 use Rattle.bound_members.specs.bound_calls.specs.Taking.{CallsRoutine, PushesSheet, ReadsMember}
 use Rattle.bound_members.specs.bound_calls.proofs.Growing.{grown_same, grown_twice, grown_pieces, all_named, stands_grows}
 use Rattle.bound_members.specs.bound_calls.proofs.Taking.{sheet_stands}
 use Rattle.bound_names.proofs.Dotted.{looked, made_tree}
+use Rattle.bound_names.proofs.ItemTerms.{unknown_stands}
 
 -- ---- the fields of user types
 
@@ -75,11 +77,11 @@ user_type_is of number h = let e : None ≡ Some number = h in absurd cc
 
 -- ---- a field that was found
 
-field_term : (env : Env) (place : Place) (at : Lvalue) (number : ℕ) (lends : Bool) (f : Identifier) (x : Field) → FieldFound (field_named env number f) x
-    → field_of_place env place at (type.udt number) lends f ≡ a_place_term (field at x.number (declared_view x.of) x.is_bounded) (declared_view x.of) x.is_bounded lends
-field_term env place at number lends f x k =
+field_term : (env : Env) (place dot : Place) (at : Lvalue) (number : ℕ) (lends : Bool) (f : Identifier) (x : Field) → FieldFound (field_named env number f) x
+    → field_of_place env place dot at (type.udt number) lends f ≡ a_place_term (field at x.number (declared_view x.of) x.is_bounded) (declared_view x.of) x.is_bounded lends
+field_term env place dot at number lends f x k =
     let F : ℕ → Declaration → terms.Term = λ (i : ℕ) (d : Declaration). a_place_term (field at i d.of (has_bounds d)) d.of (has_bounds d) lends in
-    ap (λ (o : Option (ℕ × Declaration)). with_field o F) k.is
+    ap (λ (o : Option (ℕ × Declaration)). with_field o F dot (expression_of (load at) place (type.udt number))) k.is
     ∙ ap (λ (u : Declared). a_place_term (field at x.number u (has_bounds k.declaration)) u (has_bounds k.declaration) lends) k.of_is
     ∙ ap (λ (b : Bool). a_place_term (field at x.number (declared_view x.of) b) (declared_view x.of) b lends) k.bounded_is
 
@@ -87,91 +89,140 @@ pub makes_field : (env : Env) (of : DeclaredType) (number : ℕ) (lends : Bool) 
     → MakesField env of lends f (term.Place (kinds.Field x.number x.of x.is_bounded) x.of x.is_bounded lends)
 makes_field env of number lends f x is k = record {
   named = λ t. tt;
-  stands = λ t place at below. record {
+  stands = λ t place dot at below. record {
     at = field at x.number (declared_view x.of) x.is_bounded;
-    is = ap (λ (u : Declared). field_of_place env place at u lends f) (user_type_is of number is) ∙ field_term env place at number lends f x k;
+    is = ap (λ (u : Declared). field_of_place env place dot at u lends f) (user_type_is of number is) ∙ field_term env place dot at number lends f x k;
     ends = λ n. refl;
   };
 }
 
-value_term : (env : Env) (place : Place) (made : bound.Node) (number : ℕ) (f : Identifier) (x : Field) → FieldFound (field_named env number f) x
-    → field_of_value env place made (type.udt number) f ≡ a_value (field_value (expression_of made place (type.udt number)) x.number) (declared_view x.of)
-value_term env place made number f x k =
-    let F : ℕ → Declaration → terms.Term = λ (i : ℕ) (d : Declaration). a_value (field_value (expression_of made place (type.udt number)) i) d.of in
-    ap (λ (o : Option (ℕ × Declaration)). with_field o F) k.is ∙ ap (λ (u : Declared). a_value (field_value (expression_of made place (type.udt number)) x.number) u) k.of_is
+value_term : (env : Env) (place dot : Place) (made : bound.Node) (number : ℕ) (f : Identifier) (x : Field) → FieldFound (field_named env number f) x
+    → field_of_value env place dot made (type.udt number) f ≡ a_value (field_value (expression_of made place (type.udt number)) x.number) (declared_view x.of)
+value_term env place dot made number f x k =
+    let e = expression_of made place (type.udt number) in
+    let F : ℕ → Declaration → terms.Term = λ (i : ℕ) (d : Declaration). a_value (field_value e i) d.of in
+    ap (λ (o : Option (ℕ × Declaration)). with_field o F dot e) k.is ∙ ap (λ (u : Declared). a_value (field_value e x.number) u) k.of_is
 
 pub makes_field_value : (env : Env) (of : DeclaredType) (number : ℕ) (f : Identifier) (x : Field) → user_type_in of ≡ Some number → FieldFound (field_named env number f) x
     → MakesFieldValue env of f (term.Value (record { kind = kinds.FieldValue x.number; of = x.of }))
 makes_field_value env of number f x is k = record {
   named = λ t. tt;
-  stands = λ t place made below.
-      let A : Declared → Type 0 = λ (u : Declared). field_of_value env place made u f ≡ a_value (field_value (expression_of made place u) x.number) (declared_view x.of) in
+  stands = λ t place dot made below.
+      let A : Declared → Type 0 = λ (u : Declared). field_of_value env place dot made u f ≡ a_value (field_value (expression_of made place u) x.number) (declared_view x.of) in
       record {
         made = field_value (expression_of made place (declared_view of)) x.number;
-        is = subst A (sym (user_type_is of number is)) (value_term env place made number f x k);
+        is = subst A (sym (user_type_is of number is)) (value_term env place dot made number f x k);
         ends = λ n. refl;
       };
 }
 
+-- there is no such field
+pub lacks_field : (env : Env) (of : DeclaredType) (number : ℕ) (f : Identifier) → user_type_in of ≡ Some number → field_named env number f ≡ None → LacksField env of f
+lacks_field env of number f is none = record {
+  place = λ place dot at lends.
+      let A : Declared → Type 0 = λ (u : Declared). field_of_place env place dot at u lends f ≡ unknown_member dot (expression_of (load at) place u) in
+      let F : ℕ → Declaration → terms.Term = λ (i : ℕ) (d : Declaration). a_place_term (field at i d.of (has_bounds d)) d.of (has_bounds d) lends in
+      subst A (sym (user_type_is of number is)) (ap (λ (o : Option (ℕ × Declaration)). with_field o F dot (expression_of (load at) place (type.udt number))) none);
+  value = λ place dot made.
+      let A : Declared → Type 0 = λ (u : Declared). field_of_value env place dot made u f ≡ unknown_member dot (expression_of made place u) in
+      let e = expression_of made place (type.udt number) in
+      let F : ℕ → Declaration → terms.Term = λ (i : ℕ) (d : Declaration). a_value (field_value e i) d.of in
+      subst A (sym (user_type_is of number is)) (ap (λ (o : Option (ℕ × Declaration)). with_field o F dot e) none);
+}
+
+pub field_or_none : (env : Env) (of : DeclaredType) (number : ℕ) (lends : Bool) (f : Identifier) (found : Option Field) → user_type_in of ≡ Some number → FieldIs (field_named env number f) found → FieldOrNone env of lends f (place_found found lends)
+field_or_none env of number lends f None is k = lacks_field env of number f is k
+field_or_none env of number lends f (Some x) is k = makes_field env of number lends f x is k
+
+pub value_or_none : (env : Env) (of : DeclaredType) (number : ℕ) (f : Identifier) (found : Option Field) → user_type_in of ≡ Some number → FieldIs (field_named env number f) found → ValueOrNone env of f (value_found found)
+value_or_none env of number f None is k = lacks_field env of number f is k
+value_or_none env of number f (Some x) is k = makes_field_value env of number f x is k
+
+-- a node more
+abbrev one_more : Drafted → NodeKind → DeclaredType → Place → Drafted
+one_more d kind of place = record d { pieces = put d.tables (node_of kind place of) d.pieces }
+
+pub places_found : (env : Env) (place dot : Place) (at : Ending) (lends : Bool) (f : Identifier) (d e : Drafted) (y : Term) → MakesField env at.of lends f y → e ≡ one_more d at.kind at.of place → PlacesField env place dot at lends f d e y
+places_found env place dot at lends f d e y m eq =
+    let P : Drafted → Type 0 = λ (z : Drafted). PlacesField env place dot at lends f d z y in
+    let e1 = one_more d at.kind at.of place in
+    subst P (sym eq) (record {
+      grown = grown_pieces d e1.pieces;
+      named = m.named d.tables;
+      stands = λ x below ends.
+          let B : List Piece → Type 0 = λ (ps : List Piece). TermStands env d.tables y (field_of_place env place dot x (declared_view at.of) lends f) ps below in
+          subst B (sym (ends (node_of at.kind place at.of))) (m.stands d.tables place dot x below);
+    })
+
+pub places_none : (env : Env) (place dot : Place) (at : Ending) (lends : Bool) (f : Identifier) (d b e : Drafted) → LacksField env at.of f → b ≡ one_more d at.kind at.of place → e ≡ one_more b kinds.Load at.of place
+    → PlacesField env place dot at lends f d e (unknown_term dot)
+places_none env place dot at lends f d b e l one two =
+    let b1 = one_more d at.kind at.of place in
+    let e1 = one_more b1 kinds.Load at.of place in
+    let both : e ≡ e1 = two ∙ ap (λ (z : Drafted). one_more z kinds.Load at.of place) one in
+    let P : Drafted → Type 0 = λ (z : Drafted). PlacesField env place dot at lends f d z (unknown_term dot) in
+    subst P (sym both) (record {
+      grown = grown_twice d b1 e1 (grown_pieces d b1.pieces) (grown_pieces b1 e1.pieces);
+      named = tt;
+      stands = λ x below ends.
+          unknown_stands env d.tables dot (expression_of (load x) place (declared_view at.of)) (field_of_place env place dot x (declared_view at.of) lends f) e1.pieces below (l.place place dot x lends)
+          (ap (λ (st : List Piece). of_place (λ (y : Lvalue). expr_of (node_of kinds.Load place at.of) (load y)) st) (ends (node_of at.kind place at.of)));
+    })
+
 -- ---- what With keeps
 
 pub keeps_field : (env : Env) (header : ℕ) (of : DeclaredType) (lends : Bool) (f : Identifier) (place : Place) (d e : Drafted) (x : Term) → env.within ≡ Some (record { header = header; of = declared_view of; lends = lends })
-    → MakesField env of lends f x → e ≡ record d { pieces = put d.tables (node_of (kinds.KeptPlace header) place of) d.pieces } → KeepsField env place f d e x
-keeps_field env header of lends f place d e x is m eq =
-    let P : Drafted → Type 0 = λ (z : Drafted). KeepsField env place f d z x in
-    let A : Option Within → Type 0 = λ (w : Option Within). TermStands env d.tables x (kept_member env place w f) (a_place (kept_place header) ∷ d.pieces) d.pieces in
-    subst P (sym eq) (record {
-      grown = grown_pieces d (put d.tables (node_of (kinds.KeptPlace header) place of) d.pieces);
-      named = m.named d.tables;
-      stands = subst A (sym is) (m.stands d.tables place (kept_place header) d.pieces);
-    })
+    → PlacesField env place place (record { kind = kinds.KeptPlace header; of = of }) lends f d e x → KeepsField env place f d e x
+keeps_field env header of lends f place d e x is p =
+    let A : Option Within → Type 0 = λ (w : Option Within). TermStands env e.tables x (kept_member env place w f) e.pieces d.pieces in
+    record { grown = p.grown; named = p.named; stands = subst A (sym is) (p.stands (kept_place header) d.pieces (λ n. refl)) }
 
 -- what is of no Type is looked at as an object
-no_type_place : (env : Env) (place : Place) (at : Lvalue) (of : DeclaredType) (lends : Bool) (f : Identifier) → user_type_in of ≡ None → field_of_place env place at (declared_view of) lends f ≡ object_member place (load at) (declared_view of) f.name
-no_type_place env place at (Plain element.Boolean) lends f h = refl
-no_type_place env place at (Plain element.Byte) lends f h = refl
-no_type_place env place at (Plain element.Integer) lends f h = refl
-no_type_place env place at (Plain element.Long) lends f h = refl
-no_type_place env place at (Plain element.LongLong) lends f h = refl
-no_type_place env place at (Plain element.Currency) lends f h = refl
-no_type_place env place at (Plain element.Text) lends f h = refl
-no_type_place env place at (Plain (element.FixedText n)) lends f h = refl
-no_type_place env place at (Plain element.Object) lends f h = refl
-no_type_place env place at (Plain (element.Class n)) lends f h = refl
-no_type_place env place at (Plain element.Collection) lends f h = refl
-no_type_place env place at (Plain element.Worksheet) lends f h = refl
-no_type_place env place at (Plain element.Range) lends f h = refl
-no_type_place env place at (Plain element.Variant) lends f h = refl
-no_type_place env place at (Plain (element.UserType n)) lends f h = let e : Some n ≡ None = h in absurd cc
-no_type_place env place at (ArrayOf u) lends f h = refl
+no_type_place : (env : Env) (place dot : Place) (at : Lvalue) (of : DeclaredType) (lends : Bool) (f : Identifier) → user_type_in of ≡ None → field_of_place env place dot at (declared_view of) lends f ≡ object_member place dot (load at) (declared_view of) f.name
+no_type_place env place dot at (Plain element.Boolean) lends f h = refl
+no_type_place env place dot at (Plain element.Byte) lends f h = refl
+no_type_place env place dot at (Plain element.Integer) lends f h = refl
+no_type_place env place dot at (Plain element.Long) lends f h = refl
+no_type_place env place dot at (Plain element.LongLong) lends f h = refl
+no_type_place env place dot at (Plain element.Currency) lends f h = refl
+no_type_place env place dot at (Plain element.Text) lends f h = refl
+no_type_place env place dot at (Plain (element.FixedText n)) lends f h = refl
+no_type_place env place dot at (Plain element.Object) lends f h = refl
+no_type_place env place dot at (Plain (element.Class n)) lends f h = refl
+no_type_place env place dot at (Plain element.Collection) lends f h = refl
+no_type_place env place dot at (Plain element.Worksheet) lends f h = refl
+no_type_place env place dot at (Plain element.Range) lends f h = refl
+no_type_place env place dot at (Plain element.Variant) lends f h = refl
+no_type_place env place dot at (Plain (element.UserType n)) lends f h = let e : Some n ≡ None = h in absurd cc
+no_type_place env place dot at (ArrayOf u) lends f h = refl
 
-no_type_value : (env : Env) (place : Place) (node : bound.Node) (of : DeclaredType) (f : Identifier) → user_type_in of ≡ None → field_of_value env place node (declared_view of) f ≡ object_member place node (declared_view of) f.name
-no_type_value env place node (Plain element.Boolean) f h = refl
-no_type_value env place node (Plain element.Byte) f h = refl
-no_type_value env place node (Plain element.Integer) f h = refl
-no_type_value env place node (Plain element.Long) f h = refl
-no_type_value env place node (Plain element.LongLong) f h = refl
-no_type_value env place node (Plain element.Currency) f h = refl
-no_type_value env place node (Plain element.Text) f h = refl
-no_type_value env place node (Plain (element.FixedText n)) f h = refl
-no_type_value env place node (Plain element.Object) f h = refl
-no_type_value env place node (Plain (element.Class n)) f h = refl
-no_type_value env place node (Plain element.Collection) f h = refl
-no_type_value env place node (Plain element.Worksheet) f h = refl
-no_type_value env place node (Plain element.Range) f h = refl
-no_type_value env place node (Plain element.Variant) f h = refl
-no_type_value env place node (Plain (element.UserType n)) f h = let e : Some n ≡ None = h in absurd cc
-no_type_value env place node (ArrayOf u) f h = refl
+no_type_value : (env : Env) (place dot : Place) (node : bound.Node) (of : DeclaredType) (f : Identifier) → user_type_in of ≡ None → field_of_value env place dot node (declared_view of) f ≡ object_member place dot node (declared_view of) f.name
+no_type_value env place dot node (Plain element.Boolean) f h = refl
+no_type_value env place dot node (Plain element.Byte) f h = refl
+no_type_value env place dot node (Plain element.Integer) f h = refl
+no_type_value env place dot node (Plain element.Long) f h = refl
+no_type_value env place dot node (Plain element.LongLong) f h = refl
+no_type_value env place dot node (Plain element.Currency) f h = refl
+no_type_value env place dot node (Plain element.Text) f h = refl
+no_type_value env place dot node (Plain (element.FixedText n)) f h = refl
+no_type_value env place dot node (Plain element.Object) f h = refl
+no_type_value env place dot node (Plain (element.Class n)) f h = refl
+no_type_value env place dot node (Plain element.Collection) f h = refl
+no_type_value env place dot node (Plain element.Worksheet) f h = refl
+no_type_value env place dot node (Plain element.Range) f h = refl
+no_type_value env place dot node (Plain element.Variant) f h = refl
+no_type_value env place dot node (Plain (element.UserType n)) f h = let e : Some n ≡ None = h in absurd cc
+no_type_value env place dot node (ArrayOf u) f h = refl
 
-pub keeps_object : (env : Env) (header : ℕ) (of : DeclaredType) (lends : Bool) (f : Identifier) (place : Place) (d e : Drafted) (m : HostMember) → env.within ≡ Some (record { header = header; of = declared_view of; lends = lends })
-    → user_type_in of ≡ None → FindsBehindPlace place (record { kind = kinds.KeptPlace header; of = of }) f.name d e m → KeepsField env place f d e (term.HostMember m)
-keeps_object env header of lends f place d e m is none h =
-    let A : Option Within → Type 0 = λ (w : Option Within). TermStands env e.tables (term.HostMember m) (kept_member env place w f) e.pieces d.pieces in
-    let B : terms.Term → Type 0 = λ (w : terms.Term). TermStands env e.tables (term.HostMember m) w e.pieces d.pieces in
+pub keeps_object : (env : Env) (header : ℕ) (of : DeclaredType) (lends : Bool) (f : Identifier) (place : Place) (d e : Drafted) (found : Option HostMember) → env.within ≡ Some (record { header = header; of = declared_view of; lends = lends })
+    → user_type_in of ≡ None → FindsBehindPlace place (record { kind = kinds.KeptPlace header; of = of }) f.name d e found → KeepsField env place f d e (found_term found place)
+keeps_object env header of lends f place d e found is none h =
+    let A : Option Within → Type 0 = λ (w : Option Within). TermStands env e.tables (found_term found place) (kept_member env place w f) e.pieces d.pieces in
+    let B : terms.Term → Type 0 = λ (w : terms.Term). TermStands env e.tables (found_term found place) w e.pieces d.pieces in
     record {
       grown = h.grown;
-      named = h.named;
-      stands = subst A (sym is) (subst B (sym (no_type_place env place (kept_place header) of lends f none)) (h.stands env (kept_place header) d.pieces (λ n. refl)));
+      named = h.named place;
+      stands = subst A (sym is) (subst B (sym (no_type_place env place place (kept_place header) of lends f none)) (h.stands env place (kept_place header) d.pieces (λ n. refl)));
     }
 
 abbrev with_tree : Token → Term → Tree
@@ -199,89 +250,92 @@ goes_kept env xs ys after d e g t dot f s k eq =
 
 -- ---- behind a term
 
-pub behind_place : (env : Env) (place : Place) (at : Ending) (bounded lends : Bool) (f : Identifier) (d e : Drafted) (y : Term) → MakesField env at.of lends f y
-    → e ≡ record d { pieces = put d.tables (node_of at.kind place at.of) d.pieces } → MakesBehind env place (term.Place at.kind at.of bounded lends) f d e y
-behind_place env place at bounded lends f d e y m eq =
-    let P : Drafted → Type 0 = λ (z : Drafted). MakesBehind env place (term.Place at.kind at.of bounded lends) f d z y in
-    subst P (sym eq) (record {
-      grown = grown_pieces d (put d.tables (node_of at.kind place at.of) d.pieces);
-      named = m.named d.tables;
-      stands = λ z below k.
-          let A : terms.Term → Type 0 = λ (w : terms.Term). TermStands env d.tables y (member_of env place w f) (put d.tables (node_of at.kind place at.of) d.pieces) below in
-          let B : List Piece → Type 0 = λ (ps : List Piece). TermStands env d.tables y (field_of_place env place k.at (declared_view at.of) lends f) ps below in
-          subst A (sym k.is) (subst B (sym (k.ends (node_of at.kind place at.of))) (m.stands d.tables place k.at below));
-      there = λ z below k. ap (λ (w : terms.Term). may_be_class w) k.is;
-    })
+pub behind_place : (env : Env) (place dot : Place) (at : Ending) (bounded lends : Bool) (f : Identifier) (d e : Drafted) (y : Term) → PlacesField env place dot at lends f d e y → MakesBehind env place dot (term.Place at.kind at.of bounded lends) f d e y
+behind_place env place dot at bounded lends f d e y p = record {
+  grown = p.grown;
+  named = p.named;
+  stands = λ z below k. (let A : terms.Term → Type 0 = λ (w : terms.Term). TermStands env e.tables y (member_of env place dot w f) e.pieces below in subst A (sym k.is) (p.stands k.at below k.ends));
+  there = λ z below k. ap (λ (w : terms.Term). may_be_class w) k.is;
+}
 
--- neither a value of a user type nor one with members is a Boolean
+-- a value of a user type is no Boolean
 type_is_none : (made : bound.Node) (of : DeclaredType) → is_some (user_type_in of) ≡ true → may_be_class (a_value made (declared_view of)) ≡ false
 type_is_none (host_object reference) of h = refl
 type_is_none made (Plain (element.UserType number)) h = refl
 type_is_none made of h = let e : false ≡ true = h in absurd cc
 
-object_is_none : (place : Place) (made : bound.Node) (of : Declared) (fold : List ℕ) (object : bound.Expr) (m : terms.HostMember) → object_member place made of fold ≡ a_host_member object m → may_be_class (a_value made of) ≡ false
-object_is_none place (host_object reference) of fold object m h = refl
-object_is_none place made type.boolean fold object m h = let e : no_term ≡ a_host_member object m = h in absurd cc
-object_is_none place made of fold object m h = refl
-
-pub behind_value : (env : Env) (place : Place) (ending : Ending) (f : Identifier) (d e : Drafted) (y : Term) → is_some (user_type_in ending.of) ≡ true → MakesFieldValue env ending.of f y
-    → e ≡ record d { pieces = put d.tables (node_of ending.kind place ending.of) d.pieces } → MakesBehind env place (term.Value ending) f d e y
-behind_value env place ending f d e y typed m eq =
-    let P : Drafted → Type 0 = λ (z : Drafted). MakesBehind env place (term.Value ending) f d z y in
+pub behind_value : (env : Env) (place dot : Place) (ending : Ending) (f : Identifier) (d e : Drafted) (y : Term) → is_some (user_type_in ending.of) ≡ true → MakesFieldValue env ending.of f y
+    → e ≡ one_more d ending.kind ending.of place → MakesBehind env place dot (term.Value ending) f d e y
+behind_value env place dot ending f d e y typed m eq =
+    let P : Drafted → Type 0 = λ (z : Drafted). MakesBehind env place dot (term.Value ending) f d z y in
     subst P (sym eq) (record {
       grown = grown_pieces d (put d.tables (node_of ending.kind place ending.of) d.pieces);
       named = m.named d.tables;
       stands = λ z below k.
-          let A : terms.Term → Type 0 = λ (w : terms.Term). TermStands env d.tables y (member_of env place w f) (put d.tables (node_of ending.kind place ending.of) d.pieces) below in
-          let B : List Piece → Type 0 = λ (ps : List Piece). TermStands env d.tables y (field_of_value env place k.made (declared_view ending.of) f) ps below in
-          subst A (sym k.is) (subst B (sym (k.ends (node_of ending.kind place ending.of))) (m.stands d.tables place k.made below));
+          let A : terms.Term → Type 0 = λ (w : terms.Term). TermStands env d.tables y (member_of env place dot w f) (put d.tables (node_of ending.kind place ending.of) d.pieces) below in
+          let B : List Piece → Type 0 = λ (ps : List Piece). TermStands env d.tables y (field_of_value env place dot k.made (declared_view ending.of) f) ps below in
+          subst A (sym k.is) (subst B (sym (k.ends (node_of ending.kind place ending.of))) (m.stands d.tables place dot k.made below));
+      there = λ z below k. ap (λ (w : terms.Term). may_be_class w) k.is ∙ type_is_none k.made ending.of typed;
+    })
+
+pub behind_no_value : (env : Env) (place dot : Place) (ending : Ending) (f : Identifier) (d e : Drafted) → is_some (user_type_in ending.of) ≡ true → LacksField env ending.of f → e ≡ one_more d ending.kind ending.of place
+    → MakesBehind env place dot (term.Value ending) f d e (unknown_term dot)
+behind_no_value env place dot ending f d e typed l eq =
+    let P : Drafted → Type 0 = λ (z : Drafted). MakesBehind env place dot (term.Value ending) f d z (unknown_term dot) in
+    let e1 = one_more d ending.kind ending.of place in
+    subst P (sym eq) (record {
+      grown = grown_pieces d e1.pieces;
+      named = tt;
+      stands = λ z below k.
+          unknown_stands env d.tables dot (expression_of k.made place (declared_view ending.of)) (member_of env place dot z f) e1.pieces below
+          (ap (λ (w : terms.Term). member_of env place dot w f) k.is ∙ l.value place dot k.made) (k.ends (node_of ending.kind place ending.of));
       there = λ z below k. ap (λ (w : terms.Term). may_be_class w) k.is ∙ type_is_none k.made ending.of typed;
     })
 
 -- an object at a place, and one that a value gives
-pub behind_object_place : (env : Env) (place : Place) (at : Ending) (bounded lends : Bool) (f : Identifier) (d e : Drafted) (m : HostMember) → user_type_in at.of ≡ None → FindsBehindPlace place at f.name d e m
-    → MakesBehind env place (term.Place at.kind at.of bounded lends) f d e (term.HostMember m)
-behind_object_place env place at bounded lends f d e m none h = record {
+pub behind_object_place : (env : Env) (place dot : Place) (at : Ending) (bounded lends : Bool) (f : Identifier) (d e : Drafted) (found : Option HostMember) → user_type_in at.of ≡ None → FindsBehindPlace place at f.name d e found
+    → MakesBehind env place dot (term.Place at.kind at.of bounded lends) f d e (found_term found dot)
+behind_object_place env place dot at bounded lends f d e found none h = record {
   grown = h.grown;
-  named = h.named;
+  named = h.named dot;
   stands = λ z below k.
-      let A : terms.Term → Type 0 = λ (w : terms.Term). TermStands env e.tables (term.HostMember m) w e.pieces below in
-      subst A (sym (ap (λ (w : terms.Term). member_of env place w f) k.is ∙ no_type_place env place k.at at.of lends f none)) (h.stands env k.at below k.ends);
+      let A : terms.Term → Type 0 = λ (w : terms.Term). TermStands env e.tables (found_term found dot) w e.pieces below in
+      subst A (sym (ap (λ (w : terms.Term). member_of env place dot w f) k.is ∙ no_type_place env place dot k.at at.of lends f none)) (h.stands env dot k.at below k.ends);
   there = λ z below k. ap (λ (w : terms.Term). may_be_class w) k.is;
 }
 
-pub behind_object_value : (env : Env) (place : Place) (v : Ending) (f : Identifier) (d e : Drafted) (m : HostMember) → user_type_in v.of ≡ None → FindsBehindValue place v f.name d e m
-    → MakesBehind env place (term.Value v) f d e (term.HostMember m)
-behind_object_value env place v f d e m none h = record {
+pub behind_object_value : (env : Env) (place dot : Place) (v : Ending) (f : Identifier) (d e : Drafted) (found : Option HostMember) → user_type_in v.of ≡ None → FindsBehindValue place v f.name d e found
+    → MakesBehind env place dot (term.Value v) f d e (found_term found dot)
+behind_object_value env place dot v f d e found none h = record {
   grown = h.grown;
-  named = h.named;
+  named = h.named dot;
   stands = λ z below k.
-      let A : terms.Term → Type 0 = λ (w : terms.Term). TermStands env e.tables (term.HostMember m) w e.pieces below in
-      subst A (sym (ap (λ (w : terms.Term). member_of env place w f) k.is ∙ no_type_value env place k.made v.of f none)) (h.stands env k.made below k.ends);
-  there = λ z below k.
-      let found = h.stands env k.made below k.ends in ap (λ (w : terms.Term). may_be_class w) k.is ∙ object_is_none place k.made (declared_view v.of) f.name found.object (member_is e.tables m) found.is;
+      let A : terms.Term → Type 0 = λ (w : terms.Term). TermStands env e.tables (found_term found dot) w e.pieces below in
+      subst A (sym (ap (λ (w : terms.Term). member_of env place dot w f) k.is ∙ no_type_value env place dot k.made v.of f none)) (h.stands env dot k.made below k.ends);
+  there = λ z below k. ap (λ (w : terms.Term). may_be_class w) k.is ∙ h.there k.made below k.ends;
 }
 
 -- a member that is read
 read_when : (b : Bool) (t : terms.Term) → b ≡ true → (if b then t else no_term) ≡ t
 read_when b t h = ap (λ (c : Bool). if c then t else no_term) h
 
-pub behind_member : (env : Env) (place : Place) (read : HostMember) (v : Ending) (f : Identifier) (d b e : Drafted) (m : HostMember) → ReadsMember read d b v → FindsBehindValue place v f.name b e m
-    → MakesBehind env place (term.HostMember read) f d e (term.HostMember m)
-behind_member env place read v f d b e m r h = record {
+pub behind_member : (env : Env) (place dot : Place) (read : HostMember) (v : Ending) (f : Identifier) (d b e : Drafted) (found : Option HostMember) → ReadsMember read d b v → FindsBehindValue place v f.name b e found
+    → MakesBehind env place dot (term.HostMember read) f d e (found_term found dot)
+behind_member env place dot read v f d b e found r h = record {
   grown = grown_twice d b e r.grown h.grown;
-  named = h.named;
+  named = h.named dot;
   stands = λ z below k.
       let node = host_member k.object (name_in d.tables read.name) no_exprs in
-      let T : DeclaredType → terms.Term = λ (of : DeclaredType). object_member place node (declared_view of) f.name in
-      let A : terms.Term → Type 0 = λ (w : terms.Term). TermStands env e.tables (term.HostMember m) w e.pieces below in
-      subst A (sym (ap (λ (w : terms.Term). member_of env place w f) k.is ∙ read_when (read.least == 0) (T read.of) (ap (λ (n : ℕ). n == 0) r.least_is) ∙ ap T (sym r.of_is)))
-      (h.stands env node below (r.ends k.object below k.on_top));
+      let T : DeclaredType → terms.Term = λ (of : DeclaredType). object_member place dot node (declared_view of) f.name in
+      let A : terms.Term → Type 0 = λ (w : terms.Term). TermStands env e.tables (found_term found dot) w e.pieces below in
+      subst A (sym (ap (λ (w : terms.Term). member_of env place dot w f) k.is ∙ read_when (read.least == 0) (T read.of) (ap (λ (n : ℕ). n == 0) r.least_is) ∙ ap T (sym r.of_is)))
+      (h.stands env dot node below (r.ends k.object below k.on_top));
   there = λ z below k. ap (λ (w : terms.Term). may_be_class w) k.is;
 }
 
-pub behind_sheet : (env : Env) (place : Place) (read : HostMember) (f : Identifier) (d s e : Drafted) (y : Term) → PushesSheet d s → MakesBehind env place (term.HostMember read) f s e y → MakesBehind env place (term.SheetMember read) f d e y
-behind_sheet env place read f d s e y p m = record {
+pub behind_sheet : (env : Env) (place dot : Place) (read : HostMember) (f : Identifier) (d s e : Drafted) (y : Term) → PushesSheet d s → MakesBehind env place dot (term.HostMember read) f s e y
+    → MakesBehind env place dot (term.SheetMember read) f d e y
+behind_sheet env place dot read f d s e y p m = record {
   grown = grown_twice d s e p.grown m.grown;
   named = m.named;
   stands = λ z below k. m.stands z below (sheet_stands read d s p env z below k);
@@ -298,13 +352,25 @@ workbook_below n made ps below h = cc
 any_node : Node
 any_node = record { kind = kinds.NotGiven; place = nowhere; of = Plain element.Variant; operand = Plain element.Variant }
 
-sheets_of : (place : Place) (of : Declared) (fold : List ℕ) → (bytes_eq fold (codes "worksheets") || bytes_eq fold (codes "sheets")) ≡ true → object_member place (host_object host.Workbook) of fold ≡ sheets_value
-sheets_of place of fold h = ap (λ (b : Bool). if b then sheets_value else no_term) h
+sheets_of : (place dot : Place) (of : Declared) (f : Identifier) → names_sheets f ≡ true → object_member place dot (host_object host.Workbook) of f.name ≡ sheets_value
+sheets_of place dot of f h = ap (λ (b : Bool). if b then sheets_value else unknown_member dot (expression_of (host_object host.Workbook) place of)) h
 
-pub behind_workbook : (env : Env) (place : Place) (v : Ending) (f : Identifier) (d : Drafted) (y : Term) → v.kind ≡ kinds.HostObject host.Workbook → user_type_in v.of ≡ None → IsSheets f y → MakesBehind env place (term.Value v) f d d y
-behind_workbook env place v f d y book none s =
-    let P : Term → Type 0 = λ (t : Term). MakesBehind env place (term.Value v) f d d t in
-    subst P (sym s.is) (record {
+none_of : (place dot : Place) (of : Declared) (f : Identifier) → names_sheets f ≡ false → object_member place dot (host_object host.Workbook) of f.name ≡ unknown_member dot (expression_of (host_object host.Workbook) place of)
+none_of place dot of f h = ap (λ (b : Bool). if b then sheets_value else unknown_member dot (expression_of (host_object host.Workbook) place of)) h
+
+-- the last node of a value that is the workbook
+book_made : (t : Tables) (v : Ending) (made : bound.Node) (ps below : List Piece) → v.kind ≡ kinds.HostObject host.Workbook → ValueEnds t v.kind made ps below → made ≡ host_object host.Workbook
+book_made t v made ps below book ends =
+    let K : NodeKind → Type 0 = λ (x : NodeKind). put_kind t any_node x ps ≡ expr_of any_node made ∷ below in workbook_made any_node made ps below (subst K book (ends any_node))
+
+abbrev sheets_term : Term
+sheets_term = term.Value (record { kind = kinds.HostObject host.Sheets; of = Plain element.Object })
+
+pub behind_workbook : (env : Env) (place dot : Place) (v : Ending) (f : Identifier) (d : Drafted) (y : Term) → v.kind ≡ kinds.HostObject host.Workbook → user_type_in v.of ≡ None → y ≡ sheets_term → names_sheets f ≡ true
+    → MakesBehind env place dot (term.Value v) f d d y
+behind_workbook env place dot v f d y book none is named =
+    let P : Term → Type 0 = λ (t : Term). MakesBehind env place dot (term.Value v) f d d t in
+    subst P (sym is) (record {
       grown = grown_same d;
       named = tt;
       stands = λ z below k.
@@ -313,39 +379,54 @@ behind_workbook env place v f d y book none s =
           let made = workbook_made any_node k.made d.pieces below put in
           record {
             made = host_object host.Sheets;
-            is = ap (λ (w : terms.Term). member_of env place w f) k.is ∙ no_type_value env place k.made v.of f none ∙ ap (λ (n : bound.Node). object_member place n (declared_view v.of) f.name) made
-                ∙ sheets_of place (declared_view v.of) f.name s.named;
+            is = ap (λ (w : terms.Term). member_of env place dot w f) k.is ∙ no_type_value env place dot k.made v.of f none ∙ ap (λ (n : bound.Node). object_member place dot n (declared_view v.of) f.name) made
+                ∙ sheets_of place dot (declared_view v.of) f named;
             ends = λ n. ap (λ (st : List Piece). expr_of n (host_object host.Sheets) ∷ st) (workbook_below any_node k.made d.pieces below put);
           };
       there = λ z below k.
-          let K : NodeKind → Type 0 = λ (x : NodeKind). put_kind d.tables any_node x d.pieces ≡ expr_of any_node k.made ∷ below in
-          let made = workbook_made any_node k.made d.pieces below (subst K book (k.ends any_node)) in
-          ap (λ (w : terms.Term). may_be_class w) k.is ∙ ap (λ (n : bound.Node). may_be_class (a_value n (declared_view v.of))) made;
+          ap (λ (w : terms.Term). may_be_class w) k.is ∙ ap (λ (n : bound.Node). may_be_class (a_value n (declared_view v.of))) (book_made d.tables v k.made d.pieces below book k.ends);
+    })
+
+pub behind_book : (env : Env) (place dot : Place) (v : Ending) (f : Identifier) (d e : Drafted) → v.kind ≡ kinds.HostObject host.Workbook → user_type_in v.of ≡ None → names_sheets f ≡ false → e ≡ one_more d v.kind v.of place
+    → MakesBehind env place dot (term.Value v) f d e (unknown_term dot)
+behind_book env place dot v f d e book none named eq =
+    let P : Drafted → Type 0 = λ (z : Drafted). MakesBehind env place dot (term.Value v) f d z (unknown_term dot) in
+    let e1 = one_more d v.kind v.of place in
+    subst P (sym eq) (record {
+      grown = grown_pieces d e1.pieces;
+      named = tt;
+      stands = λ z below k.
+          let made = book_made d.tables v k.made d.pieces below book k.ends in
+          let A : bound.Node → Type 0 = λ (n : bound.Node). object_member place dot n (declared_view v.of) f.name ≡ unknown_member dot (expression_of n place (declared_view v.of)) in
+          unknown_stands env d.tables dot (expression_of k.made place (declared_view v.of)) (member_of env place dot z f) e1.pieces below
+          (ap (λ (w : terms.Term). member_of env place dot w f) k.is ∙ no_type_value env place dot k.made v.of f none ∙ subst A (sym made) (none_of place dot (declared_view v.of) f named)) (k.ends (node_of v.kind place v.of));
+      there = λ z below k.
+          ap (λ (w : terms.Term). may_be_class w) k.is ∙ ap (λ (n : bound.Node). may_be_class (a_value n (declared_view v.of))) (book_made d.tables v k.made d.pieces below book k.ends);
     })
 
 -- a procedure that is called
-pub behind_routine : (env : Env) (place : Place) (r : Routine) (ending : Ending) (f : Identifier) (d e g : Drafted) (y : Term) → CallsRoutine r d e ending → MakesBehind env place (term.Value ending) f e g y
-    → MakesBehind env place (term.Routine r) f d g y
-behind_routine env place r ending f d e g y b m = record {
+pub behind_routine : (env : Env) (place dot : Place) (r : Routine) (ending : Ending) (f : Identifier) (d e g : Drafted) (y : Term) → CallsRoutine r d e ending → MakesBehind env place dot (term.Value ending) f e g y
+    → MakesBehind env place dot (term.Routine r) f d g y
+behind_routine env place dot r ending f d e g y b m = record {
   grown = grown_twice d e g b.grown m.grown;
   named = m.named;
   stands = λ z below k.
       let c = b.stands env z below k in
-      let V : bound.Node → Declared → terms.Term = λ (n : bound.Node) (u : Declared). field_of_value env place n u f in
-      let same : member_of env place (bare_call env c.space c.number c.written) f ≡ member_of env place z f =
-      ap (λ (w : terms.Term). member_of env place w f) c.called.is ∙ sym (ap (λ (w : terms.Term). member_of env place w f) c.is ∙ ap (λ (w : terms.Term). node_or w V) c.called.is) in
+      let V : bound.Node → Declared → terms.Term = λ (n : bound.Node) (u : Declared). field_of_value env place dot n u f in
+      let same : member_of env place dot (bare_call env c.space c.number c.written) f ≡ member_of env place dot z f =
+      ap (λ (w : terms.Term). member_of env place dot w f) c.called.is ∙ sym (ap (λ (w : terms.Term). member_of env place dot w f) c.is ∙ ap (λ (w : terms.Term). node_or w V) c.called.is) in
       let A : terms.Term → Type 0 = λ (w : terms.Term). TermStands env g.tables y w g.pieces below in
       subst A same (m.stands (bare_call env c.space c.number c.written) below c.called);
   there = λ z below k. ap (λ (w : terms.Term). may_be_class w) k.is;
 }
 
-pub behind_err : (env : Env) (place : Place) (f : Identifier) (d : Drafted) (y : Term) → MakesLeaf env d d y (err_member f.name) → MakesBehind env place term.Err f d d y
-behind_err env place f d y m = record {
+pub behind_err : (env : Env) (place dot : Place) (f : Identifier) (d : Drafted) (y : Term) → MakesLeaf env d d y (err_member dot f.name) → MakesBehind env place dot term.Err f d d y
+behind_err env place dot f d y m = record {
   grown = grown_same d;
   named = m.named;
   stands = λ z below k.
-      let A : terms.Term → Type 0 = λ (w : terms.Term). TermStands env d.tables y (member_of env place w f) d.pieces below in
-      let B : List Piece → Type 0 = λ (ps : List Piece). TermStands env d.tables y (err_member f.name) d.pieces ps in
+      let A : terms.Term → Type 0 = λ (w : terms.Term). TermStands env d.tables y (member_of env place dot w f) d.pieces below in
+      let B : List Piece → Type 0 = λ (ps : List Piece). TermStands env d.tables y (err_member dot f.name) d.pieces ps in
       subst A (sym k.0) (subst B k.1 (m.stands d.pieces));
   there = λ z below k. ap (λ (w : terms.Term). may_be_class w) k.0;
 }
@@ -370,13 +451,13 @@ dotted_base env (type_of word operand is_word of) dot f h =
 dotted_base env (unary o token operand) dot f h = refl
 dotted_base env (binary l o token r) dot f h = refl
 
-tree_stands : (env : Env) (x : Tree) (f : Identifier) (d e : Drafted) (y : Term) → MakesBehind env x.place x.term f d e y → IsQualifier env.scope x None
-    → (base : Expr) (dot : Token) (below : List Piece) → TreeStands env d.tables x base d.pieces below → TreeStands env e.tables (made_tree x None y) (behind_dot base dot f) e.pieces below
-tree_stands env x f d e y m k base dot below h =
+tree_stands : (env : Env) (x : Tree) (dot : Token) (f : Identifier) (d e : Drafted) (y : Term) → MakesBehind env x.place dot.place x.term f d e y → IsQualifier env.scope x None
+    → (base : Expr) (below : List Piece) → TreeStands env d.tables x base d.pieces below → TreeStands env e.tables (made_tree x None y) (behind_dot base dot f) e.pieces below
+tree_stands env x dot f d e y m k base below h =
     let none : qualifier_of env.scope base ≡ None = looked env d.tables x base d.pieces below h ∙ sym k in
-    let member_is : term_of env (member base dot f) ≡ member_of env (place_told base) (term_of env base) f =
-    ap (λ (o : Option Qualifier). behind_term env o f (member_of env (place_told base) (term_of env base) f)) none in
-    let P : Place → Type 0 = λ (place : Place). TermStands env e.tables y (member_of env place (term_of env base) f) e.pieces below in
+    let member_is : term_of env (member base dot f) ≡ member_of env (place_told base) dot.place (term_of env base) f =
+    ap (λ (o : Option Qualifier). behind_term env o f (member_of env (place_told base) dot.place (term_of env base) f)) none in
+    let P : Place → Type 0 = λ (place : Place). TermStands env e.tables y (member_of env place dot.place (term_of env base) f) e.pieces below in
     let Q : terms.Term → Type 0 = λ (z : terms.Term). TermStands env e.tables y z e.pieces below in
     let A : Expr → Type 0 = λ (z : Expr). TreeStands env e.tables (made_tree x None y) z e.pieces below in
     subst A (sym (dotted_base env base dot f (m.there (term_of env base) below h.term_is))) (record {
@@ -387,5 +468,5 @@ tree_stands env x f d e y m k base dot below h =
       leaf = tt;
     })
 
-pub makes_member : (env : Env) (x : Tree) (f : Identifier) (d e : Drafted) (y : Term) → MakesBehind env x.place x.term f d e y → IsQualifier env.scope x None → MakesMember env x f d e (made_tree x None y)
-makes_member env x f d e y m k = record { grown = m.grown; named = m.named; stands = tree_stands env x f d e y m k }
+pub makes_member : (env : Env) (x : Tree) (dot : Token) (f : Identifier) (d e : Drafted) (y : Term) → MakesBehind env x.place dot.place x.term f d e y → IsQualifier env.scope x None → MakesMember env x dot f d e (made_tree x None y)
+makes_member env x dot f d e y m k = record { grown = m.grown; named = m.named; stands = tree_stands env x dot f d e y m k }

@@ -1,102 +1,165 @@
 -- Members of objects, behind a dot and before brackets.
-use Rattle.std.proofs.Common.{◌≡◌, ℕ, Bool, true, false, List, ◌∷◌, Option, Some, refl, sym, ap, subst, ◌∙◌}
+use Rattle.std.proofs.Common.{◌≡◌, ℕ, Bool, true, false, List, ◌∷◌, Option, Some, None, refl, sym, ap, subst, ◌∙◌}
 use Rattle.std.specs.Prelude.{codes, option_map, unwrap_or, if◌then◌else◌}
 use Rattle.vba_base.specs.declared.place.Place.{Place}
 use Rattle.vba_values.specs.Types.{Declared}
+use Rattle.vba_values.specs.Types as type
 use Rattle.bound_project.specs.declared.declared_type.DeclaredType.{DeclaredType}
 use Rattle.bound_project.specs.declared.node.NodeKind.{NodeKind}
 use Rattle.bound_project.specs.declared.node.NodeKind.TheVariants as kinds
 use Rattle.bound_project.specs.View.{declared_view}
-use Rattle.bound_project.specs.Expressions.{load, Lvalue}
+use Rattle.bound_project.specs.Expressions.{active_sheet, host_object, load, marked, no_exprs, also, Lvalue}
 use Rattle.bound_project.specs.Expressions as bound
-use Rattle.bound_project.specs.Pieces.{Piece, Tables, an_expr, of_place, expr_of, put}
+use Rattle.bound_project.specs.Pieces.{Piece, Tables, an_expr, of_place, expr_of, put, put_kind}
+use Rattle.bound_project.specs.Project.{nowhere}
 use Rattle.bound_project.specs.Drafts.{Drafted}
-use Rattle.bound_members.specs.binder.specs.Terms.{Env, a_value, expression_of, no_term}
-use Rattle.bound_members.specs.binder.specs.Terms as plain
-use Rattle.bound_members.specs.binder.specs.ExpressionsBound.{HostKind, host_kind, is_host_type, item_of, kind_by_type, member_of_kind, object_member}
+use Rattle.bound_members.specs.bound_forms.specs.Terms.{Env, a_value, expression_of, no_term}
+use Rattle.bound_members.specs.bound_forms.specs.Terms as plain
+use Rattle.bound_members.specs.binder.specs.Types.{is_object}
+use Rattle.bound_members.specs.bound_forms.specs.ExpressionsBound.{HostKind, host_kind, is_host_type, item_of, kind_by_type, member_of_kind, member_of_other, object_member, unknown_member}
 use Rattle.bound_members.specs.bound_calls.specs.declared.term.Ending.{Ending}
 use Rattle.bound_members.specs.bound_calls.specs.declared.term.HostMember.{HostMember}
 use Rattle.bound_members.specs.bound_calls.specs.declared.term.Term.{Term}
 use Rattle.bound_members.specs.bound_calls.specs.declared.term.Term.TheVariants as term
 use Rattle.bound_members.specs.bound_calls.specs.Calls.{node_of}
-use Rattle.bound_members.specs.bound_calls.specs.Standing.{TermNamed, TermStands}
+use Rattle.bound_members.specs.bound_calls.specs.Standing.{Grown, TermNamed, TermStands}
+use Rattle.bound_members.specs.bound_calls.specs.Steps.{MakesLeaf}
 use Rattle.bound_members.specs.bound_calls.specs.Taking.{PushesSheet}
 use Rattle.bound_members.specs.bound_calls.proofs.Growing.{grown_same, grown_pieces, grown_twice}
 use Rattle.bound_members.specs.bound_calls.proofs.Taking.{named_still, sheet_stands}
 use Rattle.bound_members.specs.declared.kinds.HostKind as declared
+use Rattle.bound_members.specs.declared.kinds.HostKind.TheVariants as declared_kind
 use Rattle.bound_members.specs.Kinds.{EndingOfKind, kind_view}
-use Rattle.bound_members.specs.Members.{FindsMember}
-use Rattle.bound_names.specs.Items.{FindsBehindPlace, FindsBehindValue, MakesItem, takes_item}
+use Rattle.bound_members.specs.Members.{Finds, FindsMember}
+use Rattle.bound_names.specs.Items.{FindsBehindPlace, FindsBehindValue, LacksMembers, MakesItem, found_term, may_be_class, takes_item, unknown_term}
 
 -- an object of a kind that is known
-of_kind : (place : Place) (node : bound.Node) (of : Declared) (fold : List ℕ) (k : HostKind) → host_kind node of ≡ Some k → object_member place node of fold ≡ member_of_kind k (expression_of node place of) fold
-of_kind place node of fold k h = ap (λ (o : Option HostKind). unwrap_or (option_map (λ (x : HostKind). member_of_kind x (expression_of node place of) fold) o) no_term) h
+of_kind : (place dot : Place) (node : bound.Node) (of : Declared) (fold : List ℕ) (k : HostKind) → host_kind node of ≡ Some k → object_member place dot node of fold ≡ member_of_kind k dot (expression_of node place of) fold
+of_kind place dot node of fold k h =
+    ap (λ (o : Option HostKind). unwrap_or (option_map (λ (x : HostKind). member_of_kind x dot (expression_of node place of) fold) o) (member_of_other dot (expression_of node place of))) h
+
+-- what is told of a value that was pushed and has no such member
+pub unknown_stands : (env : Env) (t : Tables) (dot : Place) (e : bound.Expr) (x : plain.Term) (ps below : List Piece) → x ≡ unknown_member dot e → ps ≡ an_expr e ∷ below → TermStands env t (unknown_term dot) x ps below
+unknown_stands env t dot e x ps below h p = record {
+  made = marked (record { rule = 34; place = dot }) (also e no_exprs);
+  is = h;
+  ends = λ n. ap (λ (st : List Piece). put_kind t n (kinds.Marked (record { rule = 34; place = dot }) 1) st) p;
+}
 
 -- a member of an object that was pushed
-found_stands : (env : Env) (k : declared.HostKind) (fold : List ℕ) (d e : Drafted) (m : HostMember) (place : Place) (node : bound.Node) (of : Declared) (below : List Piece) → FindsMember k fold d e m → host_kind node of ≡ Some (kind_view k)
-    → d.pieces ≡ an_expr (expression_of node place of) ∷ below → TermStands env e.tables (term.HostMember m) (object_member place node of fold) e.pieces below
-found_stands env k fold d e m place node of below f h p = record {
+found_stands : (env : Env) (k : declared.HostKind) (fold : List ℕ) (d e : Drafted) (found : Option HostMember) (place dot : Place) (node : bound.Node) (of : Declared) (below : List Piece) → Finds k fold d e found
+    → host_kind node of ≡ Some (kind_view k) → d.pieces ≡ an_expr (expression_of node place of) ∷ below → TermStands env e.tables (found_term found dot) (object_member place dot node of fold) e.pieces below
+found_stands env k fold d e (Some m) place dot node of below f h p = record {
   object = expression_of node place of;
-  is = of_kind place node of fold (kind_view k) h ∙ f.is (expression_of node place of);
+  is = of_kind place dot node of fold (kind_view k) h ∙ f.is dot (expression_of node place of);
   on_top = f.pieces ∙ p;
 }
+found_stands env k fold d e None place dot node of below f h p =
+    unknown_stands env e.tables dot (expression_of node place of) (object_member place dot node of fold) e.pieces below (of_kind place dot node of fold (kind_view k) h ∙ f.is dot (expression_of node place of))
+    (ap (λ (z : Drafted). z.pieces) f.same ∙ p)
+
+found_grown : (k : declared.HostKind) (fold : List ℕ) (d e : Drafted) (found : Option HostMember) → Finds k fold d e found → Grown d e
+found_grown k fold d e (Some m) f = f.grown
+found_grown k fold d e None f = let P : Drafted → Type 0 = λ (z : Drafted). Grown d z in subst P (sym f.same) (grown_same d)
+
+found_named : (k : declared.HostKind) (fold : List ℕ) (d e : Drafted) (found : Option HostMember) (dot : Place) → Finds k fold d e found → TermNamed e.tables (found_term found dot)
+found_named k fold d e (Some m) dot f = f.named
+found_named k fold d e None dot f = tt
 
 -- a node more, and one more behind that
 abbrev one_more : Drafted → NodeKind → DeclaredType → Place → Drafted
 one_more d kind of place = record d { pieces = put d.tables (node_of kind place of) d.pieces }
 
-pub behind_place : (place : Place) (at : Ending) (fold : List ℕ) (k : declared.HostKind) (d b c e : Drafted) (m : HostMember) → kind_by_type (declared_view at.of) ≡ Some (kind_view k) → b ≡ one_more d at.kind at.of place
-    → c ≡ one_more b kinds.Load at.of place → FindsMember k fold c e m → FindsBehindPlace place at fold d e m
-behind_place place at fold k d b c e m h one two f =
+pub behind_place : (place : Place) (at : Ending) (fold : List ℕ) (k : declared.HostKind) (d b c e : Drafted) (found : Option HostMember) → kind_by_type (declared_view at.of) ≡ Some (kind_view k) → b ≡ one_more d at.kind at.of place
+    → c ≡ one_more b kinds.Load at.of place → Finds k fold c e found → FindsBehindPlace place at fold d e found
+behind_place place at fold k d b c e found h one two f =
     let b1 = one_more d at.kind at.of place in
     let c1 = one_more b1 kinds.Load at.of place in
     let both : c ≡ c1 = two ∙ ap (λ (z : Drafted). one_more z kinds.Load at.of place) one in
-    let P : Drafted → Type 0 = λ (z : Drafted). FindsMember k fold z e m → FindsBehindPlace place at fold d e m in
+    let P : Drafted → Type 0 = λ (z : Drafted). Finds k fold z e found → FindsBehindPlace place at fold d e found in
     subst P (sym both) (λ g. record {
-      grown = grown_twice d c1 e (grown_twice d b1 c1 (grown_pieces d b1.pieces) (grown_pieces b1 c1.pieces)) g.grown;
-      named = g.named;
-      stands = λ env x below ends.
-          found_stands env k fold c1 e m place (load x) (declared_view at.of) below g h
+      grown = grown_twice d c1 e (grown_twice d b1 c1 (grown_pieces d b1.pieces) (grown_pieces b1 c1.pieces)) (found_grown k fold c1 e found g);
+      named = λ dot. found_named k fold c1 e found dot g;
+      stands = λ env dot x below ends.
+          found_stands env k fold c1 e found place dot (load x) (declared_view at.of) below g h
           (ap (λ (st : List Piece). of_place (λ (y : Lvalue). expr_of (node_of kinds.Load place at.of) (load y)) st) (ends (node_of at.kind place at.of)));
     }) f
 
-pub behind_value : (place : Place) (ending : Ending) (fold : List ℕ) (k : declared.HostKind) (d b e : Drafted) (m : HostMember) → EndingOfKind ending k → b ≡ one_more d ending.kind ending.of place → FindsMember k fold b e m
-    → FindsBehindValue place ending fold d e m
-behind_value place ending fold k d b e m h one f =
+-- a place of no object's type
+other_unknown : (place dot : Place) (x : Lvalue) (of : Declared) (fold : List ℕ) → kind_by_type of ≡ None → is_object of ≡ false → object_member place dot (load x) of fold ≡ unknown_member dot (expression_of (load x) place of)
+other_unknown place dot x of fold h o =
+    let e = expression_of (load x) place of in
+    ap (λ (z : Option HostKind). unwrap_or (option_map (λ (k : HostKind). member_of_kind k dot e fold) z) (member_of_other dot e)) h ∙ ap (λ (b : Bool). if b then no_term else unknown_member dot e) o
+
+pub behind_other : (place : Place) (at : Ending) (fold : List ℕ) (d b c : Drafted) (found : Option HostMember) → kind_by_type (declared_view at.of) ≡ None → LacksMembers at.of found → b ≡ one_more d at.kind at.of place
+    → c ≡ one_more b kinds.Load at.of place → FindsBehindPlace place at fold d c found
+behind_other place at fold d b c found h lacks one two =
+    let b1 = one_more d at.kind at.of place in
+    let c1 = one_more b1 kinds.Load at.of place in
+    let both : c ≡ c1 = two ∙ ap (λ (z : Drafted). one_more z kinds.Load at.of place) one in
+    let P : Drafted → Type 0 = λ (z : Drafted). FindsBehindPlace place at fold d z found in
+    let Q : Option HostMember → Type 0 = λ (o : Option HostMember). FindsBehindPlace place at fold d c1 o in
+    subst P (sym both) (subst Q (sym lacks.none) (record {
+      grown = grown_twice d b1 c1 (grown_pieces d b1.pieces) (grown_pieces b1 c1.pieces);
+      named = λ dot. tt;
+      stands = λ env dot x below ends.
+          unknown_stands env d.tables dot (expression_of (load x) place (declared_view at.of)) (object_member place dot (load x) (declared_view at.of) fold) c1.pieces below (other_unknown place dot x (declared_view at.of) fold h lacks.no_object)
+          (ap (λ (st : List Piece). of_place (λ (y : Lvalue). expr_of (node_of kinds.Load place at.of) (load y)) st) (ends (node_of at.kind place at.of)));
+    }))
+
+-- an object of a kind is no Boolean
+kind_is_none : (made : bound.Node) (of : Declared) (k : HostKind) → host_kind made of ≡ Some k → may_be_class (a_value made of) ≡ false
+kind_is_none (host_object reference) of k h = refl
+kind_is_none made type.boolean k h = let e : None ≡ Some k = h in absurd cc
+kind_is_none made of k h = refl
+
+pub behind_value : (place : Place) (ending : Ending) (fold : List ℕ) (k : declared.HostKind) (d b e : Drafted) (found : Option HostMember) → EndingOfKind ending k → b ≡ one_more d ending.kind ending.of place → Finds k fold b e found
+    → FindsBehindValue place ending fold d e found
+behind_value place ending fold k d b e found h one f =
     let b1 = one_more d ending.kind ending.of place in
-    let P : Drafted → Type 0 = λ (z : Drafted). FindsMember k fold z e m → FindsBehindValue place ending fold d e m in
+    let P : Drafted → Type 0 = λ (z : Drafted). Finds k fold z e found → FindsBehindValue place ending fold d e found in
     subst P (sym one) (λ g. record {
-      grown = grown_twice d b1 e (grown_pieces d b1.pieces) g.grown;
-      named = g.named;
-      stands = λ env made below ends.
-          found_stands env k fold b1 e m place made (declared_view ending.of) below g (h d.tables made d.pieces below ends) (ends (node_of ending.kind place ending.of));
+      grown = grown_twice d b1 e (grown_pieces d b1.pieces) (found_grown k fold b1 e found g);
+      named = λ dot. found_named k fold b1 e found dot g;
+      stands = λ env dot made below ends.
+          found_stands env k fold b1 e found place dot made (declared_view ending.of) below g (h d.tables made d.pieces below ends) (ends (node_of ending.kind place ending.of));
+      there = λ made below ends. kind_is_none made (declared_view ending.of) (kind_view k) (h d.tables made d.pieces below ends);
     }) f
+
+-- a member of the active sheet
+pub sheet_leaf : (fold : List ℕ) (d e : Drafted) (m : HostMember) → FindsMember declared_kind.Sheet fold d e m → (env : Env) → MakesLeaf env d e (term.SheetMember m) (object_member nowhere nowhere active_sheet type.worksheet fold)
+sheet_leaf fold d e m f env = record {
+  grown = f.grown;
+  pieces = f.pieces;
+  named = f.named;
+  stands = λ ps. (f.is nowhere (expression_of active_sheet nowhere type.worksheet), refl);
+}
 
 -- ---- before brackets
 
-item_place : (place : Place) (x : Lvalue) (of : Declared) (bounded lends : Bool) → is_host_type of ≡ true → item_of place (plain.a_place x of bounded lends) ≡ object_member place (load x) of (codes "item")
-item_place place x of bounded lends h = ap (λ (b : Bool). if b then object_member place (load x) of (codes "item") else plain.a_place x of bounded lends) h
+item_place : (place : Place) (x : Lvalue) (of : Declared) (bounded lends : Bool) → is_host_type of ≡ true → item_of place (plain.a_place x of bounded lends) ≡ object_member place place (load x) of (codes "item")
+item_place place x of bounded lends h = ap (λ (b : Bool). if b then object_member place place (load x) of (codes "item") else plain.a_place x of bounded lends) h
 
-item_value : (place : Place) (node : bound.Node) (of : Declared) → is_host_type of ≡ true → item_of place (a_value node of) ≡ object_member place node of (codes "item")
-item_value place node of h = ap (λ (b : Bool). if b then object_member place node of (codes "item") else a_value node of) h
+item_value : (place : Place) (node : bound.Node) (of : Declared) → is_host_type of ≡ true → item_of place (a_value node of) ≡ object_member place place node of (codes "item")
+item_value place node of h = ap (λ (b : Bool). if b then object_member place place node of (codes "item") else a_value node of) h
 
 pub place_item : (place : Place) (kind : NodeKind) (of : DeclaredType) (bounded lends : Bool) (d e : Drafted) (m : HostMember) → is_host_type (declared_view of) ≡ true
-    → FindsBehindPlace place (record { kind = kind; of = of }) (codes "item") d e m → MakesItem place (term.Place kind of bounded lends) d e (term.HostMember m)
+    → FindsBehindPlace place (record { kind = kind; of = of }) (codes "item") d e (Some m) → MakesItem place (term.Place kind of bounded lends) d e (term.HostMember m)
 place_item place kind of bounded lends d e m h f = record {
   grown = f.grown;
-  named = f.named;
+  named = f.named place;
   stands = λ env z below k.
       let A : plain.Term → Type 0 = λ (w : plain.Term). TermStands env e.tables (term.HostMember m) w e.pieces below in
-      subst A (sym (ap (λ (w : plain.Term). item_of place w) k.is ∙ item_place place k.at (declared_view of) bounded lends h)) (f.stands env k.at below k.ends);
+      subst A (sym (ap (λ (w : plain.Term). item_of place w) k.is ∙ item_place place k.at (declared_view of) bounded lends h)) (f.stands env place k.at below k.ends);
 }
 
-pub value_item : (place : Place) (v : Ending) (d e : Drafted) (m : HostMember) → is_host_type (declared_view v.of) ≡ true → FindsBehindValue place v (codes "item") d e m → MakesItem place (term.Value v) d e (term.HostMember m)
+pub value_item : (place : Place) (v : Ending) (d e : Drafted) (m : HostMember) → is_host_type (declared_view v.of) ≡ true → FindsBehindValue place v (codes "item") d e (Some m) → MakesItem place (term.Value v) d e (term.HostMember m)
 value_item place v d e m h f = record {
   grown = f.grown;
-  named = f.named;
+  named = f.named place;
   stands = λ env z below k.
       let A : plain.Term → Type 0 = λ (w : plain.Term). TermStands env e.tables (term.HostMember m) w e.pieces below in
-      subst A (sym (ap (λ (w : plain.Term). item_of place w) k.is ∙ item_value place k.made (declared_view v.of) h)) (f.stands env k.made below k.ends);
+      subst A (sym (ap (λ (w : plain.Term). item_of place w) k.is ∙ item_value place k.made (declared_view v.of) h)) (f.stands env place k.made below k.ends);
 }
 
 pub member_item : (place : Place) (m : HostMember) (d : Drafted) → TermNamed d.tables (term.HostMember m) → MakesItem place (term.HostMember m) d d (term.HostMember m)
@@ -115,10 +178,10 @@ sheet_item place m d e n s = record {
 
 -- no object before brackets
 no_place : (place : Place) (x : Lvalue) (of : Declared) (bounded lends : Bool) → is_host_type of ≡ false → item_of place (plain.a_place x of bounded lends) ≡ plain.a_place x of bounded lends
-no_place place x of bounded lends h = ap (λ (b : Bool). if b then object_member place (load x) of (codes "item") else plain.a_place x of bounded lends) h
+no_place place x of bounded lends h = ap (λ (b : Bool). if b then object_member place place (load x) of (codes "item") else plain.a_place x of bounded lends) h
 
 no_value : (place : Place) (node : bound.Node) (of : Declared) → is_host_type of ≡ false → item_of place (a_value node of) ≡ a_value node of
-no_value place node of h = ap (λ (b : Bool). if b then object_member place node of (codes "item") else a_value node of) h
+no_value place node of h = ap (λ (b : Bool). if b then object_member place place node of (codes "item") else a_value node of) h
 
 Same : Place → plain.Term → Type 0
 Same place w = item_of place w ≡ w

@@ -10,9 +10,9 @@ use Rattle.bound_project.specs.Drafts.{Drafted}
 use Rattle.bound_members.specs.binder.specs.Scopes.{has_dollar, of_library}
 use Rattle.bound_members.specs.binder.specs.Sources.{Source, base_of, has_choice, is_base_one}
 use Rattle.bound_members.specs.binder.specs.Constants.{compare_in}
-use Rattle.bound_members.specs.binder.specs.Terms.{Env, a_function, error_word}
-use Rattle.bound_members.specs.binder.specs.Terms as terms
-use Rattle.bound_members.specs.binder.specs.ExpressionsBound.{array_base, constant_term, from_zero, library_term}
+use Rattle.bound_members.specs.bound_forms.specs.Terms.{Env, a_function, error_word}
+use Rattle.bound_members.specs.bound_forms.specs.Terms as terms
+use Rattle.bound_members.specs.bound_forms.specs.ExpressionsBound.{array_base, constant_term, from_zero, library_term}
 use Rattle.bound_members.specs.bound_calls.specs.declared.term.Function.{Function}
 use Rattle.bound_members.specs.bound_calls.specs.declared.term.Term.{Term}
 use Rattle.bound_members.specs.bound_calls.specs.declared.term.Term.TheVariants as term

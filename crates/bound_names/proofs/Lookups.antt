@@ -8,7 +8,7 @@ use Rattle.vba_tree.specs.Tree.{Parameter, Variable, Constant}
 use Rattle.vba_expression.specs.Tree.{Expr}
 use Rattle.bound_members.specs.binder.specs.Declarations.{Written, What, a_variable, a_constant, an_enum, a_member, a_type, an_event, a_procedure, Entry, FieldWritten}
 use Rattle.bound_members.specs.binder.specs.Scopes.{Space, Scope, is_named, first_at, seen_from}
-use Rattle.bound_members.specs.binder.specs.ExpressionsBound.{is_get, is_let, procedure_of}
+use Rattle.bound_members.specs.binder.specs.Signatures.{is_get, is_let, procedure_of}
 use Rattle.bound_members.specs.declared_names.specs.declared.entry.What.{What as EntryWhat}
 use Rattle.bound_members.specs.declared_names.specs.declared.entry.What.TheVariants as what
 use Rattle.bound_members.specs.declared_names.specs.declared.entry.Written.{Written as EntryWritten}

@@ -9,14 +9,15 @@ use Rattle.vba_tree.specs.Tree.{Variable, Constant, Parameter, TypeClause}
 use Rattle.vba_expression.specs.Tree.{Expr}
 use Rattle.bound_project.specs.Expressions.{Storage, constant}
 use Rattle.bound_project.specs.Drafts.{Drafted}
-use Rattle.bound_members.specs.binder.specs.Declarations.{Written, the_result, a_parameter, a_local, an_array, undeclared, What, a_variable, a_constant, a_member, a_procedure}
+use Rattle.bound_members.specs.binder.specs.Declarations.{Written, the_result, a_parameter, a_local, an_array, undeclared, a_variable, a_constant, a_member, a_procedure}
 use Rattle.bound_members.specs.binder.specs.Scopes.{Space, Scope, Meant, of_module}
 use Rattle.bound_members.specs.binder.specs.Constants.{Known, home, meant_by, names_in}
 use Rattle.bound_project.specs.View.{declared_view}
 use Rattle.bound_members.specs.binder.specs.Storage.{result_type, parameter_type, plain_clause_type, declared_variable, own_storage, module_storage}
-use Rattle.bound_members.specs.binder.specs.Terms.{Env, a_routine, a_value}
-use Rattle.bound_members.specs.binder.specs.Terms as plain
-use Rattle.bound_members.specs.binder.specs.ExpressionsBound.{entry_term, constant_term, place_term, declared_place, has_bounds, if_there}
+use Rattle.bound_members.specs.bound_forms.specs.Terms.{Env, a_routine, a_value}
+use Rattle.bound_members.specs.bound_forms.specs.Terms as plain
+use Rattle.bound_members.specs.bound_forms.specs.ExpressionsBound.{entry_term, constant_term, place_term, declared_place, if_there}
+use Rattle.bound_members.specs.binder.specs.Storage.{has_bounds}
 use Rattle.bound_members.specs.bound_calls.specs.declared.term.Routine.{Routine}
 use Rattle.bound_members.specs.bound_calls.specs.declared.term.Term.{Term}
 use Rattle.bound_members.specs.bound_calls.specs.declared.term.Term.TheVariants as term

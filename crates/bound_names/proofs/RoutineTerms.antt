@@ -4,8 +4,8 @@ use Rattle.std.specs.Prelude.{slice_get}
 use Rattle.bound_project.specs.Drafts.{Drafted}
 use Rattle.bound_members.specs.binder.specs.Declarations.{Written}
 use Rattle.bound_members.specs.binder.specs.Scopes.{Space}
-use Rattle.bound_members.specs.binder.specs.Terms.{Env, a_routine}
-use Rattle.bound_members.specs.binder.specs.ExpressionsBound.{reader, is_property, procedure_with, is_get}
+use Rattle.bound_members.specs.bound_forms.specs.Terms.{Env, a_routine}
+use Rattle.bound_members.specs.binder.specs.Signatures.{reader, is_property, procedure_with, is_get}
 use Rattle.bound_members.specs.declared_names.specs.View.{space_view, written_view}
 use Rattle.bound_members.specs.bound_calls.specs.declared.term.Property.{Property}
 use Rattle.bound_members.specs.bound_calls.specs.declared.term.Routine.{Routine}

@@ -8,10 +8,11 @@ use Rattle.bound_project.specs.Expressions.{Storage, shared}
 use Rattle.bound_project.specs.Project.{Declaration}
 use Rattle.bound_project.specs.Project as project
 use Rattle.bound_project.specs.View.{declaration_view, declarations_view, declared_view}
-use Rattle.bound_members.specs.binder.specs.Bind.{declarations_of}
+use Rattle.bound_members.specs.binder.specs.Projects.{declarations_of}
 use Rattle.bound_members.specs.binder.specs.Constants.{home}
 use Rattle.bound_members.specs.binder.specs.Declarations.{What, a_variable, a_constant, an_enum, a_member, a_type, an_event, a_procedure, Entry}
-use Rattle.bound_members.specs.binder.specs.ExpressionsBound.{declared_place, has_bounds, place_term}
+use Rattle.bound_members.specs.bound_forms.specs.ExpressionsBound.{declared_place, place_term}
+use Rattle.bound_members.specs.binder.specs.Storage.{has_bounds}
 use Rattle.bound_members.specs.binder.specs.Scopes.{Scope, Space}
 use Rattle.bound_members.specs.binder.specs.Storage.{declared_variable, is_variable, module_declarations, module_storage, shared_before, shared_from, shared_of, static_declarations}
 use Rattle.bound_members.specs.binder.specs.Types.{counted}

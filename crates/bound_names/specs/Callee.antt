@@ -4,8 +4,9 @@ use Rattle.vba_expression.specs.Tree.{Expr}
 use Rattle.bound_project.specs.Drafts.{Drafted}
 use Rattle.bound_project.specs.Pieces.{Piece}
 use Rattle.bound_project.specs.View.{declared_view, parameter_view}
-use Rattle.bound_members.specs.binder.specs.Terms.{Env, a_routine}
-use Rattle.bound_members.specs.binder.specs.ExpressionsBound.{call_type, callee, is_property, parameters_in, term_of}
+use Rattle.bound_members.specs.bound_forms.specs.Terms.{Env, a_routine}
+use Rattle.bound_members.specs.binder.specs.Signatures.{call_type, is_property, parameters_in}
+use Rattle.bound_members.specs.bound_forms.specs.ExpressionsBound.{callee, term_of}
 use Rattle.bound_members.specs.binder.specs.Declarations.{Written}
 use Rattle.bound_members.specs.binder.specs.Storage.{procedure_number}
 use Rattle.bound_members.specs.binder.specs.Scopes.{Scope, Space}

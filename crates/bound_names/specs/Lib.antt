@@ -1,6 +1,7 @@
 pub use Rattle.bound_members
 pub use Rattle.project_tables
 pub use Rattle.bound_members.specs.binder
+pub use Rattle.bound_members.specs.bound_forms
 pub use Rattle.bound_members.specs.bound_calls
 pub use Rattle.bound_members.specs.bound_declarations
 pub use Rattle.bound_members.specs.constant_values

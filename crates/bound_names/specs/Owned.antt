@@ -1,5 +1,5 @@
 -- Serves the code: what names of procedures and modules are.
-use Rattle.std.specs.Prelude.{◌≡◌, ℕ, Bool, true, ◌||◌, List, codes, bytes_eq, Option, Some, None, option_map, if◌then◌else◌, slice_get}
+use Rattle.std.specs.Prelude.{◌≡◌, ℕ, Bool, ◌||◌, List, codes, bytes_eq, Option, Some, None, option_map, if◌then◌else◌, slice_get}
 use Rattle.vba_values.specs.Types.{Declared}
 use Rattle.vba_words.specs.declared.identifier.Identifier.{Identifier}
 use Rattle.vba_lexer.specs.declared.token.Token.{Token}
@@ -8,9 +8,10 @@ use Rattle.vba_expression.specs.Reader.{behind_dot}
 use Rattle.bound_members.specs.binder.specs.Declarations.{Local}
 use Rattle.bound_members.specs.binder.specs.Scopes.{Scope, Qualifier, before_dot, declares, as_qualifier, enum_behind}
 use Rattle.bound_members.specs.binder.specs.Storage.{own_storage}
-use Rattle.bound_members.specs.binder.specs.Terms.{Env}
-use Rattle.bound_members.specs.binder.specs.Terms as plain
-use Rattle.bound_members.specs.binder.specs.ExpressionsBound.{has_bounds, own_term, place_term}
+use Rattle.bound_members.specs.bound_forms.specs.Terms.{Env}
+use Rattle.bound_members.specs.bound_forms.specs.Terms as plain
+use Rattle.bound_members.specs.binder.specs.Storage.{has_bounds}
+use Rattle.bound_members.specs.bound_forms.specs.ExpressionsBound.{own_term, place_term}
 use Rattle.vba_values.specs.Types as type
 use Rattle.bound_project.specs.Expressions.{Storage, shared, active_sheet, host_object}
 use Rattle.bound_project.specs.Project.{Declaration}
@@ -19,13 +20,8 @@ use Rattle.bound_project.specs.Pieces.{Piece}
 use Rattle.bound_project.specs.Drafts.{Drafted}
 use Rattle.bound_names.specs.declared.names.Shape.{Shape}
 use Rattle.vba_values.specs.declared.object.HostRef.TheVariants as host
-use Rattle.bound_project.specs.declared.declared_type.DeclaredType.TheVariants.{Plain}
-use Rattle.bound_project.specs.declared.declared_type.ElementType.TheVariants as element
-use Rattle.bound_project.specs.declared.node.NodeKind.TheVariants as kinds
 use Rattle.bound_members.specs.bound_calls.specs.declared.term.Dotted.{Dotted}
 use Rattle.bound_members.specs.bound_calls.specs.declared.term.Routine.{Routine}
-use Rattle.bound_members.specs.bound_calls.specs.declared.term.Term.{Term}
-use Rattle.bound_members.specs.bound_calls.specs.declared.term.Term.TheVariants as term
 use Rattle.bound_members.specs.bound_calls.specs.declared.term.Tree.{Tree}
 use Rattle.bound_members.specs.bound_calls.specs.Standing.{RoutineStands, TermNamed, TreeStands, Grown}
 
@@ -55,10 +51,9 @@ host_rest x =
     else if bytes_eq x.name (codes "application") then plain.a_value (host_object host.Application) type.object
     else plain.no_term
 
--- a name behind the workbook is its sheets
-pub record IsSheets (f : Identifier) (x : Term) : Type 0 where
-  pub is : x ≡ term.Value (record { kind = kinds.HostObject host.Sheets; of = Plain element.Object })
-  pub named : (bytes_eq f.name (codes "worksheets") || bytes_eq f.name (codes "sheets")) ≡ true
+-- whether a name behind the workbook is its sheets
+abbrev pub names_sheets : Identifier → Bool
+names_sheets f = bytes_eq f.name (codes "worksheets") || bytes_eq f.name (codes "sheets")
 
 -- a procedure for which nothing is pushed
 abbrev pub IsRoutine : Env → Routine → plain.Term → Type 0
@@ -77,7 +72,7 @@ abbrev pub IsQualifier : Scope → Tree → Option Qualifier → Type 0
 IsQualifier s x q = q ≡ looked_up s (option_map (λ name. name.now) x.name) (option_map dotted_view x.dotted)
 
 -- a dot and a name behind an expression make another one
-pub record MakesMember (env : Env) (x : Tree) (f : Identifier) (d e : Drafted) (y : Tree) : Type 0 where
+pub record MakesMember (env : Env) (x : Tree) (dot : Token) (f : Identifier) (d e : Drafted) (y : Tree) : Type 0 where
   pub grown : Grown d e
   pub named : TermNamed e.tables y.term
-  pub stands : (base : Expr) (dot : Token) (below : List Piece) → TreeStands env d.tables x base d.pieces below → TreeStands env e.tables y (behind_dot base dot f) e.pieces below
+  pub stands : (base : Expr) (below : List Piece) → TreeStands env d.tables x base d.pieces below → TreeStands env e.tables y (behind_dot base dot f) e.pieces below

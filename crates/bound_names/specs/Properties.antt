@@ -5,7 +5,7 @@ use Rattle.vba_tree.specs.declared.procedure.ProcedureWords.{ProcedureWords}
 use Rattle.vba_tree.specs.declared.procedure.ProcedureWords.TheVariants as words
 use Rattle.bound_members.specs.binder.specs.Declarations.{Written, What, a_procedure, Entry}
 use Rattle.bound_members.specs.binder.specs.Scopes.{Space, Scope, is_named, first_at, seen_from}
-use Rattle.bound_members.specs.binder.specs.ExpressionsBound.{is_get, is_let, procedure_with}
+use Rattle.bound_members.specs.binder.specs.Signatures.{is_get, is_let, procedure_with}
 
 -- a Get, or else a Let
 abbrev pub is_wanted : Bool → ProcedureWords → Bool

@@ -2,7 +2,7 @@
 
 ghost use Rattle.std.specs.Prelude.{IfOk};
 ghost use Rattle.bound_project.specs.DraftView.{draft_view};
-ghost use Rattle.bound_members.specs.binder.specs.ExpressionsBound as bound;
+ghost use Rattle.bound_members.specs.bound_forms.specs.ExpressionsBound as bound;
 ghost use Rattle.bound_members.specs.binder.specs.Scopes as scopes;
 ghost use Rattle.bound_names.specs.Callee.{CalleeIs};
 ghost use Rattle.bound_members.specs.bound_calls.specs.Standing.{TermNamed};

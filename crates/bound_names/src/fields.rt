@@ -1,20 +1,21 @@
 //! Fields of user types, and what a With block keeps.
 
-ghost use Rattle.std.specs.Prelude.{◌≡◌, IfOk, OnOk, map, option_map, reverse, slice_index_or};
+ghost use Rattle.std.specs.Prelude.{◌≡◌, true, IfOk, OnOk, is_some, map, option_map, reverse, slice_index_or};
 ghost use Rattle.vba_expression.specs.declared.node.ExpressionNode.TheVariants as node;
 ghost use Rattle.vba_expression.specs.Nodes.{behind_node};
 ghost use Rattle.bound_project.specs.DraftView.{draft_view};
+ghost use Rattle.bound_project.specs.Drafts.{NodeNamed};
 ghost use Rattle.bound_project.specs.View.{declaration_view, declared_view, user_type_view};
-ghost use Rattle.bound_members.specs.binder.specs.ExpressionsBound as bound;
+ghost use Rattle.bound_members.specs.binder.specs.Storage as stored;
+ghost use Rattle.bound_members.specs.bound_forms.specs.ExpressionsBound as bound;
 ghost use Rattle.bound_members.specs.binder.specs.Scopes.{first_at};
-ghost use Rattle.bound_members.specs.binder.specs.Terms as plain;
-ghost use Rattle.bound_names.specs.Fields.{FieldFound, KeepsField, MakesField, MakesFieldValue, is_field_named, user_type_in};
+ghost use Rattle.bound_names.specs.Fields.{FieldIs, FieldOrNone, KeepsField, MakesBehind, PlacesField, ValueOrNone, is_field_named, place_found, user_type_in, value_found};
 ghost use Rattle.bound_members.specs.bound_calls.specs.Standing.{AllNamed};
 ghost use Rattle.bound_members.specs.bound_calls.specs.Steps.{Goes};
 ghost use Rattle.bound_names.specs.View.{EnvStands, env_view};
 
 use crate::env::Env;
-use crate::items::behind_object_place;
+use crate::items::{behind_object_place, found_term, unknown_term};
 use crate::names::folded;
 use bound_members::bound_calls::{Ending, Item, Term, Tree, push_node, put_item, settle};
 use bound_members::bound_declarations::NotYet;
@@ -70,7 +71,7 @@ fn first_field<'a>(fields: &'a [Declaration], name: &Identifier) -> Option<(usiz
 fn known_field(number: usize, declaration: &Declaration) -> Result<Field, NoMemory>
     ensures number { IfOk result (λ field. field.number ≡ number) }
     ensures of { IfOk result (λ field. declared_view field.of ≡ (declaration_view declaration.now).of) }
-    ensures bounded { IfOk result (λ field. field.is_bounded ≡ bound.has_bounds (declaration_view declaration.now)) }
+    ensures bounded { IfOk result (λ field. field.is_bounded ≡ stored.has_bounds (declaration_view declaration.now)) }
 {
     let Ok(number) = u32::try_from(number) else {
         return Err(NoMemory);
@@ -82,70 +83,139 @@ fn known_field(number: usize, declaration: &Declaration) -> Result<Field, NoMemo
     })
 }
 
-/// The first of declarations with a name.
-fn field_at(fields: &[Declaration], name: &Identifier) -> Result<Field, OrMemory<NotYet>>
-    ensures { IfOk result (λ field. FieldFound (first_at (is_field_named name.now) 0 (map declaration_view fields.now)) field) }
+/// The first of declarations with a name, if there is one.
+fn field_at(fields: &[Declaration], name: &Identifier) -> Result<Option<Field>, NoMemory>
+    ensures { IfOk result (λ found. FieldIs (first_at (is_field_named name.now) 0 (map declaration_view fields.now)) found) }
 {
-    let Some((number, declaration)) = first_field(fields, name) else {
-        return Err(OrMemory::Fault(NotYet));
-    };
-    let field = known_field(number, declaration)?;
-    Ok(field)
+    match first_field(fields, name) {
+        None => Ok(None),
+        Some((number, declaration)) => {
+            let field = known_field(number, declaration)?;
+            Ok(Some(field))
+        }
+    }
 }
 
-/// A field of a user type, by its name.
-fn field_named<'a>(env: Env<'a>, number: u32, name: &Identifier) -> Result<Field, OrMemory<NotYet>>
+/// A field of a user type, by its name, if there is one.
+fn field_named<'a>(env: Env<'a>, number: u32, name: &Identifier) -> Result<Option<Field>, NoMemory>
     requires { EnvStands env }
-    ensures { IfOk result (λ field. FieldFound (bound.field_named (env_view env.entry) number name.now) field) }
+    ensures { IfOk result (λ found. FieldIs (bound.field_named (env_view env.entry) number name.now) found) }
 {
     field_at(fields_at(&env.declared.types, number as usize), name)
 }
 
-/// A field of a place of a type; that was pushed.
-pub fn place_field<'a>(
+/// The field of a place, if there is one.
+fn place_found<'a>(found: Option<Field>, lends: bool) -> Option<Term<'a>>
+    ensures { result ≡ place_found found lends }
+{
+    match found {
+        None => None,
+        Some(field) => Some(Term::Place {
+            kind: NodeKind::Field {
+                field: field.number,
+                of: field.of,
+                is_bounded: field.is_bounded,
+            },
+            of: field.of,
+            is_bounded: field.is_bounded,
+            lends,
+        }),
+    }
+}
+
+/// A field of a place of a type, which was pushed; none where there is none.
+fn place_field<'a>(
     env: Env<'a>,
     of: DeclaredType,
     lends: bool,
     name: &Identifier,
-) -> Result<Term<'a>, OrMemory<NotYet>>
+) -> Result<Option<Term<'a>>, OrMemory<NotYet>>
     requires { EnvStands env }
-    ensures { IfOk result (λ term. MakesField (env_view env.entry) of lends name.now term) }
+    ensures { IfOk result (λ found. FieldOrNone (env_view env.entry) of lends name.now found) }
 {
     let Some(number) = user_type(of) else {
         return Err(OrMemory::Fault(NotYet));
     };
-    let field = field_named(env, number, name)?;
-    Ok(Term::Place {
-        kind: NodeKind::Field {
-            field: field.number,
-            of: field.of,
-            is_bounded: field.is_bounded,
-        },
-        of: field.of,
-        is_bounded: field.is_bounded,
-        lends,
-    })
+    let found = field_named(env, number, name)?;
+    Ok(place_found(found, lends))
 }
 
-/// A field of a value of a type; that was pushed.
-pub fn value_field<'a>(
+/// The field of a value, if there is one.
+fn value_found<'a>(found: Option<Field>) -> Option<Term<'a>>
+    ensures { result ≡ value_found found }
+{
+    match found {
+        None => None,
+        Some(field) => Some(Term::Value(Ending {
+            kind: NodeKind::FieldValue {
+                field: field.number,
+            },
+            of: field.of,
+        })),
+    }
+}
+
+/// A field of a value of a type, which was pushed; none where there is none.
+fn value_field<'a>(
     env: Env<'a>,
     of: DeclaredType,
     name: &Identifier,
-) -> Result<Term<'a>, OrMemory<NotYet>>
+) -> Result<Option<Term<'a>>, OrMemory<NotYet>>
     requires { EnvStands env }
-    ensures { IfOk result (λ term. MakesFieldValue (env_view env.entry) of name.now term) }
+    ensures { IfOk result (λ found. ValueOrNone (env_view env.entry) of name.now found) }
 {
     let Some(number) = user_type(of) else {
         return Err(OrMemory::Fault(NotYet));
     };
-    let field = field_named(env, number, name)?;
-    Ok(Term::Value(Ending {
-        kind: NodeKind::FieldValue {
-            field: field.number,
-        },
-        of: field.of,
-    }))
+    let found = field_named(env, number, name)?;
+    Ok(value_found(found))
+}
+
+/// A field of a value, which is pushed, or what is told where there is none.
+pub fn field_of_value<'a>(
+    draft: &mut Draft,
+    env: Env<'a>,
+    place: Place,
+    dot: Place,
+    ending: Ending,
+    name: &Identifier,
+) -> Result<Term<'a>, OrMemory<NotYet>>
+    requires env { EnvStands env }
+    requires named { NodeNamed (draft_view draft.old).tables ending.kind }
+    requires typed { is_some (user_type_in ending.of) ≡ true }
+    ensures { IfOk result (λ term. MakesBehind (env_view env.entry) place dot (Term.Value ending) name.now (draft_view draft.old) (draft_view draft.new) term) }
+{
+    let found = value_field(env, ending.of, name)?;
+    push_node(draft, ending.kind, ending.of, place)?;
+    match found {
+        Some(term) => Ok(term),
+        None => Ok(unknown_term(dot)),
+    }
+}
+
+/// A field of a place, which is pushed, or what is told where there is none: its value is pushed then.
+pub fn field_behind<'a>(
+    draft: &mut Draft,
+    env: Env<'a>,
+    place: Place,
+    dot: Place,
+    at: Ending,
+    lends: bool,
+    name: &Identifier,
+) -> Result<Term<'a>, OrMemory<NotYet>>
+    requires env { EnvStands env }
+    requires named { NodeNamed (draft_view draft.old).tables at.kind }
+    ensures { IfOk result (λ term. PlacesField (env_view env.entry) place dot at lends name.now (draft_view draft.old) (draft_view draft.new) term) }
+{
+    let found = place_field(env, at.of, lends, name)?;
+    push_node(draft, at.kind, at.of, place)?;
+    match found {
+        Some(term) => Ok(term),
+        None => {
+            push_node(draft, NodeKind::Load, at.of, place)?;
+            Ok(unknown_term(dot))
+        }
+    }
 }
 
 /// A field, or a member of an object, of what the With block round an expression keeps.
@@ -166,17 +236,14 @@ fn kept_field<'a>(
         header: within.header,
     };
     let of = within.of;
+    let at = Ending { kind, of };
     match user_type(of) {
         None => {
             let name = folded(alloc, name)?;
-            let found = behind_object_place(draft, place, Ending { kind, of }, name)?;
-            Ok(Term::HostMember(found))
+            let found = behind_object_place(draft, place, at, name)?;
+            Ok(found_term(found, place))
         }
-        Some(_) => {
-            let term = place_field(env, of, within.lends, name)?;
-            push_node(draft, kind, of, place)?;
-            Ok(term)
-        }
+        Some(_) => field_behind(draft, env, place, place, at, within.lends, name),
     }
 }
 

@@ -2,9 +2,9 @@
 
 ghost use Rattle.std.specs.Prelude.{◌≡◌};
 ghost use Rattle.bound_project.specs.Drafts.{Drafted};
-ghost use Rattle.bound_members.specs.binder.specs.ExpressionsBound as bound;
+ghost use Rattle.bound_members.specs.bound_forms.specs.ExpressionsBound as bound;
 ghost use Rattle.bound_members.specs.binder.specs.Scopes.{has_dollar};
-ghost use Rattle.bound_members.specs.binder.specs.Terms as plain;
+ghost use Rattle.bound_members.specs.bound_forms.specs.Terms as plain;
 ghost use Rattle.bound_members.specs.bound_calls.specs.Standing.{base_number};
 ghost use Rattle.bound_members.specs.bound_calls.specs.Steps.{MakesLeaf};
 ghost use Rattle.bound_names.specs.View.{EnvStands, env_view};

@@ -21,5 +21,7 @@ pub use properties::{Writer, writer_of};
 
 // What stands below, for the crates above.
 pub use bound_members;
-pub use bound_members::{binder, bound_calls, bound_declarations, constant_values, declared_names};
+pub use bound_members::{
+    binder, bound_calls, bound_declarations, bound_forms, constant_values, declared_names,
+};
 pub use project_tables;

@@ -2,26 +2,27 @@ ghost use Rattle.std.specs.Prelude.{◌≡◌, ◌<◌, length, Bool, OnOk, IfOk
 ghost use Rattle.vba_expression.specs.declared.node.ExpressionNode.TheVariants as node;
 ghost use Rattle.vba_expression.specs.Nodes.{behind_node};
 ghost use Rattle.vba_lexer.specs.declared.token.Token.{Token};
+ghost use Rattle.vba_values.specs.declared.object.HostRef.TheVariants as host;
 ghost use Rattle.bound_project.specs.DraftView.{draft_view};
 ghost use Rattle.bound_project.specs.Drafts.{Drafted, NodeNamed};
-ghost use Rattle.bound_project.specs.Expressions.{err_value};
+ghost use Rattle.bound_project.specs.declared.node.NodeKind.TheVariants as node_kind;
+ghost use Rattle.bound_project.specs.Expressions.{err_value, no_exprs};
 ghost use Rattle.bound_project.specs.View.{element_view, member_view};
-ghost use Rattle.bound_members.specs.binder.specs.ExpressionsBound as bound;
+ghost use Rattle.bound_members.specs.bound_forms.specs.ExpressionsBound as bound;
 ghost use Rattle.bound_members.specs.binder.specs.Scopes as scopes;
-ghost use Rattle.bound_members.specs.binder.specs.Terms as plain;
+ghost use Rattle.bound_members.specs.bound_forms.specs.Terms as plain;
 ghost use Rattle.bound_members.specs.constant_values.specs.Rounds.{IsPlace};
 ghost use Rattle.bound_members.specs.declared_names.specs.View.{qualifier_view, scope_view};
-ghost use Rattle.bound_names.specs.Owned.{IsQualifier, MakesMember, dotted_view, looked_up};
+ghost use Rattle.bound_names.specs.Owned.{IsQualifier, MakesMember, dotted_view, looked_up, names_sheets};
 ghost use Rattle.bound_names.specs.Fields.{MakesBehind, user_type_in};
-ghost use Rattle.bound_names.specs.Owned.{IsSheets};
 ghost use Rattle.bound_members.specs.bound_calls.specs.Standing.{AllNamed, TermNamed};
 ghost use Rattle.bound_members.specs.bound_calls.specs.Steps.{Goes, MakesLeaf};
 ghost use Rattle.bound_names.specs.View.{EnvStands, env_view};
 
 use crate::env::Env;
-use crate::fields::{place_field, user_type, value_field};
+use crate::fields::{field_behind, field_of_value, user_type};
 use crate::functions::from_zero;
-use crate::items::{behind_object_place, behind_object_value};
+use crate::items::{behind_object_place, behind_object_value, found_term, unknown_term};
 use crate::names::{folded, is_either, meant_term, sheets_value};
 use bound_members::bound_calls::{
     Dotted, Ending, HostMember, Item, Routine, Term, Tree, member_ending, push_node, push_sheet,
@@ -32,7 +33,8 @@ use bound_members::declared_names::{Qualifier, Use, as_qualifier, behind, declar
 use bound_members::is_word;
 use bound_project::{DeclaredType, Draft, ElementType, ErrMember, NodeKind};
 use std::alloc::Global;
-use vba_base::{OrMemory, Place};
+use vba_base::{OrMemory, Place, Refusal};
+use vba_lexer::Token;
 use vba_values::HostRef;
 use vba_words::Identifier;
 
@@ -46,9 +48,25 @@ fn err_value<'a>(member: ErrMember, of: ElementType) -> Term<'a>
     })
 }
 
+/// What is told of a member that Err hasn't.
+fn no_err_member<'a>(dot: Place) -> Term<'a>
+    ensures { (env : plain.Env) (d : Drafted) → MakesLeaf env d d result (plain.broken_value 34 dot no_exprs) }
+{
+    Term::Value(Ending {
+        kind: NodeKind::Marked {
+            broken: Refusal {
+                rule: 34,
+                place: dot,
+            },
+            values: 0,
+        },
+        of: DeclaredType::Plain(ElementType::Variant),
+    })
+}
+
 /// A member of Err.
-fn err_member<'a>(name: &Identifier) -> Term<'a>
-    ensures { (env : plain.Env) (d : Drafted) → MakesLeaf env d d result (bound.err_member name.now.name) }
+fn err_member<'a>(dot: Place, name: &Identifier) -> Term<'a>
+    ensures { (env : plain.Env) (d : Drafted) → MakesLeaf env d d result (bound.err_member dot name.now.name) }
 {
     let text = name.name.units();
     if is_word(text, b"number") {
@@ -62,7 +80,7 @@ fn err_member<'a>(name: &Identifier) -> Term<'a>
     } else if is_word(text, b"clear") {
         Term::ErrClear
     } else {
-        Term::Nothing
+        no_err_member(dot)
     }
 }
 
@@ -121,8 +139,8 @@ fn behind_qualifier<'a>(
 ) -> Result<Tree<'a>, OrMemory<NotYet>>
     requires env { EnvStands env }
     requires there { IsPlace (scope_view env.constants.scope) (Some (qualifier_view qualifier)) }
-    ensures { IfOk result (λ made. IsQualifier (scope_view env.entry.constants.scope) tree.entry (Some (qualifier_view qualifier.entry))
-        → MakesMember (env_view env.entry) tree.entry member.now (draft_view draft.old) (draft_view draft.new) made) }
+    ensures { IfOk result (λ made. (dot : Token) → IsQualifier (scope_view env.entry.constants.scope) tree.entry (Some (qualifier_view qualifier.entry))
+        → MakesMember (env_view env.entry) tree.entry dot member.now (draft_view draft.old) (draft_view draft.new) made) }
 {
     let scope = env.constants.scope;
     let meant = behind(Use::Plainly, scope, qualifier, member);
@@ -142,37 +160,50 @@ fn behind_place<'a>(
     draft: &mut Draft,
     env: Env<'a>,
     place: Place,
+    dot: Place,
     at: Ending,
     lends: bool,
     member: &Identifier,
 ) -> Result<Term<'a>, OrMemory<NotYet>>
     requires env { EnvStands env }
     requires named { NodeNamed (draft_view draft.old).tables at.kind }
-    ensures { IfOk result (λ term. (bounded : Bool) → MakesBehind (env_view env.entry) place (Term.Place at.kind at.of bounded lends) member.now (draft_view draft.old) (draft_view draft.new) term) }
+    ensures { IfOk result (λ term. (bounded : Bool) → MakesBehind (env_view env.entry) place dot (Term.Place at.kind at.of bounded lends) member.now (draft_view draft.old) (draft_view draft.new) term) }
 {
     match user_type(at.of) {
         None => {
             let name = folded(alloc, member)?;
             let found = behind_object_place(draft, place, at, name)?;
-            Ok(Term::HostMember(found))
+            Ok(found_term(found, dot))
         }
-        Some(_) => {
-            let term = place_field(env, at.of, lends, member)?;
-            push_node(draft, at.kind, at.of, place)?;
-            Ok(term)
-        }
+        Some(_) => field_behind(draft, env, place, dot, at, lends, member),
     }
 }
 
-/// A name behind the workbook: its sheets are those of the host.
-fn behind_workbook<'a>(member: &Identifier) -> Result<Term<'a>, OrMemory<NotYet>>
-    ensures { IfOk result (λ term. IsSheets member.now term) }
+/// Is a name behind the workbook that of its sheets?
+fn names_sheets(member: &Identifier) -> bool
+    ensures { result ≡ names_sheets member.now }
 {
-    let text = member.name.units();
-    if is_either(text, b"worksheets", b"sheets") {
+    is_either(member.name.units(), b"worksheets", b"sheets")
+}
+
+/// A name behind the workbook: its sheets are those of the host, and it has no other members. It is pushed for these.
+fn behind_workbook<'a>(
+    draft: &mut Draft,
+    place: Place,
+    dot: Place,
+    ending: Ending,
+    member: &Identifier,
+) -> Result<Term<'a>, OrMemory<NotYet>>
+    requires named { NodeNamed (draft_view draft.old).tables ending.kind }
+    requires book { ending.kind ≡ node_kind.HostObject host.Workbook }
+    requires other { user_type_in ending.of ≡ None }
+    ensures { IfOk result (λ term. (env : plain.Env) → MakesBehind env place dot (Term.Value ending) member.now (draft_view draft.old) (draft_view draft.new) term) }
+{
+    if names_sheets(member) {
         return Ok(sheets_value());
     }
-    Err(OrMemory::Fault(NotYet))
+    push_node(draft, ending.kind, ending.of, place)?;
+    Ok(unknown_term(dot))
 }
 
 /// A name behind a value that gives an object; that is pushed.
@@ -180,21 +211,22 @@ fn behind_object<'a>(
     alloc: Global,
     draft: &mut Draft,
     place: Place,
+    dot: Place,
     ending: Ending,
     member: &Identifier,
 ) -> Result<Term<'a>, OrMemory<NotYet>>
     requires named { NodeNamed (draft_view draft.old).tables ending.kind }
     requires other { user_type_in ending.of ≡ None }
-    ensures { IfOk result (λ term. (env : plain.Env) → MakesBehind env place (Term.Value ending) member.now (draft_view draft.old) (draft_view draft.new) term) }
+    ensures { IfOk result (λ term. (env : plain.Env) → MakesBehind env place dot (Term.Value ending) member.now (draft_view draft.old) (draft_view draft.new) term) }
 {
     if let NodeKind::HostObject(reference) = ending.kind
         && let HostRef::Workbook = reference
     {
-        return behind_workbook(member);
+        return behind_workbook(draft, place, dot, ending, member);
     }
     let name = folded(alloc, member)?;
     let found = behind_object_value(draft, place, ending, name)?;
-    Ok(Term::HostMember(found))
+    Ok(found_term(found, dot))
 }
 
 /// A name behind a value; it is pushed.
@@ -203,20 +235,17 @@ fn behind_value<'a>(
     draft: &mut Draft,
     env: Env<'a>,
     place: Place,
+    dot: Place,
     ending: Ending,
     member: &Identifier,
 ) -> Result<Term<'a>, OrMemory<NotYet>>
     requires env { EnvStands env }
     requires named { NodeNamed (draft_view draft.old).tables ending.kind }
-    ensures { IfOk result (λ term. MakesBehind (env_view env.entry) place (Term.Value ending) member.now (draft_view draft.old) (draft_view draft.new) term) }
+    ensures { IfOk result (λ term. MakesBehind (env_view env.entry) place dot (Term.Value ending) member.now (draft_view draft.old) (draft_view draft.new) term) }
 {
     match user_type(ending.of) {
-        None => behind_object(alloc, draft, place, ending, member),
-        Some(_) => {
-            let term = value_field(env, ending.of, member)?;
-            push_node(draft, ending.kind, ending.of, place)?;
-            Ok(term)
-        }
+        None => behind_object(alloc, draft, place, dot, ending, member),
+        Some(_) => field_of_value(draft, env, place, dot, ending, member),
     }
 }
 
@@ -225,16 +254,17 @@ fn behind_member<'a>(
     alloc: Global,
     draft: &mut Draft,
     place: Place,
+    dot: Place,
     read: HostMember,
     member: &Identifier,
 ) -> Result<Term<'a>, OrMemory<NotYet>>
     requires { read.name < length (draft_view draft.old).tables.constants }
-    ensures { IfOk result (λ made. (env : plain.Env) → MakesBehind env place (Term.HostMember read) member.now (draft_view draft.old) (draft_view draft.new) made) }
+    ensures { IfOk result (λ made. (env : plain.Env) → MakesBehind env place dot (Term.HostMember read) member.now (draft_view draft.old) (draft_view draft.new) made) }
 {
     let ending = member_ending(draft, read, place)?;
     let name = folded(alloc, member)?;
     let found = behind_object_value(draft, place, ending, name)?;
-    Ok(Term::HostMember(found))
+    Ok(found_term(found, dot))
 }
 
 /// A name behind a member of the active sheet, which is read.
@@ -242,14 +272,15 @@ fn behind_sheet_member<'a>(
     alloc: Global,
     draft: &mut Draft,
     place: Place,
+    dot: Place,
     read: HostMember,
     member: &Identifier,
 ) -> Result<Term<'a>, OrMemory<NotYet>>
     requires { read.name < length (draft_view draft.old).tables.constants }
-    ensures { IfOk result (λ made. (env : plain.Env) → MakesBehind env place (Term.SheetMember read) member.now (draft_view draft.old) (draft_view draft.new) made) }
+    ensures { IfOk result (λ made. (env : plain.Env) → MakesBehind env place dot (Term.SheetMember read) member.now (draft_view draft.old) (draft_view draft.new) made) }
 {
     push_sheet(draft)?;
-    behind_member(alloc, draft, place, read, member)
+    behind_member(alloc, draft, place, dot, read, member)
 }
 
 /// A name behind a procedure, which is called.
@@ -258,14 +289,15 @@ fn behind_routine<'a>(
     draft: &mut Draft,
     env: Env<'a>,
     place: Place,
+    dot: Place,
     routine: Routine<'a>,
     member: &Identifier,
 ) -> Result<Term<'a>, OrMemory<NotYet>>
     requires { EnvStands env }
-    ensures { IfOk result (λ term. MakesBehind (env_view env.entry) place (Term.Routine routine.entry) member.now (draft_view draft.old) (draft_view draft.new) term) }
+    ensures { IfOk result (λ term. MakesBehind (env_view env.entry) place dot (Term.Routine routine.entry) member.now (draft_view draft.old) (draft_view draft.new) term) }
 {
     let ending = routine_ending(alloc, draft, routine)?;
-    behind_value(alloc, draft, env, place, ending, member)
+    behind_value(alloc, draft, env, place, dot, ending, member)
 }
 
 /// A name behind a term.
@@ -274,12 +306,13 @@ fn behind_term<'a>(
     draft: &mut Draft,
     env: Env<'a>,
     place: Place,
+    dot: Place,
     term: Term<'a>,
     member: &Identifier,
 ) -> Result<Term<'a>, OrMemory<NotYet>>
     requires env { EnvStands env }
     requires named { TermNamed (draft_view draft.old).tables term }
-    ensures { IfOk result (λ made. MakesBehind (env_view env.entry) place term.entry member.now (draft_view draft.old) (draft_view draft.new) made) }
+    ensures { IfOk result (λ made. MakesBehind (env_view env.entry) place dot term.entry member.now (draft_view draft.old) (draft_view draft.new) made) }
 {
     match term {
         Term::Place {
@@ -287,12 +320,15 @@ fn behind_term<'a>(
             of,
             lends,
             ..
-        } => behind_place(alloc, draft, env, place, Ending { kind, of }, lends, member),
-        Term::Value(ending) => behind_value(alloc, draft, env, place, ending, member),
-        Term::Routine(routine) => behind_routine(alloc, draft, env, place, routine, member),
-        Term::HostMember(read) => behind_member(alloc, draft, place, read, member),
-        Term::SheetMember(read) => behind_sheet_member(alloc, draft, place, read, member),
-        Term::Err => Ok(err_member(member)),
+        } => {
+            let at = Ending { kind, of };
+            behind_place(alloc, draft, env, place, dot, at, lends, member)
+        }
+        Term::Value(ending) => behind_value(alloc, draft, env, place, dot, ending, member),
+        Term::Routine(routine) => behind_routine(alloc, draft, env, place, dot, routine, member),
+        Term::HostMember(read) => behind_member(alloc, draft, place, dot, read, member),
+        Term::SheetMember(read) => behind_sheet_member(alloc, draft, place, dot, read, member),
+        Term::Err => Ok(err_member(dot, member)),
         _ => Err(OrMemory::Fault(NotYet)),
     }
 }
@@ -303,14 +339,15 @@ fn behind_tree<'a>(
     draft: &mut Draft,
     env: Env<'a>,
     tree: Tree<'a>,
+    dot: Token,
     member: &Identifier,
 ) -> Result<Tree<'a>, OrMemory<NotYet>>
     requires env { EnvStands env }
     requires named { TermNamed (draft_view draft.old).tables tree.term }
     ensures { IfOk result (λ made. IsQualifier (scope_view env.entry.constants.scope) tree.entry None
-        → MakesMember (env_view env.entry) tree.entry member.now (draft_view draft.old) (draft_view draft.new) made) }
+        → MakesMember (env_view env.entry) tree.entry dot member.now (draft_view draft.old) (draft_view draft.new) made) }
 {
-    let term = behind_term(alloc, draft, env, tree.place, tree.term, member)?;
+    let term = behind_term(alloc, draft, env, tree.place, dot.place, tree.term, member)?;
     Ok(Tree {
         place: tree.place,
         name: None,
@@ -325,15 +362,16 @@ fn member_tree<'a>(
     draft: &mut Draft,
     env: Env<'a>,
     tree: Tree<'a>,
+    dot: Token,
     member: &'a Identifier,
 ) -> Result<Tree<'a>, OrMemory<NotYet>>
     requires env { EnvStands env }
     requires named { TermNamed (draft_view draft.old).tables tree.term }
-    ensures { IfOk result (λ made. MakesMember (env_view env.entry) tree.entry member.now (draft_view draft.old) (draft_view draft.new) made) }
+    ensures { IfOk result (λ made. MakesMember (env_view env.entry) tree.entry dot member.now (draft_view draft.old) (draft_view draft.new) made) }
 {
     match qualifier_of(env, tree) {
         Some(qualifier) => behind_qualifier(alloc, draft, env, tree, qualifier, member),
-        None => behind_tree(alloc, draft, env, tree, member),
+        None => behind_tree(alloc, draft, env, tree, dot, member),
     }
 }
 
@@ -343,16 +381,17 @@ pub fn step_member<'a>(
     draft: &mut Draft,
     env: Env<'a>,
     stack: &mut Vec<Item<'a>>,
+    dot: Token,
     member: &'a Identifier,
 ) -> Result<(), OrMemory<NotYet>>
     requires env { EnvStands env }
     requires named { AllNamed (draft_view draft.old).tables (reverse stack.old.items) }
-    ensures { OnOk result ((dot : Token) → Goes (env_view env.entry) (draft_view draft.old) (reverse stack.old.items) (draft_view draft.new) (reverse stack.new.items) (behind_node (node.Member dot member.now))) }
+    ensures { OnOk result (Goes (env_view env.entry) (draft_view draft.old) (reverse stack.old.items) (draft_view draft.new) (reverse stack.new.items) (behind_node (node.Member dot member.now))) }
 {
     let Some(Item::Tree(tree)) = take_item(stack) else {
         return Err(OrMemory::NoMemory);
     };
-    let made = member_tree(alloc, draft, env, tree, member)?;
+    let made = member_tree(alloc, draft, env, tree, dot, member)?;
     put_item(stack, Item::Tree(made))?;
     Ok(())
 }

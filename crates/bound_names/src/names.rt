@@ -10,12 +10,12 @@ ghost use Rattle.bound_project.specs.Drafts.{Drafted};
 ghost use Rattle.bound_project.specs.View.{declaration_view, declared_view, storage_view};
 ghost use Rattle.bound_members.specs.binder.specs.Constants as constants;
 ghost use Rattle.bound_members.specs.binder.specs.Declarations.{a_variable};
-ghost use Rattle.bound_members.specs.binder.specs.ExpressionsBound as bound;
-ghost use Rattle.bound_members.specs.binder.specs.ExpressionsBound.{declared_place, place_term};
+ghost use Rattle.bound_members.specs.bound_forms.specs.ExpressionsBound as bound;
+ghost use Rattle.bound_members.specs.bound_forms.specs.ExpressionsBound.{declared_place, place_term};
 ghost use Rattle.bound_members.specs.binder.specs.Scopes.{of_module, of_procedure};
 ghost use Rattle.bound_members.specs.binder.specs.Storage as storage;
 ghost use Rattle.bound_members.specs.binder.specs.Storage.{declared_variable, module_storage};
-ghost use Rattle.bound_members.specs.binder.specs.Terms as plain;
+ghost use Rattle.bound_members.specs.bound_forms.specs.Terms as plain;
 ghost use Rattle.bound_members.specs.constant_values.specs.Rounds.{IsThere};
 ghost use Rattle.bound_members.specs.constant_values.specs.Tables.{AreConstants};
 ghost use Rattle.bound_members.specs.declared_names.specs.View.{entry_view, local_view, meant_view, scope_view, space_view, what_view, written_view};
@@ -91,7 +91,9 @@ fn sheet_member<'a>(
     ensures { IfOk result (λ term. (env : plain.Env) → MakesLeaf env (draft_view draft.old) (draft_view draft.new) term (bound.sheet_term name.now)) }
 {
     let text = folded(alloc, name)?;
-    let member = find_member(draft, HostKind::Sheet, text)?;
+    let Some(member) = find_member(draft, HostKind::Sheet, text)? else {
+        return Err(OrMemory::Fault(NotYet));
+    };
     Ok(Term::SheetMember(member))
 }
 
@@ -236,7 +238,7 @@ fn variable_shape<'a>(
 ) -> Result<Shape, OrMemory<NotYet>>
     requires { AreConstants constants }
     ensures { IfOk result (λ shape. IsShape (declared_variable (scope_view constants.entry.scope) (variable_view variable.now)).of
-        (bound.has_bounds (declared_variable (scope_view constants.entry.scope) (variable_view variable.now))) shape) }
+        (storage.has_bounds (declared_variable (scope_view constants.entry.scope) (variable_view variable.now))) shape) }
 {
     let is_bounded = is_bounded(alloc, constants, variable)?;
     let of = variable_type(alloc, constants, variable)?;
@@ -325,7 +327,7 @@ fn declaration_at(declared: &Vec<Declaration>, number: usize) -> Option<&Declara
 
 /// What a declaration says of a variable.
 fn known_shape(declaration: &Declaration) -> Shape
-    ensures { IsShape (declaration_view declaration.now).of (bound.has_bounds (declaration_view declaration.now)) result }
+    ensures { IsShape (declaration_view declaration.now).of (storage.has_bounds (declaration_view declaration.now)) result }
 {
     Shape {
         of: declaration.of,

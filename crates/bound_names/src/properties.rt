@@ -1,7 +1,6 @@
 //! Properties of a module: their Gets and their Lets, by their names.
 
-ghost use Rattle.std.specs.Prelude.{◌≡◌, ◌&&◌, IfSome, MatchOption, option_and_then, option_map};
-ghost use Rattle.bound_members.specs.binder.specs.ExpressionsBound.{procedure_of};
+ghost use Rattle.std.specs.Prelude.{◌≡◌, ◌&&◌, IfSome, MatchOption, option_map};
 ghost use Rattle.bound_members.specs.binder.specs.Scopes as scopes;
 ghost use Rattle.bound_members.specs.declared_names.specs.Lookup.{found_view};
 ghost use Rattle.bound_members.specs.declared_names.specs.View.{entry_view, scope_view, space_view, what_view, written_view};

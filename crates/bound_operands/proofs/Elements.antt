@@ -22,9 +22,9 @@ use Rattle.bound_project.specs.Lists.{above, exprs_of}
 use Rattle.bound_project.proofs.Lists.{above_push}
 use Rattle.bound_project.specs.Pieces.{Piece, Tables, an_expr, a_place, exprs_off, of_place, of_found, of_place_found, of_value, of_value_found, expr_of, put_kind, put, nothing}
 use Rattle.bound_project.specs.Drafts.{Drafted}
-use Rattle.bound_members.specs.binder.specs.Terms.{Env, Given, a_value, expression_of, has_names, listed_values}
-use Rattle.bound_members.specs.binder.specs.Terms as terms
-use Rattle.bound_members.specs.binder.specs.ExpressionsBound.{are_numbers, numbers_of, element_place, element_type, with_type, indexed, is_host_type, item_of, object_member, callee, term_of, operand_of, givens, place_told}
+use Rattle.bound_members.specs.bound_forms.specs.Terms.{Env, Given, a_value, expression_of, has_names, listed_values}
+use Rattle.bound_members.specs.bound_forms.specs.Terms as terms
+use Rattle.bound_members.specs.bound_forms.specs.ExpressionsBound.{are_numbers, numbers_of, element_place, element_type, with_type, indexed, is_host_type, item_of, object_member, callee, term_of, operand_of, givens, place_told}
 use Rattle.bound_members.specs.bound_calls.specs.declared.term.Ending.{Ending}
 use Rattle.bound_members.specs.bound_calls.specs.declared.term.Routine.{Routine}
 use Rattle.bound_members.specs.bound_calls.specs.declared.term.Term.{Term}
@@ -132,10 +132,10 @@ no_object type.range u h = let e : None ≡ Some u = h in absurd cc
 
 same_place : (place : Place) (at : Lvalue) (whole u : Declared) (bounded lends : Bool) → element_type whole ≡ Some u → item_of place (terms.a_place at whole bounded lends) ≡ terms.a_place at whole bounded lends
 same_place place at whole u bounded lends h =
-    ap (λ (b : Bool). if b then object_member place (load at) whole (codes "item") else terms.a_place at whole bounded lends) (no_object whole u h)
+    ap (λ (b : Bool). if b then object_member place place (load at) whole (codes "item") else terms.a_place at whole bounded lends) (no_object whole u h)
 
 same_value : (place : Place) (made : bound.Node) (whole u : Declared) → element_type whole ≡ Some u → item_of place (a_value made whole) ≡ a_value made whole
-same_value place made whole u h = ap (λ (b : Bool). if b then object_member place made whole (codes "item") else a_value made whole) (no_object whole u h)
+same_value place made whole u h = ap (λ (b : Bool). if b then object_member place place made whole (codes "item") else a_value made whole) (no_object whole u h)
 
 place_indexed : (env : Env) (place : Place) (at : Lvalue) (whole : Declared) (bounded lends : Bool) (gs : List Given) (of : Declared) (es : Exprs) → element_type whole ≡ Some of → numbers_of (operand_of env) gs ≡ Some es
     → indexed env place (terms.a_place at whole bounded lends) gs ≡ terms.a_place (element_place at es) of false lends

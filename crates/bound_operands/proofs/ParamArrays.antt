@@ -31,9 +31,9 @@ use Rattle.bound_members.specs.binder.specs.Constants.{home}
 use Rattle.bound_members.specs.binder.specs.Names.{scope_in}
 use Rattle.bound_members.specs.binder.specs.Scopes.{Scope}
 use Rattle.bound_members.specs.binder.specs.Storage.{bound_parameters}
-use Rattle.bound_members.specs.binder.specs.Terms.{Env, Given, Item as Taken_item, a_value, are_apart, bound_arguments, built, by_position, has_names, left_over, listed_values, taken_by}
-use Rattle.bound_members.specs.binder.specs.Terms as terms
-use Rattle.bound_members.specs.binder.specs.ExpressionsBound.{argument_of, callee, given_as, givens, indexed, term_of, place_told}
+use Rattle.bound_members.specs.bound_forms.specs.Terms.{Env, Given, Item as Taken_item, a_value, are_apart, bound_arguments, built, by_position, has_names, left_over, listed_values, taken_by}
+use Rattle.bound_members.specs.bound_forms.specs.Terms as terms
+use Rattle.bound_members.specs.bound_forms.specs.ExpressionsBound.{argument_of, callee, givens, indexed, operand_of, term_of, place_told}
 use Rattle.bound_members.specs.bound_calls.specs.declared.term.Call.{Call}
 use Rattle.bound_members.specs.bound_calls.specs.declared.term.Ending.{Ending}
 use Rattle.bound_members.specs.bound_calls.specs.declared.term.Item.{Item}
@@ -42,10 +42,9 @@ use Rattle.bound_members.specs.bound_calls.specs.declared.term.Passed.{Passed}
 use Rattle.bound_members.specs.bound_calls.specs.declared.term.Routine.{Routine}
 use Rattle.bound_members.specs.bound_calls.specs.declared.term.Term.TheVariants as term
 use Rattle.bound_members.specs.bound_calls.specs.declared.term.Tree.{Tree}
-use Rattle.bound_members.specs.bound_calls.specs.Calls.{PassesRest, node_of, passed_in}
+use Rattle.bound_members.specs.bound_calls.specs.Calls.{ArgumentIs, PassesRest, PushesArgument, node_of, passed_in}
 use Rattle.bound_members.specs.bound_calls.specs.Passing.{AllLeft, AllTaken}
-use Rattle.bound_members.specs.bound_calls.specs.Standing.{AllListed, AllNamed, Base, GatheredAbove, GatheredStands, PushedIs, RoutineStands, Stands, ValueStands, gathered_below, is_gathering, missing_given, missing_value, plain_given}
-use Rattle.bound_members.specs.bound_calls.specs.References.{PushesGiven}
+use Rattle.bound_members.specs.bound_calls.specs.Standing.{AllListed, AllNamed, Base, GatheredAbove, GatheredStands, RoutineStands, Stands, ValueStands, gathered_below, is_gathering, missing_given, missing_value, plain_given}
 use Rattle.bound_members.specs.bound_calls.specs.Steps.{Goes}
 use Rattle.bound_members.specs.bound_calls.proofs.CallSteps.{parameters_long, routine_item, tree_ended}
 use Rattle.bound_members.specs.bound_calls.proofs.Arguing.{left_long}
@@ -82,60 +81,63 @@ below_gathered (suc n) i xs p f = below_gathered n i xs p f
 
 -- ---- one more value
 
-one_above : (env : Env) (p : Passed) (e : Expr) (of : DeclaredType) (ps below : List Piece) → is_gathering (map parameter_view p.left.now) ≡ true → PushedIs of (given_as env (term_of env e) (place_told e)) ps below
+abbrev pub variant : DeclaredType
+variant = Plain element.Variant
+
+one_above : (env : Env) (p : Passed) (e : Expr) (ps below : List Piece) → is_gathering (map parameter_view p.left.now) ≡ true → ArgumentIs (argument_of env type.variant (term_of env e) (place_told e)) ps below
     → GatheredStands env p (plain_given env e) ps below
-one_above env p e of ps below many h = record { many = many; made = h.made; is = value_given (given_as env) (term_of env e) (place_told e) h.made h.is; on_top = h.on_top }
+one_above env p e ps below many h = record { many = many; made = h.made; is = value_given (argument_of env type.variant) (term_of env e) (place_told e) h.made h.is; on_top = h.on_top }
 
-another_above : (env : Env) (o : Option Passed) (g : Given) (f : Expr) (of : DeclaredType) (ps between below : List Piece) → GatheredAbove env o g between below → PushedIs of (given_as env (term_of env f) (place_told f)) ps between
+another_above : (env : Env) (o : Option Passed) (g : Given) (f : Expr) (ps between below : List Piece) → GatheredAbove env o g between below → ArgumentIs (argument_of env type.variant (term_of env f) (place_told f)) ps between
     → GatheredAbove env o (plain_given env f) ps between
-another_above env None g f of ps between below h k = absurd h
-another_above env (Some p) g f of ps between below h k = one_above env p f of ps between h.many k
+another_above env None g f ps between below h k = absurd h
+another_above env (Some p) g f ps between below h k = one_above env p f ps between h.many k
 
-gather_stands : (env : Env) (x : Tree) (i : Item) (xs : List Item) (comma : Option Token) (of : DeclaredType) (d e : Drafted) → gathers i ≡ true → AllNamed d.tables (i ∷ xs) → PushesGiven x d e of → (is : List nodes.Item) (base : Base)
+gather_stands : (env : Env) (x : Tree) (i : Item) (xs : List Item) (comma : Option Token) (d e : Drafted) → gathers i ≡ true → AllNamed d.tables (i ∷ xs) → PushesArgument variant x d e → (is : List nodes.Item) (base : Base)
     → Stands env d.tables (item.Tree x ∷ i ∷ xs) is d.pieces base → Stands env e.tables (item.Gathered ∷ i ∷ xs) (behind_node (node.PlainArgument comma) is) e.pieces base
-gather_stands env x i xs comma of d e g k m [] base h = absurd h
-gather_stands env x i xs comma of d e g k m (nodes.arguments args ∷ is) base h = absurd h
-gather_stands env x (item.Tree y) xs comma of d e g k m (nodes.tree a ∷ is) base h = let n : false ≡ true = g in absurd cc
-gather_stands env x (item.Operand y) xs comma of d e g k m (nodes.tree a ∷ is) base h = let n : false ≡ true = g in absurd cc
-gather_stands env x (item.Indexed y) xs comma of d e g k m (nodes.tree a ∷ is) base h = let n : false ≡ true = g in absurd cc
-gather_stands env x (item.Function y) xs comma of d e g k m (nodes.tree a ∷ is) base h = let n : false ≡ true = g in absurd cc
-gather_stands env x (item.Member y) xs comma of d e g k m (nodes.tree a ∷ is) base h = let n : false ≡ true = g in absurd cc
-gather_stands env x (item.Named y) xs comma of d e g k m (nodes.tree a ∷ is) base h = let n : false ≡ true = g in absurd cc
-gather_stands env x (item.Call y) xs comma of d e g k m (nodes.tree a ∷ []) base h = absurd h.1.1
-gather_stands env x (item.Call y) xs comma of d e g k m (nodes.tree a ∷ nodes.tree b ∷ is) base h = absurd h.1.1
-gather_stands env x (item.Call y) xs comma of d e g k m (nodes.tree a ∷ nodes.arguments args ∷ is) base h =
-    (h.0, (one_above env y.passed a of e.pieces h.0 g (m.stands env a h.0 h.1.0), stands_grows env d.tables e.tables m.grown.tables (item.Call y ∷ xs) k (nodes.arguments args ∷ is) h.0 base h.1.1))
-gather_stands env x (item.Listed y) xs comma of d e g k m (nodes.tree a ∷ []) base h = absurd h.1.1
-gather_stands env x (item.Listed y) xs comma of d e g k m (nodes.tree a ∷ nodes.tree b ∷ is) base h = absurd h.1.1
-gather_stands env x (item.Listed y) xs comma of d e g k m (nodes.tree a ∷ nodes.arguments args ∷ is) base h =
-    (h.0, (one_above env y a of e.pieces h.0 g (m.stands env a h.0 h.1.0), stands_grows env d.tables e.tables m.grown.tables (item.Listed y ∷ xs) k (nodes.arguments args ∷ is) h.0 base h.1.1))
-gather_stands env x item.Gathered xs comma of d e g k m (nodes.tree a ∷ []) base h = absurd h.1.1
-gather_stands env x item.Gathered xs comma of d e g k m (nodes.tree a ∷ nodes.tree b ∷ is) base h = absurd h.1.1
-gather_stands env x item.Gathered xs comma of d e g k m (nodes.tree a ∷ nodes.arguments no_args ∷ is) base h = absurd h.1.1
-gather_stands env x item.Gathered xs comma of d e g k m (nodes.tree a ∷ nodes.arguments (missing before other) ∷ is) base h = (
+gather_stands env x i xs comma d e g k m [] base h = absurd h
+gather_stands env x i xs comma d e g k m (nodes.arguments args ∷ is) base h = absurd h
+gather_stands env x (item.Tree y) xs comma d e g k m (nodes.tree a ∷ is) base h = let n : false ≡ true = g in absurd cc
+gather_stands env x (item.Operand y) xs comma d e g k m (nodes.tree a ∷ is) base h = let n : false ≡ true = g in absurd cc
+gather_stands env x (item.Indexed y) xs comma d e g k m (nodes.tree a ∷ is) base h = let n : false ≡ true = g in absurd cc
+gather_stands env x (item.Function y) xs comma d e g k m (nodes.tree a ∷ is) base h = let n : false ≡ true = g in absurd cc
+gather_stands env x (item.Member y) xs comma d e g k m (nodes.tree a ∷ is) base h = let n : false ≡ true = g in absurd cc
+gather_stands env x (item.Named y) xs comma d e g k m (nodes.tree a ∷ is) base h = let n : false ≡ true = g in absurd cc
+gather_stands env x (item.Call y) xs comma d e g k m (nodes.tree a ∷ []) base h = absurd h.1.1
+gather_stands env x (item.Call y) xs comma d e g k m (nodes.tree a ∷ nodes.tree b ∷ is) base h = absurd h.1.1
+gather_stands env x (item.Call y) xs comma d e g k m (nodes.tree a ∷ nodes.arguments args ∷ is) base h =
+    (h.0, (one_above env y.passed a e.pieces h.0 g (m.stands env a h.0 h.1.0), stands_grows env d.tables e.tables m.grown.tables (item.Call y ∷ xs) k (nodes.arguments args ∷ is) h.0 base h.1.1))
+gather_stands env x (item.Listed y) xs comma d e g k m (nodes.tree a ∷ []) base h = absurd h.1.1
+gather_stands env x (item.Listed y) xs comma d e g k m (nodes.tree a ∷ nodes.tree b ∷ is) base h = absurd h.1.1
+gather_stands env x (item.Listed y) xs comma d e g k m (nodes.tree a ∷ nodes.arguments args ∷ is) base h =
+    (h.0, (one_above env y a e.pieces h.0 g (m.stands env a h.0 h.1.0), stands_grows env d.tables e.tables m.grown.tables (item.Listed y ∷ xs) k (nodes.arguments args ∷ is) h.0 base h.1.1))
+gather_stands env x item.Gathered xs comma d e g k m (nodes.tree a ∷ []) base h = absurd h.1.1
+gather_stands env x item.Gathered xs comma d e g k m (nodes.tree a ∷ nodes.tree b ∷ is) base h = absurd h.1.1
+gather_stands env x item.Gathered xs comma d e g k m (nodes.tree a ∷ nodes.arguments no_args ∷ is) base h = absurd h.1.1
+gather_stands env x item.Gathered xs comma d e g k m (nodes.tree a ∷ nodes.arguments (missing before other) ∷ is) base h = (
   h.0,
   (
-    another_above env (gathered_below xs) missing_given a of e.pieces h.0 h.1.1.0 h.1.1.1.0 (m.stands env a h.0 h.1.0),
+    another_above env (gathered_below xs) missing_given a e.pieces h.0 h.1.1.0 h.1.1.1.0 (m.stands env a h.0 h.1.0),
     stands_grows env d.tables e.tables m.grown.tables (item.Gathered ∷ xs) k (nodes.arguments (missing before other) ∷ is) h.0 base h.1.1,
   ),
 )
-gather_stands env x item.Gathered xs comma of d e g k m (nodes.tree a ∷ nodes.arguments (tree.named before other name sign b) ∷ is) base h = absurd h.1.1
-gather_stands env x item.Gathered xs comma of d e g k m (nodes.tree a ∷ nodes.arguments (plain before other b) ∷ is) base h = (
+gather_stands env x item.Gathered xs comma d e g k m (nodes.tree a ∷ nodes.arguments (tree.named before other name sign b) ∷ is) base h = absurd h.1.1
+gather_stands env x item.Gathered xs comma d e g k m (nodes.tree a ∷ nodes.arguments (plain before other b) ∷ is) base h = (
   h.0,
   (
-    another_above env (gathered_below xs) (plain_given env b) a of e.pieces h.0 h.1.1.0 h.1.1.1.0 (m.stands env a h.0 h.1.0),
+    another_above env (gathered_below xs) (plain_given env b) a e.pieces h.0 h.1.1.0 h.1.1.1.0 (m.stands env a h.0 h.1.0),
     stands_grows env d.tables e.tables m.grown.tables (item.Gathered ∷ xs) k (nodes.arguments (plain before other b) ∷ is) h.0 base h.1.1,
   ),
 )
 
-pub goes_gathered : (env : Env) (x : Tree) (i : Item) (xs new : List Item) (comma : Option Token) (of : DeclaredType) (d e : Drafted) → new ≡ item.Gathered ∷ i ∷ xs → gathers i ≡ true → AllNamed d.tables (item.Tree x ∷ i ∷ xs)
-    → PushesGiven x d e of → Goes env d (item.Tree x ∷ i ∷ xs) e new (behind_node (node.PlainArgument comma))
-goes_gathered env x i xs new comma of d e n g k m =
+pub goes_gathered : (env : Env) (x : Tree) (i : Item) (xs new : List Item) (comma : Option Token) (d e : Drafted) → new ≡ item.Gathered ∷ i ∷ xs → gathers i ≡ true → AllNamed d.tables (item.Tree x ∷ i ∷ xs)
+    → PushesArgument variant x d e → Goes env d (item.Tree x ∷ i ∷ xs) e new (behind_node (node.PlainArgument comma))
+goes_gathered env x i xs new comma d e n g k m =
     let B : List Item → Type 0 = λ l. Goes env d (item.Tree x ∷ i ∷ xs) e l (behind_node (node.PlainArgument comma)) in
     subst B (sym n) (record {
       grown = m.grown;
       named = (tt, all_named d.tables e.tables m.grown.tables (i ∷ xs) k.1);
-      stands = λ is base h. gather_stands env x i xs comma of d e g k.1 m is base h;
+      stands = λ is base h. gather_stands env x i xs comma d e g k.1 m is base h;
     })
 
 -- ---- one more value, which isn't written
@@ -144,7 +146,7 @@ abbrev pub missing_put : Drafted → Drafted
 missing_put d = record d { pieces = put d.tables (node_of kind.NotGiven nowhere (Plain element.Variant)) d.pieces }
 
 none_above : (env : Env) (p : Passed) (ps : List Piece) → is_gathering (map parameter_view p.left.now) ≡ true → GatheredStands env p missing_given (an_expr missing_value ∷ ps) ps
-none_above env p ps many = record { many = many; made = missing_value; is = value_missing (given_as env); on_top = refl }
+none_above env p ps many = record { many = many; made = missing_value; is = value_missing (argument_of env type.variant); on_top = refl }
 
 another_none : (env : Env) (o : Option Passed) (g : Given) (ps below : List Piece) → GatheredAbove env o g ps below → GatheredAbove env o missing_given (an_expr missing_value ∷ ps) ps
 another_none env None g ps below h = absurd h
@@ -189,7 +191,7 @@ pub record Ungathered (env : Env) (t : Tables) (n : ℕ) (i : Item) (xs : List I
   pub given : List Given
   pub givens_are : givens env args ≡ givens env before ++ given
   pub made : List bound.Expr
-  pub values : AllListed (given_as env) given made
+  pub values : AllListed (argument_of env type.variant) given made
   pub count_is : length made ≡ n
   pub between : List Piece
   pub on_top : ps ≡ above (map an_expr made) between
@@ -210,7 +212,7 @@ ungathered_on env t n i xs p before args g is ps below base eq s r =
       given = r.given ++ g ∷ [];
       givens_are = eq ∙ ap (λ l. l ++ g ∷ []) r.givens_are ∙ append_assoc (givens env r.before) r.given (g ∷ []);
       made = r.made ++ s.made ∷ [];
-      values = listed_more (given_as env) r.given r.made g s.made r.values s.is;
+      values = listed_more (argument_of env type.variant) r.given r.made g s.made r.values s.is;
       count_is = push_long r.made s.made ∙ ap suc r.count_is;
       between = r.between;
       on_top = s.on_top ∙ ap (λ st. an_expr s.made ∷ st) r.on_top ∙ sym (above_value r.made s.made r.between);
@@ -374,7 +376,7 @@ first_many first others ps e h = subst (λ l. is_gathering (map parameter_view l
 -- the value of a call, behind what was pushed
 pub called_gathered : (env : Env) (r : Routine) (x : Passed) (values : ℕ) (d e : Drafted) (ending : Ending) (y : terms.Term) (place : Place) (gs : List Given) (xs : List Argument) (given : List Given) (es : List bound.Expr) (qs between below : List Piece)
     → is_gathering (map parameter_view x.left.now) ≡ true → length es ≡ values → (values ≡ 0 → ⊥) → EndsGathered r x values d e ending → RoutineStands env r y qs qs
-    → AllTaken (argument_of env) (map parameter_view r.parameters.now) gs xs (map parameter_view x.left.now) → x.count ≡ length xs → AllListed (given_as env) given es → d.pieces ≡ above (map an_expr es) between → between ≡ above (map an_argument xs) below
+    → AllTaken (argument_of env) (map parameter_view r.parameters.now) gs xs (map parameter_view x.left.now) → x.count ≡ length xs → AllListed (argument_of env type.variant) given es → d.pieces ≡ above (map an_expr es) between → between ≡ above (map an_argument xs) below
     → ValueStands e.tables ending (indexed env place y (gs ++ given)) e.pieces below
 called_gathered env r x values d e ending y place gs xs [] [] qs between below many long some h s taken counted v a b = absurd (some (sym long))
 called_gathered env r x values d e ending y place gs xs [] (z ∷ es) qs between below many long some h s taken counted v a b = absurd v
@@ -398,7 +400,7 @@ called_gathered env r x values d e ending y place gs xs (g ∷ ns) es qs between
     let B : terms.Term → Type 0 = λ z. indexed env place z (gs ++ g ∷ ns) ≡ a_value (call r.procedure args) (declared_view r.of) in
     subst P (sym h.ending_is) (record {
       made = call r.procedure args;
-      is = subst B (sym s.is) (call_is value env place (gs ++ g ∷ ns) s.space s.number s.written s.read r.procedure (declared_view r.of) ps args s.reads s.procedure_is s.parameters_are s.of_is there given);
+      is = subst B (sym s.is) (call_is value (operand_of env) env place (gs ++ g ∷ ns) s.space s.number s.written s.read r.procedure (declared_view r.of) ps args s.reads s.procedure_is s.parameters_are s.of_is there given);
       ends = call_ends e.tables r.procedure h.arguments all e.pieces below count on_top;
     })
 

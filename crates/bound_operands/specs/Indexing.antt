@@ -5,8 +5,8 @@ use Rattle.bound_project.specs.View.{declared_view}
 use Rattle.bound_project.specs.Expressions as bound
 use Rattle.bound_project.specs.Pieces.{Piece, an_expr}
 use Rattle.bound_project.specs.Drafts.{Drafted}
-use Rattle.bound_members.specs.binder.specs.Terms.{expression_of}
-use Rattle.bound_members.specs.binder.specs.ExpressionsBound.{element_type}
+use Rattle.bound_members.specs.bound_forms.specs.Terms.{expression_of}
+use Rattle.bound_members.specs.bound_forms.specs.ExpressionsBound.{element_type}
 use Rattle.bound_members.specs.bound_calls.specs.declared.term.Ending.{Ending}
 use Rattle.bound_members.specs.bound_calls.specs.declared.term.Indexed.{Indexed}
 use Rattle.bound_members.specs.bound_calls.specs.declared.term.Target.TheVariants as target

@@ -3,7 +3,7 @@ ghost use Rattle.vba_lexer.specs.declared.token.Token.{Token};
 ghost use Rattle.vba_expression.specs.declared.node.ExpressionNode.TheVariants as node;
 ghost use Rattle.vba_expression.specs.Nodes.{behind_node};
 ghost use Rattle.bound_project.specs.DraftView.{draft_view};
-ghost use Rattle.bound_members.specs.binder.specs.Terms as plain;
+ghost use Rattle.bound_members.specs.bound_forms.specs.Terms as plain;
 ghost use Rattle.bound_members.specs.bound_calls.specs.Calls.{passed_in, with_passed};
 ghost use Rattle.bound_members.specs.bound_calls.specs.Standing.{AllNamed};
 ghost use Rattle.bound_members.specs.bound_calls.specs.Steps.{Goes};

@@ -1,22 +1,22 @@
 //! Functions of the library: what their names are, and calls of them.
 
-ghost use Rattle.std.specs.Prelude.{◌≡◌, IfOk};
+ghost use Rattle.std.specs.Prelude.{◌≡◌, ◌==◌, ◌&&◌, ◌||◌, not, IfOk, OnOk};
 ghost use Rattle.vba_lib.specs.Library.{declared_of};
 ghost use Rattle.bound_project.specs.DraftView.{draft_view};
 ghost use Rattle.bound_project.specs.Drafts.{Drafted};
 ghost use Rattle.bound_project.specs.View.{declared_view};
-ghost use Rattle.bound_members.specs.binder.specs.ExpressionsBound as bound;
-ghost use Rattle.bound_members.specs.binder.specs.Terms as plain;
+ghost use Rattle.bound_members.specs.bound_forms.specs.ExpressionsBound as bound;
+ghost use Rattle.bound_members.specs.bound_forms.specs.Terms as plain;
 ghost use Rattle.bound_members.specs.bound_calls.specs.declared.term.Item.TheVariants as item;
-ghost use Rattle.bound_operands.specs.Functions.{EndsFunction, PushesTaken, taking_view};
+ghost use Rattle.bound_operands.specs.Functions.{AddsNamedValue, EndsFunction, PushesMarked, PushesTaken, call_takes, taking_view};
 ghost use Rattle.vba_lib.specs.declared.function.LibraryFunction.TheVariants as function;
 ghost use Rattle.bound_members.specs.bound_calls.specs.Indexing.{AddsArgument, AddsMissing, OpensTerm};
 ghost use Rattle.bound_members.specs.bound_calls.specs.Standing.{TermNamed};
 
 use crate::types::element_type;
 use bound_members::bound_calls::{
-    Ending, Function, FunctionCall, Term, Tree, nowhere, push_given, push_if_any, push_node,
-    push_operand, sum,
+    Ending, Function, FunctionCall, Term, Tree, mark_given, nowhere, push_given, push_if_any,
+    push_node, push_operand, sum,
 };
 use bound_members::bound_declarations::NotYet;
 use bound_project::{DeclaredType, Draft, ElementType, NodeKind};
@@ -32,16 +32,8 @@ pub fn open_function<'a>(tree: Tree<'a>, function: Function) -> FunctionCall
         place: tree.place,
         function,
         count: 0,
-    }
-}
-
-/// Is a type a Type of the project?
-fn is_user_type(of: DeclaredType) -> bool
-    ensures { result ≡ bound.is_user_type (declared_view of) }
-{
-    match of {
-        DeclaredType::Plain(ElementType::UserType(_)) => true,
-        _ => false,
+        is_wrong: false,
+        is_started: true,
     }
 }
 
@@ -119,7 +111,23 @@ fn push_taken<'a>(
     }
 }
 
-/// One more argument: the expression on top. A value of a Type is none.
+/// Pushes an argument as a function takes it; a value of a Type is marked as what breaks a static rule.
+fn push_marked<'a>(
+    alloc: Global,
+    draft: &mut Draft,
+    taking: Taking,
+    tree: Tree<'a>,
+) -> Result<(), OrMemory<NotYet>>
+    requires { TermNamed (draft_view draft.old).tables tree.term }
+    ensures { OnOk result (PushesMarked taking tree.entry (draft_view draft.old) (draft_view draft.new)) }
+{
+    let of = push_taken(alloc, draft, taking, tree)?;
+    let variant = DeclaredType::Plain(ElementType::Variant);
+    mark_given(draft, variant, false, of, tree.place)?;
+    Ok(())
+}
+
+/// One more argument: the expression on top.
 pub fn add_value<'a>(
     alloc: Global,
     draft: &mut Draft,
@@ -131,11 +139,52 @@ pub fn add_value<'a>(
 {
     let count = sum(call.count, 1)?;
     let taking = taking_of(call.function.function, call.count);
-    let of = push_taken(alloc, draft, taking, tree)?;
-    if is_user_type(of) {
-        return Err(OrMemory::Fault(NotYet));
-    }
+    push_marked(alloc, draft, taking, tree)?;
     Ok(FunctionCall { count, ..call })
+}
+
+/// One more argument, which has a name: the expression on top. No function takes one.
+pub fn add_named_value<'a>(
+    alloc: Global,
+    draft: &mut Draft,
+    call: FunctionCall,
+    tree: Tree<'a>,
+) -> Result<FunctionCall, OrMemory<NotYet>>
+    requires { TermNamed (draft_view draft.old).tables tree.term }
+    ensures { IfOk result (λ more. AddsNamedValue call tree.entry (draft_view draft.old) (draft_view draft.new) more) }
+{
+    let count = sum(call.count, 1)?;
+    let taking = taking_of(call.function.function, call.count);
+    push_marked(alloc, draft, taking, tree)?;
+    Ok(FunctionCall {
+        count,
+        is_wrong: true,
+        ..call
+    })
+}
+
+/// Does a function need the argument with a number, from 0?
+fn needs(function: LibraryFunction, number: u32) -> bool
+    ensures { result ≡ bound.needs function number }
+{
+    match function {
+        LibraryFunction::InStr => number == 1 || number == 2,
+        _ => number < u32::from(arity(function).0),
+    }
+}
+
+/// Is a call wrong whose next argument isn't written?
+fn is_wrong_without(call: FunctionCall) -> bool
+    ensures { result ≡ (call.is_wrong || bound.needs call.function.function call.count) }
+{
+    call.is_wrong || needs(call.function.function, call.count)
+}
+
+/// Is the first argument written of a call whose next one isn't?
+fn is_started_without(call: FunctionCall) -> bool
+    ensures { result ≡ (call.is_started && not (call.count == 0)) }
+{
+    call.is_started && call.count != 0
 }
 
 /// One more argument, which isn't written: Missing.
@@ -148,7 +197,14 @@ pub fn add_missing_value(
     let count = sum(call.count, 1)?;
     let variant = DeclaredType::Plain(ElementType::Variant);
     push_node(draft, NodeKind::NotGiven, variant, nowhere())?;
-    Ok(FunctionCall { count, ..call })
+    let is_wrong = is_wrong_without(call);
+    let is_started = is_started_without(call);
+    Ok(FunctionCall {
+        count,
+        is_wrong,
+        is_started,
+        ..call
+    })
 }
 
 /// Does a function take so many arguments? 255 is no limit.
@@ -157,6 +213,25 @@ fn takes_count(function: LibraryFunction, count: u32) -> bool
 {
     let (least, greatest) = arity(function);
     u32::from(least) <= count && (greatest == 255 || count <= u32::from(greatest))
+}
+
+/// Has InStr, where it has no start, its first argument?
+fn has_start(function: LibraryFunction, count: u32, first: bool) -> bool
+    ensures { result ≡ bound.has_start function count first }
+{
+    match function {
+        LibraryFunction::InStr => first || 3 <= count,
+        _ => true,
+    }
+}
+
+/// Does a function take the arguments that it is called with?
+fn takes(call: FunctionCall) -> bool
+    ensures { result ≡ call_takes call }
+{
+    let function = call.function.function;
+    !call.is_wrong
+        && (takes_count(function, call.count) && has_start(function, call.count, call.is_started))
 }
 
 /// The declared type of a use.
@@ -179,12 +254,12 @@ fn answer_type(
     }
 }
 
-/// What a function gives of its arguments; where it doesn't take so many they are marked as what breaks a static rule.
+/// What a function gives of its arguments; where it doesn't take them they are marked as what breaks a static rule.
 pub fn close_function<'a>(alloc: Global, call: FunctionCall) -> Result<Term<'a>, OrMemory<NotYet>>
     ensures { IfOk result (λ term. EndsFunction call term) }
 {
     let function = call.function;
-    if !takes_count(function.function, call.count) {
+    if !takes(call) {
         let place = call.place;
         return Ok(Term::Value(Ending {
             kind: NodeKind::Marked {

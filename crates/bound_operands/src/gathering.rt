@@ -6,14 +6,14 @@ ghost use Rattle.vba_expression.specs.declared.node.ExpressionNode.TheVariants a
 ghost use Rattle.vba_expression.specs.Nodes.{behind_node};
 ghost use Rattle.bound_project.specs.DraftView.{draft_view};
 ghost use Rattle.bound_project.specs.View.{parameter_view};
-ghost use Rattle.bound_members.specs.binder.specs.Terms as plain;
+ghost use Rattle.bound_members.specs.bound_forms.specs.Terms as plain;
 ghost use Rattle.bound_members.specs.bound_calls.specs.Standing.{AllNamed, is_gathering};
 ghost use Rattle.bound_members.specs.bound_calls.specs.Steps.{Goes};
 ghost use Rattle.bound_operands.specs.Gathering.{EndsGathered, PassesGathered, gathers, with_gathered, with_value};
 
 use bound_members::bound_calls::{
-    Ending, Item, Passed, Routine, Term, Tree, count_of, nowhere, pass_rest, push_given, push_node,
-    put_item, sum, take_item,
+    Ending, Item, Passed, Routine, Term, Tree, count_of, nowhere, pass_rest, push_argument,
+    push_node, put_item, sum, take_item,
 };
 use bound_members::bound_declarations::NotYet;
 use bound_project::{DeclaredType, Draft, ElementType, NodeKind, Parameter};
@@ -54,7 +54,8 @@ pub fn gather<'a>(
     requires named { AllNamed (draft_view draft.old).tables (Item.Tree tree ∷ item ∷ reverse stack.old.items) }
     ensures { OnOk result ((env : plain.Env) (comma : Option Token) → Goes env (draft_view draft.old) (Item.Tree tree.entry ∷ item.entry ∷ reverse stack.old.items) (draft_view draft.new) (reverse stack.new.items) (behind_node (node.PlainArgument comma))) }
 {
-    push_given(alloc, draft, tree)?;
+    let variant = DeclaredType::Plain(ElementType::Variant);
+    push_argument(alloc, draft, variant, tree)?;
     put_item(stack, item)?;
     put_item(stack, Item::Gathered)?;
     Ok(())

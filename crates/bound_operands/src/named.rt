@@ -3,21 +3,23 @@
 
 ghost use Rattle.std.specs.Prelude.{◌≡◌, ◌≢◌, [], ◌∷◌, IfOk, OnOk, Option, map, option_map, reverse};
 ghost use Rattle.vba_lexer.specs.declared.token.Token.{Token};
+ghost use Rattle.vba_words.specs.declared.identifier.Identifier as identifier;
 ghost use Rattle.vba_expression.specs.declared.node.ExpressionNode.TheVariants as node;
 ghost use Rattle.vba_expression.specs.Nodes.{behind_node};
 ghost use Rattle.bound_project.specs.DraftView.{draft_view};
 ghost use Rattle.bound_project.specs.View.{parameter_view};
-ghost use Rattle.bound_members.specs.binder.specs.Terms as plain;
+ghost use Rattle.bound_members.specs.bound_forms.specs.Terms as plain;
 ghost use Rattle.bound_members.specs.bound_calls.specs.InOrder.{found_view, is_named, with_named};
 ghost use Rattle.bound_members.specs.bound_calls.specs.Standing.{AllNamed, passed_below};
 ghost use Rattle.bound_members.specs.bound_calls.specs.Steps.{Goes};
 
 use crate::call_steps;
+use crate::functions::add_named_value;
 use crate::gathering::{index_gathered, take_gathered};
 use bound_members::add_named;
 use bound_members::bound_calls::{
-    Item, MemberCall, Named, Passed, Term, Tree, named_ending, pass_tree, put_item, sum, take_item,
-    take_numbers,
+    FunctionCall, Item, MemberCall, Named, Passed, Term, Tree, named_ending, pass_tree, put_item,
+    sum, take_item, take_numbers,
 };
 use bound_members::bound_declarations::NotYet;
 use bound_project::{Draft, Parameter};
@@ -106,6 +108,22 @@ fn give_named<'a>(
     Ok(())
 }
 
+/// One more argument of a function of the library: an expression behind the call, which has a name.
+fn give_function<'a>(
+    alloc: Global,
+    draft: &mut Draft,
+    stack: &mut Vec<Item<'a>>,
+    call: FunctionCall,
+    tree: Tree<'a>,
+) -> Result<(), OrMemory<NotYet>>
+    requires { AllNamed (draft_view draft.old).tables (Item.Tree tree ∷ Item.Function call ∷ reverse stack.old.items) }
+    ensures { OnOk result ((env : plain.Env) (comma : Option Token) (name : identifier.Identifier) (mark : Token) → Goes env (draft_view draft.old) (Item.Tree tree.entry ∷ Item.Function call ∷ reverse stack.old.items) (draft_view draft.new) (reverse stack.new.items) (behind_node (node.NamedArgument comma name mark))) }
+{
+    let more = add_named_value(alloc, draft, call, tree)?;
+    put_item(stack, Item::Function(more))?;
+    Ok(())
+}
+
 /// One more argument: the expression on top, for the parameter with this name.
 pub fn step_named_argument<'a>(
     alloc: Global,
@@ -121,6 +139,7 @@ pub fn step_named_argument<'a>(
     };
     match take_item(stack) {
         Some(Item::Member(call)) => give_named(alloc, draft, stack, call, tree, name),
+        Some(Item::Function(call)) => give_function(alloc, draft, stack, call, tree),
         Some(item) => {
             put_item(stack, item)?;
             pass_named(alloc, draft, stack, tree, name)

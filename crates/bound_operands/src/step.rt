@@ -5,7 +5,7 @@ ghost use Rattle.vba_expression.specs.declared.operator.BinaryOperator.TheVarian
 ghost use Rattle.vba_expression.specs.Nodes.{behind_node};
 ghost use Rattle.bound_project.specs.DraftView.{draft_view};
 ghost use Rattle.bound_members.specs.binder.specs.Constants.{compare_in};
-ghost use Rattle.bound_members.specs.binder.specs.Terms as plain;
+ghost use Rattle.bound_members.specs.bound_forms.specs.Terms as plain;
 ghost use Rattle.bound_members.specs.bound_calls.specs.Standing.{AllNamed};
 ghost use Rattle.bound_members.specs.bound_calls.specs.Steps.{Goes, is_same};
 

@@ -7,8 +7,8 @@ use Rattle.vba_expression.specs.Nodes.{behind_node}
 use Rattle.vba_expression.specs.declared.node.ExpressionNode.TheVariants as node
 use Rattle.bound_project.specs.Pieces.{Piece}
 use Rattle.bound_project.specs.Drafts.{Drafted}
-use Rattle.bound_names.specs.binder.specs.Terms.{Env}
-use Rattle.bound_names.specs.binder.specs.ExpressionsBound.{item_of, callee, term_of}
+use Rattle.bound_names.specs.bound_forms.specs.Terms.{Env}
+use Rattle.bound_names.specs.bound_forms.specs.ExpressionsBound.{item_of, callee, term_of}
 use Rattle.bound_names.specs.bound_calls.specs.declared.term.Term.{Term}
 use Rattle.bound_names.specs.bound_calls.specs.declared.term.Term.TheVariants as term
 use Rattle.bound_names.specs.bound_calls.specs.declared.term.Tree.{Tree}

@@ -18,9 +18,10 @@ use Rattle.bound_names.specs.binder.specs.Declarations.{Written, What, a_variabl
 use Rattle.bound_names.specs.binder.specs.Names.{scope_in}
 use Rattle.bound_names.specs.binder.specs.Scopes.{Space, Scope, first_at, is_named, seen_from}
 use Rattle.bound_names.specs.binder.specs.Storage.{bound_parameter, bound_parameters, takes_value}
-use Rattle.bound_names.specs.binder.specs.Terms.{Env, Given, a_routine, a_value, bound_arguments, expression_of}
-use Rattle.bound_names.specs.binder.specs.Terms as terms
-use Rattle.bound_names.specs.binder.specs.ExpressionsBound.{argument_of, bare_call, call_value, call_with, callee, element_type, if_there, indexed, indexed_value, indexes_value, is_get, is_property, item_of, node_or, numbers_of, operand_of, parameters_in, procedure_with, reader, term_of, with_type, place_told}
+use Rattle.bound_names.specs.bound_forms.specs.Terms.{Env, Given, a_routine, a_value, bound_arguments, expression_of}
+use Rattle.bound_names.specs.bound_forms.specs.Terms as terms
+use Rattle.bound_names.specs.bound_forms.specs.ExpressionsBound.{argument_of, bare_call, call_value, call_with, callee, element_type, if_there, indexed, indexed_value, indexes_value, item_of, node_or, numbers_of, operand_of, term_of, with_type, place_told}
+use Rattle.bound_names.specs.binder.specs.Signatures.{is_get, is_property, parameters_in, procedure_with, reader}
 use Rattle.bound_names.specs.declared_names.specs.View.{written_view}
 use Rattle.bound_names.specs.bound_calls.specs.declared.term.Ending.{Ending}
 use Rattle.bound_names.specs.bound_calls.specs.declared.term.Indexed.{Indexed}

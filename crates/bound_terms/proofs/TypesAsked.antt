@@ -18,8 +18,8 @@ use Rattle.bound_project.specs.Expressions as bound
 use Rattle.bound_project.specs.Pieces.{Piece, Tables, expr_of, of_value}
 use Rattle.bound_project.specs.Drafts.{Drafted}
 use Rattle.bound_names.specs.binder.specs.Types.{meant_type, plain_type}
-use Rattle.bound_names.specs.binder.specs.Terms.{Env, a_value}
-use Rattle.bound_names.specs.binder.specs.ExpressionsBound.{given_as, term_of, typed_term, place_told}
+use Rattle.bound_names.specs.bound_forms.specs.Terms.{Env, a_value}
+use Rattle.bound_names.specs.bound_forms.specs.ExpressionsBound.{given_as, term_of, typed_term, place_told}
 use Rattle.bound_names.specs.bound_calls.specs.declared.term.Tree.{Tree}
 use Rattle.bound_names.specs.bound_calls.specs.declared.term.Term.{Term}
 use Rattle.bound_names.specs.bound_calls.specs.declared.term.Term.TheVariants as term

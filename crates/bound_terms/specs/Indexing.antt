@@ -1,6 +1,6 @@
 -- Serves the code: values that numbers in brackets index.
 use Rattle.std.specs.Prelude.{◌≡◌, true, []}
-use Rattle.bound_names.specs.binder.specs.ExpressionsBound.{is_property}
+use Rattle.bound_names.specs.binder.specs.Signatures.{is_property}
 use Rattle.bound_names.specs.declared_names.specs.View.{written_view}
 use Rattle.bound_names.specs.bound_calls.specs.declared.term.Routine.{Routine}
 

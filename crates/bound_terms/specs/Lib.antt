@@ -1,6 +1,7 @@
 pub use Rattle.bound_names
 pub use Rattle.bound_operands
 pub use Rattle.bound_names.specs.binder
+pub use Rattle.bound_names.specs.bound_forms
 pub use Rattle.bound_names.specs.bound_calls
 pub use Rattle.bound_names.specs.bound_declarations
 pub use Rattle.bound_names.specs.bound_members

@@ -2,7 +2,7 @@
 
 ghost use Rattle.std.specs.Prelude.{IfOk, MatchBool};
 ghost use Rattle.bound_project.specs.DraftView.{draft_view};
-ghost use Rattle.bound_names.specs.binder.specs.Terms as plain;
+ghost use Rattle.bound_names.specs.bound_forms.specs.Terms as plain;
 ghost use Rattle.bound_names.specs.bound_calls.specs.Indexing.{Opens, OpensTerm};
 ghost use Rattle.bound_names.specs.bound_calls.specs.Standing.{TermNamed};
 ghost use Rattle.bound_terms.specs.Indexing.{IndexesValue};

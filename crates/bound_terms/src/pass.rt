@@ -2,7 +2,7 @@ ghost use Rattle.std.specs.Prelude.{◌≡◌, OnOk, IfOk, Some, reverse};
 ghost use Rattle.vba_expression.specs.Nodes.{behind_node, behind_nodes, tree_in};
 ghost use Rattle.vba_expression.specs.View.{view as expression_view};
 ghost use Rattle.bound_project.specs.DraftView.{draft_view};
-ghost use Rattle.bound_names.specs.binder.specs.ExpressionsBound.{bound_as_given, bound_operand, bound_reference, bound_value};
+ghost use Rattle.bound_names.specs.bound_forms.specs.ExpressionsBound.{bound_as_given, bound_operand, bound_reference, bound_value};
 ghost use Rattle.bound_names.specs.bound_calls.specs.Standing.{AllNamed, TermNamed};
 ghost use Rattle.bound_names.specs.bound_calls.specs.Steps.{Binds, Goes, Leaves, PushesValue};
 ghost use Rattle.bound_names.specs.View.{EnvStands, env_view};
@@ -112,7 +112,9 @@ fn step<'a>(
         ExpressionNode::WithMember { dot, member } => {
             step_with_member(alloc, draft, env, stack, refers, *dot, member)
         }
-        ExpressionNode::Member { member, .. } => step_member(alloc, draft, env, stack, member),
+        ExpressionNode::Member { dot, member } => {
+            step_member(alloc, draft, env, stack, *dot, member)
+        }
         ExpressionNode::Parenthesised { .. } => step_parenthesised(alloc, draft, stack),
         ExpressionNode::TypeOf {
             type_of_word,

@@ -5,7 +5,7 @@ use Rattle.std.proofs.lemmas.Bool.{ne_eqb}
 use Rattle.std.proofs.lemmas.List.{take_at}
 use Rattle.bound_declarations.specs.vba_words.specs.declared.identifier.Identifier.{Identifier}
 use Rattle.bound_declarations.specs.bound_project.specs.Project.{Declaration}
-use Rattle.bound_declarations.specs.binder.specs.Bind.{numbered}
+use Rattle.bound_declarations.specs.binder.specs.Projects.{numbered}
 use Rattle.bound_declarations.specs.binder.specs.Constants.{home}
 use Rattle.bound_declarations.specs.binder.specs.Declarations.{Written, What, a_variable, a_constant, an_enum, a_member, a_type, an_event, a_procedure, Entry, Own, the_result, a_parameter, a_local, a_local_constant, an_array, undeclared, Local}
 use Rattle.bound_declarations.specs.binder.specs.Scopes.{Space, Scope, is_same}

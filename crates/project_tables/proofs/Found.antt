@@ -7,10 +7,10 @@ use Rattle.std.proofs.lemmas.List.{map-append}
 use Rattle.std.proofs.lemmas.Option.{slice_get-map, get_or_from_slice_get}
 use Rattle.bound_declarations.specs.vba_words.specs.declared.identifier.Identifier.{Identifier}
 use Rattle.bound_declarations.specs.bound_project.specs.Project as bound
-use Rattle.bound_declarations.specs.binder.specs.Bind.{numbered}
+use Rattle.bound_declarations.specs.binder.specs.Projects.{numbered}
 use Rattle.bound_declarations.specs.binder.specs.Constants.{home}
 use Rattle.bound_declarations.specs.binder.specs.Declarations.{Written, What, a_variable, a_constant, an_enum, a_member, a_type, an_event, a_procedure, Entry}
-use Rattle.bound_declarations.specs.binder.specs.ExpressionsBound.{parameters_in}
+use Rattle.bound_declarations.specs.binder.specs.Signatures.{parameters_in}
 use Rattle.bound_declarations.specs.binder.specs.Names.{scope_of, scope_in}
 use Rattle.bound_declarations.specs.binder.specs.Scopes.{Space, Scope}
 use Rattle.bound_declarations.specs.binder.specs.Storage.{parameters_of, shared_before, shared_from, shared_of}

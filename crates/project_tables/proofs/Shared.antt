@@ -8,7 +8,7 @@ use Rattle.bound_declarations.specs.bound_project.specs.View.{declaration_view, 
 use Rattle.bound_declarations.specs.bound_project.specs.declared.declarations.Declaration.{Declaration}
 use Rattle.bound_declarations.specs.bound_project.specs.declared.declarations.Module.{Module}
 use Rattle.bound_declarations.specs.bound_project.specs.declared.declarations.Procedure.{Procedure}
-use Rattle.bound_declarations.specs.binder.specs.Bind.{numbered, class_of, bound_procedure, procedures_of}
+use Rattle.bound_declarations.specs.binder.specs.Projects.{numbered, class_of, bound_procedure, procedures_of}
 use Rattle.bound_declarations.specs.binder.specs.Constants.{home}
 use Rattle.bound_declarations.specs.binder.specs.Declarations.{Written, What, a_variable, a_constant, an_enum, a_member, a_type, an_event, a_procedure, Entry}
 use Rattle.bound_declarations.specs.binder.specs.Names.{scope_of, scope_in, locals_of}

@@ -2,7 +2,7 @@
 use Rattle.std.proofs.Common.{◌≡◌, ℕ, suc, ◌+◌, List, [], ◌∷◌, ◌++◌, map, refl, sym, ap, ◌∙◌, subst, Vec, length, take}
 use Rattle.std.specs.declared.alloc.Global.{Global}
 use Rattle.std.proofs.lemmas.List.{map-append}
-use Rattle.bound_declarations.specs.binder.specs.Bind.{numbered}
+use Rattle.bound_declarations.specs.binder.specs.Projects.{numbered}
 use Rattle.bound_declarations.specs.binder.specs.Declarations.{Written, Local, What, a_variable, a_constant, an_enum, a_member, a_type, an_event, a_procedure, Entry}
 use Rattle.bound_declarations.specs.binder.specs.Scopes.{Space, Scope}
 use Rattle.bound_declarations.specs.binder.specs.Names.{scope_of, scope_in, locals_of}

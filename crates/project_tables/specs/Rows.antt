@@ -4,7 +4,7 @@ use Rattle.bound_declarations.specs.binder.specs.Declarations.{Written, Local}
 use Rattle.bound_declarations.specs.binder.specs.Scopes.{Space, Scope}
 use Rattle.bound_declarations.specs.binder.specs.Names.{scope_of, scope_in, locals_of}
 use Rattle.bound_declarations.specs.binder.specs.Storage.{first_static}
-use Rattle.bound_declarations.specs.binder.specs.Bind.{numbered}
+use Rattle.bound_declarations.specs.binder.specs.Projects.{numbered}
 use Rattle.bound_declarations.specs.declared_names.specs.Outside.{the_outside}
 use Rattle.bound_declarations.specs.declared_names.specs.View.{local_view, written_view}
 use Rattle.bound_declarations.specs.constant_values.specs.Tables.{AreProjectValues, AreOwnValues}

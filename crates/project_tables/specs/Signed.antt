@@ -4,7 +4,7 @@ use Rattle.std.specs.declared.alloc.Global.{Global}
 use Rattle.std.specs.Prelude.{Vec}
 use Rattle.bound_declarations.specs.bound_project.specs.Project.{Parameter}
 use Rattle.bound_declarations.specs.bound_project.specs.View.{parameter_view}
-use Rattle.bound_declarations.specs.binder.specs.Bind.{no_space, numbered}
+use Rattle.bound_declarations.specs.binder.specs.Projects.{no_space, numbered}
 use Rattle.bound_declarations.specs.binder.specs.Constants.{home}
 use Rattle.bound_declarations.specs.binder.specs.Declarations.{Written}
 use Rattle.bound_declarations.specs.binder.specs.Names.{scope_of, scope_in}

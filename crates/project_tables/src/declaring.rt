@@ -1,7 +1,7 @@
 //! All that a project declares.
 
 ghost use Rattle.std.specs.Prelude.{◌≡◌, [], ◌∷◌, ◌++◌, IfOk, OnOk, flat_map, if◌then◌else◌, map};
-ghost use Rattle.bound_declarations.specs.binder.specs.Bind as bind;
+ghost use Rattle.bound_declarations.specs.binder.specs.Projects as projects;
 ghost use Rattle.bound_declarations.specs.binder.specs.Constants.{home};
 ghost use Rattle.bound_declarations.specs.binder.specs.Names.{scope_of};
 ghost use Rattle.bound_declarations.specs.binder.specs.Storage as storage;
@@ -58,7 +58,7 @@ fn push_bound_module(modules: &mut Vec<Module>, made: Module) -> Result<(), NoMe
 /// The modules of a project.
 #[tactic(auto, using(std::proofs::lemmas::List::drop_more))]
 fn bound_modules(alloc: Global, spaces: &[Space]) -> Result<Vec<Module>, NoMemory>
-    ensures { IfOk result (λ modules. map module_view modules.items ≡ map bind.bound_module (map space_view spaces.now)) }
+    ensures { IfOk result (λ modules. map module_view modules.items ≡ map projects.bound_module (map space_view spaces.now)) }
 {
     let mut modules = Vec::new(alloc);
     for space in spaces {
@@ -212,7 +212,7 @@ fn push_procedures<'a>(
 ) -> Result<(), OrMemory<NotYet>>
     requires { IsModule (module_scope spaces.now space.now) project.now rows.now }
     ensures { OnOk result (map procedure_view procedures.new.items
-        ≡ map procedure_view procedures.old.items ++ bind.procedures_of (module_scope spaces.now space.now)) }
+        ≡ map procedure_view procedures.old.items ++ projects.procedures_of (module_scope spaces.now space.now)) }
 {
     let scope = Scope {
         spaces,
@@ -235,7 +235,7 @@ fn bound_procedures<'a>(
     requires numbered { AreNumbered (map space_view spaces.now) }
     requires rows { AreRows rows.now (map space_view spaces.now) }
     ensures { IfOk result (λ procedures. map procedure_view procedures.items
-        ≡ flat_map (λ space. bind.procedures_of (home (whole_scope (map space_view spaces.now)) space)) (map space_view spaces.now)) }
+        ≡ flat_map (λ space. projects.procedures_of (home (whole_scope (map space_view spaces.now)) space)) (map space_view spaces.now)) }
 {
     let mut procedures = Vec::new(alloc);
     for (number, space) in spaces.iter().enumerate() {
@@ -255,7 +255,7 @@ pub fn declarations<'a>(
     requires numbered { AreNumbered (map space_view spaces.now) }
     requires rows { AreRows rows.now (map space_view spaces.now) }
     ensures { IfOk result (λ declared. declarations_view declared
-        ≡ bind.declarations_of the_outside (scope_of the_outside (map space_view spaces.now) bind.no_space) (map space_view spaces.now)) }
+        ≡ projects.declarations_of the_outside (scope_of the_outside (map space_view spaces.now) projects.no_space) (map space_view spaces.now)) }
 {
     check_all_plain(spaces)?;
     let modules = bound_modules(alloc, spaces)?;

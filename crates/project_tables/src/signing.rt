@@ -1,9 +1,9 @@
 //! What calls and module variables need of a project.
 
 ghost use Rattle.std.specs.Prelude.{◌≡◌, ◌+◌, [], ◌∷◌, ◌++◌, Option, Some, IfOk, OnOk, length, map, slice_get, slice_index_or, take};
-ghost use Rattle.bound_declarations.specs.binder.specs.Bind.{numbered};
+ghost use Rattle.bound_declarations.specs.binder.specs.Projects.{numbered};
 ghost use Rattle.bound_declarations.specs.binder.specs.Declarations as plain;
-ghost use Rattle.bound_declarations.specs.binder.specs.ExpressionsBound as expressions;
+ghost use Rattle.bound_declarations.specs.binder.specs.Signatures as signatures;
 ghost use Rattle.bound_declarations.specs.binder.specs.Storage as storage;
 ghost use Rattle.bound_declarations.specs.binder.specs.Types.{counted};
 ghost use Rattle.bound_declarations.specs.bound_project.specs.View.{parameter_view, storage_view};
@@ -215,7 +215,7 @@ impl Signatures {
         ensures { IfOk result (λ parameters. (e : plain.Entry) (w : plain.Written)
             → slice_get (scope_view scope.entry).spaces (space_view space.now).number ≡ Some (space_view space.now)
             → slice_get (space_view space.now).entries number ≡ Some e → e.what ≡ plain.a_procedure w
-            → map parameter_view parameters.now ≡ expressions.parameters_in (scope_view scope.entry) (space_view space.now) w) }
+            → map parameter_view parameters.now ≡ signatures.parameters_in (scope_view scope.entry) (space_view space.now) w) }
     {
         Ok(parameters_at(self.of_module(space.number), number))
     }

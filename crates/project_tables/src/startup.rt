@@ -2,7 +2,7 @@
 
 ghost use Rattle.std.specs.Prelude.{◌≡◌, IfOk, bytes_eq, map, option_map};
 ghost use Rattle.std.specs.List.{list_any};
-ghost use Rattle.bound_declarations.specs.binder.specs.Bind as bind;
+ghost use Rattle.bound_declarations.specs.binder.specs.Projects as projects;
 ghost use Rattle.bound_declarations.specs.binder.specs.Names.{scope_of};
 ghost use Rattle.bound_declarations.specs.declared_names.specs.Outside.{the_outside};
 ghost use Rattle.bound_declarations.specs.declared_names.specs.View.{scope_view, space_view, written_view};
@@ -70,7 +70,7 @@ fn requires_any(parameters: &Option<Parameters>) -> bool
 
 /// Is a procedure the macro to begin with? It is a Sub of that name that can be called without an argument.
 fn is_startup(startup: Startup, written: Written) -> bool
-    ensures { result ≡ bind.is_startup (startup_view startup.entry) (written_view written.entry) }
+    ensures { result ≡ projects.is_startup (startup_view startup.entry) (written_view written.entry) }
 {
     match written.header.words {
         ProcedureWords::Sub(_) => {
@@ -85,7 +85,7 @@ fn is_startup(startup: Startup, written: Written) -> bool
 #[tactic(auto, using(std::proofs::lemmas::List::drop_more))]
 fn startup_in(scope: Scope, startup: Startup) -> Result<Option<u32>, NoMemory>
     ensures { IfOk result (λ found. found
-        ≡ bind.startup_in (scope_view scope.entry) (startup_view startup.entry) (bind.numbered 0 (space_view scope.entry.here.now).entries)) }
+        ≡ projects.startup_in (scope_view scope.entry) (startup_view startup.entry) (projects.numbered 0 (space_view scope.entry.here.now).entries)) }
 {
     for (number, entry) in scope.here.entries.iter().enumerate() {
         if let What::Procedure(written) = entry.what {
@@ -106,7 +106,7 @@ pub fn startup_number<'a>(
     startup: Startup,
 ) -> Result<Option<u32>, NoMemory>
     ensures { IfOk result (λ found. found
-        ≡ bind.startup_number (scope_of the_outside (map space_view spaces.now) bind.no_space) (startup_view startup.entry) (map space_view spaces.now)) }
+        ≡ projects.startup_number (scope_of the_outside (map space_view spaces.now) projects.no_space) (startup_view startup.entry) (map space_view spaces.now)) }
 {
     for space in spaces {
         if has_fold(&space.name.fold, startup.module_fold) && !space.source.is_class {

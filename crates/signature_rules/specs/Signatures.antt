@@ -17,7 +17,7 @@ use Rattle.vba_module.specs.Misplaced.{place_if}
 use Rattle.vba_module.specs.Verdict.{broken}
 use Rattle.bound_declarations.specs.binder.specs.Constants.{home, known_length}
 use Rattle.bound_declarations.specs.binder.specs.Declarations.{Written, What, a_variable, an_event, a_procedure, Entry}
-use Rattle.bound_declarations.specs.binder.specs.ExpressionsBound.{is_property}
+use Rattle.bound_declarations.specs.binder.specs.Signatures.{is_property}
 use Rattle.bound_declarations.specs.binder.specs.Names.{scope_of, scope_in}
 use Rattle.bound_declarations.specs.binder.specs.Scopes.{Outside, Space, Scope}
 use Rattle.bound_declarations.specs.binder.specs.Storage.{gives_value, is_by_val, plain_clause_type, takes_value}

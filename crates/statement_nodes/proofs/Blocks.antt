@@ -5,7 +5,7 @@ use Rattle.vba_expression.specs.Tree.{Expr}
 use Rattle.vba_tree.specs.Tree as tree
 use Rattle.vba_tree.specs.Tree.{BlockLine}
 use Rattle.vba_module.specs.Parts.{Part, statement}
-use Rattle.bound_calls.specs.binder.specs.StatementsBound.{line_of, with_object}
+use Rattle.bound_calls.specs.bound_forms.specs.StatementsBound.{line_of, with_object}
 use Rattle.statement_nodes.specs.Loops.{line_each, each_at, line_object}
 
 abbrev each_in : Option BlockLine → ℕ → Option ℕ

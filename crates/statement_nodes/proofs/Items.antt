@@ -16,9 +16,9 @@ use Rattle.bound_project.specs.Pieces.{Piece, an_expr, a_value_shown, a_zone, a_
 use Rattle.bound_project.specs.Drafts.{Drafted}
 use Rattle.bound_calls.specs.binder.specs.Options.{from_two, from_three}
 use Rattle.bound_calls.specs.binder.specs.Constants.{operator_kind, place_of_expression}
-use Rattle.bound_calls.specs.binder.specs.Terms.{Env}
-use Rattle.bound_calls.specs.binder.specs.ExpressionsBound.{bound_operand}
-use Rattle.bound_calls.specs.binder.specs.StatementsBound.{case_tests, ends_line}
+use Rattle.bound_calls.specs.bound_forms.specs.Terms.{Env}
+use Rattle.bound_calls.specs.bound_forms.specs.ExpressionsBound.{bound_operand}
+use Rattle.bound_calls.specs.bound_forms.specs.StatementsBound.{case_tests, ends_line}
 use Rattle.statement_nodes.specs.Actions.{OnlyPieces, ValuePushed}
 use Rattle.statement_nodes.specs.Reads.{ItemPushed, Read, ends_after}
 use Rattle.statement_nodes.proofs.Ended.{as_operand_itself}

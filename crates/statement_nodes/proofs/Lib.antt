@@ -8,3 +8,5 @@ pub mod Items
 pub mod Arrays
 pub mod Ifs
 pub mod Blocks
+pub mod Walking
+pub mod Resizing

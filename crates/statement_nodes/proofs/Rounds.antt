@@ -10,8 +10,8 @@ use Rattle.vba_tree.specs.Tree as tree
 use Rattle.module_parts.specs.Brackets.{kind_view}
 use Rattle.module_parts.specs.declared.part.Part.{Part}
 use Rattle.bound_calls.specs.binder.specs.Numbering as numbering
-use Rattle.bound_calls.specs.binder.specs.StatementsBound as bound
-use Rattle.bound_calls.specs.binder.specs.StatementsBound.{with_object, for_each_header}
+use Rattle.bound_calls.specs.bound_forms.specs.StatementsBound as bound
+use Rattle.bound_calls.specs.bound_forms.specs.StatementsBound.{with_object, for_each_header}
 use Rattle.statement_numbers.specs.declared.opened.Opened.{Opened}
 use Rattle.statement_numbers.specs.View.{part_at, opened_view, stack_view}
 use Rattle.statement_numbers.proofs.Stacks.{stack-push}

@@ -8,8 +8,9 @@ use Rattle.bound_project.specs.Statements.{Statement}
 use Rattle.bound_project.specs.Drafts.{Drafted}
 use Rattle.bound_calls.specs.binder.specs.Options.{or_else, from_two}
 use Rattle.bound_calls.specs.binder.specs.Numbering.{Standing, standings_in}
-use Rattle.bound_calls.specs.binder.specs.StatementsBound.{Around, both, part_statements, all_statements, next_number}
-use Rattle.bound_calls.specs.binder.specs.Bind.{is_built_part, left_in_body}
+use Rattle.bound_calls.specs.bound_forms.specs.StatementsBound.{Around, both, part_statements, all_statements}
+use Rattle.bound_calls.specs.binder.specs.Blocks.{next_number}
+use Rattle.bound_calls.specs.bound_forms.specs.Bind.{is_built_part, left_in_body}
 use Rattle.statement_nodes.specs.Walks.{Added, PartAdded, BodyAdded, Walked, statements_of}
 
 joined : (x y z : List Statement) → (x ++ y) ++ z ≡ x ++ (y ++ z)

@@ -1,5 +1,8 @@
 -- Serves the code: what a statement does, by the scope of its part.
 use Rattle.std.specs.Prelude.{◌≡◌, Bool, true, false, List, [], ◌∷◌, Option, Some, IsSome, is_some, option_map, option_and_then}
+use Rattle.vba_base.specs.declared.place.Place.{Place}
+use Rattle.vba_values.specs.Types.{Declared}
+use Rattle.vba_values.specs.Types as type
 use Rattle.vba_module.specs.Parts.{place_of}
 use Rattle.vba_module.specs.Headers.{all_of}
 use Rattle.vba_words.specs.declared.identifier.Identifier.{Identifier}
@@ -15,13 +18,15 @@ use Rattle.bound_project.specs.Statements as to
 use Rattle.bound_project.specs.Statements.{Action}
 use Rattle.bound_project.specs.Bodies.{action_of}
 use Rattle.bound_project.specs.Drafts.{Drafted, ActionNamed, no_tables}
+use Rattle.bound_project.specs.Pieces.{Piece, an_expr}
 use Rattle.bound_project.specs.View.{declared_view}
 use Rattle.bound_calls.specs.binder.specs.Options.{from_two}
 use Rattle.bound_calls.specs.binder.specs.Constants.{compare_in, place_of_expression}
 use Rattle.bound_calls.specs.binder.specs.Numbering.{Opened, Standing, Sought, here, an_arm, behind_block, sought_behind}
-use Rattle.bound_calls.specs.binder.specs.Terms as terms
-use Rattle.bound_calls.specs.binder.specs.ExpressionsBound.{bound_as_given, bound_operand, givens, term_of, place_told}
-use Rattle.bound_calls.specs.binder.specs.StatementsBound.{Around, assigned_to, called_place, called_with, redim_arrays, erased_arrays, value_shown, items_shown, ends_line, simple_action, block_action, loop_variable, if_broken, cannot_count, for_each_of, is_other_name, name_place, loop_name, next_action, set_given, loop_action, for_action, step_value, step_place, case_tests, selected, line_of, header_of, value_for, with_action}
+use Rattle.bound_calls.specs.bound_forms.specs.Terms as terms
+use Rattle.bound_calls.specs.bound_forms.specs.ExpressionsBound.{bound_as_given, bound_operand, givens, term_of, place_told}
+use Rattle.bound_calls.specs.bound_forms.specs.StatementsBound.{Around, assigned_to, called_place, called_with, redim_arrays, erased_arrays, value_shown, items_shown, ends_line, simple_action, block_action, loop_variable, if_broken, cannot_count, for_each_of, is_other_name, name_place, loop_name, next_action, set_given, loop_action, for_action, step_value, step_place, case_tests, selected, line_of, value_given, walked, with_action}
+use Rattle.bound_calls.specs.binder.specs.Blocks.{header_of}
 use Rattle.bound_calls.specs.Standing.{PushedIs}
 
 -- a condition of a line: where it holds, control goes to the first statement of its block
@@ -44,7 +49,7 @@ for_in env s x start limit step = if_broken (cannot_count (loop_variable env x))
 
 abbrev pub each_in : terms.Env → Standing → Identifier → Expr → Option Action
 each_in env s x group =
-    option_and_then (λ v. option_map (for_each_of v x.token.place (sought_behind here s) (sought_behind (behind_block 0) s)) (bound_as_given env group)) (loop_variable env x)
+    option_and_then (λ v. option_map (for_each_of v x.token.place (place_told group) (sought_behind here s) (sought_behind (behind_block 0) s)) (bound_as_given env group)) (loop_variable env x)
 
 abbrev pub next_in : terms.Env → Standing → Option Identifier → Option Action
 next_in env s x = if_broken (is_other_name x (loop_name s.around)) 29 (name_place x) (next_action env s.around)
@@ -66,7 +71,7 @@ block_in env a s line = block_action a s line
 
 -- a statement other than a single-line If, in this scope
 abbrev pub simple_in : terms.Env → Around → Standing → Simple → Option Action
-simple_in env a s (tree.assignment let_word x equal e) = option_and_then (assigned_to env x) (value_for env x e)
+simple_in env a s (tree.assignment let_word x equal e) = option_and_then (assigned_to env x) (value_given env x e)
 simple_in env a s (tree.set_assignment set_word x equal e) = option_and_then (set_given env set_word.place x) (bound_as_given env e)
 simple_in env a s (tree.call_place call_word e) = called_place env e
 simple_in env a s (tree.call e args) = called_with env e (givens env args)
@@ -139,3 +144,18 @@ pub record ForValues (start last step : Option bound.Expr) (to_type by : Declare
   pub start_pushed : ValuePushed start of d behind_start
   pub last_pushed : ValuePushed last to_type behind_start behind_last
   pub step_pushed : ValuePushed step by behind_last g
+
+-- a value was pushed as it is, of this type and told at this place
+pub record ToldPushed (env : terms.Env) (e : Expr) (of : DeclaredType) (place : Place) (d f : Drafted) : Type 0 where
+  pub pushed : ValuePushed (bound_as_given env e) of d f
+  pub place_is : place ≡ place_told e
+
+-- a type of arrays of a Type's values
+abbrev pub holds_types : Declared → Bool
+holds_types (type.array_of of) = terms.is_user_type of
+holds_types of = false
+
+-- what a For Each goes over was pushed, and marked where it is an array of a Type's values
+pub record Walks (of : DeclaredType) (place : Place) (d e : Drafted) : Type 0 where
+  pub same : OnlyPieces d e
+  pub stands : (made : bound.Expr) (below : List Piece) → bound.operand_type made ≡ declared_view of → d.pieces ≡ an_expr made ∷ below → e.pieces ≡ an_expr (walked place made) ∷ below

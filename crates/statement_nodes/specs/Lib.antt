@@ -5,3 +5,4 @@ pub mod Nexts
 pub mod Loops
 pub mod Actions
 pub mod Reads
+pub mod Resizing

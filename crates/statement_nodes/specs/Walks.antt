@@ -5,8 +5,8 @@ use Rattle.vba_tree.specs.Tree.{simple}
 use Rattle.bound_project.specs.Statements.{Statement}
 use Rattle.bound_project.specs.Drafts.{Drafted}
 use Rattle.bound_calls.specs.binder.specs.Numbering.{Standing, simple_count}
-use Rattle.bound_calls.specs.binder.specs.StatementsBound.{Around, both, unless_none, one_statement, simple_action, bound_statement, part_statements, all_statements}
-use Rattle.bound_calls.specs.binder.specs.Bind.{is_built_part, left_in_body}
+use Rattle.bound_calls.specs.bound_forms.specs.StatementsBound.{Around, both, unless_none, one_statement, simple_action, bound_statement, part_statements, all_statements}
+use Rattle.bound_calls.specs.bound_forms.specs.Bind.{is_built_part, left_in_body}
 
 -- statements that were added to those of a draft
 pub record Added (found : Option (List Statement)) (d e : Drafted) : Type 0 where

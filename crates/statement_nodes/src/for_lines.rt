@@ -1,21 +1,23 @@
 //! Variables, steps and names of For, For Each and Next.
 
-ghost use Rattle.std.specs.Prelude.{◌≡◌, ◌||◌, option_and_then, option_map};
+ghost use Rattle.std.specs.Prelude.{◌≡◌, ◌||◌, OnOk, option_and_then, option_map};
 ghost use Rattle.bound_calls.specs.binder.specs.Constants.{is_variant};
-ghost use Rattle.bound_calls.specs.binder.specs.StatementsBound as plain;
+ghost use Rattle.bound_calls.specs.bound_forms.specs.StatementsBound as plain;
 ghost use Rattle.bound_calls.specs.binder.specs.Types.{is_object};
+ghost use Rattle.bound_project.specs.DraftView.{draft_view};
 ghost use Rattle.bound_project.specs.View.{declared_view, element_view};
+ghost use Rattle.statement_nodes.specs.Actions.{Walks, holds_types};
 ghost use Rattle.module_parts.specs.View.{part_view};
 ghost use Rattle.statement_numbers.specs.View.{part_at, standing_view};
 ghost use Rattle.vba_tree.specs.View.{block_line_view, step_view};
 
 use crate::innermost::{innermost_block, line_of};
 use bound_calls::declared_names::is_object;
-use bound_calls::{is_variant, nowhere};
-use bound_project::{DeclaredType, ElementType};
+use bound_calls::{is_variant, nowhere, push_node};
+use bound_project::{DeclaredType, Draft, ElementType, NodeKind};
 use module_parts::{Part, expression_place};
 use statement_numbers::{Opened, Standing};
-use vba_base::Place;
+use vba_base::{NoMemory, Place, Refusal};
 use vba_tree::{BlockLine, StepClause};
 use vba_words::Identifier;
 
@@ -70,6 +72,32 @@ pub fn goes_over(control: DeclaredType, group: DeclaredType) -> bool
         DeclaredType::ArrayOf(_) => is_variant(control),
         DeclaredType::Plain(_) => may_hold(control),
     }
+}
+
+/// Is a type one of arrays of a Type's values?
+fn holds_types(of: DeclaredType) -> bool
+    ensures { result ≡ holds_types (declared_view of) }
+{
+    match of {
+        DeclaredType::ArrayOf(ElementType::UserType(_)) => true,
+        _ => false,
+    }
+}
+
+/// Marks what a For Each goes over, which was pushed, where it is an array of a Type's values: a Variant takes none.
+#[tactic(auto, using(crate::proofs::Walking::walks_types, crate::proofs::Walking::walks_others))]
+pub fn mark_walked(draft: &mut Draft, of: DeclaredType, place: Place) -> Result<(), NoMemory>
+    ensures { OnOk result (Walks of place (draft_view draft.old) (draft_view draft.new)) }
+{
+    if !holds_types(of) {
+        return Ok(());
+    }
+    let variant = DeclaredType::Plain(ElementType::Variant);
+    let broken = NodeKind::Marked {
+        broken: Refusal { rule: 27, place },
+        values: 1,
+    };
+    push_node(draft, broken, variant, place)
 }
 
 /// The name of the loop that a line opens.

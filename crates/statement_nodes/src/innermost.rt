@@ -3,7 +3,8 @@
 ghost use Rattle.std.specs.Prelude.{◌≡◌, [], ◌∷◌, List, Some, IfSome, MatchOption, option_map};
 ghost use Rattle.statement_nodes.specs.Loops as loops;
 ghost use Rattle.bound_calls.specs.binder.specs.Numbering as numbering;
-ghost use Rattle.bound_calls.specs.binder.specs.StatementsBound as plain;
+ghost use Rattle.bound_calls.specs.binder.specs.Blocks as numbered;
+ghost use Rattle.bound_calls.specs.bound_forms.specs.StatementsBound as plain;
 ghost use Rattle.module_parts.specs.View.{part_view};
 ghost use Rattle.statement_numbers.specs.View.{opened_view, part_at, standing_view};
 ghost use Rattle.vba_tree.specs.View.{block_line_view};
@@ -89,7 +90,7 @@ pub fn each_header(standing: Standing) -> Option<u32>
 
 /// The number of the line that opened the innermost block.
 pub fn header_of(standing: Standing) -> u32
-    ensures { result ≡ plain.header_of (standing_view standing.entry).around }
+    ensures { result ≡ numbered.header_of (standing_view standing.entry).around }
 {
     match innermost_block(standing) {
         Some(opened) => opened.header,

@@ -1,7 +1,7 @@
 //! Where the statements of single-line Ifs stand.
 
 ghost use Rattle.std.specs.Prelude.{◌≡◌, ◌+◌, ℕ, IfOk, map};
-ghost use Rattle.bound_calls.specs.binder.specs.StatementsBound as plain;
+ghost use Rattle.bound_calls.specs.bound_forms.specs.StatementsBound as plain;
 ghost use Rattle.statement_numbers.specs.Counts.{next_counts};
 ghost use Rattle.vba_tree.specs.View.{next_view};
 

@@ -3,7 +3,7 @@
 ghost use Rattle.std.specs.Prelude.{OnOk, Option};
 ghost use Rattle.statement_nodes.specs.Actions.{KindFits};
 ghost use Rattle.statement_nodes.specs.Walks.{Added};
-ghost use Rattle.bound_calls.specs.binder.specs.StatementsBound.{one_statement};
+ghost use Rattle.bound_calls.specs.bound_forms.specs.StatementsBound.{one_statement};
 ghost use Rattle.bound_project.specs.DraftView.{draft_view};
 ghost use Rattle.bound_project.specs.Drafts.{Drafted};
 ghost use Rattle.bound_project.specs.Statements.{Action};

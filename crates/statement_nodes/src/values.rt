@@ -2,8 +2,8 @@
 
 ghost use Rattle.std.specs.Prelude.{◌≡◌, [], Some, IfOk, pos};
 ghost use Rattle.statement_nodes.specs.Actions.{ValuePushed};
-ghost use Rattle.bound_calls.specs.binder.specs.Terms.{broken_rule};
-ghost use Rattle.bound_calls.specs.binder.specs.StatementsBound as statements;
+ghost use Rattle.bound_calls.specs.bound_forms.specs.Terms.{broken_rule};
+ghost use Rattle.bound_calls.specs.bound_forms.specs.StatementsBound as statements;
 ghost use Rattle.bound_project.specs.declared.node.NodeKind.TheVariants as node;
 ghost use Rattle.bound_project.specs.DraftView.{draft_view};
 ghost use Rattle.bound_project.specs.Expressions.{no_exprs};

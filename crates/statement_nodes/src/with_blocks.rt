@@ -2,7 +2,7 @@
 
 ghost use Rattle.std.specs.Prelude.{◌≡◌, option_map};
 ghost use Rattle.statement_nodes.specs.Loops as loops;
-ghost use Rattle.bound_calls.specs.binder.specs.StatementsBound as plain;
+ghost use Rattle.bound_calls.specs.bound_forms.specs.StatementsBound as plain;
 ghost use Rattle.module_parts.specs.View.{part_view};
 ghost use Rattle.statement_numbers.specs.View.{part_at};
 ghost use Rattle.vba_expression.specs.View.{view as expression_view};

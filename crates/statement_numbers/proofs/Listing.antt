@@ -8,7 +8,7 @@ use Rattle.module_parts.specs.Brackets.{IsRole}
 use Rattle.module_parts.specs.declared.bracket.Bracket.{Bracket}
 use Rattle.module_parts.specs.declared.bracket.Bracket.TheVariants as bracket
 use Rattle.binder.specs.Numbering.{Opened, Standing, here, part_count, sought_behind}
-use Rattle.binder.specs.StatementsBound.{label_number, lines_in, blocks_in, is_opening}
+use Rattle.binder.specs.Blocks.{label_number, lines_in, blocks_in, is_opening}
 use Rattle.statement_numbers.specs.declared.blocks.BlockLines.{BlockLines}
 use Rattle.statement_numbers.specs.declared.blocks.BlockLines.TheVariants as lines
 use Rattle.statement_numbers.specs.Labels.{is_label}

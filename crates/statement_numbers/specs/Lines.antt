@@ -3,7 +3,7 @@ use Rattle.std.specs.Prelude.{ℕ, ◌==◌, Bool, true, false, ◌&&◌, not, L
 use Rattle.vba_module.specs.Blocks.{Role, role_of}
 use Rattle.bound_project.specs.Statements.{Block}
 use Rattle.binder.specs.Numbering.{Opened, Standing, behind_block, part_count, sought_behind}
-use Rattle.binder.specs.StatementsBound.{is_arm, is_closing, is_opening, first_in, lines_in}
+use Rattle.binder.specs.Blocks.{is_arm, is_closing, is_opening, first_in, lines_in}
 use Rattle.statement_numbers.specs.declared.blocks.BlockLines.{BlockLines}
 use Rattle.statement_numbers.specs.declared.blocks.BlockLines.TheVariants as lines
 

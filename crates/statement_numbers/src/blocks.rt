@@ -2,7 +2,7 @@
 
 ghost use Rattle.std.specs.Prelude.{◌≡◌, ◌++◌, IfOk, OnOk, map};
 ghost use Rattle.binder.specs.Numbering.{standings_in};
-ghost use Rattle.binder.specs.StatementsBound as plain;
+ghost use Rattle.binder.specs.Blocks as plain;
 ghost use Rattle.bound_project.specs.Bodies.{block_view};
 ghost use Rattle.module_parts.specs.View.{parts_view};
 ghost use Rattle.statement_numbers.specs.Lines.{block_of, blocks_at, has_header, is_line, is_line_of};

@@ -2,7 +2,7 @@
 
 ghost use Rattle.std.specs.Prelude.{◌≡◌, IfOk};
 ghost use Rattle.binder.specs.Numbering.{standings_in};
-ghost use Rattle.binder.specs.StatementsBound.{label_number};
+ghost use Rattle.binder.specs.Blocks.{label_number};
 ghost use Rattle.binder.specs.Violations.{same_label_name};
 ghost use Rattle.module_parts.specs.View.{part_view, parts_view};
 ghost use Rattle.statement_numbers.specs.Labels.{is_label};

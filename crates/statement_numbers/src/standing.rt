@@ -24,7 +24,7 @@ pub struct Standing<'a> {
 impl<'a> Standing<'a> {
     ghost use Rattle.std.specs.Prelude.{◌≡◌, IfOk};
     ghost use Rattle.binder.specs.Numbering as numbering;
-    ghost use Rattle.binder.specs.StatementsBound.{next_number};
+    ghost use Rattle.binder.specs.Blocks.{next_number};
     ghost use Rattle.module_parts.specs.Brackets.{IsRole};
     ghost use Rattle.module_parts.specs.View.{part_view, parts_view};
     ghost use Rattle.statement_numbers.specs.View.{sought_view, standing_view};

@@ -25,10 +25,10 @@ use Rattle.bound_project.specs.Drafts.{Drafted, ActionNamed}
 use Rattle.bound_members.specs.binder.specs.Types.{is_object}
 use Rattle.bound_members.specs.binder.specs.Declarations.{Written}
 use Rattle.bound_members.specs.binder.specs.Scopes.{Space}
-use Rattle.bound_members.specs.binder.specs.Terms.{Env, Given, a_routine}
-use Rattle.bound_members.specs.binder.specs.Terms as plain
-use Rattle.bound_members.specs.binder.specs.ExpressionsBound.{argument_of, item_of, givens, indexed, term_of, place_told}
-use Rattle.bound_members.specs.binder.specs.StatementsBound.{assigned, assigned_to, is_given_with, is_variant_place, takes_value, target_before, value_for}
+use Rattle.bound_members.specs.bound_forms.specs.Terms.{Env, Given, a_routine}
+use Rattle.bound_members.specs.bound_forms.specs.Terms as plain
+use Rattle.bound_members.specs.bound_forms.specs.ExpressionsBound.{argument_of, item_of, givens, indexed, term_of, place_told}
+use Rattle.bound_members.specs.bound_forms.specs.StatementsBound.{assigned, assigned_to, is_given_with, is_variant_place, takes_value, target_before, value_given}
 use Rattle.bound_members.specs.declared_names.specs.View.{space_view}
 use Rattle.statement_terms.specs.declared.trees.Split.{Split}
 use Rattle.bound_members.specs.bound_calls.specs.declared.term.Routine.{Routine}
@@ -163,8 +163,8 @@ index_at split all s alone one =
       all_is split all s alone ∙ ap last_tree (behind_push base split.arguments.now (node.Index s.left s.right)) ∙ ap (λ (l : List nodes.Item). last_tree (behind_node (node.Index s.left s.right) l)) (one.is base),
     )
 
-pub action_assigned : (env : Env) (value place : Expr) (d e g : Drafted) (kind : ActionKind) (given : Bool) → d.pieces ≡ [] → ValueFor (value_for env place value) d e → AssignsTo env place e g kind given
-    → ActionStands (Some kind) (option_and_then (assigned_to env place) (value_for env place value)) d g
+pub action_assigned : (env : Env) (value place : Expr) (d e g : Drafted) (kind : ActionKind) (given : Bool) → d.pieces ≡ [] → ValueFor (value_given env place value) d e → AssignsTo env place e g kind given
+    → ActionStands (Some kind) (option_and_then (assigned_to env place) (value_given env place value)) d g
 action_assigned env value place d e g kind given none b a =
     let made = b.pushed.made in
     let alone : e.pieces ≡ an_expr made ∷ [] = b.pushed.on_top ∙ ap (λ (ps : List Piece). an_expr made ∷ ps) none in

@@ -24,10 +24,10 @@ use Rattle.bound_project.specs.Project as project
 use Rattle.bound_project.specs.Drafts.{Drafted}
 use Rattle.bound_members.specs.binder.specs.Declarations.{Written}
 use Rattle.bound_members.specs.binder.specs.Scopes.{Space}
-use Rattle.bound_members.specs.binder.specs.Terms.{Env, Given, a_value, a_routine, err_raise, err_clear, error_word, no_term, bound_arguments, has_names}
-use Rattle.bound_members.specs.binder.specs.Terms as plain
-use Rattle.bound_members.specs.binder.specs.ExpressionsBound.{argument_of, bare_call, given_as, givens, indexed}
-use Rattle.bound_members.specs.binder.specs.StatementsBound.{called_place, called_term, called_with, is_one, raise_parameters}
+use Rattle.bound_members.specs.bound_forms.specs.Terms.{Env, Given, a_value, a_routine, err_raise, err_clear, error_word, no_term, bound_arguments, has_names}
+use Rattle.bound_members.specs.bound_forms.specs.Terms as plain
+use Rattle.bound_members.specs.bound_forms.specs.ExpressionsBound.{argument_of, bare_call, given_as, givens, indexed}
+use Rattle.bound_members.specs.bound_forms.specs.StatementsBound.{called_place, called_term, called_with, is_one, raise_parameters}
 use Rattle.statement_terms.specs.declared.trees.Split.{Split}
 use Rattle.bound_members.specs.bound_calls.specs.declared.term.Ending.{Ending}
 use Rattle.bound_members.specs.bound_calls.specs.declared.term.Term.{Term}

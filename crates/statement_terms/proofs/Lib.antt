@@ -13,3 +13,4 @@ pub mod WrittenTargets
 pub mod IndexedCalls
 pub mod NamedLets
 pub mod SetTargets
+pub mod Takings

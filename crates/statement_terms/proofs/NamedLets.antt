@@ -15,8 +15,8 @@ use Rattle.bound_project.specs.Statements as to
 use Rattle.bound_project.specs.View.{declared_view, parameter_view}
 use Rattle.bound_project.proofs.Lists.{args_are}
 use Rattle.bound_members.specs.binder.specs.Types.{is_object}
-use Rattle.bound_members.specs.binder.specs.Terms.{Env}
-use Rattle.bound_members.specs.binder.specs.ExpressionsBound.{givens}
+use Rattle.bound_members.specs.bound_forms.specs.Terms.{Env}
+use Rattle.bound_members.specs.bound_forms.specs.ExpressionsBound.{givens}
 use Rattle.bound_members.specs.bound_calls.specs.declared.term.Ordered.{Ordered}
 use Rattle.bound_members.specs.bound_calls.specs.declared.term.Passed.{Passed}
 use Rattle.bound_members.specs.bound_calls.specs.InOrder.{EndsInOrder}

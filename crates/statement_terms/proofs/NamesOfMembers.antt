@@ -24,10 +24,11 @@ use Rattle.bound_members.specs.binder.specs.Constants.{Known, home, meant_by, na
 use Rattle.bound_members.specs.binder.specs.Declarations.{Own, the_result, a_parameter, a_local, a_local_constant, an_array, undeclared, Local, What, a_variable, a_constant, an_enum, a_member, a_type, an_event, a_procedure}
 use Rattle.bound_members.specs.binder.specs.Scopes.{Space, Meant, of_procedure, of_module, a_module, the_library, of_host, of_library, Qualifier, behind, has_dollar, plainly, qualifier_of}
 use Rattle.bound_members.specs.binder.specs.Storage.{declared_variable, module_storage, own_declaration, own_storage}
-use Rattle.bound_members.specs.binder.specs.Terms.{Env, Within, HostMember, a_place, a_value, a_routine, a_function, a_host_member, err_object, err_raise, err_clear, error_word, no_term, expression_of}
-use Rattle.bound_members.specs.binder.specs.Terms as plain
-use Rattle.bound_members.specs.binder.specs.Types.{meant_type, type_meant}
-use Rattle.bound_members.specs.binder.specs.ExpressionsBound.{HostKind, application, workbook, sheets, sheet, area, any_object, array_base, bare_call, behind_term, constant_term, declared_place, entry_term, err_member, field_named, field_of_place, field_of_value, from_zero, given_as, has_bounds, host_kind, host_term, if_there, kept_member, library_term, listed_member, mark_members, meant_term, member_of, member_of_kind, node_or, object_member, own_term, place_term, sheet_members, sheet_term, sheets_members, sheets_value, area_members, term_of, typed_term, place_told}
+use Rattle.bound_members.specs.bound_forms.specs.Terms.{Env, Within, HostMember, a_place, a_value, a_routine, a_function, a_host_member, err_object, err_raise, err_clear, error_word, no_term, expression_of, broken_value}
+use Rattle.bound_members.specs.bound_forms.specs.Terms as plain
+use Rattle.bound_members.specs.binder.specs.Types.{is_object, meant_type, type_meant}
+use Rattle.bound_members.specs.bound_forms.specs.ExpressionsBound.{HostKind, application, workbook, sheets, sheet, area, any_object, array_base, bare_call, behind_term, constant_term, declared_place, entry_term, err_member, field_named, field_of_place, field_of_value, from_zero, given_as, host_kind, host_term, if_there, kept_member, library_term, listed_member, mark_members, meant_term, member_of, member_of_kind, member_of_other, node_or, object_member, own_term, place_term, sheet_members, sheet_term, sheets_members, sheets_value, area_members, unknown_member, term_of, typed_term, place_told}
+use Rattle.bound_members.specs.binder.specs.Storage.{has_bounds}
 use Rattle.statement_terms.specs.Members.{MemberNamed, NamedBy}
 use Rattle.statement_terms.proofs.NodeTrees.{behind_push}
 
@@ -39,113 +40,117 @@ named_there : (fold : List ℕ) {A : Type 0} (o : Option A) (f : A → plain.Ter
 named_there fold None f h = tt
 named_there fold (Some a) f h = h a
 
+named_or : (fold : List ℕ) {A : Type 0} (o : Option A) (f : A → plain.Term) (other : plain.Term) → ((a : A) → MemberNamed fold (f a)) → MemberNamed fold other → MemberNamed fold (unwrap_or (option_map f o) other)
+named_or fold None f other h k = k
+named_or fold (Some a) f other h k = h a
+
 -- ---- members of objects
 
-abbrev member_or_none : bound.Expr → Option HostMember → plain.Term
-member_or_none object o = unwrap_or (option_map (λ (m : HostMember). a_host_member object m) o) no_term
+abbrev member_or : plain.Term → bound.Expr → Option HostMember → plain.Term
+member_or other object o = unwrap_or (option_map (λ (m : HostMember). a_host_member object m) o) other
 
-chosen_named : (object : bound.Expr) (fold : List ℕ) (b : Bool) (x y : Option HostMember) → MemberNamed fold (member_or_none object x) → MemberNamed fold (member_or_none object y) → MemberNamed fold (member_or_none object (if b then x else y))
-chosen_named object fold true x y h k = h
-chosen_named object fold false x y h k = k
+chosen_named : (other : plain.Term) (object : bound.Expr) (fold : List ℕ) (b : Bool) (x y : Option HostMember) → MemberNamed fold (member_or other object x) → MemberNamed fold (member_or other object y)
+    → MemberNamed fold (member_or other object (if b then x else y))
+chosen_named other object fold true x y h k = h
+chosen_named other object fold false x y h k = k
 
-listed_named : (object : bound.Expr) (fold : List ℕ) (ms : List HostMember) → MemberNamed fold (member_or_none object (listed_member ms fold))
-listed_named object fold [] = tt
-listed_named object fold (m ∷ ms) = chosen_named object fold (bytes_eq fold m.name) (Some (record m { name = fold })) (listed_member ms fold) refl (listed_named object fold ms)
+listed_named : (dot : Place) (object : bound.Expr) (fold : List ℕ) (ms : List HostMember) → MemberNamed fold (member_or (unknown_member dot object) object (listed_member ms fold))
+listed_named dot object fold [] = tt
+listed_named dot object fold (m ∷ ms) =
+    chosen_named (unknown_member dot object) object fold (bytes_eq fold m.name) (Some (record m { name = fold })) (listed_member ms fold) refl (listed_named dot object fold ms)
 
-kind_named : (object : bound.Expr) (fold : List ℕ) (k : HostKind) → MemberNamed fold (member_of_kind k object fold)
-kind_named object fold application = listed_named object fold mark_members
-kind_named object fold workbook = named_if fold (bytes_eq fold (codes "worksheets") || bytes_eq fold (codes "sheets")) sheets_value no_term tt tt
-kind_named object fold sheets = listed_named object fold sheets_members
-kind_named object fold sheet = listed_named object fold sheet_members
-kind_named object fold area = listed_named object fold area_members
-kind_named object fold any_object = refl
+kind_named : (dot : Place) (object : bound.Expr) (fold : List ℕ) (k : HostKind) → MemberNamed fold (member_of_kind k dot object fold)
+kind_named dot object fold application = listed_named dot object fold mark_members
+kind_named dot object fold workbook = named_if fold (bytes_eq fold (codes "worksheets") || bytes_eq fold (codes "sheets")) sheets_value (unknown_member dot object) tt tt
+kind_named dot object fold sheets = listed_named dot object fold sheets_members
+kind_named dot object fold sheet = listed_named dot object fold sheet_members
+kind_named dot object fold area = listed_named dot object fold area_members
+kind_named dot object fold any_object = refl
 
-object_of_kind : (object : bound.Expr) (fold : List ℕ) (o : Option HostKind) → MemberNamed fold (unwrap_or (option_map (λ (k : HostKind). member_of_kind k object fold) o) no_term)
-object_of_kind object fold None = tt
-object_of_kind object fold (Some k) = kind_named object fold k
-
-object_named : (place : Place) (made : bound.Node) (of : Declared) (fold : List ℕ) → MemberNamed fold (object_member place made of fold)
-object_named place made of fold = object_of_kind (expression_of made place of) fold (host_kind made of)
+object_named : (place dot : Place) (made : bound.Node) (of : Declared) (fold : List ℕ) → MemberNamed fold (object_member place dot made of fold)
+object_named place dot made of fold =
+    let e = expression_of made place of in
+    named_or fold (host_kind made of) (λ (k : HostKind). member_of_kind k dot e fold) (member_of_other dot e) (λ k. kind_named dot e fold k) (named_if fold (is_object of) no_term (unknown_member dot e) tt tt)
 
 -- ---- fields and members
 
-place_field_named : (env : Env) (place : Place) (x : Lvalue) (of : Declared) (lends : Bool) (f : Identifier) → MemberNamed f.name (field_of_place env place x of lends f)
-place_field_named env place x (type.udt number) lends f =
-    named_there f.name (field_named env number f) (λ (d : ℕ × Declaration). a_place (bound.field x d.0 d.1.of (has_bounds d.1)) d.1.of (has_bounds d.1) lends) (λ d. tt)
-place_field_named env place x type.boolean lends f = object_named place (load x) type.boolean f.name
-place_field_named env place x type.byte lends f = object_named place (load x) type.byte f.name
-place_field_named env place x type.integer lends f = object_named place (load x) type.integer f.name
-place_field_named env place x type.long lends f = object_named place (load x) type.long f.name
-place_field_named env place x type.long_long lends f = object_named place (load x) type.long_long f.name
-place_field_named env place x type.currency lends f = object_named place (load x) type.currency f.name
-place_field_named env place x type.text lends f = object_named place (load x) type.text f.name
-place_field_named env place x (type.fixed_text n) lends f = object_named place (load x) (type.fixed_text n) f.name
-place_field_named env place x type.object lends f = object_named place (load x) type.object f.name
-place_field_named env place x (type.class n) lends f = object_named place (load x) (type.class n) f.name
-place_field_named env place x type.collection lends f = object_named place (load x) type.collection f.name
-place_field_named env place x type.worksheet lends f = object_named place (load x) type.worksheet f.name
-place_field_named env place x type.range lends f = object_named place (load x) type.range f.name
-place_field_named env place x type.variant lends f = object_named place (load x) type.variant f.name
-place_field_named env place x (type.array_of of) lends f = object_named place (load x) (type.array_of of) f.name
+place_field_named : (env : Env) (place dot : Place) (x : Lvalue) (of : Declared) (lends : Bool) (f : Identifier) → MemberNamed f.name (field_of_place env place dot x of lends f)
+place_field_named env place dot x (type.udt number) lends f =
+    named_or f.name (field_named env number f) (λ (d : ℕ × Declaration). a_place (bound.field x d.0 d.1.of (has_bounds d.1)) d.1.of (has_bounds d.1) lends) (unknown_member dot (expression_of (load x) place (type.udt number))) (λ d. tt) tt
+place_field_named env place dot x type.boolean lends f = object_named place dot (load x) type.boolean f.name
+place_field_named env place dot x type.byte lends f = object_named place dot (load x) type.byte f.name
+place_field_named env place dot x type.integer lends f = object_named place dot (load x) type.integer f.name
+place_field_named env place dot x type.long lends f = object_named place dot (load x) type.long f.name
+place_field_named env place dot x type.long_long lends f = object_named place dot (load x) type.long_long f.name
+place_field_named env place dot x type.currency lends f = object_named place dot (load x) type.currency f.name
+place_field_named env place dot x type.text lends f = object_named place dot (load x) type.text f.name
+place_field_named env place dot x (type.fixed_text n) lends f = object_named place dot (load x) (type.fixed_text n) f.name
+place_field_named env place dot x type.object lends f = object_named place dot (load x) type.object f.name
+place_field_named env place dot x (type.class n) lends f = object_named place dot (load x) (type.class n) f.name
+place_field_named env place dot x type.collection lends f = object_named place dot (load x) type.collection f.name
+place_field_named env place dot x type.worksheet lends f = object_named place dot (load x) type.worksheet f.name
+place_field_named env place dot x type.range lends f = object_named place dot (load x) type.range f.name
+place_field_named env place dot x type.variant lends f = object_named place dot (load x) type.variant f.name
+place_field_named env place dot x (type.array_of of) lends f = object_named place dot (load x) (type.array_of of) f.name
 
-value_field_named : (env : Env) (place : Place) (made : bound.Node) (of : Declared) (f : Identifier) → MemberNamed f.name (field_of_value env place made of f)
-value_field_named env place made (type.udt number) f =
-    named_there f.name (field_named env number f) (λ (d : ℕ × Declaration). a_value (bound.field_value (expression_of made place (type.udt number)) d.0) d.1.of) (λ d. tt)
-value_field_named env place made type.boolean f = object_named place made type.boolean f.name
-value_field_named env place made type.byte f = object_named place made type.byte f.name
-value_field_named env place made type.integer f = object_named place made type.integer f.name
-value_field_named env place made type.long f = object_named place made type.long f.name
-value_field_named env place made type.long_long f = object_named place made type.long_long f.name
-value_field_named env place made type.currency f = object_named place made type.currency f.name
-value_field_named env place made type.text f = object_named place made type.text f.name
-value_field_named env place made (type.fixed_text n) f = object_named place made (type.fixed_text n) f.name
-value_field_named env place made type.object f = object_named place made type.object f.name
-value_field_named env place made (type.class n) f = object_named place made (type.class n) f.name
-value_field_named env place made type.collection f = object_named place made type.collection f.name
-value_field_named env place made type.worksheet f = object_named place made type.worksheet f.name
-value_field_named env place made type.range f = object_named place made type.range f.name
-value_field_named env place made type.variant f = object_named place made type.variant f.name
-value_field_named env place made (type.array_of of) f = object_named place made (type.array_of of) f.name
+value_field_named : (env : Env) (place dot : Place) (made : bound.Node) (of : Declared) (f : Identifier) → MemberNamed f.name (field_of_value env place dot made of f)
+value_field_named env place dot made (type.udt number) f =
+    named_or f.name (field_named env number f) (λ (d : ℕ × Declaration). a_value (bound.field_value (expression_of made place (type.udt number)) d.0) d.1.of) (unknown_member dot (expression_of made place (type.udt number))) (λ d. tt) tt
+value_field_named env place dot made type.boolean f = object_named place dot made type.boolean f.name
+value_field_named env place dot made type.byte f = object_named place dot made type.byte f.name
+value_field_named env place dot made type.integer f = object_named place dot made type.integer f.name
+value_field_named env place dot made type.long f = object_named place dot made type.long f.name
+value_field_named env place dot made type.long_long f = object_named place dot made type.long_long f.name
+value_field_named env place dot made type.currency f = object_named place dot made type.currency f.name
+value_field_named env place dot made type.text f = object_named place dot made type.text f.name
+value_field_named env place dot made (type.fixed_text n) f = object_named place dot made (type.fixed_text n) f.name
+value_field_named env place dot made type.object f = object_named place dot made type.object f.name
+value_field_named env place dot made (type.class n) f = object_named place dot made (type.class n) f.name
+value_field_named env place dot made type.collection f = object_named place dot made type.collection f.name
+value_field_named env place dot made type.worksheet f = object_named place dot made type.worksheet f.name
+value_field_named env place dot made type.range f = object_named place dot made type.range f.name
+value_field_named env place dot made type.variant f = object_named place dot made type.variant f.name
+value_field_named env place dot made (type.array_of of) f = object_named place dot made (type.array_of of) f.name
 
-call_field_named : (env : Env) (place : Place) (t : plain.Term) (f : Identifier) → MemberNamed f.name (node_or t (λ made of. field_of_value env place made of f))
-call_field_named env place (a_value made of) f = value_field_named env place made of f
-call_field_named env place (a_place x of bounded lends) f = tt
-call_field_named env place (a_routine space number p) f = tt
-call_field_named env place (a_function x text_form base) f = tt
-call_field_named env place (a_host_member e m) f = tt
-call_field_named env place err_object f = tt
-call_field_named env place err_raise f = tt
-call_field_named env place err_clear f = tt
-call_field_named env place error_word f = tt
-call_field_named env place no_term f = tt
+call_field_named : (env : Env) (place dot : Place) (t : plain.Term) (f : Identifier) → MemberNamed f.name (node_or t (λ made of. field_of_value env place dot made of f))
+call_field_named env place dot (a_value made of) f = value_field_named env place dot made of f
+call_field_named env place dot (a_place x of bounded lends) f = tt
+call_field_named env place dot (a_routine space number p) f = tt
+call_field_named env place dot (a_function x text_form base) f = tt
+call_field_named env place dot (a_host_member e m) f = tt
+call_field_named env place dot err_object f = tt
+call_field_named env place dot err_raise f = tt
+call_field_named env place dot err_clear f = tt
+call_field_named env place dot error_word f = tt
+call_field_named env place dot no_term f = tt
 
-err_named : (fold : List ℕ) → MemberNamed fold (err_member fold)
-err_named fold =
-    let clear : plain.Term = if bytes_eq fold (codes "clear") then err_clear else no_term in
+err_named : (dot : Place) (fold : List ℕ) → MemberNamed fold (err_member dot fold)
+err_named dot fold =
+    let clear : plain.Term = if bytes_eq fold (codes "clear") then err_clear else broken_value 34 dot no_exprs in
     let raise : plain.Term = if bytes_eq fold (codes "raise") then err_raise else clear in
     let told : plain.Term = if bytes_eq fold (codes "description") then a_value (err_value err_description) type.text else raise in
     let source : plain.Term = if bytes_eq fold (codes "source") then a_value (err_value err_source) type.text else told in
     named_if fold (bytes_eq fold (codes "number")) (a_value (err_value err_number) type.long) source tt
     (named_if fold (bytes_eq fold (codes "source")) (a_value (err_value err_source) type.text) told tt
     (named_if fold (bytes_eq fold (codes "description")) (a_value (err_value err_description) type.text) raise tt
-    (named_if fold (bytes_eq fold (codes "raise")) err_raise clear tt (named_if fold (bytes_eq fold (codes "clear")) err_clear no_term tt tt))))
+    (named_if fold (bytes_eq fold (codes "raise")) err_raise clear tt (named_if fold (bytes_eq fold (codes "clear")) err_clear (broken_value 34 dot no_exprs) tt tt))))
 
-member_named : (env : Env) (place : Place) (t : plain.Term) (f : Identifier) → MemberNamed f.name (member_of env place t f)
-member_named env place (a_place x of bounded lends) f = place_field_named env place x of lends f
-member_named env place (a_value made of) f = value_field_named env place made of f
-member_named env place (a_routine space number p) f = call_field_named env place (bare_call env space number p) f
-member_named env place (a_host_member e m) f =
-    named_if f.name (m.least == 0) (object_member place (host_member e m.name no_exprs) m.of f.name) no_term (object_named place (host_member e m.name no_exprs) m.of f.name) tt
-member_named env place err_object f = err_named f.name
-member_named env place (a_function x text_form base) f = tt
-member_named env place err_raise f = tt
-member_named env place err_clear f = tt
-member_named env place error_word f = tt
-member_named env place no_term f = tt
+member_named : (env : Env) (place dot : Place) (t : plain.Term) (f : Identifier) → MemberNamed f.name (member_of env place dot t f)
+member_named env place dot (a_place x of bounded lends) f = place_field_named env place dot x of lends f
+member_named env place dot (a_value made of) f = value_field_named env place dot made of f
+member_named env place dot (a_routine space number p) f = call_field_named env place dot (bare_call env space number p) f
+member_named env place dot (a_host_member e m) f =
+    named_if f.name (m.least == 0) (object_member place dot (host_member e m.name no_exprs) m.of f.name) no_term (object_named place dot (host_member e m.name no_exprs) m.of f.name) tt
+member_named env place dot err_object f = err_named dot f.name
+member_named env place dot (a_function x text_form base) f = tt
+member_named env place dot err_raise f = tt
+member_named env place dot err_clear f = tt
+member_named env place dot error_word f = tt
+member_named env place dot no_term f = tt
 
 kept_named : (env : Env) (place : Place) (w : Option Within) (f : Identifier) → MemberNamed f.name (kept_member env place w f)
 kept_named env place w f =
-    named_there f.name w (λ (w : Within). field_of_place env place (kept_place w.header) w.of w.lends f) (λ w. place_field_named env place (kept_place w.header) w.of w.lends f)
+    named_there f.name w (λ (w : Within). field_of_place env place place (kept_place w.header) w.of w.lends f) (λ w. place_field_named env place place (kept_place w.header) w.of w.lends f)
 
 -- ---- names behind a module, an Enum or VBA
 
@@ -202,7 +207,7 @@ host_named x =
     let all : plain.Term = if bytes_eq fold (codes "worksheets") || bytes_eq fold (codes "sheets") then sheets_value else cells in
     named_if fold (bytes_eq fold (codes "err")) err_object all tt
     (named_if fold (bytes_eq fold (codes "worksheets") || bytes_eq fold (codes "sheets")) sheets_value cells tt
-    (named_if fold (bytes_eq fold (codes "cells") || bytes_eq fold (codes "range")) (sheet_term x) active (object_named nowhere bound.active_sheet type.worksheet fold)
+    (named_if fold (bytes_eq fold (codes "cells") || bytes_eq fold (codes "range")) (sheet_term x) active (object_named nowhere nowhere bound.active_sheet type.worksheet fold)
     (named_if fold (bytes_eq fold (codes "activesheet")) (a_value bound.active_sheet type.worksheet) book tt
     (named_if fold (bytes_eq fold (codes "thisworkbook") || bytes_eq fold (codes "activeworkbook")) (a_value (host_object host.Workbook) type.object) app tt
     (named_if fold (bytes_eq fold (codes "application")) (a_value (host_object host.Application) type.object) no_term tt tt)))))
@@ -236,7 +241,7 @@ behind_named env (Some q) x t h = from_zero_named x.name (meant_term env x (behi
 
 dotted_named : (env : Env) (base : Expr) (dot : Token) (x : Identifier) → MemberNamed x.name (term_of env (member base dot x))
 dotted_named env base dot x =
-    behind_named env (qualifier_of env.scope base) x (member_of env (place_told base) (term_of env base) x) (member_named env (place_told base) (term_of env base) x)
+    behind_named env (qualifier_of env.scope base) x (member_of env (place_told base) dot.place (term_of env base) x) (member_named env (place_told base) dot.place (term_of env base) x)
 
 new_named : (env : Env) (word : Token) (q : Option TypeQualifier) (first : Identifier) (dot : Token) (x : Identifier) (s : Option TypeSuffix) → MemberNamed x.name (term_of env (new_behind_dot word q first dot x s))
 new_named env word None first dot x None = tt

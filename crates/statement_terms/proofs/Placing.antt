@@ -12,10 +12,10 @@ use Rattle.bound_project.specs.Bodies.{action_of}
 use Rattle.bound_project.specs.Pieces.{Piece, Tables, an_expr, a_place, put}
 use Rattle.bound_project.specs.Drafts.{Drafted}
 use Rattle.bound_project.specs.Statements.{with_place, with_value}
-use Rattle.bound_members.specs.binder.specs.Terms.{Env}
-use Rattle.bound_members.specs.binder.specs.Terms as terms
-use Rattle.bound_members.specs.binder.specs.ExpressionsBound.{given_as, term_of, place_told}
-use Rattle.bound_members.specs.binder.specs.StatementsBound.{place_in, with_action}
+use Rattle.bound_members.specs.bound_forms.specs.Terms.{Env}
+use Rattle.bound_members.specs.bound_forms.specs.Terms as terms
+use Rattle.bound_members.specs.bound_forms.specs.ExpressionsBound.{given_as, term_of, place_told}
+use Rattle.bound_members.specs.bound_forms.specs.StatementsBound.{place_in, with_action}
 use Rattle.bound_members.specs.bound_calls.specs.declared.term.Ending.{Ending}
 use Rattle.bound_members.specs.bound_calls.specs.declared.term.HostMember.{HostMember}
 use Rattle.bound_members.specs.bound_calls.specs.declared.term.Routine.{Routine}
@@ -23,6 +23,7 @@ use Rattle.bound_members.specs.bound_calls.specs.declared.term.Term.{Term}
 use Rattle.bound_members.specs.bound_calls.specs.declared.term.Term.TheVariants as term
 use Rattle.bound_members.specs.bound_calls.specs.declared.term.Tree.{Tree}
 use Rattle.statement_nodes.specs.Pushed.{ActionStands, PlacePushed}
+use Rattle.statement_nodes.specs.Resizing.{ArrayTold}
 use Rattle.statement_terms.specs.Terms.{may_be_object}
 use Rattle.bound_members.specs.bound_calls.specs.Calls.{node_of}
 use Rattle.statement_terms.specs.Kept.{WithPlacePushed, place_ending}
@@ -45,17 +46,29 @@ place_there env t (term.Place kind of bounded lends) e z ps below is h =
     subst P same (record { bounded = bounded; lends = lends; stands = h })
 place_there env t x e z ps below is h = let k : None ≡ Some e = is in absurd cc
 
-pub place_bound : (env : Env) (tree : Expr) (x : Tree) (at : Ending) (d e g : Drafted) → Leaves env tree d e x → place_ending x.term ≡ Some at
-    → g ≡ record e { pieces = put e.tables (node_of at.kind x.place at.of) e.pieces } → PlacePushed (place_in (term_of env tree)) d g
-place_bound env tree x at d e g l is eq =
-    let P : Drafted → Type 0 = λ (z : Drafted). PlacePushed (place_in (term_of env tree)) d z in
-    let p = (place_there env e.tables x.term at (term_of env tree) e.pieces d.pieces is l.stands.term_is).stands in
+pub array_bound : (env : Env) (tree : Expr) (x : Tree) (at : Ending) (d e g : Drafted) → Leaves env tree d e x → place_ending x.term ≡ Some at
+    → g ≡ record e { pieces = put e.tables (node_of at.kind x.place at.of) e.pieces } → ArrayTold env tree at.of x.place d g
+array_bound env tree x at d e g l is eq =
+    let P : Drafted → Type 0 = λ (z : Drafted). ArrayTold env tree at.of x.place d z in
+    let q = place_there env e.tables x.term at (term_of env tree) e.pieces d.pieces is l.stands.term_is in
+    let p = q.stands in
     subst P (sym eq) (record {
       grown = grown_twice d e (record e { pieces = put e.tables (node_of at.kind x.place at.of) e.pieces }) l.grown (grown_pieces e (put e.tables (node_of at.kind x.place at.of) e.pieces));
-      made = p.at;
-      is = ap (λ (z : terms.Term). place_in z) p.is;
+      at = p.at;
+      bounded = q.bounded;
+      lends = q.lends;
+      is = p.is;
+      place_is = l.stands.place_is;
       on_top = p.ends (node_of at.kind x.place at.of);
     })
+
+pub array_place : (env : Env) (tree : Expr) (of : DeclaredType) (place : Place) (d e : Drafted) → ArrayTold env tree of place d e → PlacePushed (place_in (term_of env tree)) d e
+array_place env tree of place d e a = record {
+  grown = a.grown;
+  made = a.at;
+  is = ap (λ (z : terms.Term). place_in z) a.is;
+  on_top = a.on_top;
+}
 
 pub with_pushed : (kind : NodeKind) (of : DeclaredType) (place : Place) (d e : Drafted) → may_be_object of ≡ false → e ≡ record d { pieces = put d.tables (node_of kind place of) d.pieces } → WithPlacePushed kind of d e
 with_pushed kind of place d e none eq =

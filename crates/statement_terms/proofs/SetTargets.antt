@@ -8,23 +8,26 @@ use Rattle.vba_expression.specs.Tree.{Expr, Args, index}
 use Rattle.bound_project.specs.declared.declared_type.DeclaredType.{DeclaredType}
 use Rattle.bound_project.specs.declared.declared_type.DeclaredType.TheVariants.{Plain}
 use Rattle.bound_project.specs.declared.declared_type.ElementType.TheVariants.{Variant}
+use Rattle.vba_base.specs.declared.place.Refusal.{Refusal}
+use Rattle.bound_project.specs.declared.node.Node.{Node}
 use Rattle.bound_project.specs.declared.node.NodeKind.{NodeKind}
 use Rattle.bound_project.specs.declared.node.NodeKind.TheVariants as node
 use Rattle.bound_project.specs.declared.statement.ActionKind.{ActionKind}
 use Rattle.bound_project.specs.declared.statement.ActionKind.TheVariants as action
 use Rattle.bound_project.specs.Bodies.{action_of}
 use Rattle.bound_project.specs.Drafts.{Drafted}
-use Rattle.bound_project.specs.Expressions.{Lvalue, no_exprs, also}
+use Rattle.bound_project.specs.Expressions.{Exprs, Lvalue, no_exprs, also, marked}
 use Rattle.bound_project.specs.Expressions as bound
-use Rattle.bound_project.specs.Pieces.{Piece, an_expr, put}
+use Rattle.bound_project.specs.Pieces.{Piece, Tables, an_expr, expr_of, exprs_off, misfit, of_found, put, put_kind}
 use Rattle.bound_project.specs.Statements.{Action, set, set_member}
 use Rattle.bound_project.specs.View.{declared_view}
 use Rattle.bound_members.specs.binder.specs.Types.{is_object}
 use Rattle.bound_members.specs.binder.specs.Constants.{is_variant}
-use Rattle.bound_members.specs.binder.specs.Terms.{Env, Given, a_host_member, a_place, expression_of}
-use Rattle.bound_members.specs.binder.specs.Terms as plain
-use Rattle.bound_members.specs.binder.specs.ExpressionsBound.{bound_as_given, givens, indexed, item_of, term_of, place_told}
-use Rattle.bound_members.specs.binder.specs.StatementsBound.{may_refer, no_reference, set_given, set_target, set_to, target_before}
+use Rattle.bound_members.specs.bound_forms.specs.Terms.{Env, Given, a_host_member, a_place, a_value, expression_of}
+use Rattle.bound_members.specs.bound_forms.specs.Terms as plain
+use Rattle.bound_members.specs.bound_forms.specs.ExpressionsBound.{bound_as_given, givens, indexed, item_of, term_of, place_told}
+use Rattle.bound_members.specs.bound_forms.specs.StatementsBound.{may_refer, no_reference, set_given, set_target, set_to, target_before}
+use Rattle.bound_members.specs.bound_calls.specs.declared.term.Ending.{Ending}
 use Rattle.bound_members.specs.bound_calls.specs.declared.term.HostMember.{HostMember}
 use Rattle.bound_members.specs.bound_calls.specs.declared.term.Term.{Term}
 use Rattle.bound_members.specs.bound_calls.specs.declared.term.Term.TheVariants as term
@@ -36,7 +39,7 @@ use Rattle.bound_members.specs.bound_calls.proofs.Taking.{node_of}
 use Rattle.statement_nodes.specs.Pushed.{ActionStands}
 use Rattle.statement_terms.specs.Terms.{may_be_object}
 use Rattle.statement_terms.specs.Called.{IsBare}
-use Rattle.statement_terms.specs.Setting.{SetsTerm, SetsTo}
+use Rattle.statement_terms.specs.Setting.{SetsTerm, SetsTo, is_marked}
 
 -- ---- terms
 
@@ -102,6 +105,43 @@ sets_late word m d late = sets_member word m d (none_there (is_some m.greatest) 
     none_there : (b : Bool) → not b ≡ true → b ≡ false
     none_there true h = let e : false ≡ true = h in absurd cc
     none_there false h = refl
+
+-- what breaks a rule as a value
+record MarkThere (made : bound.Node) : Type 0 where
+  broken : Refusal
+  values : Exprs
+  is : made ≡ marked broken values
+
+mark_on_top : (n : Node) (broken : Refusal) (made : bound.Node) (o : Option (Exprs × List Piece)) (below : List Piece) → of_found (λ es. expr_of n (marked broken es)) o ≡ expr_of n made ∷ below → MarkThere made
+mark_on_top n broken made None below h = let e : misfit ≡ expr_of n made ∷ below = h in absurd cc
+mark_on_top n broken made (Some found) below h =
+    let e : expr_of n (marked broken found.0) ∷ found.1 ≡ expr_of n made ∷ below = h in
+    record { broken = broken; values = found.0; is = (let same : marked broken found.0 ≡ made = cc in sym same) }
+
+mark_there : (t : Tables) (n : Node) (k : NodeKind) (made : bound.Node) (ps below : List Piece) → is_marked k ≡ true → put_kind t n k ps ≡ expr_of n made ∷ below → MarkThere made
+mark_there t n (node.Marked broken count) made ps below h ends = mark_on_top n broken made (exprs_off count ps no_exprs) below ends
+mark_there t n k made ps below h ends = let e : false ≡ true = h in absurd cc
+
+marked_set : (word : Place) (y : plain.Term) (value : bound.Expr) (made : bound.Node) (of : Declared) → y ≡ a_value made of → MarkThere made → set_to word y value ≡ Some (set_member (expression_of made word of) value)
+marked_set word y value made of e m =
+    let A : bound.Node → Type 0 = λ (x : bound.Node). set_to word (a_value x of) value ≡ Some (set_member (expression_of x word of) value) in
+    ap (λ (z : plain.Term). set_to word z value) e ∙ subst A (sym m.is) refl
+
+pub sets_marked : (word : Place) (ending : Ending) (d e : Drafted) → is_marked ending.kind ≡ true → e ≡ record d { pieces = put d.tables (node_of ending.kind word ending.of) d.pieces } → SetsTerm word (term.Value ending) d e action.SetMember
+sets_marked word ending d e h eq =
+    let P : Drafted → Type 0 = λ (z : Drafted). SetsTerm word (term.Value ending) d z action.SetMember in
+    let n = node_of ending.kind word ending.of in
+    subst P (sym eq) (record {
+      grown = grown_pieces d (put d.tables n d.pieces);
+      named = tt;
+      stands = λ env y value k.
+          let of = declared_view ending.of in
+          record {
+            made = set_member (expression_of k.made word of) value;
+            is = marked_set word y value k.made of k.is (mark_there d.tables n ending.kind k.made d.pieces (an_expr value ∷ []) h (k.ends n));
+            fits = ap (λ (ps : List Piece). action_of d.tables action.SetMember ps) (k.ends n);
+          };
+    })
 
 -- ---- expressions
 

@@ -4,6 +4,7 @@ use Rattle.std.specs.Prelude.{◌<◌, bytes_eq, codes}
 use Rattle.std.specs.List.{list_any}
 use Rattle.std.proofs.lemmas.List.{length-map}
 use Rattle.vba_base.specs.declared.place.Place.{Place}
+use Rattle.vba_values.specs.Types as type
 use Rattle.vba_lexer.specs.declared.token.Token.{Token}
 use Rattle.vba_words.specs.declared.identifier.Identifier.{Identifier}
 use Rattle.vba_expression.specs.Tree.{Expr, Args, index}
@@ -24,10 +25,10 @@ use Rattle.bound_project.specs.Drafts.{Drafted}
 use Rattle.bound_project.specs.Statements.{Action, assign_default, assign_member}
 use Rattle.bound_project.specs.View.{declared_view}
 use Rattle.bound_members.specs.binder.specs.Types.{is_object}
-use Rattle.bound_members.specs.binder.specs.Terms.{Env, Given, a_host_member, expression_of, has_names}
-use Rattle.bound_members.specs.binder.specs.Terms as plain
-use Rattle.bound_members.specs.binder.specs.ExpressionsBound.{given_as, givens, host_arguments, indexed, mark_members, named_called, takes_arguments, term_of, place_told}
-use Rattle.bound_members.specs.binder.specs.StatementsBound.{arguments_written, assigned, assigned_to, fits_written, has_written_default, is_given_with, is_variant_place, is_written_member, member_written, named_written, takes_value, target_before}
+use Rattle.bound_members.specs.bound_forms.specs.Terms.{Env, Given, a_host_member, expression_of, has_names}
+use Rattle.bound_members.specs.bound_forms.specs.Terms as plain
+use Rattle.bound_members.specs.bound_forms.specs.ExpressionsBound.{argument_of, givens, host_arguments, indexed, mark_members, named_called, takes_arguments, term_of, place_told}
+use Rattle.bound_members.specs.bound_forms.specs.StatementsBound.{arguments_written, assigned, assigned_to, fits_written, has_written_default, is_given_with, is_variant_place, is_written_member, member_written, named_written, takes_value, target_before}
 use Rattle.bound_members.specs.bound_calls.specs.declared.term.HostMember.{HostMember}
 use Rattle.bound_members.specs.bound_calls.specs.declared.term.MemberCall.{MemberCall}
 use Rattle.bound_members.specs.bound_calls.specs.declared.term.Item.{Item}
@@ -147,11 +148,11 @@ is_arguments env place object m count gs value long some takes k late =
     let done = arguments_written env place object m gs value in
     ap (λ (b : Bool). if b && fits_written m gs then done else None) written ∙ ap (λ (b : Bool). if b then done else None) fits
 
-call_written : (env : Env) (place : Place) (object : bound.Expr) (m : plain.HostMember) (named : ℕ) (gs : List Given) (es : List bound.Expr) (value : bound.Expr) → NamesCame [] named gs → AllGiven (given_as env) gs es
+call_written : (env : Env) (place : Place) (object : bound.Expr) (m : plain.HostMember) (named : ℕ) (gs : List Given) (es : List bound.Expr) (value : bound.Expr) → NamesCame [] named gs → AllGiven (argument_of env type.variant) gs es
     → arguments_written env place object m gs value ≡ Some (assign_member object m.name (exprs_of es) value)
 call_written env place object m named gs es value came values =
     let done : Option Exprs → Option Action = λ (o : Option Exprs). option_map (λ (xs : Exprs). assign_member object m.name xs value) o in
-    ap (λ (b : Bool). if b then named_written env place object m gs value else done (host_arguments env gs)) (none_named named gs came) ∙ ap done (given_listed (given_as env) gs es values)
+    ap (λ (b : Bool). if b then named_written env place object m gs value else done (host_arguments env gs)) (none_named named gs came) ∙ ap done (given_listed (argument_of env type.variant) gs es values)
 
 by_name_written : (env : Env) (place : Place) (object : bound.Expr) (m : plain.HostMember) (gs : List Given) (made : bound.Node) (value : bound.Expr) → bytes_eq m.name (codes "raise") ≡ false → named_called env object m gs ≡ Some made → has_names gs ≡ true
     → arguments_written env place object m gs value ≡ Some (assign_default (expression_of made place m.of) value)
@@ -189,7 +190,7 @@ writes_plain x d named none w = record {
       let gs = givens env args in
       let place = place_told base in
       let N : Option ArgumentNames → Type 0 = λ (o : Option ArgumentNames). NamesCame (names_told t o) x.named gs in
-      let long : x.count ≡ length gs = omega (arith, s.count_is, given_long (given_as env) gs s.made s.values) in
+      let long : x.count ≡ length gs = omega (arith, s.count_is, given_long (argument_of env type.variant) gs s.made s.values) in
       record {
         made = assign_member s.object m.name (exprs_of s.made) value;
         is = is_arguments env place s.object m x.count gs value long w.some (w.takes t) w.default w.written ∙ call_written env place s.object m x.named gs s.made value (subst N none s.names) s.values;
@@ -213,7 +214,7 @@ writes_named x by d e told w other fit eq =
           let gs = givens env args in
           let how = by_name_in t by in
           let N : Option ArgumentNames → Type 0 = λ (o : Option ArgumentNames). NamesCame (names_told t o) x.named gs in
-          let long : x.count ≡ length gs = omega (arith, s.count_is, given_long (given_as env) gs s.made s.values) in
+          let long : x.count ≡ length gs = omega (arith, s.count_is, given_long (argument_of env type.variant) gs s.made s.values) in
           let all : x.named ≡ length how.names = fit.all ∙ sym (length-map (order_in t by.order) (name_in t)) in
           let count : length gs ≡ by.before + x.named = omega (arith, fit.count, long) in
           let r = by_name_called env s.object m how x.named gs s.made fit.some all count fit.takes (subst N told s.names) s.values in

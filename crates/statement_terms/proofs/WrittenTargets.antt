@@ -3,25 +3,30 @@ use Rattle.std.proofs.Common.{◌≡◌, ℕ, Bool, true, false, List, [], ◌�
 use Rattle.std.specs.Prelude.{◌||◌, not, MatchBool}
 use Rattle.vba_base.specs.declared.place.Place.{Place}
 use Rattle.vba_values.specs.Types.{Declared}
+use Rattle.vba_values.specs.Types as type
 use Rattle.vba_words.specs.declared.identifier.Identifier.{Identifier}
+use Rattle.bound_project.specs.declared.declared_type.DeclaredType.TheVariants.{Plain}
+use Rattle.bound_project.specs.declared.declared_type.ElementType.TheVariants as element
 use Rattle.bound_project.specs.declared.node.NodeKind.{NodeKind}
 use Rattle.bound_project.specs.declared.node.NodeKind.TheVariants as kinds
 use Rattle.bound_project.specs.declared.node.Node.{Node}
 use Rattle.bound_project.specs.declared.statement.ActionKind.{ActionKind}
 use Rattle.bound_project.specs.declared.statement.ActionKind.TheVariants as action
 use Rattle.bound_project.specs.Bodies.{action_of, item_found}
-use Rattle.bound_project.specs.Expressions.{Exprs, Lvalue, no_exprs, expr, load, element_value, field_value, call, library, host_member, named_member, no_args, in_order}
+use Rattle.bound_project.specs.Expressions.{Exprs, Lvalue, no_exprs, also, expr, load, marked, element_value, field_value, call, library, host_member, named_member, no_args, in_order}
 use Rattle.bound_project.specs.Expressions as bound
 use Rattle.bound_project.specs.Pieces.{Piece, Tables, a_place, an_expr, arguments_off, expr_of, exprs_off, misfit, by_name_in, name_in, of_place, of_value, of_value_found, order_in, put, put_kind}
 use Rattle.bound_project.specs.Drafts.{Drafted}
 use Rattle.bound_project.specs.Statements.{assign, assign_default, assign_item}
 use Rattle.bound_project.specs.View.{base_view, declared_view}
 use Rattle.bound_members.specs.binder.specs.Types.{is_object}
-use Rattle.bound_members.specs.binder.specs.Terms.{Env, expression_of}
-use Rattle.bound_members.specs.binder.specs.Terms as plain
-use Rattle.bound_members.specs.binder.specs.ExpressionsBound.{has_object}
-use Rattle.bound_members.specs.binder.specs.StatementsBound.{assigned, default_written, has_written_default, takes_value, value_written}
+use Rattle.bound_members.specs.bound_forms.specs.Terms.{Env, expression_of}
+use Rattle.bound_members.specs.bound_forms.specs.Terms as plain
+use Rattle.bound_members.specs.bound_forms.specs.ExpressionsBound.{HostKind, has_object, host_kind, kind_by_type}
+use Rattle.bound_members.specs.bound_forms.specs.StatementsBound.{assigned, broken_target, default_written, has_written_default, takes_value, value_written, write_rule, written_or_broken}
 use Rattle.bound_members.specs.bound_calls.specs.declared.term.Ending.{Ending}
+use Rattle.bound_members.specs.declared.kinds.HostKind as declared
+use Rattle.bound_members.specs.Kinds.{EndingOfKind, kind_view}
 use Rattle.bound_members.specs.bound_calls.specs.declared.term.Term.{Term}
 use Rattle.bound_members.specs.bound_calls.specs.declared.term.Term.TheVariants as term
 use Rattle.bound_members.specs.bound_calls.specs.Calls.{node_of}
@@ -37,7 +42,7 @@ use Rattle.statement_terms.specs.Targets.{AssignsIndexed, EndsItem, EndsObject, 
 to_place : (env : Env) (place : Place) (v : bound.Expr) (t : plain.Term) (x : Lvalue) (of : Declared) (bounded lends : Bool) → t ≡ plain.a_place x of bounded lends → is_object of ≡ false → assigned env place v [] t ≡ Some (assign x v)
 to_place env place v t x of bounded lends e h =
     ap (λ (z : plain.Term). assigned env place v [] z) e
-    ∙ ap (λ (b : Bool). if b then default_written (expression_of (load x) place of) of v else Some (assign x v)) h
+    ∙ ap (λ (b : Bool). if b then default_written place (load x) of v else Some (assign x v)) h
 
 pub plain_assigned : (place : Place) (at : Ending) (d e : Drafted) → is_object (declared_view at.of) ≡ false → e ≡ record d { pieces = put d.tables (node_of at.kind place at.of) d.pieces }
     → (bounded lends : Bool) (name : Option Identifier) → AssignsTerm place (term.Place at.kind at.of bounded lends) name d e action.Assign false
@@ -56,12 +61,30 @@ plain_assigned place at d e none eq bounded lends name =
           };
     })
 
+-- the default member of an object of a kind
+kind_written : (place : Place) (made : bound.Node) (of : Declared) (v : bound.Expr) (k : Option HostKind) (rule : Option ℕ) → host_kind made of ≡ k → write_rule k ≡ rule
+    → default_written place made of v ≡ written_or_broken rule place (expression_of made place of) of v
+kind_written place made of v k rule h w =
+    let target = expression_of made place of in
+    ap (λ (o : Option HostKind). written_or_broken (write_rule o) place target of v) h ∙ ap (λ (r : Option ℕ). written_or_broken r place target of v) w
+
+default_done : (place : Place) (made : bound.Node) (of : Declared) (v : bound.Expr) (k : Option HostKind) → host_kind made of ≡ k → write_rule k ≡ None → has_written_default of ≡ true
+    → default_written place made of v ≡ Some (assign_default (expression_of made place of) v)
+default_done place made of v k h w d =
+    kind_written place made of v k None h w ∙ ap (λ (b : Bool). if b then Some (assign_default (expression_of made place of) v) else None) d
+
+-- a place whose type has a default member that is written
+type_written : (of : Declared) → has_written_default of ≡ true → write_rule (kind_by_type of) ≡ None
+type_written type.object h = refl
+type_written type.range h = refl
+type_written type.variant h = refl
+type_written of h = let e : false ≡ true = h in absurd cc
+
 to_object : (env : Env) (place : Place) (v : bound.Expr) (t : plain.Term) (x : Lvalue) (of : Declared) (bounded lends : Bool) → t ≡ plain.a_place x of bounded lends → is_object of ≡ true → has_written_default of ≡ true
     → assigned env place v [] t ≡ Some (assign_default (expression_of (load x) place of) v)
 to_object env place v t x of bounded lends e h k =
-    let target = expression_of (load x) place of in
-    ap (λ (z : plain.Term). assigned env place v [] z) e ∙ ap (λ (b : Bool). if b then default_written target of v else Some (assign x v)) h
-    ∙ ap (λ (b : Bool). if b then Some (assign_default target v) else None) k
+    ap (λ (z : plain.Term). assigned env place v [] z) e ∙ ap (λ (b : Bool). if b then default_written place (load x) of v else Some (assign x v)) h
+    ∙ default_done place (load x) of v (kind_by_type of) refl (type_written of k) k
 
 pub object_assigned : (place : Place) (at : Ending) (d f e : Drafted) → is_object (declared_view at.of) ≡ true → has_written_default (declared_view at.of) ≡ true
     → f ≡ record d { pieces = put d.tables (node_of at.kind place at.of) d.pieces } → e ≡ record f { pieces = put f.tables (node_of kinds.Load place at.of) f.pieces }
@@ -87,6 +110,45 @@ object_assigned place at d f e object written first second bounded lends name =
           };
     })
 
+-- ---- what breaks a rule
+
+-- the mark of a target, of its value and what it is written with
+abbrev mark_node : (rule : ℕ) → Place → Node
+mark_node rule place = node_of (kinds.Marked (record { rule = rule; place = place }) 2) place (Plain element.Variant)
+
+evaluated : (t : Tables) (rule : ℕ) (place : Place) (v target : bound.Expr) (ps : List Piece) → ps ≡ an_expr target ∷ an_expr v ∷ [] → action_of t action.Evaluate (put t (mark_node rule place) ps) ≡ Some (broken_target rule place v (also target no_exprs))
+evaluated t rule place v target ps h = ap (λ (st : List Piece). action_of t action.Evaluate (put t (mark_node rule place) st)) h
+
+-- a variable of a sheet
+to_sheet : (env : Env) (place : Place) (v : bound.Expr) (t : plain.Term) (x : Lvalue) (of : Declared) (bounded lends : Bool) → t ≡ plain.a_place x of bounded lends → of ≡ type.worksheet
+    → assigned env place v [] t ≡ Some (broken_target 34 place v (also (expression_of (load x) place of) no_exprs))
+to_sheet env place v t x of bounded lends e h =
+    let A : Declared → Type 0 = λ (u : Declared). assigned env place v [] (plain.a_place x u bounded lends) ≡ Some (broken_target 34 place v (also (expression_of (load x) place u) no_exprs)) in
+    ap (λ (z : plain.Term). assigned env place v [] z) e ∙ subst A (sym h) refl
+
+pub sheet_assigned : (place : Place) (at : Ending) (d f g e : Drafted) → declared_view at.of ≡ type.worksheet → f ≡ record d { pieces = put d.tables (node_of at.kind place at.of) d.pieces }
+    → g ≡ record f { pieces = put f.tables (node_of kinds.Load place at.of) f.pieces } → e ≡ record g { pieces = put g.tables (mark_node 34 place) g.pieces }
+    → (bounded lends : Bool) (name : Option Identifier) → AssignsTerm place (term.Place at.kind at.of bounded lends) name d e action.Evaluate false
+sheet_assigned place at d f g e sheet first second third bounded lends name =
+    let n = node_of at.kind place at.of in
+    let m = node_of kinds.Load place at.of in
+    let low = put d.tables m (put d.tables n d.pieces) in
+    let two : g ≡ record d { pieces = low } = second ∙ ap (λ (z : Drafted). record z { pieces = put z.tables m z.pieces }) first in
+    let is : e ≡ record d { pieces = put d.tables (mark_node 34 place) low } = third ∙ ap (λ (z : Drafted). record z { pieces = put z.tables (mark_node 34 place) z.pieces }) two in
+    let P : Drafted → Type 0 = λ (z : Drafted). AssignsTerm place (term.Place at.kind at.of bounded lends) name d z action.Evaluate false in
+    subst P (sym is) (record {
+      grown = grown_pieces d (put d.tables (mark_node 34 place) low);
+      named = tt;
+      takes = λ env z ps below h. ap (λ (y : plain.Term). takes_value env y) h.is;
+      stands = λ env z value k h.
+          let target = expression_of (load h.at) place (declared_view at.of) in
+          record {
+            made = broken_target 34 place value (also target no_exprs);
+            is = to_sheet env place value z h.at (declared_view at.of) bounded lends h.is sheet;
+            fits = evaluated d.tables 34 place value target low (ap (λ (ps : List Piece). of_place (λ x. expr_of m (load x)) ps) (h.ends n));
+          };
+    })
+
 -- ---- values that are no elements
 
 abbrev is_element : bound.Node → Bool
@@ -107,6 +169,7 @@ no_element_there t n (kinds.CallInOrder p count order) st h =
     found_passes none_on_top refl (λ args. expr_of n (call p (in_order (order_in t order) args))) (λ args rest. refl) (arguments_off count st no_args)
 no_element_there t n (kinds.Library f text_form count compare one) st h =
     found_passes none_on_top refl (λ es. expr_of n (library f text_form es compare (base_view one))) (λ es rest. refl) (exprs_off count st no_exprs)
+no_element_there t n (kinds.Marked broken count) st h = found_passes none_on_top refl (λ es. expr_of n (marked broken es)) (λ es rest. refl) (exprs_off count st no_exprs)
 no_element_there t n (kinds.HostMember i count) st h =
     member_found_passes none_on_top refl (name_in t i) (λ e es. expr_of n (host_member e (name_in t i) es)) (λ e es rest. refl) (exprs_off count st no_exprs)
 no_element_there t n (kinds.NamedMember i by count) st h =
@@ -145,18 +208,13 @@ pub ends_variant : (e : Ending) (gives : Bool) → ends_value e.kind ≡ true �
 ends_variant e true value g = λ t made ps below ends. variant_gives made (declared_view e.of) (no_element t e.kind made ps below value ends) (g t made ps below ends)
 ends_variant e false value g = tt
 
-value_done : (place : Place) (v : bound.Expr) (made : bound.Node) (of : Declared) → gives_object made of ≡ true → has_written_default of ≡ true
-    → value_written place v made of ≡ Some (assign_default (expression_of made place of) v)
-value_done place v (element_value x es) of h k =
-    let target = expression_of (element_value x es) place of in
-    ap (λ (b : Bool). if b then default_written target of v else Some (assign_item x es v)) h ∙ ap (λ (b : Bool). if b then Some (assign_default target v) else None) k
-value_done place v made of h k =
-    let target = expression_of made place of in
-    ap (λ (b : Bool). if b then default_written target of v else None) h ∙ ap (λ (b : Bool). if b then Some (assign_default target v) else None) k
+value_default : (place : Place) (v : bound.Expr) (made : bound.Node) (of : Declared) → gives_object made of ≡ true → value_written place v made of ≡ default_written place made of v
+value_default place v (element_value x es) of h = ap (λ (b : Bool). if b then default_written place (element_value x es) of v else Some (assign_item x es v)) h
+value_default place v made of h = ap (λ (b : Bool). if b then default_written place made of v else None) h
 
-pub value_assigned : (place : Place) (ending : Ending) (d e : Drafted) → EndsObject ending → has_written_default (declared_view ending.of) ≡ true
+pub value_assigned : (place : Place) (ending : Ending) (kind : declared.HostKind) (d e : Drafted) → EndsObject ending → EndingOfKind ending kind → write_rule (Some (kind_view kind)) ≡ None → has_written_default (declared_view ending.of) ≡ true
     → e ≡ record d { pieces = put d.tables (node_of ending.kind place ending.of) d.pieces } → (name : Option Identifier) → AssignsTerm place (term.Value ending) name d e action.AssignDefault false
-value_assigned place ending d e gives written eq name =
+value_assigned place ending kind d e gives known rule written eq name =
     let P : Drafted → Type 0 = λ (z : Drafted). AssignsTerm place (term.Value ending) name d z action.AssignDefault false in
     let n = node_of ending.kind place ending.of in
     subst P (sym eq) (record {
@@ -165,10 +223,36 @@ value_assigned place ending d e gives written eq name =
       takes = λ env z ps below h. ap (λ (y : plain.Term). takes_value env y) h.is;
       stands = λ env z value k h.
           let of = declared_view ending.of in
+          let below : List Piece = an_expr value ∷ [] in
           record {
             made = assign_default (expression_of h.made place of) value;
-            is = ap (λ (y : plain.Term). assigned env place value [] y) h.is ∙ value_done place value h.made of (gives d.tables h.made d.pieces (an_expr value ∷ []) h.ends) written;
+            is = ap (λ (y : plain.Term). assigned env place value [] y) h.is ∙ value_default place value h.made of (gives d.tables h.made d.pieces below h.ends)
+                ∙ default_done place h.made of value (Some (kind_view kind)) (known d.tables h.made d.pieces below h.ends) rule written;
             fits = ap (λ (ps : List Piece). action_of d.tables action.AssignDefault ps) (h.ends n);
+          };
+    })
+
+pub value_broken : (place : Place) (ending : Ending) (kind : declared.HostKind) (rule : ℕ) (d f e : Drafted) → EndsObject ending → EndingOfKind ending kind → write_rule (Some (kind_view kind)) ≡ Some rule
+    → f ≡ record d { pieces = put d.tables (node_of ending.kind place ending.of) d.pieces } → e ≡ record f { pieces = put f.tables (mark_node rule place) f.pieces }
+    → (name : Option Identifier) → AssignsTerm place (term.Value ending) name d e action.Evaluate false
+value_broken place ending kind rule d f e gives known broken first second name =
+    let n = node_of ending.kind place ending.of in
+    let low = put d.tables n d.pieces in
+    let is : e ≡ record d { pieces = put d.tables (mark_node rule place) low } = second ∙ ap (λ (z : Drafted). record z { pieces = put z.tables (mark_node rule place) z.pieces }) first in
+    let P : Drafted → Type 0 = λ (z : Drafted). AssignsTerm place (term.Value ending) name d z action.Evaluate false in
+    subst P (sym is) (record {
+      grown = grown_pieces d (put d.tables (mark_node rule place) low);
+      named = tt;
+      takes = λ env z ps below h. ap (λ (y : plain.Term). takes_value env y) h.is;
+      stands = λ env z value k h.
+          let of = declared_view ending.of in
+          let below : List Piece = an_expr value ∷ [] in
+          let target = expression_of h.made place of in
+          record {
+            made = broken_target rule place value (also target no_exprs);
+            is = ap (λ (y : plain.Term). assigned env place value [] y) h.is ∙ value_default place value h.made of (gives d.tables h.made d.pieces below h.ends)
+                ∙ kind_written place h.made of value (Some (kind_view kind)) (Some rule) (known d.tables h.made d.pieces below h.ends) broken;
+            fits = evaluated d.tables rule place value target low (h.ends n);
           };
     })
 
@@ -194,7 +278,7 @@ item_there made (Some found) below h = item_at made found.0 found.1 below h
 
 item_written : (place : Place) (v base : bound.Expr) (numbers : Exprs) (of : Declared) → is_object of ≡ false → value_written place v (element_value base numbers) of ≡ Some (assign_item base numbers v)
 item_written place v base numbers of h =
-    ap (λ (b : Bool). if b then default_written (expression_of (element_value base numbers) place of) of v else Some (assign_item base numbers v)) h
+    ap (λ (b : Bool). if b then default_written place (element_value base numbers) of v else Some (assign_item base numbers v)) h
 
 pub item_indexed : (place : Place) (ending : Ending) (count : ℕ) (d : Drafted) → EndsItem ending count → AssignsIndexed place (term.Value ending) d d (action.AssignItem count)
 item_indexed place ending count d ends = record {

@@ -2,16 +2,17 @@
 use Rattle.std.specs.Prelude.{◌≡◌, Bool, true, false, not, List, ◌∷◌, Option, Some}
 use Rattle.vba_base.specs.declared.place.Place.{Place}
 use Rattle.vba_expression.specs.Tree.{Expr}
+use Rattle.bound_project.specs.declared.declared_type.DeclaredType.{DeclaredType}
 use Rattle.bound_project.specs.Expressions as bound
 use Rattle.bound_project.specs.Drafts.{Drafted}
 use Rattle.bound_project.specs.Pieces.{Piece, an_expr}
-use Rattle.bound_members.specs.binder.specs.Terms.{Env}
-use Rattle.bound_members.specs.binder.specs.Terms as plain
-use Rattle.bound_members.specs.binder.specs.ExpressionsBound.{given_as, operand_of, term_of, place_told}
+use Rattle.bound_members.specs.bound_forms.specs.Terms.{Env}
+use Rattle.bound_members.specs.bound_forms.specs.Terms as plain
+use Rattle.bound_members.specs.bound_forms.specs.ExpressionsBound.{given_as, operand_of, term_of, place_told}
 use Rattle.bound_members.specs.bound_calls.specs.declared.term.Term.{Term}
 use Rattle.bound_members.specs.bound_calls.specs.declared.term.Term.TheVariants as term
 use Rattle.bound_members.specs.bound_calls.specs.declared.term.Tree.{Tree}
-use Rattle.bound_members.specs.bound_calls.specs.Standing.{TermStands, TreeStands, Grown}
+use Rattle.bound_members.specs.bound_calls.specs.Standing.{TermStands, TreeStands, PushedIs, Grown}
 use Rattle.statement_terms.specs.Terms.{may_be_object}
 
 -- an expression that was pushed
@@ -31,10 +32,11 @@ abbrev pub taken_for : Bool → Env → plain.Term → Place → Option bound.Ex
 taken_for true env t place = given_as env t place
 taken_for false env t place = operand_of env t place
 
-pub record PushesFor (given : Bool) (x : Tree) (d e : Drafted) : Type 0 where
+-- and its type
+pub record PushesFor (given : Bool) (x : Tree) (d e : Drafted) (of : DeclaredType) : Type 0 where
   pub grown : Grown d e
   pub stands : (env : Env) (tree : Expr) (below : List Piece) → TreeStands env d.tables x tree d.pieces below
-      → ExprPushed (taken_for given env (term_of env tree) (place_told tree)) e.pieces below
+      → PushedIs of (taken_for given env (term_of env tree) (place_told tree)) e.pieces below
 
 -- a value was pushed
 pub record ValueFor (found : Option bound.Expr) (d e : Drafted) : Type 0 where

@@ -21,10 +21,10 @@ use Rattle.bound_project.specs.Project as project
 use Rattle.bound_project.specs.Statements.{Action}
 use Rattle.bound_project.specs.Statements as to
 use Rattle.bound_members.specs.binder.specs.Types.{is_object}
-use Rattle.bound_members.specs.binder.specs.Terms.{Env, Given, bound_arguments, has_names}
-use Rattle.bound_members.specs.binder.specs.Terms as plain
-use Rattle.bound_members.specs.binder.specs.ExpressionsBound.{argument_of, givens}
-use Rattle.bound_members.specs.binder.specs.StatementsBound.{assigned, assigned_to, called_term, called_with, is_given_with}
+use Rattle.bound_members.specs.bound_forms.specs.Terms.{Env, Given, bound_arguments, has_names}
+use Rattle.bound_members.specs.bound_forms.specs.Terms as plain
+use Rattle.bound_members.specs.bound_forms.specs.ExpressionsBound.{argument_of, givens}
+use Rattle.bound_members.specs.bound_forms.specs.StatementsBound.{assigned, assigned_to, called_term, called_with, is_given_with}
 use Rattle.statement_terms.specs.declared.trees.Split.{Split}
 use Rattle.bound_members.specs.bound_calls.specs.declared.term.Item.TheVariants as item
 use Rattle.bound_members.specs.bound_calls.specs.declared.term.Ordered.{Ordered}

@@ -15,10 +15,10 @@ use Rattle.bound_project.specs.Drafts.{Drafted, ActionNamed}
 use Rattle.bound_project.specs.Expressions as bound
 use Rattle.bound_project.specs.Pieces.{Piece, Tables, an_expr}
 use Rattle.bound_members.specs.binder.specs.Types.{is_object}
-use Rattle.bound_members.specs.binder.specs.Terms.{Env, a_host_member}
-use Rattle.bound_members.specs.binder.specs.Terms as plain
-use Rattle.bound_members.specs.binder.specs.ExpressionsBound.{callee, givens, takes_arguments, term_of, place_told}
-use Rattle.bound_members.specs.binder.specs.StatementsBound.{assigned, assigned_to, has_written_default, is_given_with, is_written_member, member_written, takes_value}
+use Rattle.bound_members.specs.bound_forms.specs.Terms.{Env, a_host_member}
+use Rattle.bound_members.specs.bound_forms.specs.Terms as plain
+use Rattle.bound_members.specs.bound_forms.specs.ExpressionsBound.{callee, givens, takes_arguments, term_of, place_told}
+use Rattle.bound_members.specs.bound_forms.specs.StatementsBound.{assigned, assigned_to, has_written_default, is_given_with, is_written_member, member_written, takes_value}
 use Rattle.bound_members.specs.bound_calls.specs.declared.term.MemberCall.{MemberCall}
 use Rattle.bound_members.specs.bound_calls.specs.declared.term.Term.{Term}
 use Rattle.bound_members.specs.bound_calls.specs.declared.term.Tree.{Tree}

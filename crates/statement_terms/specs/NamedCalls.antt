@@ -1,6 +1,7 @@
 -- Serves the code: calls of which the last arguments have names or are values for a ParamArray, and that stand as statements.
 use Rattle.std.specs.Prelude.{◌≡◌, ℕ, length, true, List, ◌++◌, map, reverse}
 use Rattle.vba_base.specs.declared.place.Place.{Place}
+use Rattle.vba_values.specs.Types as type
 use Rattle.vba_expression.specs.Tree.{Args}
 use Rattle.vba_expression.specs.Nodes as nodes
 use Rattle.vba_expression.specs.declared.node.ExpressionNode.{ExpressionNode}
@@ -10,9 +11,9 @@ use Rattle.bound_project.specs.Expressions as bound
 use Rattle.bound_project.specs.Pieces.{Argument, Piece, an_argument, an_expr}
 use Rattle.bound_project.specs.Project.{Parameter}
 use Rattle.bound_project.specs.Drafts.{Drafted}
-use Rattle.bound_members.specs.binder.specs.Terms.{Env, Given}
-use Rattle.bound_members.specs.binder.specs.Terms as plain
-use Rattle.bound_members.specs.binder.specs.ExpressionsBound.{argument_of, given_as, givens, indexed}
+use Rattle.bound_members.specs.bound_forms.specs.Terms.{Env, Given}
+use Rattle.bound_members.specs.bound_forms.specs.Terms as plain
+use Rattle.bound_members.specs.bound_forms.specs.ExpressionsBound.{argument_of, given_as, givens, indexed}
 use Rattle.bound_members.specs.bound_calls.specs.declared.term.Routine.{Routine}
 use Rattle.bound_members.specs.bound_calls.specs.declared.term.Passed.{Passed}
 use Rattle.bound_members.specs.bound_calls.specs.InOrder.{AllNamedTaken}
@@ -56,7 +57,7 @@ pub record ValuesPassed (env : Env) (parameters : List Parameter) (x : Passed) (
   pub givens_are : givens env args ≡ givens env before ++ given
   pub many : is_gathering (map parameter_view x.left.now) ≡ true
   pub made : List bound.Expr
-  pub taken : AllListed (given_as env) given made
+  pub taken : AllListed (argument_of env type.variant) given made
   pub count_is : length made ≡ values
   pub between : List Piece
   pub on_top : ps ≡ above (map an_expr made) between

@@ -1,17 +1,24 @@
 -- Serves the code: what is given a reference to an object.
-use Rattle.std.specs.Prelude.{◌≡◌, [], ◌∷◌}
+use Rattle.std.specs.Prelude.{◌≡◌, Bool, true, false, [], ◌∷◌}
 use Rattle.vba_base.specs.declared.place.Place.{Place}
 use Rattle.vba_expression.specs.Tree.{Expr}
+use Rattle.bound_project.specs.declared.node.NodeKind.{NodeKind}
+use Rattle.bound_project.specs.declared.node.NodeKind.TheVariants as kinds
 use Rattle.bound_project.specs.declared.statement.ActionKind.{ActionKind}
 use Rattle.bound_project.specs.Drafts.{ActionNamed, Drafted}
 use Rattle.bound_project.specs.Expressions as bound
 use Rattle.bound_project.specs.Pieces.{an_expr}
-use Rattle.bound_members.specs.binder.specs.Terms.{Env}
-use Rattle.bound_members.specs.binder.specs.Terms as plain
-use Rattle.bound_members.specs.binder.specs.StatementsBound.{set_target, set_to}
+use Rattle.bound_members.specs.bound_forms.specs.Terms.{Env}
+use Rattle.bound_members.specs.bound_forms.specs.Terms as plain
+use Rattle.bound_members.specs.bound_forms.specs.StatementsBound.{set_target, set_to}
 use Rattle.bound_members.specs.bound_calls.specs.declared.term.Term.{Term}
 use Rattle.bound_members.specs.bound_calls.specs.Standing.{Grown, TermStands}
 use Rattle.statement_terms.specs.Called.{ActionIs}
+
+-- the node of what breaks a rule
+abbrev pub is_marked : NodeKind → Bool
+is_marked (kinds.Marked broken count) = true
+is_marked kind = false
 
 -- a term is set to the reference that was pushed below it, by a Set with its word at this place
 pub record SetsTerm (word : Place) (x : Term) (d e : Drafted) (kind : ActionKind) : Type 0 where

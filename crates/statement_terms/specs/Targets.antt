@@ -12,10 +12,10 @@ use Rattle.bound_project.specs.Pieces.{Piece, Tables, an_expr}
 use Rattle.bound_project.specs.Drafts.{Drafted, ActionNamed}
 use Rattle.bound_members.specs.binder.specs.Types.{is_object}
 use Rattle.bound_members.specs.binder.specs.Constants.{is_variant}
-use Rattle.bound_members.specs.binder.specs.Terms.{Env}
-use Rattle.bound_members.specs.binder.specs.Terms as plain
-use Rattle.bound_members.specs.binder.specs.ExpressionsBound.{has_object}
-use Rattle.bound_members.specs.binder.specs.StatementsBound.{assigned}
+use Rattle.bound_members.specs.bound_forms.specs.Terms.{Env}
+use Rattle.bound_members.specs.bound_forms.specs.Terms as plain
+use Rattle.bound_members.specs.bound_forms.specs.ExpressionsBound.{has_object}
+use Rattle.bound_members.specs.bound_forms.specs.StatementsBound.{assigned}
 use Rattle.bound_members.specs.bound_calls.specs.declared.term.Ending.{Ending}
 use Rattle.bound_members.specs.bound_calls.specs.declared.term.Term.{Term}
 use Rattle.bound_members.specs.bound_calls.specs.declared.term.Term.TheVariants as term
@@ -33,6 +33,7 @@ ends_value (kinds.HostMember i count) = true
 ends_value (kinds.NamedMember i by count) = true
 ends_value (kinds.HostObject reference) = true
 ends_value kinds.ActiveSheet = true
+ends_value (kinds.Marked broken count) = true
 ends_value kind = false
 
 -- a value that is an object, or that may be one and is no element

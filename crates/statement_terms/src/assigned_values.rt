@@ -1,6 +1,6 @@
 //! The value of an assignment, once its term is known.
 
-ghost use Rattle.std.specs.Prelude.{◌≡◌, OnOk};
+ghost use Rattle.std.specs.Prelude.{◌≡◌, IfOk};
 ghost use Rattle.bound_project.specs.DraftView.{draft_view};
 ghost use Rattle.statement_terms.specs.Assigning.{PushesFor, is_plain};
 ghost use Rattle.bound_members.specs.bound_calls.specs.Standing.{TermNamed};
@@ -8,7 +8,7 @@ ghost use Rattle.bound_members.specs.bound_calls.specs.Standing.{TermNamed};
 use crate::targets::may_be_object;
 use bound_members::bound_calls::{Term, Tree, push_given, push_operand};
 use bound_members::bound_declarations::NotYet;
-use bound_project::Draft;
+use bound_project::{DeclaredType, Draft};
 use std::alloc::Global;
 use vba_base::OrMemory;
 
@@ -23,22 +23,22 @@ pub fn is_plain<'a>(term: Term<'a>) -> bool
     }
 }
 
-/// Pushes what is assigned, as it is or as an operand.
+/// Pushes what is assigned, as it is or as an operand; answers the type that it has as an operand.
 pub fn push_assigned<'a>(
     alloc: Global,
     draft: &mut Draft,
     tree: Tree<'a>,
     given: bool,
-) -> Result<(), OrMemory<NotYet>>
+) -> Result<DeclaredType, OrMemory<NotYet>>
     requires { TermNamed (draft_view draft.old).tables tree.term }
-    ensures { OnOk result (PushesFor given tree.entry (draft_view draft.old) (draft_view draft.new)) }
+    ensures { IfOk result (λ of. PushesFor given tree.entry (draft_view draft.old) (draft_view draft.new) of) }
 {
     if given {
-        push_given(alloc, draft, tree)?;
-        return Ok(());
+        let of = push_given(alloc, draft, tree)?;
+        return Ok(of);
     }
-    let Some(_of) = push_operand(alloc, draft, tree)? else {
+    let Some(of) = push_operand(alloc, draft, tree)? else {
         return Err(OrMemory::Fault(NotYet));
     };
-    Ok(())
+    Ok(of)
 }

@@ -11,6 +11,7 @@ mod pushed_terms;
 mod raising;
 mod setting;
 mod statement_calls;
+mod takers;
 mod targets;
 mod trees;
 
@@ -24,6 +25,7 @@ pub use pushed_terms::push_term;
 pub use raising::raise_parameters;
 pub use setting::{push_broken, set_member, set_term};
 pub use statement_calls::{are_none, bare_term, push_given, push_rest};
+pub use takers::{Taker, mark_taken, may_break, taker_of};
 pub use targets::{assign_indexed, is_variant_term, may_be_object};
 pub use trees::{Split, adds_one, ends_bare, member_name, split_call};
 

@@ -4,8 +4,8 @@ ghost use Rattle.std.specs.Prelude.{◌≡◌, ◌<◌, true, not, length, is_so
 ghost use Rattle.std.specs.List.{list_any};
 ghost use Rattle.bound_project.specs.DraftView.{draft_view};
 ghost use Rattle.bound_project.specs.View.{declared_view};
-ghost use Rattle.bound_members.specs.binder.specs.ExpressionsBound.{mark_members};
-ghost use Rattle.bound_members.specs.binder.specs.Terms as terms;
+ghost use Rattle.bound_members.specs.bound_forms.specs.ExpressionsBound.{mark_members};
+ghost use Rattle.bound_members.specs.bound_forms.specs.Terms as terms;
 ghost use Rattle.statement_terms.specs.Members.{AssignsTerm, IsWritten, WritesCall, is_written};
 ghost use Rattle.bound_members.specs.bound_calls.specs.declared.term.Term.TheVariants as term;
 ghost use Rattle.bound_members.specs.bound_calls.specs.Standing.{MemberNamed};

@@ -4,7 +4,7 @@ ghost use Rattle.std.specs.Prelude.{◌≡◌, Bool, IfOk, OnOk};
 ghost use Rattle.vba_base.specs.declared.place.Place as told;
 ghost use Rattle.bound_project.specs.DraftView.{draft_view};
 ghost use Rattle.bound_project.specs.Drafts.{Drafted, NodeNamed};
-ghost use Rattle.statement_terms.specs.Setting.{SetsTerm};
+ghost use Rattle.statement_terms.specs.Setting.{SetsTerm, is_marked};
 ghost use Rattle.bound_members.specs.bound_calls.specs.declared.term.Term.TheVariants as term;
 ghost use Rattle.bound_members.specs.bound_calls.specs.Calls.{node_of};
 ghost use Rattle.bound_members.specs.bound_calls.specs.Standing.{TermNamed};
@@ -55,6 +55,16 @@ fn set_place(
     Ok(ActionKind::Evaluate)
 }
 
+/// Is a node that of what breaks a rule?
+fn is_marked(kind: NodeKind) -> bool
+    ensures { result ≡ is_marked kind }
+{
+    match kind {
+        NodeKind::Marked { .. } => true,
+        _ => false,
+    }
+}
+
 /// A member of an object that is found in the run, behind the reference that it is given and the object.
 pub fn set_member(member: HostMember) -> Result<ActionKind, OrMemory<NotYet>>
     ensures { IfOk result (λ kind. (word : told.Place) (d : Drafted) → SetsTerm word (term.HostMember member) d d kind) }
@@ -62,6 +72,22 @@ pub fn set_member(member: HostMember) -> Result<ActionKind, OrMemory<NotYet>>
     if !is_late(member.greatest) {
         return Err(OrMemory::Fault(NotYet));
     }
+    Ok(ActionKind::SetMember)
+}
+
+/// What breaks a rule as a value, behind the reference that it is given.
+fn set_value(
+    draft: &mut Draft,
+    set_word: Place,
+    ending: Ending,
+) -> Result<ActionKind, OrMemory<NotYet>>
+    requires { NodeNamed (draft_view draft.old).tables ending.kind }
+    ensures { IfOk result (λ kind. SetsTerm set_word (term.Value ending) (draft_view draft.old) (draft_view draft.new) kind) }
+{
+    if !is_marked(ending.kind) {
+        return Err(OrMemory::Fault(NotYet));
+    }
+    push_node(draft, ending.kind, ending.of, set_word)?;
     Ok(ActionKind::SetMember)
 }
 
@@ -78,6 +104,7 @@ pub fn set_term<'a>(
     match term {
         Term::Place { kind, of, .. } => set_place(draft, set_word, Ending { kind, of }, place),
         Term::HostMember(member) => set_member(member),
+        Term::Value(ending) => set_value(draft, set_word, ending),
         _ => Err(OrMemory::Fault(NotYet)),
     }
 }

@@ -3,7 +3,7 @@
 ghost use Rattle.std.specs.Prelude.{◌≡◌, ◌≢◌, [], ◌∷◌, IfOk, MatchBool, OnOk, reverse};
 ghost use Rattle.vba_expression.specs.declared.node.ExpressionNode.TheVariants as node;
 ghost use Rattle.bound_project.specs.DraftView.{draft_view};
-ghost use Rattle.bound_members.specs.binder.specs.Terms as plain;
+ghost use Rattle.bound_members.specs.bound_forms.specs.Terms as plain;
 ghost use Rattle.statement_terms.specs.Called.{Acts, RestPushed};
 ghost use Rattle.statement_terms.specs.NamedCalls.{PushesCall, PushesNamed};
 ghost use Rattle.bound_members.specs.bound_calls.specs.Standing.{TermNamed};

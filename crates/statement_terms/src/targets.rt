@@ -1,23 +1,32 @@
 //! Places and values that are assigned to, other than members of objects.
 
-ghost use Rattle.std.specs.Prelude.{◌≡◌, true, false, Bool, Option, IfOk, IfSome, MatchBool};
+ghost use Rattle.std.specs.Prelude.{◌≡◌, true, false, Bool, Option, Some, None, IfOk, IfSome, MatchBool, OnOk};
+ghost use Rattle.vba_values.specs.Types as type;
 ghost use Rattle.vba_words.specs.declared.identifier.Identifier.{Identifier};
 ghost use Rattle.bound_project.specs.DraftView.{draft_view};
 ghost use Rattle.bound_project.specs.Drafts.{NodeNamed};
+ghost use Rattle.bound_project.specs.declared.declared_type.DeclaredType.TheVariants.{Plain};
+ghost use Rattle.bound_project.specs.declared.declared_type.ElementType.TheVariants.{Variant};
+ghost use Rattle.bound_project.specs.declared.node.NodeKind.TheVariants as node;
+ghost use Rattle.bound_project.specs.Pieces.{put};
 ghost use Rattle.bound_project.specs.View.{declared_view};
-ghost use Rattle.bound_members.specs.binder.specs.StatementsBound as plain;
+ghost use Rattle.bound_members.specs.bound_forms.specs.StatementsBound as plain;
 ghost use Rattle.bound_members.specs.binder.specs.Types as types;
 ghost use Rattle.statement_terms.specs.Terms.{may_be_object};
 ghost use Rattle.statement_terms.specs.Members.{AssignsTerm};
 ghost use Rattle.statement_terms.specs.Targets.{AssignsIndexed, EndsItem, EndsObject, ends_value, is_variant_term};
 ghost use Rattle.bound_members.specs.bound_calls.specs.declared.term.Term.TheVariants as term;
+ghost use Rattle.bound_members.specs.bound_calls.specs.Calls.{node_of};
 ghost use Rattle.bound_members.specs.bound_calls.specs.Standing.{TermNamed};
+ghost use Rattle.bound_members.specs.declared.kinds.HostKind as declared;
+ghost use Rattle.bound_members.specs.Kinds.{EndingOfKind, kind_view};
 
 use bound_members::bound_calls::{Ending, Term, has_object, is_variant, push_node};
 use bound_members::bound_declarations::NotYet;
 use bound_members::declared_names::is_object;
+use bound_members::{HostKind, kind_of_ending};
 use bound_project::{ActionKind, DeclaredType, Draft, ElementType, NodeKind};
-use vba_base::{NoMemory, OrMemory, Place};
+use vba_base::{NoMemory, OrMemory, Place, Refusal};
 
 /// Is a type one of what may be an object?
 pub fn may_be_object(of: DeclaredType) -> bool
@@ -63,6 +72,7 @@ fn ends_value(kind: NodeKind) -> bool
         NodeKind::NamedMember { .. } => true,
         NodeKind::HostObject(_) => true,
         NodeKind::ActiveSheet => true,
+        NodeKind::Marked { .. } => true,
         _ => false,
     }
 }
@@ -107,6 +117,61 @@ fn assign_object(draft: &mut Draft, at: Ending, place: Place) -> Result<ActionKi
     Ok(ActionKind::AssignDefault)
 }
 
+/// What breaks a static rule as a target: the value that it is given, and what it is written with, were pushed.
+fn push_wrong(draft: &mut Draft, rule: u8, place: Place) -> Result<(), NoMemory>
+    ensures { OnOk result (draft_view draft.new ≡ record (draft_view draft.old) { pieces = put (draft_view draft.old).tables (node_of (node.Marked (record { rule = rule; place = place }) 2) place (Plain Variant)) (draft_view draft.old).pieces }) }
+{
+    let variant = DeclaredType::Plain(ElementType::Variant);
+    let broken = NodeKind::Marked {
+        broken: Refusal { rule, place },
+        values: 2,
+    };
+    push_node(draft, broken, variant, place)
+}
+
+/// A place of a sheet, which has no default member, behind the value that it is given.
+fn assign_sheet(draft: &mut Draft, at: Ending, place: Place) -> Result<ActionKind, NoMemory>
+    requires named { NodeNamed (draft_view draft.old).tables at.kind }
+    requires sheet { declared_view at.of ≡ type.worksheet }
+    ensures { IfOk result (λ kind. (bounded lends : Bool) (name : Option Identifier)
+        → AssignsTerm place (term.Place at.kind at.of bounded lends) name (draft_view draft.old) (draft_view draft.new) kind false) }
+{
+    push_node(draft, at.kind, at.of, place)?;
+    push_node(draft, NodeKind::Load, at.of, place)?;
+    push_wrong(draft, 34, place)?;
+    Ok(ActionKind::Evaluate)
+}
+
+/// Is a type that of a sheet?
+fn is_sheet(of: DeclaredType) -> bool
+    ensures { MatchBool result (declared_view of ≡ type.worksheet) (Unit {0}) }
+{
+    match of {
+        DeclaredType::Plain(ElementType::Worksheet) => true,
+        _ => false,
+    }
+}
+
+/// A place of an object, behind the value that it is given.
+fn assign_default(
+    draft: &mut Draft,
+    at: Ending,
+    place: Place,
+) -> Result<ActionKind, OrMemory<NotYet>>
+    requires named { NodeNamed (draft_view draft.old).tables at.kind }
+    requires object { types.is_object (declared_view at.of) ≡ true }
+    ensures { IfOk result (λ kind. (bounded lends : Bool) (name : Option Identifier)
+        → AssignsTerm place (term.Place at.kind at.of bounded lends) name (draft_view draft.old) (draft_view draft.new) kind false) }
+{
+    if has_written_default(at.of) {
+        return Ok(assign_object(draft, at, place)?);
+    }
+    if is_sheet(at.of) {
+        return Ok(assign_sheet(draft, at, place)?);
+    }
+    Err(OrMemory::Fault(NotYet))
+}
+
 /// A place, behind the value that it is given.
 pub fn assign_place(
     draft: &mut Draft,
@@ -120,10 +185,73 @@ pub fn assign_place(
     if !is_object(at.of) {
         return Ok(assign_plain(draft, at, place)?);
     }
-    if !has_written_default(at.of) {
+    assign_default(draft, at, place)
+}
+
+/// The rule that an assignment to the default member of an object of a kind breaks before the run.
+fn write_rule(kind: HostKind) -> Option<u8>
+    ensures { result ≡ plain.write_rule (Some (kind_view kind)) }
+{
+    match kind {
+        HostKind::Application => Some(34),
+        HostKind::Workbook => Some(34),
+        HostKind::Sheets => Some(27),
+        HostKind::Sheet => Some(34),
+        HostKind::Area => None,
+        HostKind::AnyObject => None,
+    }
+}
+
+/// What a value gives, whose default member is written where its type has one, behind the value that it is given.
+fn assign_written(
+    draft: &mut Draft,
+    ending: Ending,
+    place: Place,
+) -> Result<ActionKind, OrMemory<NotYet>>
+    requires { NodeNamed (draft_view draft.old).tables ending.kind }
+    ensures { IfOk result (λ kind. (of : declared.HostKind) → EndsObject ending → EndingOfKind ending of → plain.write_rule (Some (kind_view of)) ≡ None → (name : Option Identifier)
+        → AssignsTerm place (term.Value ending) name (draft_view draft.old) (draft_view draft.new) kind false) }
+{
+    if !has_written_default(ending.of) {
         return Err(OrMemory::Fault(NotYet));
     }
-    Ok(assign_object(draft, at, place)?)
+    push_node(draft, ending.kind, ending.of, place)?;
+    Ok(ActionKind::AssignDefault)
+}
+
+/// What a value gives, whose default member can't be written, behind the value that it is given.
+fn assign_wrong(
+    draft: &mut Draft,
+    ending: Ending,
+    rule: u8,
+    place: Place,
+) -> Result<ActionKind, OrMemory<NotYet>>
+    requires { NodeNamed (draft_view draft.old).tables ending.kind }
+    ensures { IfOk result (λ kind. (of : declared.HostKind) → EndsObject ending → EndingOfKind ending of → plain.write_rule (Some (kind_view of)) ≡ Some rule → (name : Option Identifier)
+        → AssignsTerm place (term.Value ending) name (draft_view draft.old) (draft_view draft.new) kind false) }
+{
+    push_node(draft, ending.kind, ending.of, place)?;
+    push_wrong(draft, rule, place)?;
+    Ok(ActionKind::Evaluate)
+}
+
+/// What a value gives of which it is known what it is, behind the value that it is given.
+fn assign_known(
+    draft: &mut Draft,
+    ending: Ending,
+    of: HostKind,
+    place: Place,
+) -> Result<ActionKind, OrMemory<NotYet>>
+    requires named { NodeNamed (draft_view draft.old).tables ending.kind }
+    requires gives { EndsObject ending }
+    requires known { EndingOfKind ending of }
+    ensures { IfOk result (λ kind. (name : Option Identifier)
+        → AssignsTerm place (term.Value ending) name (draft_view draft.old) (draft_view draft.new) kind false) }
+{
+    match write_rule(of) {
+        Some(rule) => assign_wrong(draft, ending, rule, place),
+        None => assign_written(draft, ending, place),
+    }
 }
 
 /// What a value gives, whose default member is written, behind the value that it is given.
@@ -139,11 +267,10 @@ pub fn assign_value(
     if !gives_object(ending) {
         return Err(OrMemory::Fault(NotYet));
     }
-    if !has_written_default(ending.of) {
+    let Some(of) = kind_of_ending(ending) else {
         return Err(OrMemory::Fault(NotYet));
-    }
-    push_node(draft, ending.kind, ending.of, place)?;
-    Ok(ActionKind::AssignDefault)
+    };
+    assign_known(draft, ending, of, place)
 }
 
 /// How many numbers of an item end a value, where it is an element that is no object.

@@ -2,8 +2,8 @@
 
 ghost use Rattle.std.specs.Prelude.{◌≡◌, Some, MatchBool, IfSome, option_map};
 ghost use Rattle.vba_expression.specs.Nodes.{tree_in};
-ghost use Rattle.bound_members.specs.binder.specs.ExpressionsBound.{term_of};
-ghost use Rattle.bound_members.specs.binder.specs.Terms as plain;
+ghost use Rattle.bound_members.specs.bound_forms.specs.ExpressionsBound.{term_of};
+ghost use Rattle.bound_members.specs.bound_forms.specs.Terms as plain;
 ghost use Rattle.statement_terms.specs.Called.{IsBare, SplitAt};
 ghost use Rattle.statement_terms.specs.Heights.{AddsOne, height_behind, items_taken};
 ghost use Rattle.statement_terms.specs.Members.{NamedBy};

@@ -67,11 +67,14 @@ rule_word rule =
     else if rule == 24 then codes "Double result"
     else if rule == 25 then codes "argument count"
     else if rule == 26 then codes "ByRef type"
+    else if rule == 27 then codes "not assignable"
     else if rule == 28 then codes "Set needed on a non-object"
     else if rule == 29 then codes "For control"
+    else if rule == 30 then codes "array assignment"
     else if rule == 31 then codes "property signatures differ"
     else if rule == 32 then codes "event signature"
     else if rule == 33 then codes "startup"
+    else if rule == 34 then codes "member unknown"
     else []
 
 -- the text of a rule that the source breaks: SR at PATH:LINE:COLUMN: WORD

@@ -18,7 +18,8 @@ use Rattle.bind_project.specs.binder.specs.Options.{or_else}
 use Rattle.bind_project.specs.binder.specs.Scopes.{Space, spaces_from}
 use Rattle.bind_project.specs.binder.specs.Violations as names
 use Rattle.bind_project.specs.binder.specs.LeftOut.{first_left_out}
-use Rattle.bind_project.specs.binder.specs.Bind.{Answer, Startup, refused, answer_by, not_built, project_of, startup_fault}
+use Rattle.bind_project.specs.bound_forms.specs.Bind.{Answer, refused, answer_by, not_built, project_of}
+use Rattle.bind_project.specs.binder.specs.Projects.{Startup, startup_fault}
 use Rattle.signature_rules.specs.Signatures.{first_signature}
 use Rattle.bind_project.specs.declared_names.specs.Outside.{the_outside}
 use Rattle.list_file.specs.Lists.{Start}

@@ -6,7 +6,7 @@ use Rattle.vba_base.specs.declared.fault.OrMemory.TheVariants.{Fault, NoMemory}
 use Rattle.vba_base.specs.declared.place.Place.{Place}
 use Rattle.vba_base.specs.declared.place.Refusal.{Refusal}
 use Rattle.bound_project.specs.Bodies.{Fits, project_view}
-use Rattle.bind_project.specs.binder.specs.Bind.{Answer, refused, not_built_at, bound_as}
+use Rattle.bind_project.specs.bound_forms.specs.Bind.{Answer, refused, not_built_at, bound_as}
 use Rattle.bind_project.specs.declared.bound.Bound.{Bound}
 use Rattle.bind_project.specs.declared.bound.Bound.TheVariants as bound
 use Rattle.bind_project.specs.binder.specs.Scopes.{Space}

@@ -1,7 +1,6 @@
 ghost use Rattle.std.specs.Prelude.{◌≡◌, ◌++◌, IfOk, slice_get, suc, string_bytes, codes, unwrap_or};
 ghost use Rattle.std.specs.Fmt.{decimal, signed_decimal};
-ghost use Rattle.vba_base.specs.Text.{encoded};
-ghost use Rattle.list_file.specs.Sources.{paths_view, sheets_view};
+ghost use Rattle.list_file.specs.Sources.{sheets_view};
 ghost use Rattle.book_files.specs.Book.{sheet_paths};
 ghost use Rattle.vba_cli.specs.Messages.{path_at, place_text, fault_text, rule_word, refusal_text, sheet_fault, sheet_name, sheet_text, why_text, stop_text, status_text, error_line};
 ghost use Rattle.vba_cli.specs.Named.{paths_named};
@@ -111,11 +110,14 @@ fn rule_word(rule: u8) -> &'static str
         24 => "Double result",
         25 => "argument count",
         26 => "ByRef type",
+        27 => "not assignable",
         28 => "Set needed on a non-object",
         29 => "For control",
+        30 => "array assignment",
         31 => "property signatures differ",
         32 => "event signature",
         33 => "startup",
+        34 => "member unknown",
         _ => "",
     }
 }

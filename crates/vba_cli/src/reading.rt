@@ -1,7 +1,7 @@
 //! The project that the files of modules are.
 
 ghost use Rattle.std.specs.Prelude.{◌≡◌, ◌≤◌, [], ◌∷◌, ◌++◌, length, map, option_map, IfOk, List, OnOk, Option};
-ghost use Rattle.bind_project.specs.binder.specs.Bind.{startup_fault as plain_fault};
+ghost use Rattle.bind_project.specs.binder.specs.Projects.{startup_fault as plain_fault};
 ghost use Rattle.bind_project.specs.binder.specs.LeftOut.{first_left_out as plain_left_out};
 ghost use Rattle.bind_project.specs.binder.specs.Sources.{Source as PlainSource};
 ghost use Rattle.bind_project.specs.binder.specs.Scopes.{spaces_from};
@@ -13,7 +13,7 @@ ghost use Rattle.list_file.specs.View.{start_view};
 ghost use Rattle.bind_project.specs.Bound.{IsBound};
 ghost use Rattle.bind_project.specs.project_tables.specs.Startups.{startup_view};
 ghost use Rattle.signature_rules.specs.Signatures.{first_signature as plain_signature};
-ghost use Rattle.bind_project.specs.binder.specs.Bind.{not_built, project_of};
+ghost use Rattle.bind_project.specs.bound_forms.specs.Bind.{not_built, project_of};
 ghost use Rattle.bind_project.specs.binder.specs.Options.{or_else};
 ghost use Rattle.vba_cli.specs.Program.{begins_at, bound_modules, first_of_two, judged_by, program_of};
 ghost use Rattle.vba_cli.specs.Programs.{IsFitted, IsProgram, rule_of, first_fold, module_view, unless_refused};

@@ -1,6 +1,6 @@
 use Rattle.std.proofs.Common.{◌≡◌, ℕ, ◌+◌, refl, sym, ap, subst, ◌∙◌}
 use Rattle.bound_project.specs.DraftView.{draft_view}
-use Rattle.bound_actions.specs.binder.specs.StatementsBound.{bound_statement}
+use Rattle.bound_actions.specs.bound_forms.specs.StatementsBound.{bound_statement}
 use Rattle.bound_actions.specs.statement_numbers.specs.View.{standing_view}
 use Rattle.vba_expression.specs.View.{view as expression_view}
 use Rattle.vba_tree.specs.View.{list_view, statement_view}

@@ -1,7 +1,5 @@
-use Rattle.std.proofs.Common.{◌≡◌, ◌+◌, List, [], drop, map}
+use Rattle.std.proofs.Common.{drop, map}
 use Rattle.bound_project.specs.DraftView.{draft_view}
-use Rattle.bound_project.specs.Drafts.{Drafted}
-use Rattle.bound_actions.specs.statement_numbers.specs.Counts.{next_counts}
 use Rattle.bound_actions.specs.statement_numbers.specs.View.{standing_view}
 use Rattle.vba_tree.specs.View.{next_view}
 use Rattle.statement_nodes.specs.Nexts.{OthersWalked}

@@ -1,5 +1,5 @@
 use Rattle.std.proofs.Common.{length, map}
-use Rattle.bound_actions.specs.binder.specs.Bind.{no_space}
+use Rattle.bound_actions.specs.binder.specs.Projects.{no_space}
 use Rattle.bound_actions.specs.binder.specs.Names.{scope_of}
 use Rattle.bound_project.specs.DraftView.{draft_view}
 use Rattle.bound_actions.specs.declared_names.specs.Outside.{the_outside}

@@ -1,12 +1,12 @@
-use Rattle.std.proofs.Common.{◌≡◌, Option, Some, sym, subst, ◌∙◌}
+use Rattle.std.proofs.Common.{◌≡◌, Option, Some, sym, subst}
 use Rattle.std.specs.Prelude.{option_and_then}
 use Rattle.vba_tree.specs.declared.simple.SimpleStatement.{SimpleStatement}
 use Rattle.vba_tree.specs.View.{simple_view}
 use Rattle.vba_expression.specs.View.{view as expression_view}
 use Rattle.bound_project.specs.declared.statement.ActionKind.{ActionKind}
 use Rattle.bound_project.specs.DraftView.{draft_view}
-use Rattle.bound_actions.specs.binder.specs.ExpressionsBound.{bound_as_given}
-use Rattle.bound_actions.specs.binder.specs.StatementsBound.{assigned_to, set_given, value_for}
+use Rattle.bound_actions.specs.bound_forms.specs.ExpressionsBound.{bound_as_given}
+use Rattle.bound_actions.specs.bound_forms.specs.StatementsBound.{assigned_to, set_given, value_given}
 use Rattle.bound_actions.specs.bound_names.specs.View.{env_view}
 use Rattle.statement_nodes.specs.Pushed.{ActionPushed, ActionStands}
 use Rattle.bound_actions.specs.statement_numbers.specs.View.{standing_view}
@@ -22,7 +22,7 @@ returns-in_ok-bind_assignment-in-Assignment c =
     let d = draft_view c.args.draft.now in
     let e = draft_view c.bind_assignment.new.draft in
     let x = expression_view c.in-Assignment.place in
-    let found = option_and_then (assigned_to env x) (value_for env x (expression_view c.in-Assignment.value)) in
+    let found = option_and_then (assigned_to env x) (value_given env x (expression_view c.in-Assignment.value)) in
     let P : SimpleStatement → Type 0 = λ (s : SimpleStatement). IfOk c.there.result (λ kind. ActionPushed kind (simple_in env (around_view c.args.around) (standing_view c.args.standing) (simple_view s)) d e) in
     let A : Option ActionKind → Type 0 = λ (o : Option ActionKind). ActionStands o found d e in
     subst P (sym c.in-Assignment.is)

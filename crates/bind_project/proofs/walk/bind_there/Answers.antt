@@ -1,5 +1,6 @@
 use Rattle.std.proofs.Common.{◌≡◌, ℕ, subst}
-use Rattle.bound_actions.specs.binder.specs.StatementsBound.{Around, next_number}
+use Rattle.bound_actions.specs.bound_forms.specs.StatementsBound.{Around}
+use Rattle.bound_actions.specs.binder.specs.Blocks.{next_number}
 use Rattle.bound_project.specs.DraftView.{draft_view}
 use Rattle.module_parts.specs.View.{part_view}
 use Rattle.bound_actions.specs.statement_numbers.specs.View.{standing_view}

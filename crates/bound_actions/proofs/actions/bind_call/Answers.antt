@@ -1,7 +1,7 @@
 use Rattle.std.proofs.Common.{subst}
 use Rattle.bound_project.specs.DraftView.{draft_view}
-use Rattle.bound_terms.specs.binder.specs.ExpressionsBound.{givens}
-use Rattle.bound_terms.specs.binder.specs.StatementsBound.{called_with}
+use Rattle.bound_terms.specs.bound_forms.specs.ExpressionsBound.{givens}
+use Rattle.bound_terms.specs.bound_forms.specs.StatementsBound.{called_with}
 use Rattle.vba_expression.specs.Tree.{Args}
 use Rattle.vba_expression.specs.View.{view}
 use Rattle.std.proofs.Common.{Some}

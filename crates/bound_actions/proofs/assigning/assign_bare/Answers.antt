@@ -4,7 +4,7 @@ use Rattle.std.proofs.lemmas.Result.{IfOk-weaker}
 use Rattle.bound_project.specs.DraftView.{draft_view}
 use Rattle.vba_expression.specs.View.{view}
 use Rattle.vba_expression.specs.Tree.{Expr}
-use Rattle.bound_terms.specs.binder.specs.ExpressionsBound.{term_of}
+use Rattle.bound_terms.specs.bound_forms.specs.ExpressionsBound.{term_of}
 use Rattle.statement_terms.specs.Called.{AssignsTo}
 use Rattle.statement_terms.specs.Members.{AssignsTree, NamedBy}
 use Rattle.bound_terms.specs.bound_names.specs.View.{env_view}

@@ -1,7 +1,7 @@
 use Rattle.std.proofs.Common.{[]}
 use Rattle.std.proofs.lemmas.Result.{IfOk-weaker}
 use Rattle.bound_project.specs.DraftView.{draft_view}
-use Rattle.bound_terms.specs.binder.specs.Terms as plain
+use Rattle.bound_terms.specs.bound_forms.specs.Terms as plain
 use Rattle.statement_terms.specs.Called.{Acts, CallsTree}
 use Rattle.bound_terms.specs.bound_names.specs.View.{env_view}
 use Rattle.bound_actions.proofs.Called.{calls_bare}

@@ -3,7 +3,7 @@ use Rattle.std.specs.Prelude.{MatchBool}
 use Rattle.std.proofs.lemmas.Result.{IfOk-weaker}
 use Rattle.vba_expression.specs.declared.node.ExpressionNode.TheVariants as node
 use Rattle.bound_project.specs.DraftView.{draft_view}
-use Rattle.bound_terms.specs.binder.specs.Terms as plain
+use Rattle.bound_terms.specs.bound_forms.specs.Terms as plain
 use Rattle.statement_terms.specs.Called.{Acts, ActsOn}
 use Rattle.bound_terms.specs.bound_names.specs.View.{env_view}
 use Rattle.statement_terms.proofs.Called.{acts_none}

@@ -1,4 +1,4 @@
-use Rattle.bound_terms.specs.binder.specs.ExpressionsBound.{bound_operand}
+use Rattle.bound_terms.specs.bound_forms.specs.ExpressionsBound.{bound_operand}
 use Rattle.bound_project.specs.DraftView.{draft_view}
 use Rattle.bound_terms.specs.bound_names.specs.View.{env_view}
 use Rattle.vba_expression.specs.View.{view as expression_view}

@@ -1,5 +1,5 @@
 use Rattle.std.proofs.Common.{◌∷◌, ap, subst}
-use Rattle.bound_terms.specs.binder.specs.StatementsBound.{redim_bounds}
+use Rattle.bound_terms.specs.bound_forms.specs.StatementsBound.{redim_bounds}
 use Rattle.bound_project.specs.DraftView.{draft_view}
 use Rattle.bound_project.specs.Expressions.{Exprs}
 use Rattle.bound_project.specs.Pieces.{exprs_off}

@@ -1,6 +1,6 @@
-use Rattle.bound_terms.specs.binder.specs.ExpressionsBound.{bound_operand}
+use Rattle.bound_terms.specs.bound_forms.specs.ExpressionsBound.{bound_operand}
 use Rattle.bound_terms.specs.binder.specs.Options.{from_two}
-use Rattle.bound_terms.specs.binder.specs.StatementsBound.{redim_bounds}
+use Rattle.bound_terms.specs.bound_forms.specs.StatementsBound.{redim_bounds}
 use Rattle.bound_project.specs.DraftView.{draft_view}
 use Rattle.bound_project.specs.Expressions.{also}
 use Rattle.bound_terms.specs.bound_names.specs.View.{env_view}

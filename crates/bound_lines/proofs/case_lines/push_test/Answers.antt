@@ -3,7 +3,6 @@ use Rattle.bound_project.specs.DraftView.{draft_view}
 use Rattle.bound_terms.specs.bound_names.specs.View.{env_view}
 use Rattle.vba_expression.specs.View.{view as expression_view}
 use Rattle.vba_tree.specs.View.{test_view}
-use Rattle.vba_values.specs.declared.types.OpKind.TheVariants as op
 use Rattle.statement_nodes.proofs.Items.{value_test, range_test, comparison_test}
 use Rattle.bound_lines.proofs.case_lines.push_test.Goals as goal
 

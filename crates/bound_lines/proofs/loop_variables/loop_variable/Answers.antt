@@ -4,8 +4,8 @@ use Rattle.bound_project.specs.declared.variable.Variable.{Variable}
 use Rattle.bound_project.specs.Drafts.{Drafted, no_tables}
 use Rattle.bound_project.specs.View.{variable_view}
 use Rattle.bound_terms.specs.binder.specs.Scopes.{Meant, declares, plainly}
-use Rattle.bound_terms.specs.binder.specs.ExpressionsBound.{meant_term}
-use Rattle.bound_terms.specs.binder.specs.StatementsBound.{plain_variable}
+use Rattle.bound_terms.specs.bound_forms.specs.ExpressionsBound.{meant_term}
+use Rattle.bound_terms.specs.bound_forms.specs.StatementsBound.{plain_variable}
 use Rattle.bound_terms.specs.constant_values.specs.Rounds.{IsThere}
 use Rattle.bound_terms.specs.constant_values.proofs.Looked.{declared_there}
 use Rattle.bound_terms.specs.declared_names.specs.View.{meant_view, scope_view}

@@ -1,6 +1,6 @@
 use Rattle.std.proofs.Common.{map}
 use Rattle.std.specs.Prelude.{option_map}
-use Rattle.bound_terms.specs.binder.specs.StatementsBound.{ends_line, items_shown, value_shown}
+use Rattle.bound_terms.specs.bound_forms.specs.StatementsBound.{ends_line, items_shown, value_shown}
 use Rattle.bound_project.specs.DraftView.{draft_view}
 use Rattle.bound_terms.specs.bound_names.specs.View.{env_view}
 use Rattle.vba_expression.specs.View.{view as expression_view}

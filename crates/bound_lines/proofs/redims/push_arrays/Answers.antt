@@ -1,5 +1,5 @@
 use Rattle.std.proofs.Common.{map}
-use Rattle.bound_terms.specs.binder.specs.StatementsBound.{redim_arrays}
+use Rattle.bound_terms.specs.bound_forms.specs.StatementsBound.{redim_arrays}
 use Rattle.bound_project.specs.DraftView.{draft_view}
 use Rattle.bound_terms.specs.bound_names.specs.View.{env_view}
 use Rattle.vba_module.specs.Headers.{all_of, items_of}

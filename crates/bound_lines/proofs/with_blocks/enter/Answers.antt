@@ -1,5 +1,5 @@
 use Rattle.std.specs.Prelude.{option_map}
-use Rattle.bound_terms.specs.binder.specs.StatementsBound.{with_object}
+use Rattle.bound_terms.specs.bound_forms.specs.StatementsBound.{with_object}
 use Rattle.bound_terms.specs.bound_names.specs.View.{env_view, within_view}
 use Rattle.statement_terms.specs.statement_numbers.specs.View.{part_at}
 use Rattle.vba_expression.specs.View.{view as expression_view}

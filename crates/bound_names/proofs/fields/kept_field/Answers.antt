@@ -1,5 +1,8 @@
 use Rattle.std.proofs.Common.{ℕ, List, option_map, sym, ap, subst}
+use Rattle.std.proofs.lemmas.Result.{IfOk-weaker}
 use Rattle.bound_project.specs.declared.node.NodeKind.TheVariants as kinds
+use Rattle.bound_members.specs.bound_calls.specs.declared.term.Term.{Term}
+use Rattle.bound_names.specs.Fields.{KeepsField}
 use Rattle.bound_names.specs.Items.{FindsBehindPlace}
 use Rattle.bound_project.specs.DraftView.{draft_view}
 use Rattle.bound_names.specs.View.{env_view, within_view}
@@ -9,12 +12,16 @@ use Rattle.bound_names.proofs.fields.kept_field.Goals as goal
 pub returns-in_ok-found-in-None : goal.returns-in_ok-found-in-None
 returns-in_ok-found-in-None c =
     let w = c.in-Some.within in
-    let A : List ℕ → Type 0 = λ (l : List ℕ). FindsBehindPlace c.args.place (record { kind = kinds.KeptPlace w.header; of = w.of }) l (draft_view c.args.draft.now) (draft_view c.behind_object_place.new.draft) c.in_ok-found-in-None.found in
-    keeps_object (env_view c.args.env) w.header w.of w.lends c.args.name.now c.args.place (draft_view c.args.draft.now) (draft_view c.behind_object_place.new.draft) c.in_ok-found-in-None.found
-    (ap (λ o. option_map within_view o) c.in-Some.is) (sym c.in-None.ensures) (subst A c.in_ok-name-in-None.ensures c.in_ok-found-in-None.ensures)
+    let env = env_view c.args.env in
+    let d = draft_view c.args.draft.now in
+    let e = draft_view c.behind_object_place.new.draft in
+    let A : List ℕ → Type 0 = λ (l : List ℕ). FindsBehindPlace c.args.place (record { kind = kinds.KeptPlace w.header; of = w.of }) l d e c.in_ok-found-in-None.found in
+    let P : Term → Type 0 = λ (t : Term). KeepsField env c.args.place c.args.name.now d e t in
+    subst P (sym c.found_term.ensures)
+    (keeps_object env w.header w.of w.lends c.args.name.now c.args.place d e c.in_ok-found-in-None.found (ap (λ o. option_map within_view o) c.in-Some.is) (sym c.in-None.ensures) (subst A c.in_ok-name-in-None.ensures c.in_ok-found-in-None.ensures))
 
-pub returns-in_ok-push_node-in-Some-user_type : goal.returns-in_ok-push_node-in-Some-user_type
-returns-in_ok-push_node-in-Some-user_type c =
+pub returns-in-Some-user_type : goal.returns-in-Some-user_type
+returns-in-Some-user_type c =
     let w = c.in-Some.within in
-    keeps_field (env_view c.args.env) w.header w.of w.lends c.args.name.now c.args.place (draft_view c.args.draft.now) (draft_view c.push_node.new.draft) c.in_ok-term-in-Some-user_type.term (ap (λ o. option_map within_view o) c.in-Some.is)
-    c.in_ok-term-in-Some-user_type.ensures c.in_ok-push_node-in-Some-user_type.ensures
+    IfOk-weaker c.field_behind.result _ _
+    (λ t p. keeps_field (env_view c.args.env) w.header w.of w.lends c.args.name.now c.args.place (draft_view c.args.draft.now) (draft_view c.field_behind.new.draft) t (ap (λ o. option_map within_view o) c.in-Some.is) p) c.field_behind.ensures

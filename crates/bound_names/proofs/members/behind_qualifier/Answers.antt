@@ -1,7 +1,7 @@
 use Rattle.std.proofs.Common.{Option, sym, subst}
 use Rattle.bound_project.specs.DraftView.{draft_view}
 use Rattle.bound_members.specs.binder.specs.Scopes.{Meant, behind, plainly}
-use Rattle.bound_members.specs.binder.specs.ExpressionsBound.{meant_term}
+use Rattle.bound_members.specs.bound_forms.specs.ExpressionsBound.{meant_term}
 use Rattle.bound_members.specs.constant_values.specs.Rounds.{IsThere}
 use Rattle.bound_members.specs.constant_values.proofs.Looked.{behind_there}
 use Rattle.bound_members.specs.declared_names.specs.View.{qualifier_view, scope_view}
@@ -24,5 +24,5 @@ returns c =
     let e = draft_view c.meant_term.new.draft in
     let q = qualifier_view c.args.qualifier in
     let A : Option Meant → Type 0 = λ (m : Option Meant). MakesLeaf env d e c.in_ok-found.found (meant_term env f m) in
-    λ k. makes_behind env c.args.tree f q d e c.from_zero-term.result c.dotted.result
-    (c.from_zero-term.ensures env d e (meant_term env f (behind plainly env.scope q f)) (subst A c.behind-meant.ensures c.in_ok-found.ensures)) c.dotted.ensures k
+    λ dot k. makes_behind env c.args.tree f q d e c.from_zero-term.result c.dotted.result
+    (c.from_zero-term.ensures env d e (meant_term env f (behind plainly env.scope q f)) (subst A c.behind-meant.ensures c.in_ok-found.ensures)) c.dotted.ensures dot k

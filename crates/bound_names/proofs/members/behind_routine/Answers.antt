@@ -12,4 +12,4 @@ returns c =
     let d = draft_view c.args.draft.now in
     let e = draft_view c.routine_ending.new.draft in
     IfOk-weaker c.behind_value.result _ _
-    (λ y m. behind_routine (env_view c.args.env) c.args.place c.args.routine c.in_ok-ending.ending c.args.member.now d e (draft_view c.behind_value.new.draft) y c.in_ok-ending.ensures m) c.behind_value.ensures
+    (λ y m. behind_routine (env_view c.args.env) c.args.place c.args.dot c.args.routine c.in_ok-ending.ending c.args.member.now d e (draft_view c.behind_value.new.draft) y c.in_ok-ending.ensures m) c.behind_value.ensures

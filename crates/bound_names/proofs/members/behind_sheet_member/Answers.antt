@@ -10,4 +10,4 @@ behind_member-requires c = named_still c.args.read (draft_view c.args.draft.now)
 pub returns : goal.returns
 returns c =
     IfOk-weaker c.behind_member.result _ _
-    (λ y m env. behind_sheet env c.args.place c.args.read c.args.member.now (draft_view c.args.draft.now) (draft_view c.push_sheet.new.draft) (draft_view c.behind_member.new.draft) y c.in_ok-push_sheet.ensures (m env)) c.behind_member.ensures
+    (λ y m env. behind_sheet env c.args.place c.args.dot c.args.read c.args.member.now (draft_view c.args.draft.now) (draft_view c.push_sheet.new.draft) (draft_view c.behind_member.new.draft) y c.in_ok-push_sheet.ensures (m env)) c.behind_member.ensures

@@ -15,7 +15,7 @@ pub returns-in-Some : goal.returns-in-Some
 returns-in-Some c =
     let A : Option Qualifier → Type 0 = λ (q : Option Qualifier). IsQualifier (scope_view c.args.env.constants.scope) c.args.tree q in
     let k = subst A (ap (λ o. option_map qualifier_view o) c.in-Some.is) c.qualifier_of.ensures.is in
-    IfOk-weaker c.behind_qualifier.result _ _ (λ made m. m k) c.behind_qualifier.ensures
+    IfOk-weaker c.behind_qualifier.result _ _ (λ made m. m c.args.dot k) c.behind_qualifier.ensures
 
 pub returns-in-None : goal.returns-in-None
 returns-in-None c =

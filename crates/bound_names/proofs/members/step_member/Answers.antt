@@ -9,5 +9,5 @@ pub returns : goal.returns
 returns c =
     let x = c.in-Some-Tree.tree in
     let xs = reverse c.take_item.new.stack.items in
-    λ dot. goes_member (env_view c.args.env) x c.in_ok-made.made c.args.member.now dot xs (reverse c.args.stack.now.items) (reverse c.put_item.new.stack.items) (draft_view c.args.draft.now) (draft_view c.member_tree.new.draft)
+    goes_member (env_view c.args.env) x c.in_ok-made.made c.args.member.now c.args.dot xs (reverse c.args.stack.now.items) (reverse c.put_item.new.stack.items) (draft_view c.args.draft.now) (draft_view c.member_tree.new.draft)
     (c.in-Some-Tree.ensures ∙ ap (λ i. i ∷ xs) c.in-Some-Tree.field-0-is) c.in_ok-put_item.ensures c.requires.named c.in_ok-made.ensures

@@ -5,7 +5,7 @@ use Rattle.vba_expression.specs.View.{view as expression_view}
 use Rattle.vba_tree.specs.View.{constant_view}
 use Rattle.std.specs.Prelude.{option_map}
 use Rattle.bound_members.specs.binder.specs.Scopes.{of_module}
-use Rattle.bound_members.specs.binder.specs.ExpressionsBound.{entry_term, constant_term}
+use Rattle.bound_members.specs.bound_forms.specs.ExpressionsBound.{entry_term, constant_term}
 use Rattle.bound_members.specs.declared_names.specs.declared.entry.What.{What}
 use Rattle.bound_members.specs.declared_names.specs.View.{entry_view, space_view, what_view}
 use Rattle.bound_names.specs.View.{env_view}

@@ -2,7 +2,7 @@ use Rattle.std.proofs.Common.{Some}
 use Rattle.bound_project.specs.View.{declared_view, storage_view}
 use Rattle.bound_members.specs.binder.specs.Constants.{home}
 use Rattle.bound_members.specs.binder.specs.Storage.{declared_variable, module_storage}
-use Rattle.bound_members.specs.binder.specs.ExpressionsBound.{declared_place, place_term}
+use Rattle.bound_members.specs.bound_forms.specs.ExpressionsBound.{declared_place, place_term}
 use Rattle.vba_tree.specs.View.{variable_view}
 use Rattle.bound_members.specs.declared_names.specs.View.{entry_view, scope_view, space_view}
 use Rattle.bound_names.specs.View.{env_view}

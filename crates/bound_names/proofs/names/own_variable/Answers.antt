@@ -1,6 +1,6 @@
 use Rattle.std.proofs.Common.{refl, sym, ap, ◌∙◌}
 use Rattle.bound_project.specs.View.{declared_view, storage_view}
-use Rattle.bound_members.specs.binder.specs.ExpressionsBound.{own_term, place_term}
+use Rattle.bound_members.specs.bound_forms.specs.ExpressionsBound.{own_term, place_term}
 use Rattle.bound_members.specs.declared_names.specs.View.{local_view}
 use Rattle.bound_names.specs.View.{env_view}
 use Rattle.bound_names.proofs.NamedTerms.{leaf_as}

@@ -4,8 +4,8 @@ use Rattle.std.proofs.lemmas.Result.{IfOk-weaker}
 use Rattle.vba_words.specs.declared.identifier.Identifier.{Identifier}
 use Rattle.vba_tree.specs.View.{variable_view}
 use Rattle.bound_project.specs.Drafts.{Drafted}
-use Rattle.bound_members.specs.binder.specs.Terms.{a_routine}
-use Rattle.bound_members.specs.binder.specs.ExpressionsBound.{entry_term}
+use Rattle.bound_members.specs.bound_forms.specs.Terms.{a_routine}
+use Rattle.bound_members.specs.bound_forms.specs.ExpressionsBound.{entry_term}
 use Rattle.bound_members.specs.declared_names.specs.declared.entry.What.{What}
 use Rattle.bound_members.specs.declared_names.specs.View.{space_view, what_view, written_view}
 use Rattle.bound_members.specs.bound_calls.specs.Steps.{MakesLeaf}

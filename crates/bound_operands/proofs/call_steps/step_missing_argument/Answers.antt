@@ -1,4 +1,4 @@
-use Rattle.std.proofs.Common.{◌≡◌, List, ◌∷◌, sym, subst}
+use Rattle.std.proofs.Common.{List, sym, subst}
 use Rattle.std.specs.Prelude.{reverse}
 use Rattle.vba_expression.specs.declared.node.ExpressionNode.TheVariants as node
 use Rattle.vba_expression.specs.Nodes.{behind_node}

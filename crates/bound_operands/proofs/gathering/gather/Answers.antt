@@ -8,6 +8,6 @@ use Rattle.bound_operands.proofs.gathering.gather.Goals as goal
 pub returns : goal.returns
 returns c =
     let d = draft_view c.args.draft.now in
-    let e = draft_view c.push_given.new.draft in
-    λ env comma. goes_gathered env c.args.tree c.args.item (reverse c.args.stack.now.items) (reverse c.put_item-2.new.stack.items) comma c.in_ok-push_given.field-0 d e (c.in_ok-put_item-2.ensures ∙ ap (λ l. item.Gathered ∷ l) c.in_ok-put_item.ensures)
-    c.requires.many c.requires.named c.in_ok-push_given.ensures
+    let e = draft_view c.push_argument.new.draft in
+    λ env comma. goes_gathered env c.args.tree c.args.item (reverse c.args.stack.now.items) (reverse c.put_item-2.new.stack.items) comma d e (c.in_ok-put_item-2.ensures ∙ ap (λ l. item.Gathered ∷ l) c.in_ok-put_item.ensures)
+    c.requires.many c.requires.named c.in_ok-push_argument.ensures

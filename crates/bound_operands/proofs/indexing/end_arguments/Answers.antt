@@ -1,4 +1,4 @@
-use Rattle.std.proofs.Common.{None, false, sym, subst}
+use Rattle.std.proofs.Common.{None, sym, subst}
 use Rattle.std.specs.Prelude.{IfOk}
 use Rattle.bound_project.specs.DraftView.{draft_view}
 use Rattle.bound_members.specs.bound_calls.specs.declared.term.Item.{Item}

@@ -1,4 +1,4 @@
-use Rattle.std.proofs.Common.{refl, None, false}
+use Rattle.std.proofs.Common.{refl, None}
 use Rattle.std.specs.Prelude.{reverse}
 use Rattle.vba_values.specs.View.{view as value_view}
 use Rattle.vba_expression.specs.Tree.{literal}

@@ -1,7 +1,7 @@
 use Rattle.std.proofs.Common.{sym, subst}
 use Rattle.std.specs.Prelude.{IfOk}
 use Rattle.bound_project.specs.DraftView.{draft_view}
-use Rattle.bound_names.specs.binder.specs.Terms.{Env}
+use Rattle.bound_names.specs.bound_forms.specs.Terms.{Env}
 use Rattle.bound_names.specs.bound_calls.specs.declared.term.Term.{Term}
 use Rattle.bound_names.specs.bound_calls.specs.declared.term.Item.TheVariants as item
 use Rattle.bound_names.specs.bound_calls.specs.Indexing.{OpensTerm}

@@ -30,7 +30,7 @@ returns-in-Member c =
     let d = draft_view c.args.draft.now in
     let xs = reverse c.args.stack.now.items in
     let A : ExpressionNode → Type 0 = λ k. Goes env d xs (draft_view c.step_member.new.draft) (reverse c.step_member.new.stack.items) (behind_node k) in
-    on_ok_weaker c.step_member.result (λ g. subst A (sym c.in-Member.is) (g c.in-Member.dot)) c.step_member.ensures
+    on_ok_weaker c.step_member.result (λ g. subst A (sym c.in-Member.is) g) c.step_member.ensures
 
 pub returns-in-WithMember : goal.returns-in-WithMember
 returns-in-WithMember c =

@@ -3,7 +3,7 @@ use Rattle.std.specs.Prelude.{reverse}
 use Rattle.vba_expression.specs.Tree.{name}
 use Rattle.bound_project.specs.DraftView.{draft_view}
 use Rattle.bound_names.specs.binder.specs.Scopes.{Meant, plainly}
-use Rattle.bound_names.specs.binder.specs.ExpressionsBound.{meant_term}
+use Rattle.bound_names.specs.bound_forms.specs.ExpressionsBound.{meant_term}
 use Rattle.bound_names.specs.declared_names.specs.View.{scope_view}
 use Rattle.bound_names.specs.constant_values.specs.Rounds.{IsThere}
 use Rattle.bound_names.specs.constant_values.proofs.Looked.{declared_there}

@@ -1,6 +1,6 @@
 use Rattle.std.proofs.Common.{◌≡◌, ◌++◌, map, drop}
 use Rattle.std.specs.Prelude.{flat_map}
-use Rattle.bound_declarations.specs.binder.specs.Bind.{procedures_of}
+use Rattle.bound_declarations.specs.binder.specs.Projects.{procedures_of}
 use Rattle.bound_declarations.specs.binder.specs.Constants.{home}
 use Rattle.bound_declarations.specs.bound_project.specs.View.{procedure_view}
 use Rattle.bound_declarations.specs.declared_names.specs.View.{space_view}

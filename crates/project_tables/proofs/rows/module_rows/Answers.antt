@@ -1,6 +1,6 @@
 use Rattle.std.proofs.Common.{◌≡◌, ℕ, ◌+◌, List, [], ◌++◌, map, sym, ap, ◌∙◌, drop, length, append-nil, arith}
 use Rattle.std.proofs.lemmas.List.{drop_all}
-use Rattle.bound_declarations.specs.binder.specs.Bind.{numbered}
+use Rattle.bound_declarations.specs.binder.specs.Projects.{numbered}
 use Rattle.bound_declarations.specs.binder.specs.Storage.{shared_before}
 use Rattle.bound_declarations.specs.declared_names.specs.View.{entry_view, scope_view}
 use Rattle.bound_declarations.specs.declared_names.specs.declared.entry.Entry.{Entry as EntryHere}

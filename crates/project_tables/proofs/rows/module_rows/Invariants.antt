@@ -1,5 +1,5 @@
 use Rattle.std.proofs.Common.{◌≡◌, ◌++◌, map, drop}
-use Rattle.bound_declarations.specs.binder.specs.Bind.{numbered}
+use Rattle.bound_declarations.specs.binder.specs.Projects.{numbered}
 use Rattle.bound_declarations.specs.declared_names.specs.View.{entry_view, scope_view}
 use Rattle.project_tables.specs.Rows.{row_view}
 use Rattle.project_tables.specs.Steps.{HaveOwnValues, rows_from}

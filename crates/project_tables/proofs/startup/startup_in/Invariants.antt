@@ -1,10 +1,10 @@
 use Rattle.std.proofs.Common.{◌≡◌, map, drop}
-use Rattle.bound_declarations.specs.binder.specs.Bind as bind
+use Rattle.bound_declarations.specs.binder.specs.Projects as projects
 use Rattle.bound_declarations.specs.declared_names.specs.View.{entry_view, scope_view}
 use Rattle.project_tables.specs.Startups.{startup_view}
 use Rattle.project_tables.proofs.startup.startup_in.Given as goal
 
 abbrev pub invariant-loop-number : goal.invariant-loop-number
 invariant-loop-number l =
-    bind.startup_in (scope_view l.scope) (startup_view l.startup) (bind.numbered l.number (map entry_view (drop l.number l.scope.here.now.entries.items)))
-    ≡ bind.startup_in (scope_view l.scope) (startup_view l.startup) (bind.numbered 0 (map entry_view l.scope.here.now.entries.items))
+    projects.startup_in (scope_view l.scope) (startup_view l.startup) (projects.numbered l.number (map entry_view (drop l.number l.scope.here.now.entries.items)))
+    ≡ projects.startup_in (scope_view l.scope) (startup_view l.startup) (projects.numbered 0 (map entry_view l.scope.here.now.entries.items))

@@ -1,5 +1,5 @@
 use Rattle.std.proofs.Common.{◌≡◌, map, drop}
-use Rattle.bound_declarations.specs.binder.specs.Bind as bind
+use Rattle.bound_declarations.specs.binder.specs.Projects as projects
 use Rattle.bound_declarations.specs.declared_names.specs.View.{space_view}
 use Rattle.project_tables.specs.Signed.{whole_scope}
 use Rattle.project_tables.specs.Startups.{startup_view}
@@ -7,5 +7,5 @@ use Rattle.project_tables.proofs.startup.startup_number.Given as goal
 
 abbrev pub invariant-loop-space : goal.invariant-loop-space
 invariant-loop-space l =
-    bind.startup_number (whole_scope (map space_view l.spaces)) (startup_view l.startup) (map space_view (drop l.space-index l.spaces))
-    ≡ bind.startup_number (whole_scope (map space_view l.spaces)) (startup_view l.startup) (map space_view l.spaces)
+    projects.startup_number (whole_scope (map space_view l.spaces)) (startup_view l.startup) (map space_view (drop l.space-index l.spaces))
+    ≡ projects.startup_number (whole_scope (map space_view l.spaces)) (startup_view l.startup) (map space_view l.spaces)

@@ -1,7 +1,7 @@
 use Rattle.std.proofs.Common.{◌∙◌, ap}
 use Rattle.std.specs.Prelude.{Option, option_and_then}
 use Rattle.vba_tree.specs.Tree.{BlockLine}
-use Rattle.bound_calls.specs.binder.specs.StatementsBound.{counter_of}
+use Rattle.bound_calls.specs.bound_forms.specs.StatementsBound.{counter_of}
 use Rattle.statement_nodes.proofs.for_lines.name_at.Goals as goal
 
 pub returns-in-Some : goal.returns-in-Some

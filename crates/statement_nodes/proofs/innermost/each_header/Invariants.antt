@@ -1,5 +1,5 @@
 use Rattle.std.proofs.Common.{◌≡◌, length}
-use Rattle.bound_calls.specs.binder.specs.StatementsBound.{for_each_header}
+use Rattle.bound_calls.specs.bound_forms.specs.StatementsBound.{for_each_header}
 use Rattle.statement_numbers.specs.View.{stack_view}
 use Rattle.statement_nodes.proofs.innermost.each_header.Given as goal
 

@@ -1,5 +1,5 @@
 use Rattle.std.proofs.Common.{◌≡◌, length, map}
-use Rattle.bound_calls.specs.binder.specs.StatementsBound.{ends_line}
+use Rattle.bound_calls.specs.bound_forms.specs.StatementsBound.{ends_line}
 use Rattle.vba_tree.specs.View.{print_item_view}
 use Rattle.statement_nodes.specs.Reads.{ends_after}
 use Rattle.statement_nodes.proofs.prints.ends_line.Given as goal

@@ -3,7 +3,7 @@ use Rattle.std.specs.Prelude.{map}
 use Rattle.bound_project.specs.Bodies.{block_view}
 use Rattle.module_parts.specs.View.{parts_view}
 use Rattle.binder.specs.Numbering.{standings_in}
-use Rattle.binder.specs.StatementsBound as plain
+use Rattle.binder.specs.Blocks as plain
 use Rattle.statement_numbers.specs.View.{walk_view}
 use Rattle.statement_numbers.proofs.blocks.blocks_in.Given as goal
 

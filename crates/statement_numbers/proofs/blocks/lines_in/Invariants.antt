@@ -1,7 +1,7 @@
 use Rattle.std.proofs.Common.{◌≡◌, ◌++◌, length}
 use Rattle.module_parts.specs.View.{parts_view}
 use Rattle.binder.specs.Numbering.{standings_in}
-use Rattle.binder.specs.StatementsBound as plain
+use Rattle.binder.specs.Blocks as plain
 use Rattle.statement_numbers.specs.Lines.{is_line}
 use Rattle.statement_numbers.specs.View.{walk_view}
 use Rattle.statement_numbers.proofs.blocks.lines_in.Given as goal

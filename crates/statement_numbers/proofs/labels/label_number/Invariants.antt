@@ -1,7 +1,7 @@
 use Rattle.std.proofs.Common.{◌≡◌, length}
 use Rattle.module_parts.specs.View.{parts_view}
 use Rattle.binder.specs.Numbering.{standings_in}
-use Rattle.binder.specs.StatementsBound.{label_number}
+use Rattle.binder.specs.Blocks.{label_number}
 use Rattle.statement_numbers.specs.View.{walk_view}
 use Rattle.statement_numbers.proofs.labels.label_number.Given as goal
 

@@ -1,8 +1,7 @@
-use Rattle.std.proofs.Common.{sym}
-use Rattle.bound_project.specs.DraftView.{draft_view}
-use Rattle.statement_terms.proofs.WrittenTargets.{value_assigned}
 use Rattle.statement_terms.proofs.targets.assign_value.Goals as goal
 
-pub returns : goal.returns
-returns c =
-    value_assigned c.args.place c.args.ending (draft_view c.args.draft.now) (draft_view c.push_node.new.draft) c.if-not-gives_object.ensures (sym c.if-not-has_written_default.ensures) c.in_ok-push_node.ensures
+pub assign_known-requires-clause-gives : goal.assign_known-requires-clause-gives
+assign_known-requires-clause-gives c = c.if-not-gives_object.ensures
+
+pub assign_known-requires-clause-known : goal.assign_known-requires-clause-known
+assign_known-requires-clause-known c = c.in-Some.ensures

@@ -1,7 +1,7 @@
 use Rattle.std.proofs.Common.{List, [], ◌∷◌, ◌++◌, Some, sym, subst}
 use Rattle.vba_expression.specs.Nodes.{tree_in}
 use Rattle.vba_expression.specs.declared.node.ExpressionNode.{ExpressionNode}
-use Rattle.bound_members.specs.binder.specs.ExpressionsBound.{term_of}
+use Rattle.bound_members.specs.bound_forms.specs.ExpressionsBound.{term_of}
 use Rattle.statement_terms.specs.Members.{NamedBy}
 use Rattle.statement_terms.proofs.NamesOfMembers.{member_ends, with_member_ends}
 use Rattle.statement_terms.proofs.trees.member_name.Goals as goal

@@ -1,6 +1,6 @@
 use Rattle.std.proofs.Common.{map, subst, sym, ap, ◌∙◌}
 use Rattle.std.specs.Prelude.{None, option_map}
-use Rattle.bind_project.specs.binder.specs.Bind.{not_built, project_of}
+use Rattle.bind_project.specs.bound_forms.specs.Bind.{not_built, project_of}
 use Rattle.bind_project.specs.binder.specs.Options.{or_else}
 use Rattle.bind_project.specs.declared_names.specs.Outside.{the_outside}
 use Rattle.bind_project.specs.declared_names.specs.View.{space_view}

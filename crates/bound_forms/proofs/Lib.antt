@@ -1,0 +1,9 @@
+mod Reading
+mod Bare
+mod BoundRows
+mod BrokenRows
+mod FunctionRows
+mod MemberRows
+mod TargetRows
+mod ProgramRows
+mod HostRows

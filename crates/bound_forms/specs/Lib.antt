@@ -1,0 +1,4 @@
+pub mod Terms
+pub mod ExpressionsBound
+pub mod StatementsBound
+pub mod Bind

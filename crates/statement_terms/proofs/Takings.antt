@@ -1,0 +1,80 @@
+-- What takes the values of assignments.
+use Rattle.std.proofs.Common.{◌≡◌, Bool, true, false, List, Option, Some, None, refl, sym, ap, subst, ◌∙◌}
+use Rattle.std.specs.Prelude.{option_map, if◌then◌else◌}
+use Rattle.vba_base.specs.declared.place.Place.{Place}
+use Rattle.vba_lexer.specs.declared.token.Token.{Token}
+use Rattle.vba_expression.specs.Tree.{Args, Expr, index}
+use Rattle.bound_project.specs.declared.declared_type.DeclaredType.{DeclaredType}
+use Rattle.bound_project.specs.Drafts.{Drafted}
+use Rattle.bound_project.specs.Expressions as bound
+use Rattle.bound_project.specs.Pieces.{Piece, Tables}
+use Rattle.bound_project.specs.View.{declared_view}
+use Rattle.bound_members.specs.bound_forms.specs.Terms.{Env}
+use Rattle.bound_members.specs.bound_forms.specs.Terms as plain
+use Rattle.bound_members.specs.bound_forms.specs.ExpressionsBound.{givens, indexed, place_told, term_of}
+use Rattle.bound_members.specs.bound_forms.specs.StatementsBound.{takes_value, target_before, target_term}
+use Rattle.bound_members.specs.bound_calls.specs.declared.term.Term.{Term}
+use Rattle.bound_members.specs.bound_calls.specs.declared.term.Term.TheVariants as term
+use Rattle.bound_members.specs.bound_calls.specs.Calls.{MarksGiven}
+use Rattle.bound_members.specs.bound_calls.specs.Standing.{PushedIs, TermStands}
+use Rattle.bound_members.specs.bound_calls.proofs.Growing.{grown_same}
+use Rattle.statement_terms.specs.declared.takers.Taker.{Taker}
+use Rattle.statement_terms.specs.Assigning.{ExprPushed}
+use Rattle.statement_terms.specs.Called.{IsBare}
+use Rattle.statement_terms.specs.Takers.{MarksTaken, TakenBy, given_by, taker_of}
+
+-- ---- terms
+
+pub as_taken : (z y : plain.Term) (taker : Option Taker) → z ≡ y → TakenBy y taker → TakenBy z taker
+as_taken z y taker is h = let P : plain.Term → Type 0 = λ (t : plain.Term). TakenBy t taker in subst P (sym is) h
+
+pub taken_there : (env : Env) (t : Tables) (x : Term) (z : plain.Term) (ps below : List Piece) → TermStands env t x z ps below → TakenBy z (taker_of x)
+taken_there env t (term.Place kind of bounded lends) z ps below h = as_taken z _ (taker_of (term.Place kind of bounded lends)) h.is (λ place v. refl)
+taken_there env t (term.Value e) z ps below h = as_taken z _ None h.is (λ place v. refl)
+taken_there env t (term.Routine r) z ps below h = as_taken z _ None h.is (λ place v. refl)
+taken_there env t (term.Property p) z ps below h = as_taken z _ None h.property.is (λ place v. refl)
+taken_there env t (term.Function f) z ps below h = as_taken z _ None h.0.is (λ place v. refl)
+taken_there env t (term.HostMember m) z ps below h = as_taken z _ (taker_of (term.HostMember m)) h.is (λ place v. refl)
+taken_there env t (term.SheetMember m) z ps below h = as_taken z _ (taker_of (term.SheetMember m)) h.0 (λ place v. refl)
+taken_there env t term.Err z ps below h = as_taken z _ None h.0 (λ place v. refl)
+taken_there env t term.ErrRaise z ps below h = as_taken z _ None h.0 (λ place v. refl)
+taken_there env t term.ErrClear z ps below h = as_taken z _ None h.0 (λ place v. refl)
+taken_there env t term.ErrorWord z ps below h = as_taken z _ None h.0 (λ place v. refl)
+taken_there env t term.Nothing z ps below h = as_taken z _ None h (λ place v. refl)
+
+-- an expression that doesn't end with arguments in brackets is assigned to as the term that it is
+bare_target : (env : Env) (place : Expr) → IsBare place → target_term env place ≡ term_of env place
+bare_target env (index base left args right) h = absurd h
+bare_target env e h = refl
+
+pub taken_bare : (env : Env) (place : Expr) (t : Tables) (x : Term) (ps below : List Piece) → IsBare place → TermStands env t x (term_of env place) ps below → TakenBy (target_term env place) (taker_of x)
+taken_bare env place t x ps below bare h = as_taken (target_term env place) (term_of env place) (taker_of x) (bare_target env place bare) (taken_there env t x (term_of env place) ps below h)
+
+-- one with arguments takes them with its value, or is what brackets make of it
+pub target_before_is : (env : Env) (base : Expr) (left right : Token) (args : Args) → takes_value env (target_before env base) ≡ true → target_term env (index base left args right) ≡ target_before env base
+target_before_is env base left right args h =
+    let t = target_before env base in
+    ap (λ (b : Bool). if b then t else indexed env (place_told base) t (givens env args)) h
+
+pub target_indexed : (env : Env) (base : Expr) (left right : Token) (args : Args) → takes_value env (target_before env base) ≡ false → target_term env (index base left args right) ≡ term_of env (index base left args right)
+target_indexed env base left right args h =
+    let t = target_before env base in
+    ap (λ (b : Bool). if b then t else indexed env (place_told base) t (givens env args)) h
+
+-- ---- marks
+
+pub none_taken : (taker : Option Taker) (place : Place) (given : DeclaredType) (d : Drafted) → taker ≡ None → MarksTaken taker place given d d
+none_taken taker place given d is =
+    let P : Option Taker → Type 0 = λ (o : Option Taker). MarksTaken o place given d d in
+    subst P (sym is) (record {
+      grown = grown_same d;
+      stands = λ found below p. record { made = p.made; is = ap (λ (o : Option bound.Expr). option_map (λ v. v) o) p.is; on_top = p.on_top };
+    })
+
+pub some_taken : (taker : Option Taker) (x : Taker) (place : Place) (given after : DeclaredType) (d e : Drafted) → taker ≡ Some x → MarksGiven (declared_view x.of) x.is_bounded place given d e after → MarksTaken taker place given d e
+some_taken taker x place given after d e is m =
+    let P : Option Taker → Type 0 = λ (o : Option Taker). MarksTaken o place given d e in
+    subst P (sym is) (record {
+      grown = m.grown;
+      stands = λ found below p. let q = m.stands found below p in record { made = q.made; is = q.is; on_top = q.on_top };
+    })
