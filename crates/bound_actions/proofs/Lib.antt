@@ -1,6 +1,10 @@
 pub mod Called
 pub mod Assigned
+pub mod Letting
 pub mod NamedCalls
+pub mod NoTargets
 pub mod WrittenMembers
 pub mod SetTargets
+pub mod RefusedMembers
 pub mod Takings
+pub mod Refusing

@@ -1,6 +1,5 @@
 -- Calls of which the last arguments have names, and that stand as statements.
-use Rattle.std.proofs.Common.{◌≡◌, ℕ, zero, suc, List, [], ◌∷◌, ◌++◌, map, length, Option, Some, refl, sym, ap, subst, ◌∙◌, append-nil, arith}
-use Rattle.std.specs.Prelude.{option_map, reverse}
+use Rattle.std.proofs.Common.{◌≡◌, ℕ, zero, suc, List, [], ◌∷◌, map, refl, sym, ap, subst, ◌∙◌}
 use Rattle.vba_base.specs.declared.place.Place.{Place}
 use Rattle.vba_expression.specs.Tree.{Args, missing, no_args}
 use Rattle.vba_expression.specs.Tree as tree
@@ -17,7 +16,6 @@ use Rattle.bound_project.specs.Pieces.{Piece, Tables}
 use Rattle.bound_project.specs.Project as project
 use Rattle.bound_project.specs.Drafts.{Drafted}
 use Rattle.bound_terms.specs.bound_forms.specs.Terms.{Env, Given}
-use Rattle.bound_terms.specs.bound_forms.specs.Terms as plain
 use Rattle.bound_terms.specs.bound_forms.specs.ExpressionsBound.{givens, indexed}
 use Rattle.bound_terms.specs.bound_calls.specs.declared.term.Ending.{Ending}
 use Rattle.bound_terms.specs.bound_calls.specs.declared.term.Item.{Item}

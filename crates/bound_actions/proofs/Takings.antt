@@ -1,5 +1,5 @@
 -- What takes the value that an expression is assigned.
-use Rattle.std.proofs.Common.{◌≡◌, Bool, true, false, List, Option, Some, None, refl, sym, ap, subst, ◌∙◌}
+use Rattle.std.proofs.Common.{◌≡◌, true, false, List, Option, None, refl, sym, ap, subst, ◌∙◌}
 use Rattle.vba_base.specs.declared.place.Place.{Place}
 use Rattle.vba_expression.specs.Tree.{Expr, index}
 use Rattle.vba_expression.specs.Nodes.{tree_in}
@@ -83,7 +83,7 @@ indexed_taken env split all x more y taker d f g h at one l c none item r is =
     let L : Expr → Type 0 = λ (t : Expr). Leaves env t d h more in
     let leaves : Leaves env tree d h more = subst L there.1 whole in
     let u = untaken env g.tables (place_told base) y z f.pieces d.pieces item none (c.stands base f.pieces d.pieces l.leaves.stands) in
-    let takes : takes_value env (target_before env base) ≡ false = ap (λ (q : plain.Term). takes_value env q) u.same ∙ u.takes in
+    let takes : takes_value env (target_before env base) ≡ false = u.takes in
     let P : Expr → Type 0 = λ (t : Expr). TakenBy (target_term env t) taker in
     let Q : Option Taker → Type 0 = λ (o : Option Taker). TakenBy (target_term env tree) o in
     subst P (sym there.1)

@@ -7,3 +7,7 @@ pub use Rattle.bound_terms.specs.declared_names
 pub use Rattle.bound_terms.specs.project_tables
 pub use Rattle.statement_terms.specs.statement_numbers
 pub mod NamedCalls
+pub mod Untaken
+pub mod NoTargets
+pub mod Refused
+pub mod Assigning

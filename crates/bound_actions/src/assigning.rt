@@ -1,29 +1,38 @@
 //! What the value of an assignment goes to.
 
-ghost use Rattle.std.specs.Prelude.{[], IfOk, map};
+ghost use Rattle.std.specs.Prelude.{◌≡◌, ◌||◌, [], IfOk, map};
 ghost use Rattle.vba_expression.specs.View.{view as expression_view};
 ghost use Rattle.vba_expression.specs.Nodes.{tree_in};
 ghost use Rattle.bound_project.specs.DraftView.{draft_view};
 ghost use Rattle.bound_project.specs.View.{parameter_view};
 ghost use Rattle.statement_terms.specs.Called.{AssignsTo, IsBare, Lets, LetsOn, LetsWith, SplitAt};
+ghost use Rattle.bound_actions.specs.Assigning.{AssignsOther, RefusesNone};
+ghost use Rattle.bound_terms.specs.bound_calls.specs.Standing.{TermNamed};
 ghost use Rattle.bound_terms.specs.bound_names.specs.Callee.{IsWriter};
+ghost use Rattle.bound_terms.specs.bound_names.specs.Items.{lacks_item};
+ghost use Rattle.statement_terms.specs.Targets.{is_variant_term};
 ghost use Rattle.bound_terms.specs.bound_names.specs.View.{EnvStands, env_view};
 ghost use Rattle.bound_terms.specs.declared_names.specs.View.{scope_view};
 
 use crate::member_targets::assign_item;
+use crate::no_targets::{has_let, is_no_target, is_sub, refuse_target};
 use crate::statement_calls::read_named;
 use crate::trees::{continue_tree, nodes_tree};
+use crate::untaken::refuse_arguments;
 use bound_project::{ActionKind, Draft, Parameter};
-use bound_terms::bound_calls::{count_of, pass_rest, push_in_order};
-use bound_terms::bound_declarations::{NotYet, procedure_number};
-use bound_terms::bound_names::{Env, Writer, callee_term, takes_item, writer_of};
-use bound_terms::tree_of;
+use bound_terms::bound_calls::{
+    Term, Tree, called_ending, count_of, pass_rest, push_in_order, takes, takes_none,
+};
+use bound_terms::bound_declarations::{NotYet, gives_value, procedure_number};
+use bound_terms::bound_members::shapes_ahead;
+use bound_terms::bound_names::{Env, Writer, callee_term, lacks_item, takes_item, writer_of};
+use bound_terms::{bound_calls, tree_of};
 use statement_terms::{
-    Assignment, PropertyLet, Split, adds_one, as_given, assign_indexed, assign_tree, ends_bare,
-    is_variant_term, member_name, ordered_kind, property_kind, push_rest, split_call,
+    Assignment, PropertyLet, Split, adds_one, as_given, as_operand, assign_indexed, assign_tree,
+    assign_value, ends_bare, is_variant_term, ordered_kind, property_kind, push_rest, split_call,
 };
 use std::alloc::Global;
-use vba_base::OrMemory;
+use vba_base::{NoMemory, OrMemory, Place};
 use vba_expression::{Expression, ExpressionNode};
 
 /// An assignment to a property whose arguments, for these parameters, are pushed.
@@ -33,11 +42,17 @@ fn let_passed<'a>(
     env: Env<'a>,
     property: PropertyLet,
     front: &'a [Parameter],
+    place: Place,
     nodes: &'a [ExpressionNode],
 ) -> Result<ActionKind, OrMemory<NotYet>>
     requires { EnvStands env }
-    ensures { IfOk result (λ kind. LetsWith (env_view env.entry) (map parameter_view front.now) property.procedure property.of nodes.now (draft_view draft.old) (draft_view draft.new) kind) }
+    ensures { IfOk result (λ kind. LetsWith (env_view env.entry) place (map parameter_view front.now) property.procedure property.of nodes.now (draft_view draft.old) (draft_view draft.new) kind) }
 {
+    let shapes = shapes_ahead(alloc, nodes)?;
+    let is_taken = takes(alloc, front, &shapes)?;
+    if !is_taken {
+        return refuse_arguments(alloc, draft, env, front, 1, place, nodes);
+    }
     let (passed, named) = read_named(alloc, draft, env, front, nodes)?;
     if named.is_empty() {
         let (_written, arguments) = push_rest(alloc, draft, passed)?;
@@ -47,16 +62,25 @@ fn let_passed<'a>(
     Ok(ordered_kind(property, ordered))
 }
 
+/// A property without the arguments that it needs, behind the value that it is given.
+fn refuse_none(draft: &mut Draft, place: Place) -> Result<ActionKind, NoMemory>
+    ensures { IfOk result (λ kind. RefusesNone place (draft_view draft.old) (draft_view draft.new) kind) }
+{
+    bound_calls::push_broken(draft, 25, place, 1)?;
+    Ok(ActionKind::Evaluate)
+}
+
 /// `property = value`
 fn let_bare<'a>(
     alloc: Global,
     draft: &mut Draft,
     env: Env<'a>,
     writer: Writer<'a>,
+    place: Place,
 ) -> Result<ActionKind, OrMemory<NotYet>>
     requires env { EnvStands env }
     requires writer { IsWriter (scope_view env.constants.scope) writer }
-    ensures { IfOk result (λ kind. Lets (env_view env.entry) writer.entry.property [] (draft_view draft.old) (draft_view draft.new) kind) }
+    ensures { IfOk result (λ kind. Lets (env_view env.entry) writer.entry.property place [] (draft_view draft.old) (draft_view draft.new) kind) }
 {
     let scope = env.constants.scope;
     let procedure = procedure_number(scope, writer.property.space, writer.number)?;
@@ -66,6 +90,9 @@ fn let_bare<'a>(
     let Some((last, front)) = parameters.split_last() else {
         return Err(OrMemory::Fault(NotYet));
     };
+    if !takes_none(front) {
+        return Ok(refuse_none(draft, place)?);
+    }
     let arguments = count_of(front)?;
     pass_rest(alloc, draft, front)?;
     Ok(property_kind(procedure, arguments, last.of))
@@ -77,11 +104,12 @@ fn let_given<'a>(
     draft: &mut Draft,
     env: Env<'a>,
     writer: Writer<'a>,
+    place: Place,
     nodes: &'a [ExpressionNode],
 ) -> Result<ActionKind, OrMemory<NotYet>>
     requires env { EnvStands env }
     requires writer { IsWriter (scope_view env.constants.scope) writer }
-    ensures { IfOk result (λ kind. LetsOn (env_view env.entry) writer.entry.property nodes.now (draft_view draft.old) (draft_view draft.new) kind) }
+    ensures { IfOk result (λ kind. LetsOn (env_view env.entry) writer.entry.property place nodes.now (draft_view draft.old) (draft_view draft.new) kind) }
 {
     let scope = env.constants.scope;
     let procedure = procedure_number(scope, writer.property.space, writer.number)?;
@@ -95,7 +123,29 @@ fn let_given<'a>(
         procedure,
         of: last.of,
     };
-    let_passed(alloc, draft, env, property, front, nodes)
+    let_passed(alloc, draft, env, property, front, place, nodes)
+}
+
+/// What has no Let and no arguments, behind the value that it is given: of a procedure what it gives.
+fn assign_other<'a>(
+    alloc: Global,
+    draft: &mut Draft,
+    tree: Tree<'a>,
+) -> Result<Assignment, OrMemory<NotYet>>
+    requires { TermNamed (draft_view draft.old).tables tree.term }
+    ensures { IfOk result (λ done. AssignsOther tree.entry (draft_view draft.old) (draft_view draft.new) done.kind done.is_given) }
+{
+    match tree.term {
+        Term::Routine(routine) => {
+            if !gives_value(routine.written.header.words) {
+                return Err(OrMemory::Fault(NotYet));
+            }
+            let ending = called_ending(alloc, draft, routine, tree.place)?;
+            let kind = assign_value(draft, ending, tree.place)?;
+            Ok(as_operand(kind))
+        }
+        _ => assign_tree(draft, tree),
+    }
 }
 
 /// A place that doesn't end with arguments in brackets, behind the value that it is given.
@@ -110,13 +160,28 @@ fn assign_bare<'a>(
     ensures { IfOk result (λ done. AssignsTo (env_view env.entry) (expression_view place.now) (draft_view draft.old) (draft_view draft.new) done.kind done.is_given) }
 {
     let tree = tree_of(alloc, draft, env, place)?;
+    if is_no_target(env, tree) {
+        let kind = refuse_target(draft, tree.place)?;
+        return Ok(Assignment {
+            kind,
+            is_given: has_let(env, tree.term),
+        });
+    }
     match writer_of(env.constants.scope, tree.term) {
         Some(writer) => {
-            let kind = let_bare(alloc, draft, env, writer)?;
+            let kind = let_bare(alloc, draft, env, writer, tree.place)?;
             Ok(as_given(kind))
         }
-        None => assign_tree(draft, tree, member_name(place.nodes())),
+        None => assign_other(alloc, draft, tree),
     }
+}
+
+/// Does the value come as it is that is assigned to what brackets make of a term? It does for an item of a Variant, and
+/// for an object that has no default member with arguments.
+fn is_item_given<'a>(term: Term<'a>) -> bool
+    ensures { result ≡ (is_variant_term term.entry || lacks_item term.entry) }
+{
+    is_variant_term(term) || lacks_item(term)
 }
 
 /// A place with arguments in brackets at its end, behind the value that it is given.
@@ -131,24 +196,31 @@ fn assign_split<'a>(
     requires split { SplitAt split nodes.now }
     ensures { IfOk result (λ done. AssignsTo (env_view env.entry) (tree_in nodes.now) (draft_view draft.old) (draft_view draft.new) done.kind done.is_given) }
 {
+    if !adds_one(split.arguments) {
+        return Err(OrMemory::NoMemory);
+    }
     let tree = nodes_tree(alloc, draft, env, split.target)?;
     let term = callee_term(alloc, draft, env, tree)?;
+    if is_sub(term) {
+        let kind = refuse_target(draft, tree.place)?;
+        return Ok(Assignment {
+            kind,
+            is_given: has_let(env, term),
+        });
+    }
     if let Some(writer) = writer_of(env.constants.scope, term) {
-        let kind = let_given(alloc, draft, env, writer, split.arguments)?;
+        let kind = let_given(alloc, draft, env, writer, tree.place, split.arguments)?;
         return Ok(as_given(kind));
     }
     if takes_item(term) {
         let kind = assign_item(alloc, draft, env, tree.place, term, split.arguments)?;
         return Ok(as_given(kind));
     }
-    if !adds_one(split.arguments) {
-        return Err(OrMemory::NoMemory);
-    }
     let more = continue_tree(alloc, draft, env, tree, split.closed)?;
     let kind = assign_indexed(draft, more.term, more.place)?;
     Ok(Assignment {
         kind,
-        is_given: is_variant_term(term),
+        is_given: is_item_given(term),
     })
 }
 

@@ -6,11 +6,13 @@ mod assigned_values;
 mod assigning;
 mod indexed_calls;
 mod member_targets;
+mod no_targets;
 mod raising;
 mod setting;
 mod statement_calls;
 mod takers;
 mod trees;
+mod untaken;
 
 pub use actions::{bind_assignment, bind_call, bind_call_place};
 pub use setting::bind_set;

@@ -1,20 +1,22 @@
 //! Members of objects with arguments that are assigned to.
 
-ghost use Rattle.std.specs.Prelude.{◌≡◌, true, IfOk};
+ghost use Rattle.std.specs.Prelude.{◌<◌, IfOk, length};
 ghost use Rattle.bound_project.specs.DraftView.{draft_view};
 ghost use Rattle.statement_terms.specs.Members.{AssignsItem, ReadsOnto};
+ghost use Rattle.bound_actions.specs.Refused.{RefusesWritten};
 ghost use Rattle.bound_terms.specs.bound_calls.specs.declared.term.Term.TheVariants as term;
 ghost use Rattle.bound_terms.specs.bound_calls.specs.Standing.{MemberNamed, TermNamed};
-ghost use Rattle.bound_terms.specs.bound_names.specs.Items.{takes_item};
 ghost use Rattle.bound_terms.specs.bound_names.specs.View.{EnvStands, env_view};
 
+use crate::untaken::read_untaken;
 use bound_project::{ActionKind, Draft};
-use bound_terms::bound_calls::{Item, MemberCall, Term, put_item, take_item};
+use bound_terms::bound_calls::{HostMember, Item, MemberCall, Term, put_item, take_item};
 use bound_terms::bound_declarations::NotYet;
-use bound_terms::bound_members::open_member;
+use bound_terms::bound_members::{open_member, shapes_ahead};
 use bound_terms::bound_names::{Env, item_member};
+use bound_terms::bound_operands::count_shapes;
 use bound_terms::run;
-use statement_terms::write_call;
+use statement_terms::{write_broken, write_call, written_rule};
 use std::alloc::Global;
 use vba_base::{OrMemory, Place};
 use vba_expression::ExpressionNode;
@@ -47,6 +49,27 @@ fn read_member<'a>(
     }
 }
 
+/// A member of the object that was pushed, which isn't written, behind the value that it is given with these arguments.
+fn refuse_item<'a>(
+    alloc: Global,
+    draft: &mut Draft,
+    env: Env<'a>,
+    member: HostMember,
+    place: Place,
+    nodes: &'a [ExpressionNode],
+) -> Result<ActionKind, OrMemory<NotYet>>
+    requires env { EnvStands env }
+    requires named { member.name < length (draft_view draft.old).tables.constants }
+    ensures { IfOk result (λ kind. RefusesWritten (env_view env.entry) place member nodes.now (draft_view draft.old) (draft_view draft.new) kind) }
+{
+    let shapes = read_untaken(alloc, draft, env, nodes)?;
+    let Some(rule) = written_rule(draft, member, &shapes)? else {
+        return Err(OrMemory::Fault(NotYet));
+    };
+    let count = count_shapes(&shapes)?;
+    write_broken(draft, rule, count, place)
+}
+
 /// What is called, which is a member of an object or has a default one, behind the value that it is given with these
 /// arguments.
 pub fn assign_item<'a>(
@@ -59,11 +82,17 @@ pub fn assign_item<'a>(
 ) -> Result<ActionKind, OrMemory<NotYet>>
     requires env { EnvStands env }
     requires named { TermNamed (draft_view draft.old).tables term }
-    requires item { takes_item term ≡ true }
     ensures { IfOk result (λ kind. AssignsItem (env_view env.entry) place term.entry nodes.now (draft_view draft.old) (draft_view draft.new) kind) }
 {
     let member = item_member(alloc, draft, place, term)?;
-    let opened = open_member(alloc, draft, place, member, nodes)?;
+    let shapes = shapes_ahead(alloc, nodes)?;
+    if written_rule(draft, member, &shapes)?.is_some() {
+        return refuse_item(alloc, draft, env, member, place, nodes);
+    }
+    if shapes.is_empty() {
+        return Err(OrMemory::Fault(NotYet));
+    }
+    let opened = open_member(alloc, draft, place, member, &shapes)?;
     let call = read_member(alloc, draft, env, opened, nodes)?;
     write_call(draft, call)
 }

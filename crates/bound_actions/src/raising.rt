@@ -10,13 +10,15 @@ ghost use Rattle.bound_terms.specs.bound_names.specs.View.{EnvStands, env_view};
 ghost use Rattle.bound_terms.specs.bound_calls.specs.declared.term.Term.TheVariants as term;
 
 use crate::statement_calls::{push_arguments, read_named};
+use crate::untaken::refuse_arguments;
 use bound_project::{ActionKind, Draft, Parameter};
-use bound_terms::bound_calls::push_in_order;
+use bound_terms::bound_calls::{push_in_order, takes};
 use bound_terms::bound_declarations::NotYet;
+use bound_terms::bound_members::shapes_ahead;
 use bound_terms::bound_names::Env;
 use statement_terms::{push_rest, raise_parameters};
 use std::alloc::Global;
-use vba_base::OrMemory;
+use vba_base::{OrMemory, Place};
 use vba_expression::ExpressionNode;
 
 /// Pushes the arguments of Error, as those of Err.Raise; answers how many are written, and how many there are.
@@ -39,12 +41,18 @@ fn raise_with<'a>(
     draft: &mut Draft,
     env: Env<'a>,
     parameters: &'a [Parameter],
+    place: Place,
     nodes: &'a [ExpressionNode],
 ) -> Result<ActionKind, OrMemory<NotYet>>
     requires env { EnvStands env }
     requires raised { map parameter_view parameters.now ≡ plain.raise_parameters }
-    ensures { IfOk result (λ kind. (place : place.Place) → ActsOn (env_view env.entry) term.ErrRaise place nodes.now (draft_view draft.old) (draft_view draft.new) kind) }
+    ensures { IfOk result (λ kind. ActsOn (env_view env.entry) term.ErrRaise place nodes.now (draft_view draft.old) (draft_view draft.new) kind) }
 {
+    let shapes = shapes_ahead(alloc, nodes)?;
+    let is_taken = takes(alloc, parameters, &shapes)?;
+    if !is_taken {
+        return refuse_arguments(alloc, draft, env, parameters, 0, place, nodes);
+    }
     let (passed, named) = read_named(alloc, draft, env, parameters, nodes)?;
     if named.is_empty() {
         let (_written, arguments) = push_rest(alloc, draft, passed)?;
@@ -62,13 +70,14 @@ pub fn raise<'a>(
     alloc: Global,
     draft: &mut Draft,
     env: Env<'a>,
+    place: Place,
     nodes: &'a [ExpressionNode],
 ) -> Result<ActionKind, OrMemory<NotYet>>
     requires { EnvStands env }
-    ensures { IfOk result (λ kind. (place : place.Place) → ActsOn (env_view env.entry) term.ErrRaise place nodes.now (draft_view draft.old) (draft_view draft.new) kind) }
+    ensures { IfOk result (λ kind. ActsOn (env_view env.entry) term.ErrRaise place nodes.now (draft_view draft.old) (draft_view draft.new) kind) }
 {
     let parameters = raise_parameters(alloc)?;
-    raise_with(alloc, draft, env, parameters.as_slice(), nodes)
+    raise_with(alloc, draft, env, parameters.as_slice(), place, nodes)
 }
 
 /// `Error number`

@@ -1,6 +1,6 @@
 //! Set: what is given a reference to an object.
 
-ghost use Rattle.std.specs.Prelude.{◌≡◌, [], IfOk, option_and_then};
+ghost use Rattle.std.specs.Prelude.{◌≡◌, ◌<◌, [], IfOk, length, option_and_then};
 ghost use Rattle.vba_expression.specs.View.{view as expression_view};
 ghost use Rattle.vba_expression.specs.Nodes.{tree_in};
 ghost use Rattle.bound_project.specs.DraftView.{draft_view};
@@ -9,19 +9,81 @@ ghost use Rattle.bound_terms.specs.bound_forms.specs.StatementsBound as plain;
 ghost use Rattle.statement_terms.specs.statement_nodes.specs.Pushed.{ActionStands};
 ghost use Rattle.statement_terms.specs.Called.{IsBare, SplitAt};
 ghost use Rattle.statement_terms.specs.Setting.{SetsTo};
+ghost use Rattle.bound_actions.specs.NoTargets.{IsProperty, SetsRoutine};
+ghost use Rattle.bound_actions.specs.Refused.{RefusesSet};
 ghost use Rattle.bound_terms.specs.bound_names.specs.View.{EnvStands, env_view};
 
+use crate::no_targets::{is_sub, refuse_target};
 use crate::trees::{continue_tree, nodes_tree};
+use crate::untaken::read_untaken;
 use bound_project::{ActionKind, Draft};
-use bound_terms::bound_declarations::NotYet;
+use bound_terms::bound_calls::{
+    HostMember, Refuser, Routine, Term, broken_ending, called_ending, sum,
+};
+use bound_terms::bound_declarations::{NotYet, is_property};
 use bound_terms::bound_names::{Env, callee_term, item_member, takes_item};
+use bound_terms::bound_operands::{count_shapes, refused_rule};
 use bound_terms::{bind_given, tree_of};
 use statement_terms::{
-    Split, adds_one, ends_bare, may_be_object, push_broken, set_member, set_term, split_call,
+    Split, adds_one, ends_bare, is_late, may_be_object, push_broken, set_marked, set_member,
+    set_term, split_call,
 };
 use std::alloc::Global;
 use vba_base::{NoMemory, OrMemory, Place};
 use vba_expression::{Expression, ExpressionNode};
+
+/// Is a term a property, whose Set isn't built?
+fn is_property_term<'a>(term: Term<'a>) -> bool
+    ensures { IsProperty term.entry result }
+{
+    match term {
+        Term::Routine(routine) => is_property(routine.written.header.words),
+        Term::Property(_) => true,
+        _ => false,
+    }
+}
+
+/// A procedure that is called without arguments, behind the reference that what it gives is set to.
+fn set_routine<'a>(
+    alloc: Global,
+    draft: &mut Draft,
+    set_word: Place,
+    routine: Routine<'a>,
+    place: Place,
+) -> Result<ActionKind, OrMemory<NotYet>>
+    ensures { IfOk result (λ kind. SetsRoutine set_word place routine.entry (draft_view draft.old) (draft_view draft.new) kind) }
+{
+    if is_property_term(Term::Routine(routine)) {
+        return Err(OrMemory::Fault(NotYet));
+    }
+    let ending = called_ending(alloc, draft, routine, place)?;
+    set_term(draft, set_word, Term::Value(ending), place)
+}
+
+/// A member that is known before the run, of the object that was pushed, behind the reference that it is set to with
+/// arguments that it doesn't take.
+fn set_refused<'a>(
+    alloc: Global,
+    draft: &mut Draft,
+    env: Env<'a>,
+    set_word: Place,
+    member: HostMember,
+    place: Place,
+    nodes: &'a [ExpressionNode],
+) -> Result<ActionKind, OrMemory<NotYet>>
+    requires env { EnvStands env }
+    requires named { member.name < length (draft_view draft.old).tables.constants }
+    ensures { IfOk result (λ kind. RefusesSet (env_view env.entry) set_word place member nodes.now (draft_view draft.old) (draft_view draft.new) kind) }
+{
+    let refuser = Refuser::Member(member);
+    let shapes = read_untaken(alloc, draft, env, nodes)?;
+    let Some(rule) = refused_rule(alloc, draft, refuser, &shapes)? else {
+        return Err(OrMemory::Fault(NotYet));
+    };
+    let count = count_shapes(&shapes)?;
+    let values = sum(count, 1)?;
+    set_marked(draft, set_word, broken_ending(rule, place, values))
+}
 
 /// An expression that doesn't end with arguments in brackets, behind the reference that it is given.
 fn set_bare<'a>(
@@ -36,7 +98,13 @@ fn set_bare<'a>(
     ensures { IfOk result (λ kind. SetsTo set_word (env_view env.entry) (expression_view place.now) (draft_view draft.old) (draft_view draft.new) kind) }
 {
     let tree = tree_of(alloc, draft, env, place)?;
-    set_term(draft, set_word, tree.term, tree.place)
+    if is_sub(tree.term) {
+        return Ok(refuse_target(draft, tree.place)?);
+    }
+    match tree.term {
+        Term::Routine(routine) => set_routine(alloc, draft, set_word, routine, tree.place),
+        _ => set_term(draft, set_word, tree.term, tree.place),
+    }
 }
 
 /// An expression with arguments in brackets at its end, behind the reference that it is given. Those of a member that is
@@ -58,9 +126,26 @@ fn set_split<'a>(
     }
     let tree = nodes_tree(alloc, draft, env, split.target)?;
     let term = callee_term(alloc, draft, env, tree)?;
+    if is_sub(term) {
+        return Ok(refuse_target(draft, tree.place)?);
+    }
+    if is_property_term(term) {
+        return Err(OrMemory::Fault(NotYet));
+    }
     if takes_item(term) {
         let member = item_member(alloc, draft, tree.place, term)?;
-        return set_member(member);
+        if is_late(member.greatest) {
+            return set_member(member);
+        }
+        return set_refused(
+            alloc,
+            draft,
+            env,
+            set_word,
+            member,
+            tree.place,
+            split.arguments,
+        );
     }
     let more = continue_tree(alloc, draft, env, tree, split.closed)?;
     set_term(draft, set_word, more.term, more.place)

@@ -14,15 +14,16 @@ use crate::indexed_calls::call_indexed;
 use crate::raising::{raise, raise_number};
 use bound_project::{ActionKind, Draft, Parameter};
 use bound_terms::bound_calls::{
-    Item, Passed, Routine, Term, Tree, put_item, take_item, take_numbers,
+    Item, Passed, Routine, Term, Tree, put_item, take_item, take_numbers, takes,
 };
 use bound_terms::bound_declarations::NotYet;
+use bound_terms::bound_members::shapes_ahead;
 use bound_terms::bound_names::{Env, callee_term};
 use bound_terms::bound_operands::{gathered_ending, take_gathered};
 use bound_terms::{indexes_value, run};
 use statement_terms::{are_none, bare_term, push_given, push_rest, push_term};
 use std::alloc::Global;
-use vba_base::{OrMemory, Place};
+use vba_base::{NoMemory, OrMemory, Place};
 use vba_expression::ExpressionNode;
 
 /// Pushes the arguments that are written, by their nodes, for these parameters; answers those without names, the numbers
@@ -166,42 +167,42 @@ fn given_term<'a>(
 {
     match term {
         Term::Routine(routine) => call_routine(alloc, draft, env, routine, place, nodes),
-        Term::ErrRaise => raise(alloc, draft, env, nodes),
+        Term::ErrRaise => raise(alloc, draft, env, place, nodes),
         Term::ErrorWord => raise_number(alloc, draft, env, nodes),
         _ => Err(OrMemory::Fault(NotYet)),
     }
 }
 
-/// A statement that calls with arguments, or with none.
-fn call_term<'a>(
+/// Do brackets behind a procedure index its value, or does it not take these arguments?
+fn is_other_routine<'a>(
     alloc: Global,
-    draft: &mut Draft,
-    env: Env<'a>,
-    term: Term<'a>,
-    place: Place,
+    routine: Routine<'a>,
     nodes: &'a [ExpressionNode],
-) -> Result<ActionKind, OrMemory<NotYet>>
-    requires env { EnvStands env }
-    requires named { TermNamed (draft_view draft.old).tables term }
-    ensures { IfOk result (λ kind. ActsOn (env_view env.entry) term.entry place nodes.now (draft_view draft.old) (draft_view draft.new) kind) }
-{
-    if are_none(nodes) {
-        bare_term(alloc, draft, term, place)
-    } else {
-        given_term(alloc, draft, env, term, place, nodes)
+) -> Result<bool, NoMemory> {
+    if indexes_value(routine) {
+        return Ok(true);
     }
+    let shapes = shapes_ahead(alloc, nodes)?;
+    let takes = takes(alloc, routine.parameters, &shapes)?;
+    Ok(!takes)
 }
 
-/// Do brackets index a term, or take a member of an object there?
-fn is_indexed<'a>(term: Term<'a>) -> bool {
+/// Do brackets index a term, or take a member of an object there, or are they none that it takes?
+fn is_indexed<'a>(
+    alloc: Global,
+    term: Term<'a>,
+    nodes: &'a [ExpressionNode],
+) -> Result<bool, NoMemory> {
     match term {
-        Term::Routine(routine) => indexes_value(routine),
-        Term::Place { .. } => true,
-        Term::Value(_) => true,
-        Term::Function(_) => true,
-        Term::HostMember(_) => true,
-        Term::SheetMember(_) => true,
-        _ => false,
+        Term::Routine(routine) => is_other_routine(alloc, routine, nodes),
+        Term::Place { .. } => Ok(true),
+        Term::Value(_) => Ok(true),
+        Term::Function(_) => Ok(true),
+        Term::HostMember(_) => Ok(true),
+        Term::SheetMember(_) => Ok(true),
+        Term::Err => Ok(true),
+        Term::ErrClear => Ok(true),
+        _ => Ok(false),
     }
 }
 
@@ -218,10 +219,13 @@ pub fn call_tree<'a>(
     ensures { IfOk result (λ kind. CallsTreeOn (env_view env.entry) tree.entry nodes.now (draft_view draft.old) (draft_view draft.new) kind) }
 {
     let term = callee_term(alloc, draft, env, tree)?;
-    if is_indexed(term) && !are_none(nodes) {
+    if are_none(nodes) {
+        return bare_term(alloc, draft, term, tree.place);
+    }
+    if is_indexed(alloc, term, nodes)? {
         return call_indexed(alloc, draft, env, tree, nodes);
     }
-    call_term(alloc, draft, env, term, tree.place, nodes)
+    given_term(alloc, draft, env, term, tree.place, nodes)
 }
 
 /// A statement that calls an expression without arguments.

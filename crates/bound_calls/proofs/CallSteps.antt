@@ -26,7 +26,7 @@ use Rattle.bound_declarations.specs.binder.specs.Declarations.{Written}
 use Rattle.bound_declarations.specs.binder.specs.Scopes.{Space}
 use Rattle.bound_forms.specs.Terms.{Env, Given, a_value, a_routine, value_with}
 use Rattle.bound_forms.specs.Terms as plain_terms
-use Rattle.bound_forms.specs.ExpressionsBound.{argument_of, call_with, bare_call, callee, indexed, item_of, operand_of, term_of, value_of, givens, place_told}
+use Rattle.bound_forms.specs.ExpressionsBound.{argument_of, call_with, callee, indexed, item_of, operand_of, term_of, givens, place_told, term_or, wrong_term}
 use Rattle.bound_calls.specs.declared.term.Ending.{Ending}
 use Rattle.bound_calls.specs.declared.term.Routine.{Routine}
 use Rattle.bound_calls.specs.declared.term.Term.{Term}
@@ -38,13 +38,12 @@ use Rattle.bound_calls.specs.declared.term.Item.{Item}
 use Rattle.bound_calls.specs.declared.term.Item.TheVariants as item
 use Rattle.bound_calls.specs.Passing.{AllTaken}
 use Rattle.bound_calls.specs.Standing.{RoutineStands, TermStands, TreeStands, ValueStands, PassedStands, Stands, ItemNamed, AllNamed, Base}
-use Rattle.bound_calls.specs.Taking.{BareIs, CallsBare, CallsRoutine, no_object}
+use Rattle.bound_calls.specs.Taking.{BareIs, CallsRoutine}
 use Rattle.bound_calls.specs.Steps.{Goes}
 use Rattle.bound_calls.specs.Calls.{PassesPlain, PassesMissing, PassesRest, passed_in, with_passed, EndsCall}
 use Rattle.bound_calls.specs.Indexing.{AddsArgument, Closes}
 use Rattle.bound_calls.proofs.Growing.{all_named, stands_grows}
 use Rattle.bound_calls.proofs.Arguing.{left_long}
-use Rattle.bound_calls.proofs.Taking.{same_ending, takes_value}
 use Rattle.bound_calls.proofs.Passing.{arguments_bound}
 use Rattle.bound_calls.proofs.Reading.{call_is}
 
@@ -92,17 +91,13 @@ call_made value number_of env t r x d e ending y place gs xs qs below h s taken 
 pub call_stands : (env : Env) (t : Tables) (r : Routine) (x : Passed) (d e : Drafted) (ending : Ending) (y : plain_terms.Term) (place : Place) (args : Args) (qs below : List Piece) → EndsCall r x d e ending
     → RoutineStands env r y qs qs → PassedStands env (map parameter_view r.parameters.now) x args d.pieces below → ValueStands t ending (indexed env place y (givens env args)) e.pieces below
 call_stands env t r x d e ending y place args qs below h s p =
-    let A : plain_terms.Term → Type 0 = λ z. ValueStands t ending (indexed env place z (givens env args)) e.pieces below in
-    subst A (sym s.is) (call_made (argument_of env) (operand_of env) env t r x d e ending y place (givens env args) p.made qs below h s p.taken p.count_is p.on_top)
+    let z = a_routine s.space s.number s.written in
+    let gs = givens env args in
+    let v = call_made (argument_of env) (operand_of env) env t r x d e ending y place gs p.made qs below h s p.taken p.count_is p.on_top in
+    record { made = v.made; is = ap (λ w. indexed env place w gs) s.is ∙ ap (λ w. term_or w (wrong_term env place z gs)) v.is; ends = v.ends }
 
 ending_call : (r : Routine) (x : Passed) (d e : Drafted) (ending : Ending) → EndsCall r x d e ending → NodeNamed e.tables ending.kind
 ending_call r x d e ending h = let P : Ending → Type 0 = λ z. NodeNamed e.tables z.kind in subst P (sym h.ending_is) tt
-
--- a call without arguments gives a value
-bare_value : (env : Env) (space : Space) (number : ℕ) (w : Written) (made : bound.Node) (of : Declared) (place : Place) → bare_call env space number w ≡ a_value made of
-    → value_of env (a_routine space number w) place ≡ value_of env (bare_call env space number w) place
-bare_value env space number w made of place h =
-    let A : plain_terms.Term → Type 0 = λ z. value_with (λ a b c. z) (a_routine space number w) place ≡ value_of env z place in subst A (sym h) refl
 
 routine_stands : (r : Routine) (x : Passed) (d e : Drafted) (ending : Ending) → x.left.now ≡ r.parameters.now → x.count ≡ 0 → EndsCall r x d e ending → (env : Env) (y : plain_terms.Term) (below : List Piece) → RoutineStands env r y d.pieces below
     → BareIs env e.tables ending y e.pieces below
@@ -134,19 +129,6 @@ pub calls_routine : (r : Routine) (x : Passed) (d e : Drafted) (ending : Ending)
 calls_routine r x d e ending left count h =
     record { grown = h.grown; named = ending_call r x d e ending h; of_is = ap (λ (z : Ending). z.of) h.ending_is; stands = routine_stands r x d e ending left count h }
 
-pub calls_bare : (r : Routine) (d e : Drafted) (ending : Ending) → CallsRoutine r d e ending → CallsBare r d e (no_object ending)
-calls_bare r d e ending h =
-    let v = takes_value ending e h.named in
-    record {
-      grown = h.grown;
-      named = v.named;
-      stands = λ env y below k.
-          let b = h.stands env y below k in
-          let z = bare_call env b.space b.number b.written in
-          same_ending e.tables (no_object ending) (λ place. value_of env z place) (λ place. value_of env y place) e.pieces below
-          (λ place. ap (λ w. value_of env w place) b.is ∙ bare_value env b.space b.number b.written b.called.made (declared_view ending.of) place b.called.is) (v.stands env z below b.called);
-    }
-
 -- ---- the steps
 
 -- an item whose arguments are read, and the same item with others
@@ -168,6 +150,9 @@ opened env t (item.Function x) xs p args is ps base f k h = absurd (none_there p
 opened env t (item.Member x) xs p args is ps base f k h = absurd (none_there p f)
 opened env t (item.Named x) xs p args is ps base f k h = absurd (none_there p f)
 opened env t item.Gathered xs p args is ps base f k h = absurd (none_there p f)
+opened env t (item.Untaken x) xs p args is ps base f k h = absurd (none_there p f)
+opened env t item.Unlisted xs p args is ps base f k h = absurd (none_there p f)
+opened env t (item.Shape x) xs p args is ps base f k h = absurd (none_there p f)
 opened env t (item.Call x) xs p args [] ps base f k h = absurd h
 opened env t (item.Call x) xs p args (nodes.arguments more ∷ is) ps base f k h = absurd h
 opened env t (item.Call x) xs p args (nodes.tree e ∷ is) ps base f k h = record {
@@ -193,6 +178,9 @@ none_open env t (item.Function x) xs p ps base f h = absurd h
 none_open env t (item.Member x) xs p ps base f h = absurd h
 none_open env t (item.Named x) xs p ps base f h = absurd h
 none_open env t item.Gathered xs p ps base f h = absurd h
+none_open env t (item.Untaken x) xs p ps base f h = none_there p f
+none_open env t item.Unlisted xs p ps base f h = none_there p f
+none_open env t (item.Shape x) xs p ps base f h = none_there p f
 
 tree_open : (env : Env) (t : Tables) (i : Item) (xs : List Item) (p : Passed) (e : Expr) (is : List nodes.Item) (ps : List Piece) (base : Base) → passed_in i ≡ Some p → Stands env t (i ∷ xs) (nodes.tree e ∷ is) ps base → ⊥
 tree_open env t (item.Tree x) xs p e is ps base f h = none_there p f
@@ -204,6 +192,9 @@ tree_open env t (item.Function x) xs p e is ps base f h = absurd h
 tree_open env t (item.Member x) xs p e is ps base f h = absurd h
 tree_open env t (item.Named x) xs p e is ps base f h = absurd h
 tree_open env t item.Gathered xs p e is ps base f h = absurd h
+tree_open env t (item.Untaken x) xs p e is ps base f h = none_there p f
+tree_open env t item.Unlisted xs p e is ps base f h = none_there p f
+tree_open env t (item.Shape x) xs p e is ps base f h = none_there p f
 
 passed_named : (t : Tables) (i : Item) (q p : Passed) → passed_in i ≡ Some p → ItemNamed t (with_passed i q)
 passed_named t (item.Tree x) q p f = absurd (none_there p f)
@@ -215,6 +206,9 @@ passed_named t (item.Function x) q p f = absurd (none_there p f)
 passed_named t (item.Member x) q p f = absurd (none_there p f)
 passed_named t (item.Named x) q p f = absurd (none_there p f)
 passed_named t item.Gathered q p f = absurd (none_there p f)
+passed_named t (item.Untaken x) q p f = absurd (none_there p f)
+passed_named t item.Unlisted q p f = absurd (none_there p f)
+passed_named t (item.Shape x) q p f = absurd (none_there p f)
 
 -- an argument that isn't written
 pub missing_stands : (env : Env) (i : Item) (xs : List Item) (p q : Passed) (comma : Option Token) (d e : Drafted) → passed_in i ≡ Some p → AllNamed d.tables xs → PassesMissing p d e q → (is : List nodes.Item) (base : Base)

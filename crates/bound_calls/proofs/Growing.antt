@@ -1,5 +1,5 @@
 -- What stands on a stack stands there still when the tables of the draft grow.
-use Rattle.std.proofs.Common.{◌≡◌, ℕ, ◌<◌, length, map, List, [], ◌∷◌, Option, None, Some, refl, sym, ap, subst, ◌∙◌, arith}
+use Rattle.std.proofs.Common.{◌≡◌, ℕ, ◌<◌, length, map, List, [], ◌∷◌, Option, None, Some, if◌then◌else◌, refl, sym, ap, subst, ◌∙◌, arith}
 use Rattle.vba_values.specs.Val.{Val}
 use Rattle.vba_expression.specs.Tree.{Expr, Args, no_args, missing, plain, named}
 use Rattle.vba_expression.specs.Nodes as nodes
@@ -18,15 +18,18 @@ use Rattle.bound_project.proofs.Drafts.{Extends, by_name_same, constant_extends,
 use Rattle.vba_values.specs.Types as type
 use Rattle.bound_forms.specs.Terms.{Env, a_host_member, expression_of}
 use Rattle.bound_forms.specs.Terms as terms
-use Rattle.bound_forms.specs.ExpressionsBound.{givens, term_of}
+use Rattle.bound_forms.specs.ExpressionsBound.{arguments_rule, givens, member_takes, term_of}
 use Rattle.bound_calls.specs.declared.term.Term.{Term}
 use Rattle.bound_calls.specs.declared.term.Term.TheVariants as term
 use Rattle.bound_calls.specs.declared.term.HostMember.{HostMember}
 use Rattle.bound_calls.specs.declared.term.MemberCall.{MemberCall}
 use Rattle.bound_calls.specs.declared.term.Tree.{Tree}
+use Rattle.bound_calls.specs.declared.term.Refuser.{Refuser}
+use Rattle.bound_calls.specs.declared.term.Refuser.TheVariants as refuser
+use Rattle.bound_calls.specs.declared.term.Untaken.{Untaken}
 use Rattle.bound_calls.specs.declared.term.Item.{Item}
 use Rattle.bound_calls.specs.declared.term.Item.TheVariants as item
-use Rattle.bound_calls.specs.Standing.{TermStands, TreeStands, MemberStands, NamesCame, looked_for, member_is, names_told, Stands, TermNamed, AreNamed, ItemNamed, MemberNamed, AllNamed, Grown, Base}
+use Rattle.bound_calls.specs.Standing.{TermStands, TreeStands, MemberStands, NamesCame, UntakenStands, looked_for, member_is, names_told, refused_rule, Stands, TermNamed, AreNamed, ItemNamed, MemberNamed, RefuserNamed, AllNamed, Grown, Base}
 
 pub extends_same : (t : Tables) → Extends t t
 extends_same t = record {
@@ -100,9 +103,14 @@ are_named : (t u : Tables) → Extends t u → (names : Option ArgumentNames) �
 are_named t u e None h = tt
 are_named t u e (Some by) h = names_named t u e by h
 
+pub refuser_named : (t u : Tables) → Extends t u → (x : Refuser) → RefuserNamed t x → RefuserNamed u x
+refuser_named t u e (refuser.Member m) h = omega (arith, e.constants_more)
+refuser_named t u e x h = tt
+
 pub item_named : (t u : Tables) → Extends t u → (x : Item) → ItemNamed t x → ItemNamed u x
 item_named t u e (item.Tree x) h = term_named t u e x.term h
 item_named t u e (item.Member x) h = (omega (arith, h.0, e.constants_more), are_named t u e x.names h.1)
+item_named t u e (item.Untaken x) h = refuser_named t u e x.refuser h
 item_named t u e x h = tt
 
 pub all_named : (t u : Tables) → Extends t u → (xs : List Item) → AllNamed t xs → AllNamed u xs
@@ -165,6 +173,20 @@ member_grows env t u e x k tree args ps below h =
       on_top = h.on_top ∙ ap (λ (p : Piece). above (map an_expr h.made) (p ∷ below)) (sym (looked_same t u e x.member.name x.names x.given h.object k.0 k.1));
     }
 
+-- what doesn't take its arguments
+rule_same : (t u : Tables) → Extends t u → (x : Refuser) → RefuserNamed t x → (gs : List terms.Given) → refused_rule u x gs ≡ refused_rule t x gs
+rule_same t u e (refuser.Procedure ps) h gs = refl
+rule_same t u e (refuser.Value of) h gs = refl
+rule_same t u e (refuser.Called of) h [] = refl
+rule_same t u e (refuser.Called of) h (g ∷ gs) = refl
+rule_same t u e (refuser.Member m) h gs = ap (λ (y : terms.HostMember). if member_takes y gs then None else arguments_rule y) (sym (member_same t u e m h))
+rule_same t u e refuser.Bare h [] = refl
+rule_same t u e refuser.Bare h (g ∷ gs) = refl
+
+untaken_grows : (env : Env) (t u : Tables) → Extends t u → (x : Untaken) → RefuserNamed t x.refuser → (tree : Expr) (ps below : List Piece) → UntakenStands env t x tree ps below → UntakenStands env u x tree ps below
+untaken_grows env t u e x k tree ps below h =
+    record { place_is = h.place_is; before = h.before; before_long = h.before_long; wrong = λ gs rule f. h.wrong gs rule (sym (rule_same t u e x.refuser k gs) ∙ f); on_top = h.on_top }
+
 pub stands_grows : (env : Env) (t u : Tables) → Extends t u → (xs : List Item) → AllNamed t xs → (is : List nodes.Item) (ps : List Piece) (base : Base) → Stands env t xs is ps base → Stands env u xs is ps base
 stands_grows env t u e [] k is ps base h = h
 stands_grows env t u e (item.Tree x ∷ xs) k [] ps base h = absurd h
@@ -218,3 +240,24 @@ stands_grows env t u e (item.Gathered ∷ xs) k (nodes.arguments (missing before
 stands_grows env t u e (item.Gathered ∷ xs) k (nodes.arguments (named before comma name mark tree) ∷ is) ps base h = absurd h
 stands_grows env t u e (item.Gathered ∷ xs) k (nodes.arguments (plain before comma tree) ∷ is) ps base h =
     (h.0, (h.1.0, stands_grows env t u e xs k.1 (nodes.arguments before ∷ is) h.0 base h.1.1))
+stands_grows env t u e (item.Untaken x ∷ xs) k [] ps base h = absurd h
+stands_grows env t u e (item.Untaken x ∷ xs) k (nodes.tree tree ∷ is) ps base h = absurd h
+stands_grows env t u e (item.Untaken x ∷ xs) k (nodes.arguments (missing before comma) ∷ is) ps base h = absurd h
+stands_grows env t u e (item.Untaken x ∷ xs) k (nodes.arguments (plain before comma tree) ∷ is) ps base h = absurd h
+stands_grows env t u e (item.Untaken x ∷ xs) k (nodes.arguments (named before comma name mark tree) ∷ is) ps base h = absurd h
+stands_grows env t u e (item.Untaken x ∷ xs) k (nodes.arguments no_args ∷ []) ps base h = absurd h
+stands_grows env t u e (item.Untaken x ∷ xs) k (nodes.arguments no_args ∷ nodes.arguments more ∷ is) ps base h = absurd h
+stands_grows env t u e (item.Untaken x ∷ xs) k (nodes.arguments no_args ∷ nodes.tree tree ∷ is) ps base h =
+    (h.0, (untaken_grows env t u e x k.0 tree ps h.0 h.1.0, stands_grows env t u e xs k.1 is h.0 base h.1.1))
+stands_grows env t u e (item.Unlisted ∷ xs) k [] ps base h = absurd h
+stands_grows env t u e (item.Unlisted ∷ xs) k (nodes.tree tree ∷ is) ps base h = absurd h
+stands_grows env t u e (item.Unlisted ∷ xs) k (nodes.arguments (missing before comma) ∷ is) ps base h = absurd h
+stands_grows env t u e (item.Unlisted ∷ xs) k (nodes.arguments (plain before comma tree) ∷ is) ps base h = absurd h
+stands_grows env t u e (item.Unlisted ∷ xs) k (nodes.arguments (named before comma name mark tree) ∷ is) ps base h = absurd h
+stands_grows env t u e (item.Unlisted ∷ xs) k (nodes.arguments no_args ∷ is) ps base h = stands_grows env t u e xs k.1 is ps base h
+stands_grows env t u e (item.Shape s ∷ xs) k [] ps base h = absurd h
+stands_grows env t u e (item.Shape s ∷ xs) k (nodes.tree tree ∷ is) ps base h = absurd h
+stands_grows env t u e (item.Shape s ∷ xs) k (nodes.arguments no_args ∷ is) ps base h = absurd h
+stands_grows env t u e (item.Shape s ∷ xs) k (nodes.arguments (missing before comma) ∷ is) ps base h = (h.0, (h.1.0, stands_grows env t u e xs k.1 (nodes.arguments before ∷ is) h.0 base h.1.1))
+stands_grows env t u e (item.Shape s ∷ xs) k (nodes.arguments (plain before comma tree) ∷ is) ps base h = (h.0, (h.1.0, stands_grows env t u e xs k.1 (nodes.arguments before ∷ is) h.0 base h.1.1))
+stands_grows env t u e (item.Shape s ∷ xs) k (nodes.arguments (named before comma name mark tree) ∷ is) ps base h = (h.0, (h.1.0, stands_grows env t u e xs k.1 (nodes.arguments before ∷ is) h.0 base h.1.1))

@@ -37,7 +37,7 @@ places_push c ks = let e : 0 + c ≡ c = omega arith in places_more 0 c ks ∙ a
 
 -- ---- items by the numbers of their parameters
 
-abbrev numbers_in : List Item → List ℕ
+abbrev pub numbers_in : List Item → List ℕ
 numbers_in [] = []
 numbers_in (i ∷ is) = i.parameter ∷ numbers_in is
 
@@ -45,11 +45,11 @@ numbers_append : (is js : List Item) → numbers_in (is ++ js) ≡ numbers_in is
 numbers_append [] js = refl
 numbers_append (i ∷ is) js = ap (λ l. i.parameter ∷ l) (numbers_append is js)
 
-any_there : (n : ℕ) (is : List Item) → list_any (λ (i : Item). i.parameter == n) is ≡ is_there n (numbers_in is)
+pub any_there : (n : ℕ) (is : List Item) → list_any (λ (i : Item). i.parameter == n) is ≡ is_there n (numbers_in is)
 any_there n [] = refl
 any_there n (i ∷ is) = ap (λ b. (i.parameter == n) || b) (any_there n is)
 
-apart_is : (is : List Item) → are_apart is ≡ all_apart (numbers_in is)
+pub apart_is : (is : List Item) → are_apart is ≡ all_apart (numbers_in is)
 apart_is [] = refl
 apart_is (i ∷ is) =
     ap (λ b. not b && are_apart is) (any_there i.parameter is) ∙ ap (λ b. not (is_there i.parameter (numbers_in is)) && b) (apart_is is)
@@ -64,14 +64,14 @@ order_is n (p ∷ ps) is = ap (λ m. m ∷ order_from (suc n) ps is) (place_is n
 
 -- ---- parameters to which nothing is given
 
-abbrev none_for : ℕ → Parameter → Item
+abbrev pub none_for : ℕ → Parameter → Item
 none_for n p = record { parameter = n; add = not_given_to p }
 
-abbrev left_by : ℕ → List Parameter → List ℕ → List Item
+abbrev pub left_by : ℕ → List Parameter → List ℕ → List Item
 left_by n [] ks = []
 left_by n (p ∷ ps) ks = if is_there n ks then left_by (suc n) ps ks else none_for n p ∷ left_by (suc n) ps ks
 
-left_over_is : (n : ℕ) (ps : List Parameter) (is : List Item) → left_over n ps is ≡ left_by n ps (numbers_in is)
+pub left_over_is : (n : ℕ) (ps : List Parameter) (is : List Item) → left_over n ps is ≡ left_by n ps (numbers_in is)
 left_over_is n [] is = refl
 left_over_is n (p ∷ ps) is =
     ap (λ b. if b then left_over (suc n) ps is else none_for n p ∷ left_over (suc n) ps is) (any_there n is)

@@ -4,6 +4,10 @@ pub mod LastNodes
 pub mod PlaceNodes
 pub mod TypedNodes
 pub mod Referring
+pub mod Refusing
+pub mod Lacking
+pub mod Shaping
+pub mod ShapeSteps
 pub mod Steps
 pub mod Passing
 pub mod Arguing

@@ -32,7 +32,7 @@ use Rattle.bound_declarations.specs.binder.specs.Storage.{bound_parameters, proc
 use Rattle.bound_forms.specs.Terms.{Env, Given, a_value, bound_arguments, parameter_named}
 use Rattle.bound_forms.specs.Terms as plain_terms
 use Rattle.bound_declarations.specs.binder.specs.Signatures.{is_get, reader, parameters_in, call_type}
-use Rattle.bound_forms.specs.ExpressionsBound.{call_value, call_with, if_there, indexes_value, indexed_value, node_or, numbers_of, argument_of, callee, indexed, operand_of, term_of, givens, place_told}
+use Rattle.bound_forms.specs.ExpressionsBound.{call_value, call_with, if_there, indexes_value, indexed_value, node_or, numbers_of, argument_of, callee, indexed, operand_of, term_of, givens, place_told, term_or, wrong_term}
 use Rattle.bound_calls.specs.declared.term.Ending.{Ending}
 use Rattle.bound_calls.specs.declared.term.Routine.{Routine}
 use Rattle.bound_calls.specs.declared.term.Term.TheVariants as term
@@ -102,6 +102,9 @@ below_one (item.Function x) xs p f = let e : None ≡ Some p = f in absurd cc
 below_one (item.Member x) xs p f = let e : None ≡ Some p = f in absurd cc
 below_one (item.Named x) xs p f = let e : None ≡ Some p = f in absurd cc
 below_one item.Gathered xs p f = let e : None ≡ Some p = f in absurd cc
+below_one (item.Untaken x) xs p f = let e : None ≡ Some p = f in absurd cc
+below_one item.Unlisted xs p f = let e : None ≡ Some p = f in absurd cc
+below_one (item.Shape x) xs p f = let e : None ≡ Some p = f in absurd cc
 
 below_other : (i : Item) (xs : List Item) → is_named i ≡ false → passed_below (i ∷ xs) ≡ passed_in i
 below_other (item.Call x) xs h = refl
@@ -112,6 +115,9 @@ below_other (item.Indexed x) xs h = refl
 below_other (item.Function x) xs h = refl
 below_other (item.Member x) xs h = refl
 below_other item.Gathered xs h = refl
+below_other (item.Untaken x) xs h = refl
+below_other item.Unlisted xs h = refl
+below_other (item.Shape x) xs h = refl
 below_other (item.Named x) xs h = let e : true ≡ false = h in absurd cc
 
 below_same : (i : Item) (xs : List Item) → is_named i ≡ true → passed_below (i ∷ xs) ≡ passed_below xs
@@ -124,6 +130,9 @@ below_same (item.Indexed x) xs h = let n : false ≡ true = h in absurd cc
 below_same (item.Function x) xs h = let n : false ≡ true = h in absurd cc
 below_same (item.Member x) xs h = let n : false ≡ true = h in absurd cc
 below_same item.Gathered xs h = let n : false ≡ true = h in absurd cc
+below_same (item.Untaken x) xs h = let n : false ≡ true = h in absurd cc
+below_same item.Unlisted xs h = let n : false ≡ true = h in absurd cc
+below_same (item.Shape x) xs h = let n : false ≡ true = h in absurd cc
 
 -- looked up from the last item
 item_above : (xs : List Item) (k n : ℕ) (i : Item) → k < length xs → n ≡ length xs - 1 - k → i ≡ get_or xs n i → drop k (reverse xs) ≡ i ∷ drop (k + 1) (reverse xs)
@@ -153,6 +162,9 @@ arguments_below env t (item.Indexed x ∷ xs) p is ps base f h = let e : None �
 arguments_below env t (item.Function x ∷ xs) p is ps base f h = let e : None ≡ Some p = f in absurd cc
 arguments_below env t (item.Member x ∷ xs) p is ps base f h = let e : None ≡ Some p = f in absurd cc
 arguments_below env t (item.Gathered ∷ xs) p is ps base f h = let e : None ≡ Some p = f in absurd cc
+arguments_below env t (item.Untaken x ∷ xs) p is ps base f h = let e : None ≡ Some p = f in absurd cc
+arguments_below env t (item.Unlisted ∷ xs) p is ps base f h = let e : None ≡ Some p = f in absurd cc
+arguments_below env t (item.Shape x ∷ xs) p is ps base f h = let e : None ≡ Some p = f in absurd cc
 arguments_below env t (item.Named x ∷ xs) p [] ps base f h = absurd h
 arguments_below env t (item.Named x ∷ xs) p (nodes.tree e ∷ is) ps base f h = absurd h
 arguments_below env t (item.Named x ∷ xs) p (nodes.arguments args ∷ is) ps base f h = h
@@ -483,10 +495,11 @@ call_stands env t r x d e named ending y place gs xs g ns ys qs between below h 
     let A : List project.Parameter → Type 0 = λ l. AllTaken value l gs xs left in
     let some : (length s.read.1.parameters == 0) ≡ false = some_written value (scope_in (home env.scope s.space) s.read.1) _ s.read.1.parameters gs xs left (length xs) g ns named ys (subst A s.parameters_are taken) (subst N counted by_name) in
     let P : Ending → Type 0 = λ z. ValueStands t z (indexed env place y (gs ++ g ∷ ns)) e.pieces below in
-    let B : plain_terms.Term → Type 0 = λ z. indexed env place z (gs ++ g ∷ ns) ≡ a_value (call r.procedure args) (declared_view r.of) in
+    let z = plain_terms.a_routine s.space s.number s.written in
+    let all = gs ++ g ∷ ns in
     subst P (sym h.ending_is) (record {
       made = call r.procedure args;
-      is = subst B (sym s.is) (call_is value (operand_of env) env place (gs ++ g ∷ ns) s.space s.number s.written s.read r.procedure (declared_view r.of) ps args s.reads s.procedure_is s.parameters_are s.of_is some m.bound);
+      is = ap (λ w. indexed env place w all) s.is ∙ ap (λ w. term_or w (wrong_term env place z all)) (call_is value (operand_of env) env place (gs ++ g ∷ ns) s.space s.number s.written s.read r.procedure (declared_view r.of) ps args s.reads s.procedure_is s.parameters_are s.of_is some m.bound);
       ends = call_ends t r.procedure o.arguments o.order m.places m.all e.pieces below m.arguments_is m.order_is m.on_top;
     })
 

@@ -1,5 +1,4 @@
 -- Calls of procedures and of properties that are read.
-use Rattle.std.specs.Prelude.{option_and_then}
 use Rattle.std.proofs.Common.{◌≡◌, ℕ, ◌==◌, Bool, true, false, ◌&&◌, List, [], ◌∷◌, ◌++◌, length, Option, Some, option_map, refl, sym, ap, subst, ◌∙◌, arith, ne_eqb, if◌then◌else◌}
 use Rattle.vba_base.specs.declared.place.Place.{Place}
 use Rattle.vba_tree.specs.Tree.{Parameter}
@@ -11,6 +10,7 @@ use Rattle.bound_project.specs.Project as project
 use Rattle.bound_project.specs.Statements as to
 use Rattle.bound_project.specs.Statements.{Action}
 use Rattle.bound_declarations.specs.binder.specs.Declarations.{Written}
+use Rattle.bound_declarations.specs.binder.specs.Options.{or_else}
 use Rattle.bound_declarations.specs.binder.specs.Types.{is_object}
 use Rattle.bound_declarations.specs.binder.specs.Scopes.{Space, Scope}
 use Rattle.bound_declarations.specs.binder.specs.Constants.{home}
@@ -20,7 +20,7 @@ use Rattle.bound_forms.specs.Terms.{Env, Given, a_routine, a_value, bound_argume
 use Rattle.bound_forms.specs.Terms as plain
 use Rattle.bound_declarations.specs.binder.specs.Signatures.{is_get, reader, parameters_in, call_type, writer}
 use Rattle.bound_forms.specs.ExpressionsBound.{call_value, call_with, if_there, indexes_value, indexed_value, node_or, numbers_of, argument_of}
-use Rattle.bound_forms.specs.StatementsBound.{let_to, assigned}
+use Rattle.bound_forms.specs.StatementsBound.{assigned, broken_target, let_to, untaken}
 use Rattle.bound_calls.specs.Passing.{AllTaken}
 
 and_no : (b : Bool) → (b && false) ≡ false
@@ -65,9 +65,14 @@ value_type (p ∷ ps) = value_type ps
 abbrev pub written_by : ℕ → bound.Args → bound.Expr → Declared → Action
 written_by procedure args v of = if is_object of then to.set_property procedure args v of else to.let_property procedure args v of
 
-let_parts : (env : Env) (space : Space) (gs : List Given) (v : bound.Expr) (f : ℕ × Written) → let_to env space gs v f
-    ≡ option_map (λ args. written_by (procedure_number env.scope space f.0) args v (value_type (parameters_in env.scope space f.1))) (bound_arguments (argument_of env) (but_last (parameters_in env.scope space f.1)) gs)
-let_parts env space gs v f = refl
+let_parts : (env : Env) (place : Place) (space : Space) (gs : List Given) (v : bound.Expr) (f : ℕ × Written) → let_to env place space gs v f
+    ≡ or_else (option_map (λ args. written_by (procedure_number env.scope space f.0) args v (value_type (parameters_in env.scope space f.1))) (bound_arguments (argument_of env) (but_last (parameters_in env.scope space f.1)) gs))
+    (option_map (broken_target 25 place v) (untaken env (but_last (parameters_in env.scope space f.1)) gs))
+let_parts env place space gs v f = refl
+
+written_found : (env : Env) (place : Place) (v : bound.Expr) (gs : List Given) (space : Space) (number : ℕ) (w : Written) (f : ℕ × Written) → writer env.scope space w ≡ Some f
+    → assigned env place v gs (a_routine space number w) ≡ let_to env place space gs v f
+written_found env place v gs space number w f found = rw found refl
 
 but_last_is : (front : List project.Parameter) (last : project.Parameter) → but_last (front ++ last ∷ []) ≡ front
 but_last_is [] last = refl
@@ -79,12 +84,17 @@ value_type_is [] last = refl
 value_type_is (p ∷ []) last = refl
 value_type_is (p ∷ q ∷ ps) last = value_type_is (q ∷ ps) last
 
-pub let_is : (env : Env) (place : Place) (v : bound.Expr) (gs : List Given) (space : Space) (number : ℕ) (w : Written) (f : ℕ × Written) (front : List project.Parameter) (last : project.Parameter) (args : bound.Args)
-    → writer env.scope space w ≡ Some f → parameters_in env.scope space f.1 ≡ front ++ last ∷ [] → bound_arguments (argument_of env) front gs ≡ Some args
-    → assigned env place v gs (a_routine space number w) ≡ Some (written_by (procedure_number env.scope space f.0) args v last.of)
-let_is env place v gs space number w f front last args found parameters given =
+-- what a Let of a property is, for its parameters but the last one, and for the type of that
+pub let_whole : (env : Env) (place : Place) (v : bound.Expr) (gs : List Given) (space : Space) (number : ℕ) (w : Written) (f : ℕ × Written) (front : List project.Parameter) (last : project.Parameter)
+    → writer env.scope space w ≡ Some f → parameters_in env.scope space f.1 ≡ front ++ last ∷ []
+    → assigned env place v gs (a_routine space number w)
+    ≡ or_else (option_map (λ args. written_by (procedure_number env.scope space f.0) args v last.of) (bound_arguments (argument_of env) front gs)) (option_map (broken_target 25 place v) (untaken env front gs))
+let_whole env place v gs space number w f front last found parameters =
     let n = procedure_number env.scope space f.0 in
-    let done : List project.Parameter → Option Action = λ ps. option_map (λ args. written_by n args v (value_type ps)) (bound_arguments (argument_of env) (but_last ps) gs) in
-    ap (λ o. option_and_then (let_to env space gs v) o) found ∙ let_parts env space gs v f ∙ ap done parameters
-    ∙ ap (λ l. option_map (λ args. written_by n args v (value_type (front ++ last ∷ []))) (bound_arguments (argument_of env) l gs)) (but_last_is front last)
-    ∙ ap (λ o. option_map (λ args. written_by n args v (value_type (front ++ last ∷ []))) o) given ∙ ap (λ of. Some (written_by n args v of)) (value_type_is front last)
+    let told : List project.Parameter → bound.Args → Action = λ ps args. written_by n args v (value_type ps) in
+    let broken : List project.Parameter → Option Action = λ l. option_map (broken_target 25 place v) (untaken env l gs) in
+    let done : List project.Parameter → Option Action = λ ps. or_else (option_map (told ps) (bound_arguments (argument_of env) (but_last ps) gs)) (broken (but_last ps)) in
+    let all = front ++ last ∷ [] in
+    let typed : Declared → Option Action = λ of. or_else (option_map (λ args. written_by n args v of) (bound_arguments (argument_of env) front gs)) (broken front) in
+    written_found env place v gs space number w f found ∙ let_parts env place space gs v f ∙ ap done parameters
+    ∙ ap (λ l. or_else (option_map (told all) (bound_arguments (argument_of env) l gs)) (broken l)) (but_last_is front last) ∙ ap typed (value_type_is front last)

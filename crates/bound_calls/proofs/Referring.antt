@@ -1,6 +1,7 @@
 -- How terms are taken as references, and operands that are objects.
 use Rattle.std.proofs.Common.{◌≡◌, Bool, true, false, List, ◌∷◌, Some, None, refl, sym, ap, subst, ◌∙◌}
-use Rattle.std.specs.Prelude.{ℕ, ◌==◌, ◌||◌, [], Option, if◌then◌else◌, option_map}
+use Rattle.std.specs.List.{list_all}
+use Rattle.std.specs.Prelude.{ℕ, ◌==◌, ◌||◌, ◌&&◌, [], Option, if◌then◌else◌, option_map}
 use Rattle.vba_base.specs.declared.place.Place.{Place}
 use Rattle.vba_values.specs.declared.object.HostRef.TheVariants as host
 use Rattle.vba_values.specs.Types.{Declared}
@@ -12,7 +13,8 @@ use Rattle.bound_project.specs.declared.variable.ErrMember.TheVariants as err_me
 use Rattle.bound_project.specs.declared.node.NodeKind.{NodeKind}
 use Rattle.bound_project.specs.declared.node.NodeKind.TheVariants as node
 use Rattle.bound_project.specs.View.{declared_view}
-use Rattle.bound_project.specs.Expressions.{load, err_value, err_number, host_object, host_member, default_of, default_if_any, no_exprs}
+use Rattle.bound_project.specs.Project as project
+use Rattle.bound_project.specs.Expressions.{load, err_value, err_number, host_object, host_member, default_of, default_if_any, no_exprs, also}
 use Rattle.bound_project.specs.Expressions as bound
 use Rattle.bound_project.specs.Pieces.{Piece, Tables, an_expr, name_in, of_place, of_value, expr_of, put}
 use Rattle.bound_project.specs.Drafts.{Drafted, NodeNamed}
@@ -22,9 +24,9 @@ use Rattle.bound_declarations.specs.binder.specs.Declarations.{Written}
 use Rattle.bound_declarations.specs.binder.specs.Scopes.{Space}
 use Rattle.bound_declarations.specs.binder.specs.Storage.{procedure_number}
 use Rattle.bound_declarations.specs.binder.specs.Constants.{is_variant}
-use Rattle.bound_forms.specs.Terms.{Env, a_routine, a_value, bound_arguments, expression_of, typed_value, value_with}
+use Rattle.bound_forms.specs.Terms.{Env, a_routine, a_value, bound_arguments, broken_rule, expression_of, may_lack, typed_value, value_with}
 use Rattle.bound_forms.specs.Terms as plain
-use Rattle.bound_forms.specs.ExpressionsBound.{bare_call, call_value, if_there, is_host_type, has_object, plain_operand, if_any, given_way, default_value, typed_reference, value_of, operand_of, reference_of, given_as, term_of, place_told}
+use Rattle.bound_forms.specs.ExpressionsBound.{bare_call, call_value, if_there, is_host_type, has_object, plain_operand, if_any, given_way, default_value, typed_reference, value_of, operand_of, reference_of, given_as, term_of, place_told, without_arguments}
 use Rattle.bound_declarations.specs.binder.specs.Signatures.{call_type, parameters_in}
 use Rattle.bound_calls.specs.declared.term.Ending.{Ending}
 use Rattle.bound_calls.specs.declared.term.HostMember.{HostMember}
@@ -35,7 +37,7 @@ use Rattle.bound_calls.specs.declared.term.Tree.{Tree}
 use Rattle.bound_calls.specs.Standing.{RoutineStands, TermStands, EndingIs}
 use Rattle.bound_calls.specs.Steps.{PushesLeft, PushesOperand}
 use Rattle.bound_calls.specs.Taking.{CallsRoutine, PushesSheet, ReadsMember, TakesValue, sheet_expression}
-use Rattle.bound_calls.specs.References.{is_referring, refers, may_refer, gives_way, default_node, DefaultBreaks, EndingGives, PushesAs, TakesReference, PushesReference, TakesGiven, PushesGiven, PushesIfAny}
+use Rattle.bound_calls.specs.References.{is_referring, refers, takes_none, may_refer, gives_way, default_node, DefaultBreaks, EndingGives, PushesAs, TakesReference, PushesReference, TakesGiven, PushesGiven, PushesIfAny}
 use Rattle.bound_calls.proofs.Growing.{grown_same, grown_pieces, grown_twice}
 use Rattle.bound_calls.proofs.Taking.{node_of, operand_split, not_err, sheet_stands}
 
@@ -64,9 +66,17 @@ no_value_typed made place of h = ap (λ b. if b then None else Some (expression_
 referred : (made : bound.Node) (place : Place) (of : Declared) → (is_host_type of || is_variant of) ≡ true → typed_reference made place of ≡ Some (expression_of made place of)
 referred made place of h = ap (λ b. if b then Some (expression_of made place of) else None) h
 
-no_member_value : (b : Bool) (made : bound.Node) (place : Place) (of : Declared) → is_host_type of ≡ true → (if b then typed_value made place of else None) ≡ None
-no_member_value true made place of h = no_value_typed made place of h
-no_member_value false made place of h = refl
+first_of : (a b : Bool) → (a && b) ≡ true → a ≡ true
+first_of true b h = refl
+first_of false b h = h
+
+second_of : (a b : Bool) → (a && b) ≡ true → b ≡ true
+second_of true b h = h
+second_of false b h = let e : false ≡ true = h in absurd cc
+
+no_member_value : (b : Bool) (made : bound.Node) (place : Place) (of : Declared) (broken : bound.Expr) → (is_host_type of && b) ≡ true → or_else (if b then typed_value made place of else None) (if b then None else Some broken) ≡ None
+no_member_value true made place of broken h = ap (λ (o : Option bound.Expr). or_else o None) (no_value_typed made place of (first_of (is_host_type of) true h))
+no_member_value false made place of broken h = let e : false ≡ true = second_of (is_host_type of) false h in absurd cc
 
 -- a call without arguments that gives an object
 no_call_value : (env : Env) (space : Space) (number : ℕ) (written : Written) (f : ℕ × Written) (args : Option bound.Args) (place : Place) → is_host_type (call_type env.scope space f.1) ≡ true
@@ -74,22 +84,30 @@ no_call_value : (env : Env) (space : Space) (number : ℕ) (written : Written) (
 no_call_value env space number written f None place h = refl
 no_call_value env space number written f (Some args) place h = no_value_typed (bound.call (procedure_number env.scope space f.0) args) place (call_type env.scope space f.1) h
 
-no_routine_value : (env : Env) (r : Routine) {x : plain.Term} {ps below : List Piece} (s : RoutineStands env r x ps below) → is_host_type (declared_view r.of) ≡ true → (place : Place)
+pub lacks_nothing : (env : Env) (r : Routine) {x : plain.Term} {ps below : List Piece} (s : RoutineStands env r x ps below) → takes_none r ≡ true → (place : Place) → without_arguments env (a_routine s.space s.number s.written) place ≡ None
+lacks_nothing env r s h place =
+    let all : list_all may_lack (parameters_in env.scope s.space s.read.1) ≡ true = ap (λ (l : List project.Parameter). list_all may_lack l) (sym s.parameters_are) ∙ h in
+    rw (s.reads, all) refl
+
+no_routine_value : (env : Env) (r : Routine) {x : plain.Term} {ps below : List Piece} (s : RoutineStands env r x ps below) → (is_host_type (declared_view r.of) && takes_none r) ≡ true → (place : Place)
     → value_of env (a_routine s.space s.number s.written) place ≡ None
 no_routine_value env r s h place =
     let found : Option (ℕ × Written) → plain.Term = λ o. if_there (option_map (λ f. call_value env s.space f.0 f.1 (bound_arguments (λ of t place. None) (parameters_in env.scope s.space f.1) [])) o) in
     let bare : bare_call env s.space s.number s.written ≡ call_value env s.space s.read.0 s.read.1 (bound_arguments (λ of t place. None) (parameters_in env.scope s.space s.read.1) []) = ap found s.reads in
-    ap (λ z. value_with (λ a b c. z) (a_routine s.space s.number s.written) place) bare
-    ∙ no_call_value env s.space s.number s.written s.read (bound_arguments (λ of t place. None) (parameters_in env.scope s.space s.read.1) []) place (ap is_host_type (sym s.of_is) ∙ h)
+    let lacks : Option bound.Expr = without_arguments env (a_routine s.space s.number s.written) place in
+    let object : is_host_type (declared_view r.of) ≡ true = first_of (is_host_type (declared_view r.of)) (takes_none r) h in
+    ap (λ z. or_else (value_with (λ a b c. z) (a_routine s.space s.number s.written) place) lacks) bare
+    ∙ ap (λ (o : Option bound.Expr). or_else o lacks) (no_call_value env s.space s.number s.written s.read (bound_arguments (λ of t place. None) (parameters_in env.scope s.space s.read.1) []) place (ap is_host_type (sym s.of_is) ∙ object))
+    ∙ lacks_nothing env r s (second_of (is_host_type (declared_view r.of)) (takes_none r) h) place
 
 -- what is taken as a reference is no value
 pub no_value_there : (env : Env) (t : Tables) (x : Term) (y : plain.Term) (ps below : List Piece) → refers x ≡ true → TermStands env t x y ps below → (place : Place) → value_of env y place ≡ None
-no_value_there env t (term.Place kind of bounded lends) y ps below r h place = ap (λ z. value_of env z place) h.is ∙ no_value_typed (load h.at) place (declared_view of) r
-no_value_there env t (term.Value e) y ps below r h place = ap (λ z. value_of env z place) h.is ∙ no_value_typed h.made place (declared_view e.of) r
+no_value_there env t (term.Place kind of bounded lends) y ps below r h place = ap (λ z. value_of env z place) h.is ∙ ap (λ (o : Option bound.Expr). or_else o None) (no_value_typed (load h.at) place (declared_view of) r)
+no_value_there env t (term.Value e) y ps below r h place = ap (λ z. value_of env z place) h.is ∙ ap (λ (o : Option bound.Expr). or_else o None) (no_value_typed h.made place (declared_view e.of) r)
 no_value_there env t (term.HostMember m) y ps below r h place =
-    ap (λ z. value_of env z place) h.is ∙ no_member_value (m.least == 0) (host_member h.object (name_in t m.name) no_exprs) place (declared_view m.of) r
+    ap (λ z. value_of env z place) h.is ∙ no_member_value (m.least == 0) (host_member h.object (name_in t m.name) no_exprs) place (declared_view m.of) (broken_rule 25 place (also h.object no_exprs)) r
 no_value_there env t (term.SheetMember m) y ps below r h place =
-    ap (λ z. value_of env z place) h.0 ∙ no_member_value (m.least == 0) (host_member sheet_expression (name_in t m.name) no_exprs) place (declared_view m.of) r
+    ap (λ z. value_of env z place) h.0 ∙ no_member_value (m.least == 0) (host_member sheet_expression (name_in t m.name) no_exprs) place (declared_view m.of) (broken_rule 25 place (also sheet_expression no_exprs)) r
 no_value_there env t (term.Routine s) y ps below r h place = ap (λ z. value_of env z place) h.is ∙ no_routine_value env s h r place
 no_value_there env t (term.Property p) y ps below r h place = let e : false ≡ true = r in absurd cc
 no_value_there env t (term.Function f) y ps below r h place = let e : false ≡ true = r in absurd cc
@@ -103,10 +121,10 @@ no_value_there env t term.Nothing y ps below r h place = let e : false ≡ true 
 
 place_referred : (kind : NodeKind) (of : DeclaredType) (bounded lends : Bool) (at : Place) (d : Drafted) → is_referring of ≡ true → (env : Env) (y : plain.Term) (below : List Piece)
     → TermStands env d.tables (term.Place kind of bounded lends) y d.pieces below
-    → EndingIs d.tables (record { kind = node.Load; of = of }) (λ place. reference_of env y place) (put d.tables (node_of kind at of) d.pieces) below
-place_referred kind of bounded lends at d r env y below k = record {
+    → (place : Place) → EndingIs d.tables (record { kind = node.Load; of = of }) place (reference_of env y place) (put d.tables (node_of kind at of) d.pieces) below
+place_referred kind of bounded lends at d r env y below k place = record {
   made = load k.at;
-  is = λ place. ap (λ z. reference_of env z place) k.is ∙ referred (load k.at) place (declared_view of) r;
+  is = ap (λ z. reference_of env z place) k.is ∙ referred (load k.at) place (declared_view of) r;
   ends = λ n. ap (λ st. of_place (λ x. expr_of n (load x)) st) (k.ends (node_of kind at of));
 }
 
@@ -120,9 +138,9 @@ pub takes_value : (v : Ending) (d : Drafted) → is_referring v.of ≡ true → 
 takes_value v d r n = record {
   grown = grown_same d;
   named = n;
-  stands = λ env y below k. record {
+  stands = λ env y below k place. record {
     made = k.made;
-    is = λ place. ap (λ z. reference_of env z place) k.is ∙ referred k.made place (declared_view v.of) r;
+    is = ap (λ z. reference_of env z place) k.is ∙ referred k.made place (declared_view v.of) r;
     ends = k.ends;
   };
 }
@@ -131,13 +149,13 @@ read_when : (b : Bool) (made : bound.Node) (place : Place) (of : Declared) → b
 read_when b made place of eq h = ap (λ c. if c then typed_reference made place of else None) eq ∙ referred made place of h
 
 member_referred : (m : HostMember) (d e : Drafted) (v : Ending) → is_referring m.of ≡ true → ReadsMember m d e v → (env : Env) (y : plain.Term) (below : List Piece)
-    → TermStands env d.tables (term.HostMember m) y d.pieces below → EndingIs e.tables v (λ place. reference_of env y place) e.pieces below
-member_referred m d e v r h env y below k =
+    → TermStands env d.tables (term.HostMember m) y d.pieces below → (place : Place) → EndingIs e.tables v place (reference_of env y place) e.pieces below
+member_referred m d e v r h env y below k place =
     let made = host_member k.object (name_in d.tables m.name) no_exprs in
-    let P : DeclaredType → Type 0 = λ of. (place : Place) → reference_of env y place ≡ Some (expression_of made place (declared_view of)) in
+    let P : DeclaredType → Type 0 = λ of. reference_of env y place ≡ Some (expression_of made place (declared_view of)) in
     record {
       made = made;
-      is = subst P (sym h.of_is) (λ place. ap (λ z. reference_of env z place) k.is ∙ read_when (m.least == 0) made place (declared_view m.of) (ap (λ n. n == 0) h.least_is) r);
+      is = subst P (sym h.of_is) (ap (λ z. reference_of env z place) k.is ∙ read_when (m.least == 0) made place (declared_view m.of) (ap (λ n. n == 0) h.least_is) r);
       ends = h.ends k.object below k.on_top;
     }
 
@@ -147,7 +165,7 @@ takes_member m d e v r h = record { grown = h.grown; named = h.named; stands = m
 pub takes_sheet_member : (m : HostMember) (d s e : Drafted) (v : Ending) → is_referring m.of ≡ true → PushesSheet d s → ReadsMember m s e v → TakesReference (term.SheetMember m) d e v
 takes_sheet_member m d s e v r p h =
     let t = takes_member m s e v r h in
-    record { grown = grown_twice d s e p.grown t.grown; named = t.named; stands = λ env y below k. t.stands env y below (sheet_stands m d s p env y below k) }
+    record { grown = grown_twice d s e p.grown t.grown; named = t.named; stands = λ env y below k place. t.stands env y below (sheet_stands m d s p env y below k) place }
 
 -- a call without arguments
 bare_reference : (env : Env) (space : Space) (number : ℕ) (w : Written) (made : bound.Node) (of : Declared) (place : Place) → bare_call env space number w ≡ a_value made of
@@ -158,12 +176,12 @@ pub takes_routine : (r : Routine) (d e : Drafted) (v : Ending) → is_referring 
 takes_routine r d e v ref h = record {
   grown = h.grown;
   named = h.named;
-  stands = λ env y below k.
+  stands = λ env y below k place.
       let b = h.stands env y below k in
       let c = b.called in
       record {
         made = c.made;
-        is = λ place. ap (λ z. reference_of env z place) b.is ∙ bare_reference env b.space b.number b.written c.made (declared_view v.of) place c.is
+        is = ap (λ z. reference_of env z place) b.is ∙ bare_reference env b.space b.number b.written c.made (declared_view v.of) place c.is
             ∙ referred c.made place (declared_view v.of) (ap (λ of. is_referring of) h.of_is ∙ ref);
         ends = c.ends;
       };
@@ -176,9 +194,9 @@ pub takes_err : (d : Drafted) → TakesReference term.Err d d err_reference
 takes_err d = record {
   grown = grown_same d;
   named = tt;
-  stands = λ env y below k. record {
+  stands = λ env y below k place. record {
     made = host_object host.ErrObject;
-    is = λ place. ap (λ z. reference_of env z place) k.0;
+    is = ap (λ z. reference_of env z place) k.0;
     ends = λ n. ap (λ st. expr_of n (host_object host.ErrObject) ∷ st) k.1;
   };
 }
@@ -191,35 +209,35 @@ pushes_reference x d m e v t eq =
     subst P (sym eq) (record {
       grown = grown_twice d m (record m { pieces = put m.tables (node_of v.kind x.place v.of) m.pieces }) t.grown (grown_pieces m (put m.tables (node_of v.kind x.place v.of) m.pieces));
       stands = λ env tree below k.
-          let h = t.stands env (term_of env tree) below k.term_is in
+          let h = t.stands env (term_of env tree) below k.term_is x.place in
           let A : Place → Type 0 = λ place. reference_of env (term_of env tree) place ≡ Some (expression_of h.made x.place (declared_view v.of)) in
-          record { made = h.made; place = x.place; is = subst A k.place_is (h.is x.place); on_top = h.ends (node_of v.kind x.place v.of) };
+          record { made = h.made; place = x.place; is = subst A k.place_is h.is; on_top = h.ends (node_of v.kind x.place v.of) };
     })
 
-pub given_reference : (x : Term) (d e : Drafted) (v : Ending) → refers x ≡ true → TakesReference x d e v → TakesGiven x d e v
-given_reference x d e v r t = record {
+pub given_reference : (x : Term) (place : Place) (d e : Drafted) (v : Ending) → refers x ≡ true → TakesReference x d e v → TakesGiven x place d e v
+given_reference x place d e v r t = record {
   grown = t.grown;
   named = t.named;
   stands = λ env y below k.
-      let h = t.stands env y below k in
+      let h = t.stands env y below k place in
       record {
         made = h.made;
-        is = λ place. ap (λ o. or_else o (reference_of env y place)) (no_value_there env d.tables x y d.pieces below r k place) ∙ h.is place;
+        is = ap (λ o. or_else o (reference_of env y place)) (no_value_there env d.tables x y d.pieces below r k place) ∙ h.is;
         ends = h.ends;
       };
 }
 
 -- a value is given as it is
-pub given_value : (x : Term) (d e : Drafted) (v : Ending) → TakesValue x d e (Some v) → TakesGiven x d e v
-given_value x d e v t = record {
+pub given_value : (x : Term) (place : Place) (d e : Drafted) (v : Ending) → TakesValue x place d e (Some v) → TakesGiven x place d e v
+given_value x place d e v t = record {
   grown = t.grown;
   named = t.named;
   stands = λ env y below k.
       let h = t.stands env y below k in
-      record { made = h.made; is = λ place. ap (λ o. or_else o (reference_of env y place)) (h.is place); ends = h.ends };
+      record { made = h.made; is = ap (λ o. or_else o (reference_of env y place)) h.is; ends = h.ends };
 }
 
-pub pushes_given : (x : Tree) (d m e : Drafted) (v : Ending) → TakesGiven x.term d m v → e ≡ record m { pieces = put m.tables (node_of v.kind x.place v.of) m.pieces } → PushesGiven x d e v.of
+pub pushes_given : (x : Tree) (d m e : Drafted) (v : Ending) → TakesGiven x.term x.place d m v → e ≡ record m { pieces = put m.tables (node_of v.kind x.place v.of) m.pieces } → PushesGiven x d e v.of
 pushes_given x d m e v t eq =
     let P : Drafted → Type 0 = λ z. PushesGiven x d z v.of in
     subst P (sym eq) (record {
@@ -227,7 +245,7 @@ pushes_given x d m e v t eq =
       stands = λ env tree below k.
           let h = t.stands env (term_of env tree) below k.term_is in
           let A : Place → Type 0 = λ place. given_as env (term_of env tree) place ≡ Some (expression_of h.made x.place (declared_view v.of)) in
-          record { made = expression_of h.made x.place (declared_view v.of); is = subst A k.place_is (h.is x.place); operand = refl; on_top = h.ends (node_of v.kind x.place v.of) };
+          record { made = expression_of h.made x.place (declared_view v.of); is = subst A k.place_is h.is; operand = refl; on_top = h.ends (node_of v.kind x.place v.of) };
     })
 
 -- ---- operands
@@ -239,9 +257,9 @@ first_holds a b h = ap (λ c. c || b) h
 pub refers_may : (x : Term) → refers x ≡ true → may_refer x ≡ true
 refers_may (term.Place kind of bounded lends) h = first_holds (is_host_type (declared_view of)) (is_variant (declared_view of)) h
 refers_may (term.Value e) h = first_holds (is_host_type (declared_view e.of)) (is_variant (declared_view e.of)) h
-refers_may (term.HostMember m) h = first_holds (is_host_type (declared_view m.of)) (is_variant (declared_view m.of)) h
-refers_may (term.SheetMember m) h = first_holds (is_host_type (declared_view m.of)) (is_variant (declared_view m.of)) h
-refers_may (term.Routine r) h = first_holds (is_host_type (declared_view r.of)) (is_variant (declared_view r.of)) h
+refers_may (term.HostMember m) h = first_holds (is_host_type (declared_view m.of)) (is_variant (declared_view m.of)) (first_of (is_host_type (declared_view m.of)) (m.least == 0) h)
+refers_may (term.SheetMember m) h = first_holds (is_host_type (declared_view m.of)) (is_variant (declared_view m.of)) (first_of (is_host_type (declared_view m.of)) (m.least == 0) h)
+refers_may (term.Routine r) h = first_holds (is_host_type (declared_view r.of)) (is_variant (declared_view r.of)) (first_of (is_host_type (declared_view r.of)) (takes_none r) h)
 refers_may (term.Property p) h = h
 refers_may (term.Function f) h = h
 refers_may term.Err h = refl
@@ -306,14 +324,14 @@ pushes_default x d m n e v rule w t breaks one two =
       stands = λ env tree below k.
           let place = place_told tree in
           let y = term_of env tree in
-          let h = t.stands env y below k.term_is in
+          let h = t.stands env y below k.term_is x.place in
           let reference = expression_of h.made x.place (declared_view v.of) in
           let A : Place → Type 0 = λ (q : Place). reference_of env y q ≡ Some reference in
           record {
             made = given_way rule x.place reference;
             is = operand_split env d.tables x.term (gives_no_err x.term w) y d.pieces below k.term_is place
                 ∙ ap (λ o. or_else (option_map plain_operand o) (option_map (default_value place) (reference_of env y place))) (no_value_there env d.tables x.term y d.pieces below (gives_refers x.term w) k.term_is place)
-                ∙ ap (λ o. option_map (default_value place) o) (subst A k.place_is (h.is x.place))
+                ∙ ap (λ o. option_map (default_value place) o) (subst A k.place_is h.is)
                 ∙ ap (λ (r : Option ℕ). Some (given_way r place reference)) (breaks m.tables h.made m.pieces below h.ends)
                 ∙ ap (λ (q : Place). Some (given_way rule q reference)) (sym k.place_is);
             operand = given_operand rule x.place reference;
@@ -419,7 +437,7 @@ if_any_default v place d m e o b h g is one two =
     })
 
 -- a value as an operand
-pub value_plainly : (x : Tree) (d m e : Drafted) (v : Ending) (of : DeclaredType) → not_err x.term → TakesValue x.term d m (Some v) → PushesAs plain_operand v x.place m e of → PushesOperand x d e (Some of)
+pub value_plainly : (x : Tree) (d m e : Drafted) (v : Ending) (of : DeclaredType) → not_err x.term → TakesValue x.term x.place d m (Some v) → PushesAs plain_operand v x.place m e of → PushesOperand x d e (Some of)
 value_plainly x d m e v of n t p = record {
   grown = grown_twice d m e t.grown p.grown;
   stands = λ env tree below k.
@@ -427,7 +445,7 @@ value_plainly x d m e v of n t p = record {
       let place = place_told tree in
       let h = t.stands env y below k.term_is in
       let s = p.stands h.made below h.ends in
-      let here : value_of env y place ≡ Some (expression_of h.made x.place (declared_view v.of)) = h.is place ∙ ap (λ (q : Place). Some (expression_of h.made q (declared_view v.of))) (sym k.place_is) in
+      let here : value_of env y place ≡ Some (expression_of h.made x.place (declared_view v.of)) = ap (λ (q : Place). value_of env y q) (sym k.place_is) ∙ h.is in
       record {
         made = s.made;
         is = operand_split env d.tables x.term n y d.pieces below k.term_is place ∙ ap (λ o. or_else (option_map plain_operand o) (option_map (default_value place) (reference_of env y place))) here
@@ -437,7 +455,7 @@ value_plainly x d m e v of n t p = record {
       };
 }
 
-pub given_if_any : (x : Tree) (d m e : Drafted) (v : Ending) (of : DeclaredType) → TakesGiven x.term d m v → PushesAs if_any v x.place m e of → PushesIfAny x d e of
+pub given_if_any : (x : Tree) (d m e : Drafted) (v : Ending) (of : DeclaredType) → TakesGiven x.term x.place d m v → PushesAs if_any v x.place m e of → PushesIfAny x d e of
 given_if_any x d m e v of t p = record {
   grown = grown_twice d m e t.grown p.grown;
   stands = λ env tree below k.
@@ -445,7 +463,7 @@ given_if_any x d m e v of t p = record {
       let place = place_told tree in
       let h = t.stands env y below k.term_is in
       let s = p.stands h.made below h.ends in
-      let here : given_as env y place ≡ Some (expression_of h.made x.place (declared_view v.of)) = h.is place ∙ ap (λ (q : Place). Some (expression_of h.made q (declared_view v.of))) (sym k.place_is) in
+      let here : given_as env y place ≡ Some (expression_of h.made x.place (declared_view v.of)) = ap (λ (q : Place). given_as env y q) (sym k.place_is) ∙ h.is in
       record { made = s.made; is = ap (λ o. option_map if_any o) here ∙ s.is; operand = s.operand; on_top = s.on_top };
 }
 

@@ -104,8 +104,8 @@ goes_leaf env xs ys new d e f x tree g m p n q eq =
 
 -- ---- parentheses
 
-valued : (env : Env) (t : Tables) (v : Ending) (y : plain.Term) (place : Place) (ps below : List Piece) → EndingIs t v (λ p. given_as env y p) ps below → TermStands env t (term.Value v) (as_value env y place) ps below
-valued env t v y place ps below h = record { made = h.made; is = ap (λ o. if_there (option_map value_term o)) (h.is place); ends = h.ends }
+valued : (env : Env) (t : Tables) (v : Ending) (y : plain.Term) (place : Place) (ps below : List Piece) → EndingIs t v place (given_as env y place) ps below → TermStands env t (term.Value v) (as_value env y place) ps below
+valued env t v y place ps below h = record { made = h.made; is = ap (λ o. if_there (option_map value_term o)) h.is; ends = h.ends }
 
 -- what is made of the tree on top
 made_of_tree : (env : Env) (x y : Tree) (xs : List Item) (d e : Drafted) (f : Expr → Expr) → Grown d e → AllNamed d.tables xs
@@ -133,10 +133,10 @@ goes_made env x y xs old new d e f o n grown k named make g eq =
     }))
 
 pub goes_parenthesised : (env : Env) (x : Tree) (left right : Token) (v : Ending) (xs old new : List Item) (d e : Drafted) → old ≡ item.Tree x ∷ xs
-    → new ≡ item.Tree (record { place = x.place; name = None; dotted = None; term = term.Value v }) ∷ xs → AllNamed d.tables old → TakesGiven x.term d e v → Goes env d old e new (behind_node (node.Parenthesised left right))
+    → new ≡ item.Tree (record { place = x.place; name = None; dotted = None; term = term.Value v }) ∷ xs → AllNamed d.tables old → TakesGiven x.term x.place d e v → Goes env d old e new (behind_node (node.Parenthesised left right))
 goes_parenthesised env x left right v xs old new d e o n k g =
     goes_made env x (record { place = x.place; name = None; dotted = None; term = term.Value v }) xs old new d e (λ tree. parenthesised left tree right) o n g.grown k g.named
-    (λ tree below h. record { term_is = valued env e.tables v (term_of env tree) (place_told tree) e.pieces below (g.stands env (term_of env tree) below h.term_is); place_is = h.place_is; name_is = refl; qualifier_is = refl; leaf = tt })
+    (λ tree below h. record { term_is = valued env e.tables v (term_of env tree) (place_told tree) e.pieces below (subst (λ (place : Place). EndingIs e.tables v place (given_as env (term_of env tree) place) e.pieces below) h.place_is (g.stands env (term_of env tree) below h.term_is)); place_is = h.place_is; name_is = refl; qualifier_is = refl; leaf = tt })
     (behind_node (node.Parenthesised left right)) (λ tree is. refl)
 
 -- ---- operators
@@ -358,12 +358,12 @@ leaves_tree env ns x ys xs d e a b g =
     only_tree env t x (nodes.arguments args ∷ is) ps base h = absurd h
     only_tree env t x (nodes.tree tree ∷ is) ps base h = let A : List Piece → Type 0 = λ l. TreeStands env t x tree ps l in subst A h.1.1.1 h.1.0
 
-pub pushes_value : (x : Tree) (d d1 e : Drafted) (ending : Option Ending) (of : Option DeclaredType) → TakesValue x.term d d1 ending → Pushes ending x.place d1 e of → PushesValue x d e of
+pub pushes_value : (x : Tree) (d d1 e : Drafted) (ending : Option Ending) (of : Option DeclaredType) → TakesValue x.term x.place d d1 ending → Pushes ending x.place d1 e of → PushesValue x d e of
 pushes_value x d d1 e ending of t p = record {
   grown = grown_twice d d1 e t.grown p.grown;
   stands = λ env tree below k.
       let P : Place → Type 0 = λ place. PushedStands of (value_of env (term_of env tree) place) e.pieces below in
-      subst P k.place_is (p.stands (λ place. value_of env (term_of env tree) place) below (t.stands env (term_of env tree) below k.term_is));
+      subst P k.place_is (p.stands (value_of env (term_of env tree) x.place) below (t.stands env (term_of env tree) below k.term_is));
 }
 
 pub binds_operand : (env : Env) (tree : Expr) (x : Tree) (d e f : Drafted) (of : Option DeclaredType) → Leaves env tree d e x → PushesOperand x e f of → Binds (bound_operand env tree) d f of

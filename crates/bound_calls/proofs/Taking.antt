@@ -11,18 +11,18 @@ use Rattle.bound_project.specs.declared.node.NodeKind.TheVariants as node
 use Rattle.bound_project.specs.declared.node.Node.{Node}
 use Rattle.bound_project.specs.View.{declared_view}
 use Rattle.bound_project.specs.Project.{nowhere}
-use Rattle.bound_project.specs.Expressions.{expr, load, active_sheet, host_member, no_exprs}
+use Rattle.bound_project.specs.Expressions.{expr, load, active_sheet, host_member, marked, no_exprs, also}
 use Rattle.bound_project.specs.Expressions as bound
-use Rattle.bound_project.specs.Pieces.{Piece, Tables, a_member, an_expr, exprs_off, name_in, of_member_found, of_place, of_value, expr_of, put}
+use Rattle.bound_project.specs.Pieces.{Piece, Tables, a_member, an_expr, exprs_off, name_in, of_member_found, of_place, of_value, expr_of, put, put_kind}
 use Rattle.bound_project.proofs.Lists.{member_put}
 use Rattle.bound_project.specs.Drafts.{Drafted, NodeNamed}
 use Rattle.bound_declarations.specs.binder.specs.Options.{or_else}
 use Rattle.bound_declarations.specs.binder.specs.Types.{is_object}
 use Rattle.bound_declarations.specs.binder.specs.Declarations.{Written}
 use Rattle.bound_declarations.specs.binder.specs.Scopes.{Space}
-use Rattle.bound_forms.specs.Terms.{Env, a_host_member, a_routine, bound_arguments, expression_of, no_term, typed_value, value_with}
+use Rattle.bound_forms.specs.Terms.{Env, a_host_member, a_routine, bound_arguments, broken_rule, expression_of, no_term, typed_value, value_with}
 use Rattle.bound_forms.specs.Terms as plain
-use Rattle.bound_forms.specs.ExpressionsBound.{bare_call, call_value, if_there, plain_operand, value_of, reference_of, default_value, operand_of}
+use Rattle.bound_forms.specs.ExpressionsBound.{bare_call, call_value, if_there, plain_operand, without_arguments, value_of, reference_of, default_value, operand_of}
 use Rattle.bound_declarations.specs.binder.specs.Signatures.{parameters_in, reader}
 use Rattle.bound_declarations.specs.declared_names.specs.View.{space_view, written_view}
 use Rattle.bound_calls.specs.declared.term.Ending.{Ending}
@@ -31,7 +31,7 @@ use Rattle.bound_calls.specs.declared.term.Routine.{Routine}
 use Rattle.bound_calls.specs.declared.term.Term.{Term}
 use Rattle.bound_calls.specs.declared.term.Term.TheVariants as term
 use Rattle.bound_calls.specs.Standing.{TermStands, EndingIs, EndingStands, EndingNamed, member_is}
-use Rattle.bound_calls.specs.Taking.{Loads, CallsBare, PushesSheet, ReadsMember, TakesValue, Pushes, sheet_expression}
+use Rattle.bound_calls.specs.Taking.{Loads, CallsBare, broken_ending, PushesSheet, ReadsMember, TakesValue, Pushes, sheet_expression}
 use Rattle.bound_calls.proofs.Growing.{grown_same, grown_pieces, grown_twice}
 
 -- a node of a type that it has as an operand too
@@ -46,7 +46,7 @@ an_object : (made : bound.Node) (place : Place) (of : DeclaredType) → is_objec
 an_object made place of h = ap (λ b. if b then None else Some (expression_of made place (declared_view of))) h
 
 pub loads_none : (kind : NodeKind) (of : DeclaredType) (d : Drafted) → is_object (declared_view of) ≡ true → Loads kind of d d None
-loads_none kind of d h = record { grown = grown_same d; named = tt; stands = λ x below k place. an_object (load x) place of h }
+loads_none kind of d h = record { grown = grown_same d; named = tt; stands = λ place x below k. an_object (load x) place of h }
 
 pub loads_some : (kind : NodeKind) (of : DeclaredType) (place : Place) (d e : Drafted) → is_object (declared_view of) ≡ false
     → e ≡ record d { pieces = put d.tables (node_of kind place of) d.pieces } → Loads kind of d e (Some (record { kind = node.Load; of = of }))
@@ -55,38 +55,42 @@ loads_some kind of place d e h eq =
     subst P (sym eq) (record {
       grown = grown_pieces d (put d.tables (node_of kind place of) d.pieces);
       named = tt;
-      stands = λ x below k. record { made = load x; is = λ p. no_object (load x) p of h; ends = λ n. ap (λ st. of_place (λ y. expr_of n (load y)) st) (k (node_of kind place of)) };
+      stands = λ p x below k. record { made = load x; is = no_object (load x) p of h; ends = λ n. ap (λ st. of_place (λ y. expr_of n (load y)) st) (k (node_of kind place of)) };
     })
 
 -- ---- values
 
-place_value : (kind : NodeKind) (of : DeclaredType) (bounded lends : Bool) (d e : Drafted) (ending : Option Ending) → Loads kind of d e ending
-    → (env : Env) (y : plain.Term) (below : List Piece) → TermStands env d.tables (term.Place kind of bounded lends) y d.pieces below
-    → EndingStands e.tables ending (λ place. value_of env y place) e.pieces below
-place_value kind of bounded lends d e ending h env y below k =
-    let P : plain.Term → Type 0 = λ z. EndingStands e.tables ending (λ place. value_of env z place) e.pieces below in
-    subst P (sym k.is) (h.stands k.at below k.ends)
+or_none : {A : Type 0} (o : Option A) → or_else o None ≡ o
+or_none None = refl
+or_none (Some x) = refl
 
-pub takes_place : (kind : NodeKind) (of : DeclaredType) (bounded lends : Bool) (d e : Drafted) (ending : Option Ending) → Loads kind of d e ending
-    → TakesValue (term.Place kind of bounded lends) d e ending
-takes_place kind of bounded lends d e ending h = record { grown = h.grown; named = h.named; stands = place_value kind of bounded lends d e ending h }
+place_value : (kind : NodeKind) (of : DeclaredType) (bounded lends : Bool) (place : Place) (d e : Drafted) (ending : Option Ending) → Loads kind of d e ending
+    → (env : Env) (y : plain.Term) (below : List Piece) → TermStands env d.tables (term.Place kind of bounded lends) y d.pieces below
+    → EndingStands e.tables ending place (value_of env y place) e.pieces below
+place_value kind of bounded lends place d e ending h env y below k =
+    let O : Option bound.Expr → Type 0 = λ o. EndingStands e.tables ending place o e.pieces below in
+    let P : plain.Term → Type 0 = λ z. EndingStands e.tables ending place (value_of env z place) e.pieces below in
+    subst P (sym k.is) (subst O (sym (or_none (typed_value (load k.at) place (declared_view of)))) (h.stands place k.at below k.ends))
+
+pub takes_place : (kind : NodeKind) (of : DeclaredType) (bounded lends : Bool) (place : Place) (d e : Drafted) (ending : Option Ending) → Loads kind of d e ending
+    → TakesValue (term.Place kind of bounded lends) place d e ending
+takes_place kind of bounded lends place d e ending h = record { grown = h.grown; named = h.named; stands = place_value kind of bounded lends place d e ending h }
 
 abbrev plain_ending : Bool → Ending → Option Ending
 plain_ending b e = if b then None else Some e
 
-value_value : (e : Ending) (b : Bool) → is_object (declared_view e.of) ≡ b → (d : Drafted) (env : Env) (y : plain.Term) (below : List Piece) → TermStands env d.tables (term.Value e) y d.pieces below
-    → EndingStands d.tables (plain_ending b e) (λ place. value_of env y place) d.pieces below
-value_value e true h d env y below k =
-    let P : plain.Term → Type 0 = λ z. (place : Place) → value_of env z place ≡ None in subst P (sym k.is) (λ place. an_object k.made place e.of h)
-value_value e false h d env y below k =
-    record { made = k.made; is = (let P : plain.Term → Type 0 = λ z. (place : Place) → value_of env z place ≡ Some (expr k.made place (declared_view e.of) (declared_view e.of)) in subst P (sym k.is) (λ place. no_object k.made place e.of h)); ends = k.ends }
+value_value : (e : Ending) (b : Bool) (place : Place) → is_object (declared_view e.of) ≡ b → (d : Drafted) (env : Env) (y : plain.Term) (below : List Piece) → TermStands env d.tables (term.Value e) y d.pieces below
+    → EndingStands d.tables (plain_ending b e) place (value_of env y place) d.pieces below
+value_value e true place h d env y below k = ap (λ z. value_of env z place) k.is ∙ ap (λ (o : Option bound.Expr). or_else o None) (an_object k.made place e.of h)
+value_value e false place h d env y below k =
+    record { made = k.made; is = ap (λ z. value_of env z place) k.is ∙ ap (λ (o : Option bound.Expr). or_else o None) (no_object k.made place e.of h); ends = k.ends }
 
 ending_named : (e : Ending) (b : Bool) (d : Drafted) → NodeNamed d.tables e.kind → EndingNamed d.tables (plain_ending b e)
 ending_named e true d h = tt
 ending_named e false d h = h
 
-pub takes_value : (e : Ending) (d : Drafted) → NodeNamed d.tables e.kind → TakesValue (term.Value e) d d (plain_ending (is_object (declared_view e.of)) e)
-takes_value e d k = record { grown = grown_same d; named = ending_named e (is_object (declared_view e.of)) d k; stands = value_value e (is_object (declared_view e.of)) refl d }
+pub takes_value : (e : Ending) (place : Place) (d : Drafted) → NodeNamed d.tables e.kind → TakesValue (term.Value e) place d d (plain_ending (is_object (declared_view e.of)) e)
+takes_value e place d k = record { grown = grown_same d; named = ending_named e (is_object (declared_view e.of)) d k; stands = value_value e (is_object (declared_view e.of)) place refl d }
 
 -- a member that is read without arguments
 pub reads_member : (m : HostMember) (place : Place) (d e : Drafted) → m.least ≡ 0 → m.name < length d.tables.constants → e ≡ record d { pieces = put d.tables (node_of (node.MemberThere m.name 0) place m.of) d.pieces }
@@ -108,19 +112,35 @@ value_when : (b : Bool) (made : bound.Node) (place : Place) (of : DeclaredType) 
     → (if b then typed_value made place (declared_view of) else None) ≡ Some (expr made place (declared_view of) (declared_view of))
 value_when b made place of eq h = ap (λ c. if c then typed_value made place (declared_view of) else None) eq ∙ no_object made place of h
 
-member_valued : (m : HostMember) (d e : Drafted) (v : Ending) → is_object (declared_view m.of) ≡ false → ReadsMember m d e v → (env : Env) (y : plain.Term) (below : List Piece)
-    → TermStands env d.tables (term.HostMember m) y d.pieces below → EndingIs e.tables v (λ place. value_of env y place) e.pieces below
-member_valued m d e v r h env y below k =
+member_valued : (m : HostMember) (place : Place) (d e : Drafted) (v : Ending) → is_object (declared_view m.of) ≡ false → ReadsMember m d e v → (env : Env) (y : plain.Term) (below : List Piece)
+    → TermStands env d.tables (term.HostMember m) y d.pieces below → EndingIs e.tables v place (value_of env y place) e.pieces below
+member_valued m place d e v r h env y below k =
     let made = host_member k.object (name_in d.tables m.name) no_exprs in
-    let P : DeclaredType → Type 0 = λ of. (place : Place) → value_of env y place ≡ Some (expr made place (declared_view of) (declared_view of)) in
+    let lacks : Option bound.Expr = without_arguments env (a_host_member k.object (member_is d.tables m)) place in
+    let P : DeclaredType → Type 0 = λ of. value_of env y place ≡ Some (expr made place (declared_view of) (declared_view of)) in
     record {
       made = made;
-      is = subst P (sym h.of_is) (λ place. ap (λ z. value_of env z place) k.is ∙ value_when (m.least == 0) made place m.of (ap (λ n. n == 0) h.least_is) r);
+      is = subst P (sym h.of_is) (ap (λ z. value_of env z place) k.is ∙ ap (λ (o : Option bound.Expr). or_else o lacks) (value_when (m.least == 0) made place m.of (ap (λ n. n == 0) h.least_is) r));
       ends = h.ends k.object below k.on_top;
     }
 
-pub takes_member : (m : HostMember) (d e : Drafted) (v : Ending) → is_object (declared_view m.of) ≡ false → ReadsMember m d e v → TakesValue (term.HostMember m) d e (Some v)
-takes_member m d e v r h = record { grown = h.grown; named = h.named; stands = member_valued m d e v r h }
+pub takes_member : (m : HostMember) (place : Place) (d e : Drafted) (v : Ending) → is_object (declared_view m.of) ≡ false → ReadsMember m d e v → TakesValue (term.HostMember m) place d e (Some v)
+takes_member m place d e v r h = record { grown = h.grown; named = h.named; stands = member_valued m place d e v r h }
+
+-- a member without the arguments that it needs
+lacking_value : (b : Bool) (value : Option bound.Expr) (broken : bound.Expr) → b ≡ false → or_else (if b then value else None) (if b then None else Some broken) ≡ Some broken
+lacking_value b value broken h = rw h refl
+
+pub takes_lacking : (m : HostMember) (place : Place) (d : Drafted) → (m.least == 0) ≡ false → TakesValue (term.HostMember m) place d d (Some (broken_ending 25 place 1))
+takes_lacking m place d h = record {
+  grown = grown_same d;
+  named = tt;
+  stands = λ env y below k. record {
+    made = marked (record { rule = 25; place = place }) (also k.object no_exprs);
+    is = ap (λ z. value_of env z place) k.is ∙ lacking_value (m.least == 0) (typed_value (host_member k.object (name_in d.tables m.name) no_exprs) place (declared_view m.of)) (broken_rule 25 place (also k.object no_exprs)) h;
+    ends = λ n. ap (λ (st : List Piece). put_kind d.tables n (node.Marked (record { rule = 25; place = place }) 1) st) k.on_top;
+  };
+}
 
 pub pushes_sheet : (place : Place) (d e : Drafted) → place ≡ nowhere → e ≡ record d { pieces = put d.tables (node_of node.ActiveSheet place (Plain element.Worksheet)) d.pieces } → PushesSheet d e
 pushes_sheet place d e p eq =
@@ -143,21 +163,23 @@ sheet_stands m d e s env y below h = record {
 pub named_still : (m : HostMember) (d e : Drafted) → PushesSheet d e → m.name < length d.tables.constants → m.name < length e.tables.constants
 named_still m d e s h = let P : Tables → Type 0 = λ t. m.name < length t.constants in subst P (sym s.tables_are) h
 
-pub takes_sheet : (m : HostMember) (d s e : Drafted) (v : Option Ending) → PushesSheet d s → TakesValue (term.HostMember m) s e v → TakesValue (term.SheetMember m) d e v
-takes_sheet m d s e v p h = record {
+pub takes_sheet : (m : HostMember) (place : Place) (d s e : Drafted) (v : Option Ending) → PushesSheet d s → TakesValue (term.HostMember m) place s e v → TakesValue (term.SheetMember m) place d e v
+takes_sheet m place d s e v p h = record {
   grown = grown_twice d s e p.grown h.grown;
   named = h.named;
   stands = λ env y below k. h.stands env y below (sheet_stands m d s p env y below k);
 }
 
-pub takes_routine : (r : Routine) (d e : Drafted) (ending : Option Ending) → CallsBare r d e ending → TakesValue (term.Routine r) d e ending
-takes_routine r d e ending h = record { grown = h.grown; named = h.named; stands = h.stands }
+pub takes_routine : (r : Routine) (place : Place) (d e : Drafted) (ending : Option Ending) → CallsBare r place d e ending → TakesValue (term.Routine r) place d e ending
+takes_routine r place d e ending h = record { grown = h.grown; named = h.named; stands = h.stands }
 
 -- a property without a Get gives no value
 no_unread : (env : Env) (space : Space) (number : ℕ) (written : Written) → reader env.scope space number written ≡ None → (place : Place) → value_of env (a_routine space number written) place ≡ None
 no_unread env space number written unread place =
     let found : Option (ℕ × Written) → plain.Term = λ o. if_there (option_map (λ f. call_value env space f.0 f.1 (bound_arguments (λ of t place. None) (parameters_in env.scope space f.1) [])) o) in
-    let bare : bare_call env space number written ≡ no_term = ap found unread in ap (λ z. value_with (λ a b c. z) (a_routine space number written) place) bare
+    let bare : bare_call env space number written ≡ no_term = ap found unread in
+    let lacks : without_arguments env (a_routine space number written) place ≡ None = rw unread refl in
+    ap (λ z. or_else (value_with (λ a b c. z) (a_routine space number written) place) (without_arguments env (a_routine space number written) place)) bare ∙ lacks
 
 -- what is no value
 pub none_of : (x : Term) → Type 0
@@ -183,8 +205,8 @@ no_value t term.ErrClear n env y ps below h place = ap (λ z. value_of env z pla
 no_value t term.ErrorWord n env y ps below h place = ap (λ z. value_of env z place) h.0
 no_value t term.Nothing n env y ps below h place = ap (λ z. value_of env z place) h
 
-pub takes_none : (x : Term) (d : Drafted) → none_of x → TakesValue x d d None
-takes_none x d n = record { grown = grown_same d; named = tt; stands = λ env y below h. no_value d.tables x n env y d.pieces below h }
+pub takes_none : (x : Term) (place : Place) (d : Drafted) → none_of x → TakesValue x place d d None
+takes_none x place d n = record { grown = grown_same d; named = tt; stands = λ env y below h. no_value d.tables x n env y d.pieces below h place }
 
 -- ---- operands
 
@@ -213,10 +235,9 @@ operand_split env t term.ErrorWord n y ps below h place = subst (Splits env plac
 operand_split env t term.Nothing n y ps below h place = subst (Splits env place) (sym h) refl
 
 -- an ending of what is the same
-pub same_ending : (t : Tables) (ending : Option Ending) (found other : Place → Option bound.Expr) (ps below : List Piece) → ((place : Place) → other place ≡ found place) → EndingStands t ending found ps below
-    → EndingStands t ending other ps below
-same_ending t None found other ps below e h = λ place. e place ∙ h place
-same_ending t (Some ending) found other ps below e h = record { made = h.made; is = λ place. e place ∙ h.is place; ends = h.ends }
+pub same_ending : (t : Tables) (ending : Option Ending) (place : Place) (found other : Option bound.Expr) (ps below : List Piece) → other ≡ found → EndingStands t ending place found ps below → EndingStands t ending place other ps below
+same_ending t None place found other ps below e h = e ∙ h
+same_ending t (Some ending) place found other ps below e h = record { made = h.made; is = e ∙ h.is; ends = h.ends }
 
 pub no_err : (x : Term) → ((x ≡ term.Err) → ⊥) → not_err x
 unfolding not_err
@@ -236,12 +257,12 @@ no_err term.Nothing n = tt
 -- ---- what is pushed
 
 pub pushes_none : (place : Place) (d : Drafted) → Pushes None place d d None
-pushes_none place d = record { grown = grown_same d; stands = λ found below h. h place }
+pushes_none place d = record { grown = grown_same d; stands = λ found below h. h }
 
 pub pushes_some : (ending : Ending) (place : Place) (d e : Drafted) → e ≡ record d { pieces = put d.tables (node_of ending.kind place ending.of) d.pieces } → Pushes (Some ending) place d e (Some ending.of)
 pushes_some ending place d e eq =
     let P : Drafted → Type 0 = λ x. Pushes (Some ending) place d x (Some ending.of) in
     subst P (sym eq) (record {
       grown = grown_pieces d (put d.tables (node_of ending.kind place ending.of) d.pieces);
-      stands = λ found below h. record { made = expr h.made place (declared_view ending.of) (declared_view ending.of); is = h.is place; operand = refl; on_top = h.ends (node_of ending.kind place ending.of) };
+      stands = λ found below h. record { made = expr h.made place (declared_view ending.of) (declared_view ending.of); is = h.is; operand = refl; on_top = h.ends (node_of ending.kind place ending.of) };
     })

@@ -11,3 +11,4 @@ pub mod Passing
 pub mod Calls
 pub mod Indexing
 pub mod InOrder
+pub mod Shapes

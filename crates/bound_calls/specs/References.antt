@@ -1,19 +1,21 @@
 -- Serves the code: terms that are taken as references to objects.
-use Rattle.std.specs.Prelude.{◌≡◌, ℕ, Bool, true, false, ◌||◌, List, ◌∷◌, Option, Some, None, option_map}
+use Rattle.std.specs.Prelude.{◌≡◌, ℕ, ◌==◌, Bool, true, false, ◌||◌, ◌&&◌, List, ◌∷◌, map, Option, Some, None, option_map}
+use Rattle.std.specs.List.{list_all}
 use Rattle.vba_base.specs.declared.place.Place.{Place}
 use Rattle.vba_expression.specs.Tree.{Expr}
 use Rattle.bound_project.specs.declared.declared_type.DeclaredType.{DeclaredType}
 use Rattle.bound_project.specs.declared.node.NodeKind.{NodeKind}
 use Rattle.bound_project.specs.declared.node.NodeKind.TheVariants as node
-use Rattle.bound_project.specs.View.{declared_view}
+use Rattle.bound_project.specs.View.{declared_view, parameter_view}
 use Rattle.bound_project.specs.Expressions as bound
 use Rattle.bound_project.specs.Pieces.{Piece, Tables, an_expr}
 use Rattle.bound_project.specs.Drafts.{Drafted, NodeNamed}
 use Rattle.bound_declarations.specs.binder.specs.Constants.{is_variant}
-use Rattle.bound_forms.specs.Terms.{Env, expression_of}
+use Rattle.bound_forms.specs.Terms.{Env, expression_of, may_lack}
 use Rattle.bound_forms.specs.Terms as plain
 use Rattle.bound_forms.specs.ExpressionsBound.{is_host_type, may_give_object, has_object, if_any, host_kind, default_rule, reference_of, given_as, term_of, place_told}
 use Rattle.bound_calls.specs.declared.term.Ending.{Ending}
+use Rattle.bound_calls.specs.declared.term.Routine.{Routine}
 use Rattle.bound_calls.specs.declared.term.Term.{Term}
 use Rattle.bound_calls.specs.declared.term.Term.TheVariants as term
 use Rattle.bound_calls.specs.declared.term.Tree.{Tree}
@@ -23,14 +25,17 @@ use Rattle.bound_calls.specs.Standing.{ValueEnds, TermStands, TreeStands, Ending
 abbrev pub is_referring : DeclaredType → Bool
 is_referring of = is_host_type (declared_view of) || is_variant (declared_view of)
 
--- a term that is taken as a reference, and is no value; one that may be taken as a reference; and one that gives way to its
--- default member's value as an operand
+-- a term that is taken as a reference, and is no value: what lacks arguments that it needs is none; one that may be taken as
+-- a reference; and one that gives way to its default member's value as an operand
+abbrev pub takes_none : Routine → Bool
+takes_none r = list_all may_lack (map parameter_view r.parameters.now)
+
 abbrev pub refers : Term → Bool
 refers (term.Place kind of bounded lends) = is_host_type (declared_view of)
 refers (term.Value e) = is_host_type (declared_view e.of)
-refers (term.Routine r) = is_host_type (declared_view r.of)
-refers (term.HostMember m) = is_host_type (declared_view m.of)
-refers (term.SheetMember m) = is_host_type (declared_view m.of)
+refers (term.Routine r) = is_host_type (declared_view r.of) && takes_none r
+refers (term.HostMember m) = is_host_type (declared_view m.of) && (m.least == 0)
+refers (term.SheetMember m) = is_host_type (declared_view m.of) && (m.least == 0)
 refers term.Err = true
 refers x = false
 
@@ -114,7 +119,7 @@ pub record PushesAs (wrap : bound.Expr → bound.Expr) (v : Ending) (place : Pla
 pub record TakesReference (x : Term) (d e : Drafted) (ending : Ending) : Type 0 where
   pub grown : Grown d e
   pub named : NodeNamed e.tables ending.kind
-  pub stands : (env : Env) (y : plain.Term) (below : List Piece) → TermStands env d.tables x y d.pieces below → EndingIs e.tables ending (λ place. reference_of env y place) e.pieces below
+  pub stands : (env : Env) (y : plain.Term) (below : List Piece) → TermStands env d.tables x y d.pieces below → (place : Place) → EndingIs e.tables ending place (reference_of env y place) e.pieces below
 
 -- a reference that was pushed, by its type
 pub record ReferenceIs (of : DeclaredType) (found : Option bound.Expr) (ps below : List Piece) : Type 0 where
@@ -128,11 +133,11 @@ pub record PushesReference (x : Tree) (d e : Drafted) (of : DeclaredType) : Type
   pub stands : (env : Env) (tree : Expr) (below : List Piece) → TreeStands env d.tables x tree d.pieces below
       → ReferenceIs of (reference_of env (term_of env tree) (place_told tree)) e.pieces below
 
--- a term is taken as it is
-pub record TakesGiven (x : Term) (d e : Drafted) (ending : Ending) : Type 0 where
+-- a term is taken as it is at a place
+pub record TakesGiven (x : Term) (place : Place) (d e : Drafted) (ending : Ending) : Type 0 where
   pub grown : Grown d e
   pub named : NodeNamed e.tables ending.kind
-  pub stands : (env : Env) (y : plain.Term) (below : List Piece) → TermStands env d.tables x y d.pieces below → EndingIs e.tables ending (λ place. given_as env y place) e.pieces below
+  pub stands : (env : Env) (y : plain.Term) (below : List Piece) → TermStands env d.tables x y d.pieces below → EndingIs e.tables ending place (given_as env y place) e.pieces below
 
 -- an expression is pushed as it is
 pub record PushesGiven (x : Tree) (d e : Drafted) (of : DeclaredType) : Type 0 where

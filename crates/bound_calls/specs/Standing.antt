@@ -1,5 +1,5 @@
 -- Serves the code: what stands on the stack of a pass over the nodes of an expression, beside the pieces of the draft.
-use Rattle.std.specs.Prelude.{◌≡◌, ℕ, zero, suc, ◌+◌, ◌<◌, ◌≤◌, length, take, Bool, true, false, List, [], ◌∷◌, ◌++◌, map, Option, Some, None, option_map, slice_get}
+use Rattle.std.specs.Prelude.{◌≡◌, ℕ, zero, suc, ◌+◌, ◌<◌, ◌≤◌, length, take, Bool, true, false, List, [], ◌∷◌, ◌++◌, map, Option, Some, None, option_map, slice_get, if◌then◌else◌}
 use Rattle.vba_base.specs.declared.place.Place.{Place}
 use Rattle.vba_values.specs.Types.{Declared}
 use Rattle.vba_values.specs.Types as type
@@ -30,10 +30,10 @@ use Rattle.bound_declarations.specs.binder.specs.Options.{from_two}
 use Rattle.bound_declarations.specs.binder.specs.Scopes.{Space, qualifier_of}
 use Rattle.bound_declarations.specs.binder.specs.Constants.{compare_in}
 use Rattle.bound_declarations.specs.binder.specs.Storage.{procedure_number}
-use Rattle.bound_forms.specs.Terms.{Env, Given, a_place, a_value, a_routine, a_function, a_host_member, err_object, err_raise, err_clear, error_word, no_term, expression_of, listed_values, parameter_named, taken_by}
+use Rattle.bound_forms.specs.Terms.{Env, Given, a_place, a_value, a_routine, a_function, a_host_member, err_object, err_raise, err_clear, error_word, no_term, expression_of, listed_values, parameter_named, taken_by, takes}
 use Rattle.bound_forms.specs.Terms as plain
 use Rattle.bound_declarations.specs.binder.specs.Signatures.{reader, parameters_in, call_type}
-use Rattle.bound_forms.specs.ExpressionsBound.{callee, item_of, element_place, element_type, argument_of, first_given, function_values, givens, indexed, is_wrong, numbers_of, term_of, operand_of, reference_of, place_told}
+use Rattle.bound_forms.specs.ExpressionsBound.{callee, item_of, element_place, element_type, argument_of, arguments_rule, may_index, member_takes, wrong_arguments, first_given, function_values, givens, indexed, is_wrong, numbers_of, term_of, operand_of, reference_of, place_told}
 use Rattle.bound_calls.specs.declared.term.Dotted.{Dotted}
 use Rattle.bound_calls.specs.declared.term.Ending.{Ending}
 use Rattle.bound_calls.specs.declared.term.Property.{Property}
@@ -52,9 +52,14 @@ use Rattle.bound_calls.specs.declared.term.Call.{Call}
 use Rattle.bound_calls.specs.declared.term.Indexed.{Indexed}
 use Rattle.bound_calls.specs.declared.term.Target.{Target}
 use Rattle.bound_calls.specs.declared.term.Target.TheVariants as target
+use Rattle.bound_calls.specs.declared.term.Refuser.{Refuser}
+use Rattle.bound_calls.specs.declared.term.Refuser.TheVariants as refuser
+use Rattle.bound_calls.specs.declared.term.Shape.{Shape}
+use Rattle.bound_calls.specs.declared.term.Untaken.{Untaken}
 use Rattle.bound_calls.specs.declared.term.Item.{Item}
 use Rattle.bound_calls.specs.declared.term.Item.TheVariants as item
 use Rattle.bound_calls.specs.Passing.{AllTaken}
+use Rattle.bound_calls.specs.Shapes.{IsShaped}
 
 -- ---- pieces that a last node would make
 
@@ -136,15 +141,15 @@ TermStands env t term.ErrClear x ps below = (x ≡ err_clear) × (ps ≡ below)
 TermStands env t term.ErrorWord x ps below = (x ≡ error_word) × (ps ≡ below)
 TermStands env t term.Nothing x ps below = x ≡ no_term
 
--- a value whose last node isn't pushed, where there is one
-pub record EndingIs (t : Tables) (e : Ending) (found : Place → Option bound.Expr) (ps below : List Piece) : Type 0 where
+-- a value that begins at a place and whose last node isn't pushed, where there is one
+pub record EndingIs (t : Tables) (e : Ending) (place : Place) (found : Option bound.Expr) (ps below : List Piece) : Type 0 where
   pub made : bound.Node
-  pub is : (place : Place) → found place ≡ Some (expr made place (declared_view e.of) (declared_view e.of))
+  pub is : found ≡ Some (expr made place (declared_view e.of) (declared_view e.of))
   pub ends : ValueEnds t e.kind made ps below
 
-abbrev pub EndingStands : Tables → Option Ending → (found : Place → Option bound.Expr) → (ps below : List Piece) → Type 0
-EndingStands t None found ps below = (place : Place) → found place ≡ None
-EndingStands t (Some e) found ps below = EndingIs t e found ps below
+abbrev pub EndingStands : Tables → Option Ending → Place → (found : Option bound.Expr) → (ps below : List Piece) → Type 0
+EndingStands t None place found ps below = found ≡ None
+EndingStands t (Some e) place found ps below = EndingIs t e place found ps below
 
 -- a value that was pushed, by its type, where there is one
 pub record PushedIs (of : DeclaredType) (found : Option bound.Expr) (ps below : List Piece) : Type 0 where
@@ -381,6 +386,48 @@ abbrev pub GatheredAbove : Env → Option Passed → Given → (ps below : List 
 GatheredAbove env None g ps below = ⊥
 GatheredAbove env (Some passed) g ps below = GatheredStands env passed g ps below
 
+-- ---- arguments that aren't taken
+
+-- so many values were pushed before them
+abbrev pub values_before : Refuser → ℕ
+values_before (refuser.Value of) = 1
+values_before (refuser.Called of) = 1
+values_before (refuser.Member m) = 1
+values_before r = 0
+
+abbrev pub behind_values : List bound.Expr → Exprs → Exprs
+behind_values [] es = es
+behind_values (x ∷ xs) es = also x (behind_values xs es)
+
+-- the rule that arguments break; none where they are taken, or where that isn't known
+abbrev pub refused_rule : Tables → Refuser → List Given → Option ℕ
+refused_rule t (refuser.Procedure ps) gs = if takes (map parameter_view ps.now) gs then None else Some 25
+refused_rule t (refuser.Value of) gs = if may_index (declared_view of) gs then None else Some 25
+refused_rule t (refuser.Called of) [] = None
+refused_rule t (refuser.Called of) (g ∷ gs) = if may_index (declared_view of) (g ∷ gs) then None else Some 25
+refused_rule t (refuser.Member m) gs = if member_takes (member_is t m) gs then None else arguments_rule (member_is t m)
+refused_rule t refuser.Bare [] = None
+refused_rule t refuser.Bare (g ∷ gs) = Some 25
+
+-- what doesn't take its arguments, and the values that were pushed of it
+pub record UntakenStands (env : Env) (t : Tables) (x : Untaken) (e : Expr) (ps below : List Piece) : Type 0 where
+  pub place_is : x.place ≡ place_told e
+  pub before : List bound.Expr
+  pub before_long : length before ≡ values_before x.refuser
+  pub wrong : (gs : List Given) (rule : ℕ) → refused_rule t x.refuser gs ≡ Some rule
+      → indexed env (place_told e) (item_of (place_told e) (callee env e (term_of env e))) gs ≡ wrong_arguments env (place_told e) rule (behind_values before) gs
+  pub on_top : ps ≡ above (map an_expr before) below
+
+-- an argument of one, which was pushed as a Variant takes it
+pub record ShapeStands (env : Env) (s : Shape) (g : Given) (ps below : List Piece) : Type 0 where
+  pub shaped : IsShaped s g
+  pub made : bound.Expr
+  pub is : GivenIs (argument_of env type.variant) g made
+  pub on_top : ps ≡ an_expr made ∷ below
+
+abbrev pub named_given : Env → Identifier → Expr → Given
+named_given env name e = record { name = Some name.name; term = Some (term_of env e); place = place_told e }
+
 -- what is below the stack: pieces, the parameters of the statement whose arguments are read, and items
 pub record Base : Type 0 where
   pub pieces : List Piece
@@ -412,6 +459,15 @@ Stands env t (item.Gathered ∷ items) (nodes.arguments (tree.plain before comma
     (below : List Piece) × (GatheredAbove env (gathered_below items) (plain_given env e) ps below × Stands env t items (nodes.arguments before ∷ is) below base)
 Stands env t (item.Gathered ∷ items) (nodes.arguments (missing before comma) ∷ is) ps base =
     (below : List Piece) × (GatheredAbove env (gathered_below items) missing_given ps below × Stands env t items (nodes.arguments before ∷ is) below base)
+Stands env t (item.Untaken x ∷ items) (nodes.arguments tree.no_args ∷ nodes.tree e ∷ is) ps base =
+    (below : List Piece) × (UntakenStands env t x e ps below × Stands env t items is below base)
+Stands env t (item.Unlisted ∷ items) (nodes.arguments tree.no_args ∷ is) ps base = Stands env t items is ps base
+Stands env t (item.Shape s ∷ items) (nodes.arguments (tree.plain before comma e) ∷ is) ps base =
+    (below : List Piece) × (ShapeStands env s (plain_given env e) ps below × Stands env t items (nodes.arguments before ∷ is) below base)
+Stands env t (item.Shape s ∷ items) (nodes.arguments (missing before comma) ∷ is) ps base =
+    (below : List Piece) × (ShapeStands env s missing_given ps below × Stands env t items (nodes.arguments before ∷ is) below base)
+Stands env t (item.Shape s ∷ items) (nodes.arguments (named before comma name mark e) ∷ is) ps base =
+    (below : List Piece) × (ShapeStands env s (named_given env name e) ps below × Stands env t items (nodes.arguments before ∷ is) below base)
 Stands env t items is ps base = ⊥
 
 -- ---- numbers of constants that are in the tables
@@ -434,9 +490,14 @@ AreNamed t (Some by) = NamesNamed t by
 abbrev pub MemberNamed : Tables → MemberCall → Type 0
 MemberNamed t x = (x.member.name < length t.constants) × AreNamed t x.names
 
+abbrev pub RefuserNamed : Tables → Refuser → Type 0
+RefuserNamed t (refuser.Member m) = m.name < length t.constants
+RefuserNamed t r = Unit {0}
+
 abbrev pub ItemNamed : Tables → Item → Type 0
 ItemNamed t (item.Tree x) = TermNamed t x.term
 ItemNamed t (item.Member x) = MemberNamed t x
+ItemNamed t (item.Untaken x) = RefuserNamed t x.refuser
 ItemNamed t x = Unit {0}
 
 abbrev pub AllNamed : Tables → List Item → Type 0

@@ -1,8 +1,11 @@
 -- Serves the code: how terms are taken as values.
-use Rattle.std.specs.Prelude.{◌≡◌, ℕ, List, ◌∷◌, Option, Some, None, if◌then◌else◌}
+use Rattle.std.specs.Prelude.{◌≡◌, ℕ, List, [], ◌∷◌, Option, Some, None, if◌then◌else◌}
 use Rattle.vba_base.specs.declared.place.Place.{Place}
 use Rattle.bound_project.specs.declared.declared_type.DeclaredType.{DeclaredType}
+use Rattle.bound_project.specs.declared.declared_type.DeclaredType.TheVariants.{Plain}
+use Rattle.bound_project.specs.declared.declared_type.ElementType.TheVariants.{Variant}
 use Rattle.bound_project.specs.declared.node.NodeKind.{NodeKind}
+use Rattle.bound_project.specs.declared.node.NodeKind.TheVariants as node
 use Rattle.bound_project.specs.View.{declared_view}
 use Rattle.bound_project.specs.Expressions as bound
 use Rattle.bound_project.specs.Expressions.{load, active_sheet, host_member, no_exprs, Lvalue}
@@ -15,7 +18,7 @@ use Rattle.bound_declarations.specs.binder.specs.Scopes.{Space}
 use Rattle.bound_declarations.specs.binder.specs.Types.{is_object}
 use Rattle.bound_forms.specs.Terms.{Env, a_routine, typed_value}
 use Rattle.bound_forms.specs.Terms as plain
-use Rattle.bound_forms.specs.ExpressionsBound.{bare_call, value_of}
+use Rattle.bound_forms.specs.ExpressionsBound.{bare_call, indexed, value_of}
 use Rattle.bound_calls.specs.declared.term.Ending.{Ending}
 use Rattle.bound_calls.specs.declared.term.HostMember.{HostMember}
 use Rattle.bound_calls.specs.declared.term.Routine.{Routine}
@@ -26,7 +29,7 @@ use Rattle.bound_calls.specs.Standing.{PlaceEnds, ValueEnds, ValueStands, Routin
 pub record Loads (kind : NodeKind) (of : DeclaredType) (d e : Drafted) (ending : Option Ending) : Type 0 where
   pub grown : Grown d e
   pub named : EndingNamed e.tables ending
-  pub stands : (x : Lvalue) (below : List Piece) → PlaceEnds d.tables kind x d.pieces below → EndingStands e.tables ending (λ place. typed_value (load x) place (declared_view of)) e.pieces below
+  pub stands : (place : Place) (x : Lvalue) (below : List Piece) → PlaceEnds d.tables kind x d.pieces below → EndingStands e.tables ending place (typed_value (load x) place (declared_view of)) e.pieces below
 
 -- a procedure is called without arguments: all but the call's node is pushed
 pub record BareIs (env : Env) (t : Tables) (e : Ending) (y : plain.Term) (ps below : List Piece) : Type 0 where
@@ -42,17 +45,27 @@ pub record CallsRoutine (r : Routine) (d e : Drafted) (ending : Ending) : Type 0
   pub of_is : ending.of ≡ r.of
   pub stands : (env : Env) (y : plain.Term) (below : List Piece) → RoutineStands env r y d.pieces below → BareIs env e.tables ending y e.pieces below
 
--- the same, where it gives a value
-pub record CallsBare (r : Routine) (d e : Drafted) (ending : Option Ending) : Type 0 where
-  pub grown : Grown d e
-  pub named : EndingNamed e.tables ending
-  pub stands : (env : Env) (y : plain.Term) (below : List Piece) → RoutineStands env r y d.pieces below → EndingStands e.tables ending (λ place. value_of env y place) e.pieces below
+-- the same at a place, where it breaks a rule without the arguments that it needs; what it gives is its value too
+pub record CalledIs (env : Env) (t : Tables) (e : Ending) (place : Place) (y : plain.Term) (ps below : List Piece) : Type 0 where
+  pub called : ValueStands t e (indexed env place y []) ps below
+  pub value_is : value_of env y place ≡ value_of env (indexed env place y []) place
 
--- a term is taken as a value
-pub record TakesValue (x : Term) (d e : Drafted) (ending : Option Ending) : Type 0 where
+pub record CallsAt (r : Routine) (place : Place) (d e : Drafted) (ending : Ending) : Type 0 where
+  pub grown : Grown d e
+  pub named : NodeNamed e.tables ending.kind
+  pub stands : (env : Env) (y : plain.Term) (below : List Piece) → RoutineStands env r y d.pieces below → CalledIs env e.tables ending place y e.pieces below
+
+-- the same, where that is no object
+pub record CallsBare (r : Routine) (place : Place) (d e : Drafted) (ending : Option Ending) : Type 0 where
   pub grown : Grown d e
   pub named : EndingNamed e.tables ending
-  pub stands : (env : Env) (y : plain.Term) (below : List Piece) → TermStands env d.tables x y d.pieces below → EndingStands e.tables ending (λ place. value_of env y place) e.pieces below
+  pub stands : (env : Env) (y : plain.Term) (below : List Piece) → RoutineStands env r y d.pieces below → EndingStands e.tables ending place (value_of env y place) e.pieces below
+
+-- a term is taken as a value at a place
+pub record TakesValue (x : Term) (place : Place) (d e : Drafted) (ending : Option Ending) : Type 0 where
+  pub grown : Grown d e
+  pub named : EndingNamed e.tables ending
+  pub stands : (env : Env) (y : plain.Term) (below : List Piece) → TermStands env d.tables x y d.pieces below → EndingStands e.tables ending place (value_of env y place) e.pieces below
 
 -- the active sheet is pushed
 abbrev pub sheet_expression : bound.Expr
@@ -75,7 +88,11 @@ pub record ReadsMember (m : HostMember) (d e : Drafted) (ending : Ending) : Type
 -- the last node of a value is pushed
 pub record Pushes (ending : Option Ending) (place : Place) (d e : Drafted) (of : Option DeclaredType) : Type 0 where
   pub grown : Grown d e
-  pub stands : (found : Place → Option bound.Expr) (below : List Piece) → EndingStands d.tables ending found d.pieces below → PushedStands of (found place) e.pieces below
+  pub stands : (found : Option bound.Expr) (below : List Piece) → EndingStands d.tables ending place found d.pieces below → PushedStands of found e.pieces below
+
+-- what breaks a rule, with so many values that were pushed
+abbrev pub broken_ending : (rule : ℕ) → Place → (values : ℕ) → Ending
+broken_ending rule place values = record { kind = node.Marked (record { rule = rule; place = place }) values; of = Plain Variant }
 
 -- a value of a type that is no object's
 abbrev pub no_object : Ending → Option Ending

@@ -1,15 +1,16 @@
 ghost use Rattle.std.specs.Prelude.{◌≡◌, IfOk, length};
 ghost use Rattle.bound_project.specs.DraftView.{draft_view};
 ghost use Rattle.bound_calls.specs.Calls.{EndsCall};
-ghost use Rattle.bound_calls.specs.Taking.{CallsBare, CallsRoutine};
+ghost use Rattle.bound_calls.specs.Taking.{CallsAt, CallsBare, CallsRoutine};
 
 use crate::arguments::{pass_rest, sum};
+use crate::shapes::{broken_ending, takes_none};
 use crate::take::no_object;
 use crate::term::{Ending, Passed, Routine};
 use bound_declarations::NotYet;
 use bound_project::{Draft, NodeKind, Parameter};
 use std::alloc::Global;
-use vba_base::{NoMemory, OrMemory};
+use vba_base::{NoMemory, OrMemory, Place};
 
 /// How many parameters there are.
 pub fn count_of(parameters: &[Parameter]) -> Result<u32, NoMemory>
@@ -57,14 +58,31 @@ pub fn routine_ending<'a>(
     call_ending(alloc, draft, routine, passed)
 }
 
-/// The value of a call without arguments, but for its last node.
+/// What a call without arguments gives, a value or an object, but for its last node; where it needs some it breaks a static
+/// rule.
+pub fn called_ending<'a>(
+    alloc: Global,
+    draft: &mut Draft,
+    routine: Routine<'a>,
+    place: Place,
+) -> Result<Ending, OrMemory<NotYet>>
+    ensures { IfOk result (λ ending. CallsAt routine.entry place (draft_view draft.old) (draft_view draft.new) ending) }
+{
+    if !takes_none(routine.parameters) {
+        return Ok(broken_ending(25, place, 0));
+    }
+    routine_ending(alloc, draft, routine)
+}
+
+/// The value of a call without arguments, but for its last node; where it needs some it breaks a static rule.
 pub fn bare_call<'a>(
     alloc: Global,
     draft: &mut Draft,
     routine: Routine<'a>,
+    place: Place,
 ) -> Result<Option<Ending>, OrMemory<NotYet>>
-    ensures { IfOk result (λ ending. CallsBare routine.entry (draft_view draft.old) (draft_view draft.new) ending) }
+    ensures { IfOk result (λ ending. CallsBare routine.entry place (draft_view draft.old) (draft_view draft.new) ending) }
 {
-    let ending = routine_ending(alloc, draft, routine)?;
+    let ending = called_ending(alloc, draft, routine, place)?;
     Ok(no_object(ending))
 }

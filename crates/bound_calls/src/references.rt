@@ -13,6 +13,7 @@ ghost use Rattle.bound_calls.specs.Steps.{PushesOperand};
 
 use crate::arguments::is_variant;
 use crate::calls::routine_ending;
+use crate::shapes::takes_none;
 use crate::take::{member_ending, push_node, push_sheet, value_ending};
 use crate::term::{Ending, Term, Tree};
 use bound_declarations::NotYet;
@@ -42,16 +43,16 @@ fn is_referring(of: DeclaredType) -> bool
     is_host_type(of) || is_variant(of)
 }
 
-/// Is a term taken as a reference, and no value?
+/// Is a term taken as a reference, and no value? What lacks arguments that it needs is none.
 pub fn refers<'a>(term: Term<'a>) -> bool
     ensures { result ≡ refers term.entry }
 {
     match term {
         Term::Place { of, .. } => is_host_type(of),
         Term::Value(ending) => is_host_type(ending.of),
-        Term::Routine(routine) => is_host_type(routine.of),
-        Term::HostMember(member) => is_host_type(member.of),
-        Term::SheetMember(member) => is_host_type(member.of),
+        Term::Routine(routine) => is_host_type(routine.of) && takes_none(routine.parameters),
+        Term::HostMember(member) => is_host_type(member.of) && member.least == 0,
+        Term::SheetMember(member) => is_host_type(member.of) && member.least == 0,
         Term::Err => true,
         _ => false,
     }
@@ -380,7 +381,7 @@ pub fn given_ending<'a>(
     tree: Tree<'a>,
 ) -> Result<Ending, OrMemory<NotYet>>
     requires { TermNamed (draft_view draft.old).tables tree.term }
-    ensures { IfOk result (λ ending. TakesGiven tree.entry.term (draft_view draft.old) (draft_view draft.new) ending) }
+    ensures { IfOk result (λ ending. TakesGiven tree.entry.term tree.entry.place (draft_view draft.old) (draft_view draft.new) ending) }
 {
     if refers(tree.term) {
         return reference_ending(alloc, draft, tree.term, tree.place);

@@ -8,6 +8,7 @@ ghost use Rattle.bound_calls.specs.Taking.{Loads, Pushes, PushesSheet, ReadsMemb
 
 use crate::arguments::nowhere;
 use crate::calls::bare_call;
+use crate::shapes::broken_ending;
 use crate::term::{Ending, HostMember, Term};
 use bound_declarations::NotYet;
 use bound_declarations::declared_names::is_object;
@@ -110,21 +111,25 @@ fn sheet_value(
     place: Place,
 ) -> Result<Option<Ending>, OrMemory<NotYet>>
     requires { member.name < length (draft_view draft.old).tables.constants }
-    ensures { IfOk result (λ ending. TakesValue (Term.SheetMember member) (draft_view draft.old) (draft_view draft.new) ending) }
+    ensures { IfOk result (λ ending. TakesValue (Term.SheetMember member) place (draft_view draft.old) (draft_view draft.new) ending) }
 {
     push_sheet(draft)?;
     member_value(draft, member, place)
 }
 
-/// A member of an object of the host as a value; one that gives an object is a reference.
+/// A member of an object of the host as a value; one that gives an object is a reference, and one that needs arguments
+/// breaks a static rule.
 fn member_value(
     draft: &mut Draft,
     member: HostMember,
     place: Place,
 ) -> Result<Option<Ending>, OrMemory<NotYet>>
     requires { member.name < length (draft_view draft.old).tables.constants }
-    ensures { IfOk result (λ ending. TakesValue (Term.HostMember member) (draft_view draft.old) (draft_view draft.new) ending) }
+    ensures { IfOk result (λ ending. TakesValue (Term.HostMember member) place (draft_view draft.old) (draft_view draft.new) ending) }
 {
+    if member.least != 0 {
+        return Ok(Some(broken_ending(25, place, 1)));
+    }
     if is_object(member.of) {
         return Err(OrMemory::Fault(NotYet));
     }
@@ -140,7 +145,7 @@ pub fn value_ending<'a>(
     place: Place,
 ) -> Result<Option<Ending>, OrMemory<NotYet>>
     requires { TermNamed (draft_view draft.old).tables term }
-    ensures { IfOk result (λ ending. TakesValue term.entry (draft_view draft.old) (draft_view draft.new) ending) }
+    ensures { IfOk result (λ ending. TakesValue term.entry place (draft_view draft.old) (draft_view draft.new) ending) }
 {
     match term {
         Term::Place { kind, of, .. } => {
@@ -148,7 +153,7 @@ pub fn value_ending<'a>(
             Ok(ending)
         }
         Term::Value(ending) => Ok(no_object(ending)),
-        Term::Routine(routine) => bare_call(alloc, draft, routine),
+        Term::Routine(routine) => bare_call(alloc, draft, routine, place),
         Term::HostMember(member) => member_value(draft, member, place),
         Term::SheetMember(member) => sheet_value(draft, member, place),
         _ => Ok(None),

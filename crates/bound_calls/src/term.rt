@@ -177,6 +177,31 @@ pub struct Indexed {
     pub count: u32,
 }
 
+/// What is known of an argument before it is bound: its name, where it has one, and whether it is written.
+#[derive(Clone, Copy)]
+pub struct Shape<'a> {
+    pub name: Option<&'a Identifier>,
+    pub is_written: bool,
+}
+
+/// What doesn't take the arguments that are read: a procedure with these parameters; a value of a type, one that a property
+/// gave which is called without arguments, or a member and its object, which were pushed; and what takes none at all.
+#[derive(Clone, Copy)]
+pub enum Refuser<'a> {
+    Procedure(&'a [Parameter]),
+    Value(DeclaredType),
+    Called(DeclaredType),
+    Member(HostMember),
+    Bare,
+}
+
+/// What doesn't take its arguments, and the place of its first token. Each argument stands above it.
+#[derive(Clone, Copy)]
+pub struct Untaken<'a> {
+    pub place: Place,
+    pub refuser: Refuser<'a>,
+}
+
 /// What the nodes of an expression leave on the stack. A call is its procedure and its arguments; the arguments of a
 /// statement stand alone.
 #[derive(Clone, Copy)]
@@ -189,6 +214,12 @@ pub enum Item<'a> {
     Function(FunctionCall),
     Member(MemberCall),
     Named(Named),
+    Untaken(Untaken<'a>),
+    /// Arguments of a statement that aren't taken. Each stands above it.
+    Unlisted,
+    /// An argument that was pushed, as a Variant takes it, for what doesn't take it. It stands above those before it, and
+    /// what doesn't take them below them.
+    Shape(Shape<'a>),
     /// A value that was pushed for a ParamArray. It stands above those before it, and the call or the arguments of a
     /// statement below them.
     Gathered,

@@ -3,6 +3,7 @@ mod Bare
 mod BoundRows
 mod BrokenRows
 mod FunctionRows
+mod ArgumentRows
 mod MemberRows
 mod TargetRows
 mod ProgramRows

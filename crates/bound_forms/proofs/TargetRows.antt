@@ -1,22 +1,73 @@
--- Worked rows of S27 and S30: values that a target doesn't take, and those that it takes.
+-- Worked rows of S27 and S30: what can't be assigned to, and values that a target doesn't take; and those that it takes.
 use Rattle.std.specs.Prelude.{◌≡◌, ℕ, pos, true, false, List, [], ◌∷◌, None, Some, refl, codes}
 use Rattle.std.specs.Fmt.{digits}
 use Rattle.caseless.proofs.Computing.{caseless}
 use Rattle.vba_base.specs.Fold.{folded}
 use Rattle.vba_values.specs.declared.types.Compare.TheVariants.{Binary}
+use Rattle.vba_values.specs.declared.object.HostRef.TheVariants as host
 use Rattle.vba_values.specs.Types as type
 use Rattle.vba_values.specs.Val.{text}
 use Rattle.vba_lib.specs.declared.function.LibraryFunction.TheVariants as function
-use Rattle.bound_project.specs.Expressions.{Variable, Expr, constant, call, library, variable, no_args, by_copy, also, default_of}
-use Rattle.bound_project.specs.Statements.{Action, Statement, assign, evaluate, redim, resize, no_resizes}
+use Rattle.bound_project.specs.Expressions.{Variable, Expr, constant, call, library, err_value, err_number, host_object, variable, item, no_args, by_copy, also, default_of}
+use Rattle.bound_project.specs.Statements.{Action, Statement, assign, assign_default, evaluate, redim, resize, no_resizes}
 use Rattle.bound_forms.proofs.BoundRows.{bound_to, e, n, at, v, show, jumping}
-use Rattle.bound_forms.proofs.BrokenRows.{mark, alone}
+use Rattle.bound_forms.proofs.BrokenRows.{mark, alone, none}
 
 abbrev first : Action → List Statement
 first a = jumping 1 a ∷ []
 
 abbrev says : List ℕ → Expr
 says x = e type.text (constant (text x))
+
+-- ---- S27, of targets
+
+error_number : bound_to (codes "Sub Main()\nErr.Number = 5\nEnd Sub") ≡ first (evaluate (mark 27 2 1 (also (n 5) (alone (e type.long (err_value err_number)))))) ∷ []
+unfolding bound_to folded caseless digits
+error_number = refl
+
+error_object : bound_to (codes "Sub Main()\nErr = 5\nEnd Sub") ≡ first (evaluate (mark 27 2 1 (alone (n 5)))) ∷ []
+unfolding bound_to folded caseless digits
+error_object = refl
+
+a_constant : bound_to (codes "Sub Main()\nConst K = 1\nK = 2\nEnd Sub") ≡ first (evaluate (mark 27 3 1 (also (n 2) (alone (n 1))))) ∷ []
+unfolding bound_to folded caseless digits
+a_constant = refl
+
+a_sub : bound_to (codes "Sub Main()\nMain = 5\nEnd Sub") ≡ first (evaluate (mark 27 2 1 (alone (n 5)))) ∷ []
+unfolding bound_to folded caseless digits
+a_sub = refl
+
+a_library_function : bound_to (codes "Sub Main()\nLeft(\"a\", 1) = 5\nEnd Sub")
+    ≡ first (evaluate (mark 27 2 1 (also (n 5) (alone (e type.variant (library function.Left false (also (says (codes "a")) (alone (n 1))) Binary (pos 0))))))) ∷ []
+unfolding bound_to folded caseless digits
+a_library_function = refl
+
+a_long_function : bound_to (codes "Sub Main()\nF = 5\nEnd Sub\nFunction F() As Long\nEnd Function") ≡ first (evaluate (mark 27 2 1 (also (n 5) (alone (e type.long (call 1 no_args)))))) ∷ [] ∷ []
+unfolding bound_to folded caseless digits
+a_long_function = refl
+
+a_count : bound_to (codes "Sub Main()\nWorksheets.Count = 1\nEnd Sub") ≡ first (evaluate (mark 27 2 1 (also (n 1) (alone (e type.object (host_object host.Sheets)))))) ∷ []
+unfolding bound_to folded caseless digits
+a_count = refl
+
+all_sheets : bound_to (codes "Sub Main()\nWorksheets = 1\nEnd Sub") ≡ first (evaluate (mark 27 2 1 (also (n 1) (alone (e type.object (host_object host.Sheets)))))) ∷ []
+unfolding bound_to folded caseless digits
+all_sheets = refl
+
+a_param_array : bound_to (codes "Sub Main()\nEnd Sub\nSub Work(ParamArray a())\na = 1\na(0) = 1\nEnd Sub")
+    ≡ [] ∷ (jumping 1 (evaluate (mark 27 4 1 (alone (n 1)))) ∷ jumping 2 (assign (item (at (type.array_of type.variant) 1) (alone (n 0))) (n 1)) ∷ []) ∷ []
+unfolding bound_to folded caseless digits
+a_param_array = refl
+
+set_function : bound_to (codes "Sub Main()\nSet F = Nothing\nEnd Sub\nFunction F() As Object\nEnd Function") ≡ first (evaluate (mark 27 2 5 (also none (alone (e type.object (call 1 no_args)))))) ∷ [] ∷ []
+unfolding bound_to folded caseless digits
+set_function = refl
+
+-- what a Function gives as a Variant may be an object, whose default member is written; and its own result is a variable
+variant_function : bound_to (codes "Sub Main()\nF = 5\nEnd Sub\nFunction F()\nF = 6\nEnd Function")
+    ≡ first (assign_default (e type.variant (call 1 no_args)) (n 5)) ∷ first (assign (variable (at type.variant 0)) (n 6)) ∷ []
+unfolding bound_to folded caseless digits
+variant_function = refl
 
 -- ---- S27, of values of a Type
 

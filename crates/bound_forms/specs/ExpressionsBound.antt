@@ -24,7 +24,7 @@ use Rattle.binder.specs.Scopes.{Space, plainly, called, Meant, of_procedure, of_
 use Rattle.binder.specs.Types.{is_object, type_meant, meant_type}
 use Rattle.binder.specs.Constants.{is_variant, literal_meant, value_type, operator_kind, unary_kind, compare_in, meant_by, names_in, home}
 use Rattle.binder.specs.Storage.{parameter_type, result_type, own_declaration, declared_variable, user_types, module_storage, own_storage, procedure_number, has_bounds}
-use Rattle.bound_forms.specs.Terms.{Within, Env, HostMember, Term, a_place, a_value, a_routine, a_function, a_host_member, err_object, err_raise, err_clear, error_word, no_term, expression_of, broken_rule, broken_value, given_to, value_with, Given, listed_values, bound_arguments, has_names, given_by_name}
+use Rattle.bound_forms.specs.Terms.{Within, Env, HostMember, Term, a_place, a_value, a_routine, a_function, a_host_member, err_object, err_raise, err_clear, error_word, no_term, expression_of, broken_rule, broken_value, given_to, value_with, Given, listed_values, bound_arguments, has_names, takes, given_by_name}
 use Rattle.binder.specs.Signatures.{is_get, reader, parameters_in, call_type}
 use Rattle.vba_expression.specs.declared.operator.BinaryOperator.TheVariants as operator
 use Rattle.vba_lib.specs.declared.function.LibraryFunction.TheVariants as function
@@ -60,8 +60,11 @@ are_numbers [] = false
 are_numbers (g ∷ []) = is_some g.term
 are_numbers (g ∷ gs) = is_some g.term && are_numbers gs
 
+abbrev pub are_places : List Given → Bool
+are_places gs = are_numbers gs && not (has_names gs)
+
 abbrev pub numbers_of : (Term → Place → Option bound.Expr) → List Given → Option Exprs
-numbers_of value gs = if are_numbers gs && not (has_names gs) then listed_values value gs else None
+numbers_of value gs = if are_places gs then listed_values value gs else None
 
 abbrev pub element_place : Lvalue → Exprs → Lvalue
 element_place (variable x) es = item x es
@@ -104,8 +107,17 @@ call_with value number_of env place gs space number p = if_there (option_map cal
 abbrev pub bare_call : Env → Space → ℕ → Written → Term
 bare_call env space number p = call_with (λ of t place. None) (λ t place. None) env p.place [] space number p
 
+-- S25: a procedure and a member without the arguments that they need
+abbrev pub without_arguments : Env → Term → Place → Option bound.Expr
+without_arguments env (a_routine space number p) place = option_and_then lacking (reader env.scope space number p)
+  where
+    lacking : ℕ × Written → Option bound.Expr
+    lacking f = if takes (parameters_in env.scope space f.1) [] then None else Some (broken_rule 25 place no_exprs)
+without_arguments env (a_host_member e m) place = if m.least == 0 then None else Some (broken_rule 25 place (also e no_exprs))
+without_arguments env t place = None
+
 abbrev pub value_of : Env → Term → Place → Option bound.Expr
-value_of env t place = value_with (bare_call env) t place
+value_of env t place = or_else (value_with (bare_call env) t place) (without_arguments env t place)
 
 -- ---- objects of the host ([MS-VBAL] 5.6.12)
 
@@ -423,7 +435,8 @@ function_called env place f text_form base gs = if_there (option_map (function_v
 abbrev pub host_arguments : Env → List Given → Option Exprs
 host_arguments env gs = listed_values (argument_of env type.variant) gs
 
--- whether a member takes so many arguments; behind one that takes none they index what it gives
+-- whether a member takes so many arguments: Cells both numbers or none; behind one that takes none they index what it
+-- gives
 abbrev pub takes_behind : Declared → ℕ → Bool
 takes_behind type.variant count = true
 takes_behind type.range count = count == 2
@@ -435,7 +448,7 @@ takes_arguments m count = at m.greatest
     at : Option ℕ → Bool
     at None = true
     at (Some zero) = takes_behind m.of count
-    at (Some greatest) = nat_le m.least count && nat_le count greatest
+    at (Some greatest) = nat_le m.least count && (nat_le count greatest && not (m.least == 0 && count == 1))
 
 -- the names that parameters of a member have, by the greatest number of its arguments: of a sheet's Range the first one's
 -- alone, and of what takes two numbers both
@@ -465,14 +478,90 @@ member_called env e m gs = if has_names gs then named_called env e m gs else opt
 abbrev pub host_called : Env → bound.Expr → HostMember → List Given → Term
 host_called env e m gs = if takes_arguments m (length gs) then if_there (option_map (λ node. a_value node m.of) (member_called env e m gs)) else no_term
 
--- what arguments in brackets make of a term
+-- what arguments in brackets make of a term, where it takes them
+abbrev pub taken_by_term : Env → Place → Term → List Given → Term
+taken_by_term env place (a_place x of bounded lends) gs =
+    with_type (element_type of) (numbers_of (operand_of env) gs) (λ u es. a_place (element_place x es) u false lends)
+taken_by_term env place (a_value node of) gs = indexed_value place node of (numbers_of (operand_of env) gs)
+taken_by_term env place (a_routine space number p) gs = call_with (argument_of env) (operand_of env) env place gs space number p
+taken_by_term env place (a_function f text_form base) gs = function_called env place f text_form base gs
+taken_by_term env place (a_host_member e m) gs = host_called env e m gs
+taken_by_term env place other gs = no_term
+
+-- ---- arguments that aren't taken: S25, at the first token of the call
+
+-- what is marked: what stands before the arguments, and each argument as a Variant takes it
+abbrev pub wrong_arguments : Env → Place → (rule : ℕ) → (Exprs → Exprs) → List Given → Term
+wrong_arguments env place rule before gs = if_there (option_map (λ es. broken_value rule place (before es)) (host_arguments env gs))
+
+-- only an array, what may have one, and an object are indexed; an array only by numbers
+abbrev pub may_index : Declared → List Given → Bool
+may_index (type.array_of of) gs = are_places gs
+may_index type.variant gs = true
+may_index of gs = is_object of
+
+abbrev pub wrong_index : Env → Place → Node → Declared → List Given → Term
+wrong_index env place node of gs = if may_index of gs then no_term else wrong_arguments env place 25 (also (expression_of node place of)) gs
+
+-- a procedure, or the value of a property that takes none
+abbrev pub wrong_call : Env → Place → Space → ℕ → Written → List Given → Term
+wrong_call env place space number p gs = if_there (option_map called_as (reader env.scope space number p))
+  where
+    called_as : ℕ × Written → Term
+    called_as f =
+        if indexes_value f.1 gs then node_or (call_value env space f.0 f.1 (Some bound.no_args)) (λ node of. wrong_index env place node of gs)
+        else if takes (parameters_in env.scope space f.1) gs then no_term
+        else wrong_arguments env place 25 (λ es. es) gs
+
+-- a member that is known before the run
+abbrev pub member_takes : HostMember → List Given → Bool
+member_takes m gs = takes_arguments m (length gs) && (not (has_names gs) || at m.greatest)
+  where
+    at : Option ℕ → Bool
+    at None = true
+    at (Some zero) = true
+    at (Some greatest) = is_some (names_taken m gs)
+
+-- the rule that other arguments break. Behind a member that takes none they index what it gives: a sheet has no default
+-- member, S34; what Rows and Columns give has no type of its own
+abbrev pub arguments_rule : HostMember → Option ℕ
+arguments_rule m = at m.greatest
+  where
+    behind : Declared → Option ℕ
+    behind type.worksheet = Some 34
+    behind type.object = None
+    behind of = Some 25
+
+    at : Option ℕ → Option ℕ
+    at None = None
+    at (Some zero) = behind m.of
+    at (Some greatest) = Some 25
+
+abbrev pub wrong_member : Env → Place → bound.Expr → HostMember → List Given → Term
+wrong_member env place e m gs =
+    if member_takes m gs then no_term else if_there (option_map (λ rule. wrong_arguments env place rule (also e) gs) (arguments_rule m))
+
+-- what takes no arguments at all
+abbrev pub wrong_some : Env → Place → List Given → Term
+wrong_some env place [] = no_term
+wrong_some env place gs = wrong_arguments env place 25 (λ es. es) gs
+
+abbrev pub wrong_term : Env → Place → Term → List Given → Term
+wrong_term env place (a_place x of bounded lends) gs = wrong_index env place (load x) of gs
+wrong_term env place (a_value node of) gs = wrong_index env place node of gs
+wrong_term env place (a_routine space number p) gs = wrong_call env place space number p gs
+wrong_term env place (a_host_member e m) gs = wrong_member env place e m gs
+wrong_term env place err_object gs = wrong_some env place gs
+wrong_term env place err_clear gs = wrong_some env place gs
+wrong_term env place other gs = no_term
+
+abbrev pub term_or : Term → Term → Term
+term_or no_term other = other
+term_or t other = t
+
+-- what arguments in brackets make of a term, or what they break
 abbrev pub indexed : Env → Place → Term → List Given → Term
-indexed env place (a_place x of bounded lends) gs = with_type (element_type of) (numbers_of (operand_of env) gs) (λ u es. a_place (element_place x es) u false lends)
-indexed env place (a_value node of) gs = indexed_value place node of (numbers_of (operand_of env) gs)
-indexed env place (a_routine space number p) gs = call_with (argument_of env) (operand_of env) env place gs space number p
-indexed env place (a_function f text_form base) gs = function_called env place f text_form base gs
-indexed env place (a_host_member e m) gs = host_called env e m gs
-indexed env place other gs = no_term
+indexed env place t gs = term_or (taken_by_term env place t gs) (wrong_term env place t gs)
 
 -- ---- names
 

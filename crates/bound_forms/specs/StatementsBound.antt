@@ -2,13 +2,14 @@
 use Rattle.std.specs.Prelude.{ℕ, zero, suc, ◌+◌, ◌==◌, Bool, true, false, ◌&&◌, ◌||◌, not, bytes_eq, pos, List, [], ◌∷◌, ◌++◌, length, codes, Option, Some, None, is_some, option_map, option_and_then, if◌then◌else◌}
 use Rattle.std.specs.List.{list_any}
 use Rattle.vba_base.specs.declared.place.Place.{Place}
-use Rattle.vba_values.specs.Coerce.{is_same_type}
 use Rattle.vba_values.specs.Comparison.{is_number}
 use Rattle.vba_values.specs.Types.{Declared}
 use Rattle.vba_values.specs.Types as type
 use Rattle.vba_values.specs.Val.{Val, missing, whole}
+use Rattle.vba_values.specs.Coerce.{is_same_type}
 use Rattle.vba_words.specs.declared.identifier.Identifier.{Identifier}
 use Rattle.vba_expression.specs.Tree.{Expr, name, index}
+use Rattle.vba_tree.specs.declared.procedure.ProcedureWords.{ProcedureWords}
 use Rattle.vba_tree.specs.declared.block.LoopWord.{LoopWord}
 use Rattle.vba_tree.specs.declared.simple.ExitKind.{ExitKind}
 use Rattle.vba_tree.specs.declared.simple.ErrorHandling.{ErrorHandling}
@@ -20,25 +21,26 @@ use Rattle.vba_module.specs.Parts.{Part, statement, place_of}
 use Rattle.vba_module.specs.Blocks.{for_loop, do_loop, same_kind}
 use Rattle.vba_module.specs.Headers.{all_of}
 use Rattle.vba_module.specs.Misplaced.{statement_place}
-use Rattle.bound_project.specs.Expressions.{Variable, Node, constant, load, element_value, marked, Lvalue, variable, Exprs, no_exprs, also, Prints, no_prints, shown, zone}
+use Rattle.bound_project.specs.Expressions.{Variable, Node, constant, load, element_value, err_value, marked, Lvalue, variable, Exprs, no_exprs, also, Prints, no_prints, shown, zone}
 use Rattle.bound_project.specs.Expressions as bound
 use Rattle.bound_project.specs.Statements.{Statement, Action, Tests, no_tests, test_is, test_range, passed_on, skipped, handled_at, Resizes, no_resizes, resize, Arrays, no_arrays, an_array}
 use Rattle.bound_project.specs.Statements as to
 use Rattle.bound_project.specs.Project.{Parameter, nowhere}
 use Rattle.binder.specs.Sources.{base_of}
-use Rattle.binder.specs.Options.{from_two, from_three}
-use Rattle.binder.specs.Declarations.{Written}
-use Rattle.binder.specs.Scopes.{Space}
+use Rattle.binder.specs.Options.{or_else, from_two, from_three}
+use Rattle.binder.specs.Declarations.{Written, Own, a_parameter}
+use Rattle.binder.specs.Scopes.{Space, plainly, Meant, of_procedure, declares}
 use Rattle.binder.specs.Constants.{is_variant, operator_kind, compare_in, place_of_expression, known_length}
-use Rattle.binder.specs.Storage.{procedure_number}
+use Rattle.binder.specs.Storage.{procedure_number, gives_value}
 use Rattle.binder.specs.Types.{written_type, is_object}
 use Rattle.binder.specs.Numbering.{count, count_list, simple_count, here, an_arm, behind_block, behind_kind, Opened, Standing, sought_behind}
-use Rattle.bound_forms.specs.Terms.{Within, Env, HostMember, Term, a_place, a_value, a_routine, a_host_member, err_raise, err_clear, error_word, expression_of, broken_rule, is_user_type, given_to, Given, bound_arguments, has_names}
-use Rattle.binder.specs.Signatures.{writer, parameters_in}
-use Rattle.bound_forms.specs.ExpressionsBound.{bare_call, HostKind, sheets, host_kind, default_rule, given_as, argument_of, has_object, mark_members, item_of, host_arguments, named_called, takes_arguments, indexed, callee, term_of, givens, bound_as_given, bound_operand, place_told}
+use Rattle.bound_forms.specs.Terms.{Within, Env, HostMember, Term, a_place, a_value, a_routine, a_host_member, err_object, err_raise, err_clear, error_word, no_term, expression_of, broken_rule, is_user_type, given_to, Given, bound_arguments, has_names, takes}
+use Rattle.binder.specs.Signatures.{is_property, writer, parameters_in}
+use Rattle.bound_forms.specs.ExpressionsBound.{bare_call, HostKind, sheets, host_kind, default_rule, member_takes, arguments_rule, given_as, argument_of, has_object, mark_members, item_of, host_arguments, named_called, takes_arguments, indexed, callee, term_of, givens, bound_as_given, bound_operand, place_told}
 use Rattle.binder.specs.Blocks.{label_number, next_number, header_of}
 use Rattle.vba_values.specs.declared.types.OpKind.TheVariants as op
 use Rattle.vba_values.specs.declared.types.WholeKind.TheVariants as kind
+use Rattle.vba_tree.specs.declared.procedure.ProcedureWords.TheVariants as words
 use Rattle.vba_tree.specs.declared.block.LoopWord.TheVariants as loop_word
 use Rattle.vba_tree.specs.declared.simple.ExitKind.TheVariants as exits
 use Rattle.vba_tree.specs.declared.simple.ErrorHandling.TheVariants as handling
@@ -87,6 +89,10 @@ env_at a s = record a.env { within = within a.env s.around }
 
 -- ---- simple statements
 
+-- S25: arguments that parameters don't take, each as a Variant takes it
+abbrev pub untaken : Env → List Parameter → List Given → Option Exprs
+untaken env ps gs = if takes ps gs then None else host_arguments env gs
+
 -- what is called with arguments
 abbrev pub raise_parameter : List ℕ → Declared → Option Val → Parameter
 raise_parameter fold of default = record { name = record { spelling = fold; fold = fold }; of = of; by_reference = false; default = default; many = false }
@@ -97,17 +103,18 @@ raise_parameters =
     raise_parameter (codes "number") type.long None ∷ raise_parameter (codes "source") type.text (Some missing)
     ∷ raise_parameter (codes "description") type.text (Some missing) ∷ []
 
-abbrev pub raised : Env → List Given → Option Action
-raised env gs = option_map to.raise (bound_arguments (argument_of env) raise_parameters gs)
+abbrev pub raised : Env → Place → List Given → Option Action
+raised env place gs =
+    or_else (option_map to.raise (bound_arguments (argument_of env) raise_parameters gs)) (option_map (λ es. to.evaluate (broken_rule 25 place es)) (untaken env raise_parameters gs))
 
 -- Error has the number alone
 abbrev pub is_one : List Given → Bool
 is_one gs = length gs == 1 && not (has_names gs)
 
 abbrev pub called_term : Env → Place → Term → List Given → Option Action
-called_term env place err_raise gs = raised env gs
+called_term env place err_raise gs = raised env place gs
 called_term env place err_clear [] = Some to.clear_err
-called_term env place error_word gs = if is_one gs then raised env gs else None
+called_term env place error_word gs = if is_one gs then raised env place gs else None
 called_term env place (a_routine space number p) gs = option_map to.evaluate (given_as env (indexed env place (a_routine space number p) gs) place)
 called_term env place t [] = option_map to.evaluate (given_as env t place)
 called_term env place t gs = option_map to.evaluate (given_as env (indexed env place (item_of place t) gs) place)
@@ -126,8 +133,8 @@ called_place env e = called_with env e []
 abbrev pub broken_target : (rule : ℕ) → Place → (value : bound.Expr) → Exprs → Action
 broken_target rule place v es = to.evaluate (broken_rule rule place (also v es))
 
-abbrev pub let_to : Env → Space → List Given → bound.Expr → ℕ × Written → Option Action
-let_to env space gs v f = at (parameters_in env.scope space f.1)
+abbrev pub let_to : Env → Place → Space → List Given → bound.Expr → ℕ × Written → Option Action
+let_to env place space gs v f = at (parameters_in env.scope space f.1)
   where
     but_last : List Parameter → List Parameter
     but_last [] = []
@@ -144,7 +151,9 @@ let_to env space gs v f = at (parameters_in env.scope space f.1)
     with_value_of of number args = if is_object of then to.set_property number args v of else to.let_property number args v of
 
     at : List Parameter → Option Action
-    at ps = option_map (λ args. with_value_of (value_type ps) (procedure_number env.scope space f.0) args) (bound_arguments (argument_of env) (but_last ps) gs)
+    at ps =
+        or_else (option_map (λ args. with_value_of (value_type ps) (procedure_number env.scope space f.0) args) (bound_arguments (argument_of env) (but_last ps) gs))
+        (option_map (broken_target 25 place v) (untaken env (but_last ps) gs))
 
 -- the default member of an object is written: that of a range is Value, a sheet has none, and of a Variant the run decides
 abbrev pub has_written_default : Declared → Bool
@@ -187,21 +196,62 @@ abbrev pub arguments_written : Env → Place → bound.Expr → HostMember → L
 arguments_written env place e m gs v =
     if has_names gs then named_written env place e m gs v else option_map (λ es. to.assign_member e m.name es v) (host_arguments env gs)
 
+-- the rule that an assignment to another member breaks: S27, but S34 where it gives a sheet; and before that what its
+-- arguments break
+abbrev pub unwritten_rule : Declared → Option ℕ
+unwritten_rule type.worksheet = Some 34
+unwritten_rule type.object = None
+unwritten_rule of = Some 27
+
+abbrev pub written_rule : HostMember → List Given → Option ℕ
+written_rule m [] = if not (m.least == 0) then Some 25 else if is_written_member m then None else unwritten_rule m.of
+written_rule m gs =
+    if not (member_takes m gs) then arguments_rule m else if is_written_member m && has_written_default m.of then None else unwritten_rule m.of
+
+abbrev pub wrong_written : Env → Place → bound.Expr → (rule : Option ℕ) → List Given → bound.Expr → Option Action
+wrong_written env place e rule gs v = from_two (λ r es. broken_target r place v (also e es)) rule (host_arguments env gs)
+
 abbrev pub member_written : Env → Place → bound.Expr → HostMember → List Given → bound.Expr → Option Action
-member_written env place e m gs v = if is_written_member m && fits_written m gs then arguments_written env place e m gs v else None
+member_written env place e m gs v =
+    or_else (if is_written_member m && fits_written m gs then arguments_written env place e m gs v else None) (wrong_written env place e (written_rule m gs) gs v)
+
+-- S27: a constant, what Err tells, a use of a function of the library, and what a Function gives that is no object
+abbrev pub is_unassignable : Node → Bool
+is_unassignable (constant v) = true
+is_unassignable (err_value m) = true
+is_unassignable (bound.library f text_form es compare base) = true
+is_unassignable (bound.call procedure args) = true
+is_unassignable node = false
+
+abbrev pub not_assignable : Place → bound.Expr → Node → Declared → Action
+not_assignable place v node of = broken_target 27 place v (also (expression_of node place of) no_exprs)
 
 -- an item of a value that no variable has: of an array of objects the default member of the element is written, and else
 -- the run decides whether there is an array or an object; of another value the default member is written
 abbrev pub value_written : Place → bound.Expr → Node → Declared → Option Action
 value_written place v (element_value e es) of = if is_object of then default_written place (element_value e es) of v else Some (to.assign_item e es v)
-value_written place v node of = if is_object of || has_object node of then default_written place node of v else None
+value_written place v (bound.library f text_form es compare base) of = Some (not_assignable place v (bound.library f text_form es compare base) of)
+value_written place v node of =
+    if is_object of || has_object node of then default_written place node of v
+    else if is_unassignable node then Some (not_assignable place v node of)
+    else None
 
 -- a value is assigned to what a term means
 abbrev pub assigned : Env → Place → bound.Expr → List Given → Term → Option Action
 assigned env place v gs (a_place x of bounded lends) = if is_object of then default_written place (load x) of v else Some (to.assign x v)
-assigned env place v gs (a_routine space number p) = option_and_then (let_to env space gs v) (writer env.scope space p)
+assigned env place v gs (a_routine space number p) = at (writer env.scope space p)
+  where
+    -- without a Let the default member of what a Function or a Get gives is written; a Sub gives nothing
+    value_of_call : Term → Option Action
+    value_of_call (a_value node of) = value_written place v node of
+    value_of_call t = None
+
+    at : Option (ℕ × Written) → Option Action
+    at (Some f) = let_to env place space gs v f
+    at None = if gives_value p.kind then value_of_call (indexed env place (a_routine space number p) []) else None
 assigned env place v gs (a_host_member e m) = member_written env place e m gs v
 assigned env place v gs (a_value node of) = value_written place v node of
+assigned env place v gs err_object = Some (broken_target 27 place v no_exprs)
 assigned env place v gs other = None
 
 -- a property, and a member of an object of the host, take their arguments with the value
@@ -214,12 +264,56 @@ takes_value env t = false
 abbrev pub target_before : Env → Expr → Term
 target_before env base = item_of (place_told base) (callee env base (term_of env base))
 
-abbrev pub assigned_to : Env → Expr → bound.Expr → Option Action
-assigned_to env (index base left args right) v =
+-- S27: a Sub, and a ParamArray by its name
+abbrev pub is_sub : Term → Bool
+is_sub (a_routine space number p) = at p.kind
+  where
+    at : ProcedureWords → Bool
+    at (words.Sub token) = true
+    at kind = false
+is_sub t = false
+
+abbrev pub is_param_array : Env → Expr → Bool
+is_param_array env (name x) = at (declares plainly env.scope x)
+  where
+    of_own : Own → Bool
+    of_own (a_parameter p) = is_some p.param_array_word
+    of_own own = false
+
+    at : Option Meant → Bool
+    at (Some (of_procedure number l)) = of_own l.own
+    at meant = false
+is_param_array env e = false
+
+abbrev pub target_of_call : Env → Expr → Term
+target_of_call env (index base left args right) = callee env base (term_of env base)
+target_of_call env e = term_of env e
+
+abbrev pub is_no_target : Env → Expr → Bool
+is_no_target env e = is_sub (target_of_call env e) || is_param_array env e
+
+abbrev pub written_to : Env → Expr → bound.Expr → Option Action
+written_to env (index base left args right) v =
     let t = target_before env base in
     if takes_value env t then assigned env (place_told base) v (givens env args) t
     else assigned env (place_told base) v [] (indexed env (place_told base) t (givens env args))
-assigned_to env e v = assigned env (place_told e) v [] (term_of env e)
+written_to env e v = assigned env (place_told e) v [] (term_of env e)
+
+abbrev pub assigned_to : Env → Expr → bound.Expr → Option Action
+assigned_to env e v = if is_no_target env e then Some (broken_target 27 (place_told e) v no_exprs) else written_to env e v
+
+-- what the value of an assignment is given to
+abbrev pub target_term : Env → Expr → Term
+target_term env (index base left args right) =
+    let t = target_before env base in
+    if takes_value env t then t else indexed env (place_told base) t (givens env args)
+target_term env e = term_of env e
+
+-- S27 and S30: a value of a Type, and an array, that the target doesn't take
+abbrev pub given_to_term : Term → Place → bound.Expr → bound.Expr
+given_to_term (a_place x of bounded lends) place v = given_to of bounded place v
+given_to_term (a_host_member e m) place v = given_to type.variant false place v
+given_to_term t place v = v
 
 -- a Variant of which numbers mean an item
 abbrev pub is_variant_place : Term → Bool
@@ -236,19 +330,6 @@ is_given_with env e = takes_value env (term_of env e)
 abbrev pub value_for : Env → Expr → Expr → Option bound.Expr
 value_for env x e = if is_given_with env x then bound_as_given env e else bound_operand env e
 
--- what the value of an assignment is given to
-abbrev pub target_term : Env → Expr → Term
-target_term env (index base left args right) =
-    let t = target_before env base in
-    if takes_value env t then t else indexed env (place_told base) t (givens env args)
-target_term env e = term_of env e
-
--- S27 and S30: a value of a Type, and an array, that the target doesn't take
-abbrev pub given_to_term : Term → Place → bound.Expr → bound.Expr
-given_to_term (a_place x of bounded lends) place v = given_to of bounded place v
-given_to_term (a_host_member e m) place v = given_to type.variant false place v
-given_to_term t place v = v
-
 abbrev pub value_given : Env → Expr → Expr → Option bound.Expr
 value_given env x e = option_map (given_to_term (target_term env x) (place_told e)) (value_for env x e)
 
@@ -259,28 +340,44 @@ no_reference set_word es = to.evaluate (broken_rule 28 set_word es)
 abbrev pub may_refer : Declared → Bool
 may_refer of = is_object of || is_variant of
 
+-- S27: Set to what can't be assigned to; what breaks a rule by itself breaks no other one
+abbrev pub set_value : (set_word place : Place) → Node → Declared → bound.Expr → Option Action
+set_value set_word place (marked broken es) of v = Some (to.set_member (expression_of (marked broken es) set_word of) v)
+set_value set_word place node of v =
+    if not (is_unassignable node) then None
+    else if may_refer of then Some (not_assignable place v node of)
+    else Some (no_reference set_word (also v (also (expression_of node place of) no_exprs)))
+
 -- Set: a variable of an object type, or a Variant, is given a reference; of a member that is found in the run the run
 -- decides ([MS-VBAL] 5.4.3.9)
-abbrev pub set_to : (set_word : Place) → Term → bound.Expr → Option Action
-set_to set_word (a_place x of bounded lends) v =
+abbrev pub set_to : (set_word place : Place) → Term → bound.Expr → Option Action
+set_to set_word place (a_place x of bounded lends) v =
     if may_refer of then Some (to.set x v) else Some (no_reference set_word (also v (also (expression_of (load x) set_word of) no_exprs)))
-set_to set_word (a_host_member e m) v = if is_some m.greatest then None else Some (to.set_member e v)
-set_to set_word (a_value (marked broken es) of) v = Some (to.set_member (expression_of (marked broken es) set_word of) v)
-set_to set_word other v = None
+set_to set_word place (a_host_member e m) v = if is_some m.greatest then None else Some (to.set_member e v)
+set_to set_word place (a_value node of) v = set_value set_word place node of v
+set_to set_word place other v = None
 
--- the target of a Set: of a member with arguments the member itself, since none that takes Set is found
+-- the target of a Set: of a member with arguments the member itself, since none that takes Set is found. Of a property its
+-- Set isn't built
 abbrev pub set_target : Env → Expr → Term
 set_target env (index base left args right) = at (target_before env base)
   where
     at : Term → Term
     at (a_host_member e m) = if is_some m.greatest then indexed env (place_told base) (a_host_member e m) (givens env args) else a_host_member e m
+    at (a_routine space number p) = if is_property p.kind then no_term else indexed env (place_told base) (a_routine space number p) (givens env args)
     at t = indexed env (place_told base) t (givens env args)
-set_target env e = term_of env e
+set_target env e = at (term_of env e)
+  where
+    at : Term → Term
+    at (a_routine space number p) = if is_property p.kind then no_term else indexed env (place_told e) (a_routine space number p) []
+    at t = t
 
 -- a value that can't be an object breaks S28, whatever its target is
 abbrev pub set_given : Env → (set_word : Place) → Expr → bound.Expr → Option Action
 set_given env set_word x v =
-    if may_refer (bound.operand_type v) then set_to set_word (set_target env x) v else Some (no_reference set_word (also v no_exprs))
+    if not (may_refer (bound.operand_type v)) then Some (no_reference set_word (also v no_exprs))
+    else if is_sub (target_of_call env x) then Some (broken_target 27 (place_told x) v no_exprs)
+    else set_to set_word (place_told x) (set_target env x) v
 
 -- ReDim: the base of the module where no low bound is written
 abbrev pub integer : Place → ℕ → bound.Expr

@@ -1,7 +1,7 @@
 -- Expressions by what they are: a place, a value, or a name of something else. What stands round an expression takes
 -- from that what it needs. What the bound project can't say yet is no term.
 use Rattle.std.specs.Prelude.{ℕ, suc, ◌==◌, Bool, true, false, ◌&&◌, ◌||◌, not, List, [], ◌∷◌, ◌++◌, map, Option, Some, None, is_some, option_map, option_and_then, bytes_eq, if◌then◌else◌}
-use Rattle.std.specs.List.{list_any}
+use Rattle.std.specs.List.{list_all, list_any}
 use Rattle.vba_base.specs.declared.place.Place.{Place}
 use Rattle.vba_values.specs.Coerce.{is_same_type}
 use Rattle.vba_values.specs.Types.{Declared}
@@ -187,13 +187,18 @@ abbrev pub by_names : (Declared → Term → Place → Option bound.Expr) → �
 by_names value number ps [] = Some []
 by_names value number ps (g ∷ gs) = cons_if (option_and_then (λ fold. named_item value g (parameter_named number ps fold)) g.name) (by_names value number ps gs)
 
--- arguments from the left, until one has a name
+abbrev pub has_names : List Given → Bool
+has_names gs = list_any (λ (g : Given). is_some g.name) gs
+
+-- arguments from the left, until one has a name; none of the values of a ParamArray has one
 abbrev pub by_position : (Declared → Term → Place → Option bound.Expr) → ℕ → List Parameter → List Given → Option (List Item)
 by_position value number ps [] = Some []
 by_position value number [] (g ∷ gs) = None
 by_position value number (p ∷ ps) (g ∷ gs) =
     if is_some g.name then by_names value number (p ∷ ps) (g ∷ gs)
-    else if p.many then option_map (λ es. record { parameter = number; add = λ rest. Some (bound.by_list es rest) } ∷ []) (listed_values (value type.variant) (g ∷ gs))
+    else if p.many then
+    if has_names (g ∷ gs) then None
+    else option_map (λ es. record { parameter = number; add = λ rest. Some (bound.by_list es rest) } ∷ []) (listed_values (value type.variant) (g ∷ gs))
     else cons_if (Some (record { parameter = number; add = taken_by value p g })) (by_position value (suc number) ps gs)
 
 -- the parameters to which nothing is given
@@ -221,8 +226,29 @@ abbrev pub are_apart : List Item → Bool
 are_apart [] = true
 are_apart (i ∷ is) = not (list_any (λ (j : Item). j.parameter == i.parameter) is) && are_apart is
 
-abbrev pub has_names : List Given → Bool
-has_names gs = list_any (λ (g : Given). is_some g.name) gs
+-- S25: a parameter that may be given nothing, and the parameters that are left behind the one with a name
+abbrev pub may_lack : Parameter → Bool
+may_lack p = p.many || is_some p.default
+
+abbrev pub all_but : List Parameter → List ℕ → Option (List Parameter)
+all_but [] fold = None
+all_but (p ∷ ps) fold = if not p.many && bytes_eq p.name.fold fold then Some ps else option_map (λ others. p ∷ others) (all_but ps fold)
+
+-- whether parameters take arguments that all have names: each has a parameter of its own, and no other one lacks what it
+-- needs
+abbrev pub takes_named : Option (List Parameter) → List Given → Bool
+takes_named None gs = false
+takes_named (Some ps) [] = list_all may_lack ps
+takes_named (Some ps) (g ∷ gs) = takes_named (option_and_then (all_but ps) g.name) gs
+
+-- the same of arguments from the left, until one has a name; what isn't written is nothing that is given
+abbrev pub takes : List Parameter → List Given → Bool
+takes ps [] = list_all may_lack ps
+takes [] (g ∷ gs) = false
+takes (p ∷ ps) (g ∷ gs) =
+    if is_some g.name then takes_named (Some (p ∷ ps)) (g ∷ gs)
+    else if p.many then not (has_names (g ∷ gs))
+    else (is_some g.term || may_lack p) && takes ps gs
 
 -- the names of arguments that all have one
 abbrev pub all_named : List (Option (List ℕ)) → Option (List (List ℕ))

@@ -3,6 +3,7 @@ pub mod Kinding
 pub mod Finding
 pub mod Listing
 pub mod Naming
+pub mod NamesTaken
 pub mod Told
 pub mod Parameters
 pub mod MemberSteps

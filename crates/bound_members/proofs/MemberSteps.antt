@@ -28,7 +28,7 @@ use Rattle.bound_project.specs.declared.declared_type.ElementType.TheVariants as
 use Rattle.bound_project.specs.View.{declared_view}
 use Rattle.bound_calls.specs.bound_forms.specs.Terms.{Env, Given, a_value, expression_of, given_rule, given_to, has_names, no_term, unless_broken}
 use Rattle.bound_calls.specs.bound_forms.specs.Terms as terms
-use Rattle.bound_calls.specs.bound_forms.specs.ExpressionsBound.{argument_of, callee, given_as, givens, host_arguments, if_there, indexed, item_of, member_called, named_called, names_taken, takes_arguments, takes_names, term_of, place_told}
+use Rattle.bound_calls.specs.bound_forms.specs.ExpressionsBound.{argument_of, callee, given_as, givens, host_arguments, if_there, indexed, item_of, member_called, named_called, names_taken, takes_arguments, takes_names, term_of, term_or, wrong_term, place_told}
 use Rattle.bound_calls.specs.binder.specs.Options.{from_two}
 use Rattle.bound_calls.specs.declared.term.Ending.{Ending}
 use Rattle.bound_calls.specs.declared.term.HostMember.{HostMember}
@@ -108,13 +108,13 @@ given_counts (Some rule) place e h rest = refl
 
 -- the value of an argument, and its mark
 written : (env : Env) (tree : Expr) (at : Place) (v : Ending) (after : DeclaredType) (t : Tables) (f e : Drafted) (n : Node) (ps below : List Piece) → n ≡ node_of v.kind at v.of → at ≡ place_told tree → is_value_kind v.kind ≡ true
-    → EndingIs t v (λ place. given_as env (term_of env tree) place) ps below → f.pieces ≡ put t n ps → MarksGiven type.variant false at v.of f e after
+    → EndingIs t v at (given_as env (term_of env tree) at) ps below → f.pieces ≡ put t n ps → MarksGiven type.variant false at v.of f e after
     → WrittenIs (argument_of env type.variant (term_of env tree) (place_told tree)) e.pieces below
 written env tree at v after t f e n ps below node_is at_is given h pushed marks =
     let y = term_of env tree in
     let made = expression_of h.made at (declared_view v.of) in
     let found = given_as env y (place_told tree) in
-    let there : found ≡ Some made = ap (λ (place : Place). given_as env y place) (sym at_is) ∙ h.is at in
+    let there : found ≡ Some made = ap (λ (place : Place). given_as env y place) (sym at_is) ∙ h.is in
     let ends : put_kind t (node_of v.kind at v.of) v.kind ps ≡ an_expr made ∷ below = h.ends (node_of v.kind at v.of) in
     let q = marks.stands found below (record { made = made; is = there; operand = refl; on_top = pushed ∙ ap (λ (m : Node). put t m ps) node_is ∙ ends }) in
     let same : given_to type.variant false at made ≡ q.made =
@@ -128,7 +128,7 @@ written env tree at v after t f e n ps below node_is at_is given h pushed marks 
       on_top = q.on_top;
     }
 
-pub pushes_written : (y : Tree) (v : Ending) (after : DeclaredType) (d m f e : Drafted) → is_value_kind v.kind ≡ true → TakesGiven y.term d m v → f ≡ record m { pieces = put m.tables (node_of v.kind y.place v.of) m.pieces }
+pub pushes_written : (y : Tree) (v : Ending) (after : DeclaredType) (d m f e : Drafted) → is_value_kind v.kind ≡ true → TakesGiven y.term y.place d m v → f ≡ record m { pieces = put m.tables (node_of v.kind y.place v.of) m.pieces }
     → MarksGiven type.variant false y.place v.of f e after → PushesWritten y d e
 pushes_written y v after d m f e given t eq marks =
     let n = node_of v.kind y.place v.of in
@@ -360,8 +360,9 @@ ends_member x t kind g takes ended = record {
       let found : Option bound.Node → terms.Term = λ (o : Option bound.Node). if_there (option_map (λ (made : bound.Node). a_value made m.of) o) in
       record {
         made = c.made;
-        is = ap (λ (z : terms.Term). indexed env place z gs) s.is ∙ ap (λ (n : ℕ). if takes_arguments m n then found (member_called env s.object m gs) else no_term) long
-            ∙ ap (λ (b : Bool). if b then found (member_called env s.object m gs) else no_term) (takes t) ∙ ap found c.is;
+        is = ap (λ (z : terms.Term). indexed env place z gs) s.is
+            ∙ ap (λ (z : terms.Term). term_or z (wrong_term env place (terms.a_host_member s.object m) gs))
+            (ap (λ (n : ℕ). if takes_arguments m n then found (member_called env s.object m gs) else no_term) long ∙ ap (λ (b : Bool). if b then found (member_called env s.object m gs) else no_term) (takes t) ∙ ap found c.is);
         ends = c.ends;
       };
 }

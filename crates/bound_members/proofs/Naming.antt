@@ -112,7 +112,7 @@ all_are : (names : List (List ℕ)) → all_named (all_some names) ≡ Some name
 all_are [] = refl
 all_are (x ∷ xs) = ap (λ (o : Option (List (List ℕ))). from_two (λ y ys. y ∷ ys) (Some x) o) (all_are xs)
 
-abbrev by_name : ℕ → List (List ℕ) → ByName
+abbrev pub by_name : ℕ → List (List ℕ) → ByName
 by_name before names = record { before = before; names = names }
 
 from_first : (k : ℕ) (names : List (List ℕ)) → by_name_from k (all_some names) ≡ Some (by_name k names)

@@ -8,3 +8,4 @@ pub mod Kinds
 pub mod Members
 pub mod MemberCalls
 pub mod Names
+pub mod Shapes

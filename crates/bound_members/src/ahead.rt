@@ -1,81 +1,129 @@
-//! Arguments that are to come, which are looked at before they are read. No promise rests on it: where they end as many must
-//! have come, with these names.
+//! Arguments that are to come, which are looked at before they are read. No promise rests on it: where they end it is tested
+//! what has come.
+//!
+//! One pass over all nodes links each argument to the next one of the same call, so that a call looks at its own arguments
+//! alone, and not at those of calls in them.
 
+use bound_calls::Shape;
+use std::alloc::Global;
+use vba_base::NoMemory;
 use vba_expression::ExpressionNode;
-use vba_words::Identifier;
 
-/// Inside of how many brackets what stands behind a node stands, where it stood inside of so many.
-pub fn depth_behind(node: &ExpressionNode, depth: u32) -> u32 {
-    match node {
-        ExpressionNode::NoArguments => depth.saturating_add(1),
-        ExpressionNode::Index { .. } => depth.saturating_sub(1),
-        _ => depth,
+/// Links a node to one behind it.
+fn link(links: &mut [usize], from: usize, to: usize) {
+    if let Some(link) = links.get_mut(from) {
+        *link = to;
     }
 }
 
-/// Does a node end the outermost arguments?
-pub fn ends_all(node: &ExpressionNode, depth: u32) -> bool {
-    match node {
-        ExpressionNode::Index { .. } => depth <= 1,
-        _ => false,
+/// As many links as there are nodes, to none yet.
+fn no_links(alloc: Global, nodes: &[ExpressionNode]) -> Result<Vec<usize>, NoMemory> {
+    let mut links = Vec::new(alloc);
+    for _node in nodes {
+        links.push(0)?;
     }
+    Ok(links)
 }
 
-/// The name of an outermost argument that has one.
-pub fn named_at(node: &ExpressionNode, depth: u32) -> Option<&Identifier> {
+/// The numbers of nodes that begin arguments or are some, each with that of the next argument of the same call, or of its
+/// end. Other nodes, and where there is none behind them, have 0.
+pub fn links_of(alloc: Global, nodes: &[ExpressionNode]) -> Result<Vec<usize>, NoMemory> {
+    let mut links = no_links(alloc, nodes)?;
+    let mut last = Vec::new(alloc);
+    for (number, node) in nodes.iter().enumerate() {
+        match node {
+            ExpressionNode::NoArguments => last.push(number)?,
+            ExpressionNode::PlainArgument { .. }
+            | ExpressionNode::MissingArgument { .. }
+            | ExpressionNode::NamedArgument { .. } => {
+                if let Some(before) = last.pop() {
+                    link(&mut links, before, number);
+                }
+                last.push(number)?;
+            }
+            ExpressionNode::Index { .. } => {
+                if let Some(before) = last.pop() {
+                    link(&mut links, before, number);
+                }
+            }
+            _ => {}
+        }
+    }
+    Ok(links)
+}
+
+/// What is known of an argument, where a node is one.
+fn shape_of<'a>(node: &'a ExpressionNode) -> Option<Shape<'a>> {
     match node {
-        ExpressionNode::NamedArgument { name, .. } => { if depth <= 1 { Some(name) } else { None } }
+        ExpressionNode::PlainArgument { .. } => Some(Shape {
+            name: None,
+            is_written: true,
+        }),
+        ExpressionNode::MissingArgument { .. } => Some(Shape {
+            name: None,
+            is_written: false,
+        }),
+        ExpressionNode::NamedArgument { name, .. } => Some(Shape {
+            name: Some(name),
+            is_written: true,
+        }),
         _ => None,
     }
 }
 
-/// Is a node an outermost argument without a name?
-fn is_unnamed(node: &ExpressionNode, depth: u32) -> bool {
-    match node {
-        ExpressionNode::PlainArgument { .. } | ExpressionNode::MissingArgument { .. } => depth <= 1,
-        _ => false,
+/// The arguments that begin with the node of a number, by the links of the nodes.
+pub fn shapes_at<'a>(
+    alloc: Global,
+    nodes: &'a [ExpressionNode],
+    links: &[usize],
+    number: usize,
+) -> Result<Vec<Shape<'a>>, NoMemory> {
+    let mut shapes = Vec::new(alloc);
+    let mut at = number;
+    for _node in nodes {
+        let Some(next) = links.get(at) else {
+            return Ok(shapes);
+        };
+        let Some(node) = nodes.get(*next) else {
+            return Ok(shapes);
+        };
+        let Some(shape) = shape_of(node) else {
+            return Ok(shapes);
+        };
+        shapes.push(shape)?;
+        at = *next;
     }
+    Ok(shapes)
 }
 
-/// Is a node an outermost argument that is written?
-fn is_given(node: &ExpressionNode, depth: u32) -> bool {
-    match node {
-        ExpressionNode::PlainArgument { .. } | ExpressionNode::NamedArgument { .. } => depth <= 1,
-        _ => false,
-    }
+/// The arguments that begin with the first one of these nodes.
+pub fn shapes_ahead<'a>(
+    alloc: Global,
+    nodes: &'a [ExpressionNode],
+) -> Result<Vec<Shape<'a>>, NoMemory> {
+    let links = links_of(alloc, nodes)?;
+    shapes_at(alloc, nodes, &links, 0)
 }
 
-/// How many arguments are written behind the node with which they begin, which is the first one here.
-pub fn given_ahead(nodes: &[ExpressionNode]) -> u32 {
+/// How many arguments are written.
+pub fn given_ahead<'a>(shapes: &[Shape<'a>]) -> u32 {
     let mut count: u32 = 0;
-    let mut depth: u32 = 0;
-    for node in nodes {
-        if ends_all(node, depth) {
-            return count;
-        }
-        if is_given(node, depth) {
+    for shape in shapes {
+        if shape.is_written {
             count = count.saturating_add(1);
         }
-        depth = depth_behind(node, depth);
     }
     count
 }
 
 /// How many arguments stand there before the first one with a name; none where no argument has a name.
-pub fn before_names(nodes: &[ExpressionNode]) -> Option<u32> {
+pub fn before_names<'a>(shapes: &[Shape<'a>]) -> Option<u32> {
     let mut count: u32 = 0;
-    let mut depth: u32 = 0;
-    for node in nodes {
-        if ends_all(node, depth) {
-            return None;
-        }
-        if named_at(node, depth).is_some() {
+    for shape in shapes {
+        if shape.name.is_some() {
             return Some(count);
         }
-        if is_unnamed(node, depth) {
-            count = count.saturating_add(1);
-        }
-        depth = depth_behind(node, depth);
+        count = count.saturating_add(1);
     }
     None
 }

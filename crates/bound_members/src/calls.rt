@@ -12,13 +12,12 @@ use crate::members::takes_arguments;
 use crate::names::{is_next, names_ahead, takes_names};
 use bound_calls::bound_declarations::NotYet;
 use bound_calls::{
-    Ending, HostMember, MemberCall, Term, Tree, given_ending, is_typed_kind, mark_given, nowhere,
-    push_node, sum,
+    Ending, HostMember, MemberCall, Shape, Term, Tree, given_ending, is_typed_kind, mark_given,
+    nowhere, push_node, sum,
 };
 use bound_project::{ArgumentNames, DeclaredType, Draft, ElementType, NodeKind};
 use std::alloc::Global;
 use vba_base::{OrMemory, Place};
-use vba_expression::ExpressionNode;
 use vba_words::Identifier;
 
 /// The node that looks for a member.
@@ -31,19 +30,19 @@ fn there_kind(name: u32, names: Option<ArgumentNames>, given: u32) -> NodeKind
     }
 }
 
-/// A member of the object that was pushed, whose arguments are to come in these nodes.
-pub fn open_member(
+/// A member of the object that was pushed, whose arguments, these, are to come.
+pub fn open_member<'a>(
     alloc: Global,
     draft: &mut Draft,
     place: Place,
     member: HostMember,
-    nodes: &[ExpressionNode],
+    shapes: &[Shape<'a>],
 ) -> Result<MemberCall, OrMemory<NotYet>>
     requires { member.name < length (draft_view draft.old).tables.constants }
     ensures { IfOk result (λ call. OpensMember place member (draft_view draft.old) (draft_view draft.new) call) }
 {
-    let given = given_ahead(nodes);
-    let names = names_ahead(alloc, draft, nodes)?;
+    let given = given_ahead(shapes);
+    let names = names_ahead(alloc, draft, shapes)?;
     let there = there_kind(member.name, names, given);
     push_node(draft, there, member.of, place)?;
     Ok(MemberCall {

@@ -7,11 +7,13 @@ mod calls;
 mod kinds;
 mod members;
 mod names;
+mod taking;
 
-pub use ahead::given_ahead;
+pub use ahead::{links_of, shapes_ahead, shapes_at};
 pub use calls::{add_given, add_missing, add_named, close_member, names_fit, open_member};
 pub use kinds::{HostKind, kind_of_ending, kind_of_type};
 pub use members::{find_member, is_word, takes_arguments};
+pub use taking::{arguments_rule, member_takes};
 
 // What stands below, for the crates above.
 pub use bound_calls;

@@ -347,13 +347,16 @@ fn takes_behind(of: DeclaredType, count: u32) -> bool
     }
 }
 
-/// Does a member take so many arguments?
+/// Does a member take so many arguments? One that takes two or none doesn't take one.
 pub fn takes_arguments(member: HostMember, count: u32) -> bool
     ensures { (t : Tables) → result ≡ bound.takes_arguments (member_is t member) count }
 {
     match member.greatest {
         None => true,
         Some(0) => takes_behind(member.of, count),
-        Some(greatest) => member.least <= count && count <= greatest,
+        Some(greatest) => {
+            let is_half = member.least == 0 && count == 1;
+            member.least <= count && (count <= greatest && !is_half)
+        }
     }
 }

@@ -8,14 +8,13 @@ ghost use Rattle.vba_meaning.specs.ByName.{any_given, parameter_named, parameter
 ghost use Rattle.bound_calls.specs.Standing.{member_is};
 ghost use Rattle.bound_members.specs.Names.{AddsName, TellsNames, is_next};
 
-use crate::ahead::{before_names, depth_behind, ends_all, named_at};
+use crate::ahead::before_names;
 use crate::members::is_word;
 use bound_calls::bound_declarations::NotYet;
-use bound_calls::{HostMember, constant_number, order_number};
+use bound_calls::{HostMember, Shape, constant_number, order_number};
 use bound_project::{ArgumentNames, Draft};
 use std::alloc::Global;
 use vba_base::{NoMemory, OrMemory, Units};
-use vba_expression::ExpressionNode;
 use vba_values::Value;
 use vba_words::Identifier;
 
@@ -34,54 +33,48 @@ fn add_name(
     Ok(())
 }
 
-/// One more name, where a node is an outermost argument that has one.
-fn add_node(
+/// One more name, where an argument has one.
+fn add_shape<'a>(
     alloc: Global,
     draft: &mut Draft,
-    node: &ExpressionNode,
-    depth: u32,
+    shape: Shape<'a>,
     order: &mut Vec<u32>,
 ) -> Result<(), NoMemory>
     ensures { OnOk result (AddsName (draft_view draft.old) order.old.items (draft_view draft.new) order.new.items) }
 {
-    match named_at(node, depth) {
+    match shape.name {
         Some(name) => add_name(alloc, draft, name, order),
         None => Ok(()),
     }
 }
 
 /// The constants that are the names of the arguments to come.
-fn add_names(
+fn add_names<'a>(
     alloc: Global,
     draft: &mut Draft,
-    nodes: &[ExpressionNode],
+    shapes: &[Shape<'a>],
 ) -> Result<Vec<u32>, NoMemory>
     ensures { IfOk result (λ order. AddsName (draft_view draft.old) [] (draft_view draft.new) order.items) }
 {
     let mut order = Vec::new(alloc);
-    let mut depth: u32 = 0;
-    for node in nodes {
-        if ends_all(node, depth) {
-            return Ok(order);
-        }
-        add_node(alloc, draft, node, depth, &mut order)?;
-        depth = depth_behind(node, depth);
+    for shape in shapes {
+        add_shape(alloc, draft, *shape, &mut order)?;
     }
     Ok(order)
 }
 
 /// How the arguments are named that are to come, where some of them are.
-pub fn names_ahead(
+pub fn names_ahead<'a>(
     alloc: Global,
     draft: &mut Draft,
-    nodes: &[ExpressionNode],
+    shapes: &[Shape<'a>],
 ) -> Result<Option<ArgumentNames>, NoMemory>
     ensures { IfOk result (λ names. TellsNames (draft_view draft.old) (draft_view draft.new) names) }
 {
-    let Some(before) = before_names(nodes) else {
+    let Some(before) = before_names(shapes) else {
         return Ok(None);
     };
-    let order = add_names(alloc, draft, nodes)?;
+    let order = add_names(alloc, draft, shapes)?;
     let order = order_number(draft, order)?;
     Ok(Some(ArgumentNames { before, order }))
 }
@@ -98,7 +91,7 @@ pub fn is_next(draft: &Draft, names: ArgumentNames, count: u32, name: &Identifie
 }
 
 /// Names of parameters.
-type Parameters = &'static [&'static [u8]];
+pub type Parameters = &'static [&'static [u8]];
 
 const INDEX: Parameters = &[b"index"];
 
@@ -107,7 +100,7 @@ const ADDRESS: Parameters = &[b"address"];
 const ROW_AND_COLUMN: Parameters = &[b"r", b"c"];
 
 /// The names that parameters of a member have, by the greatest number of its arguments.
-fn known_parameters(name: &[u16], greatest: u32) -> Parameters
+pub fn known_parameters(name: &[u16], greatest: u32) -> Parameters
     ensures names { map (λ w. w.now) result.now ≡ bound.known_parameters name.now (Some greatest) }
     ensures few { length result.now < 4 }
 {
@@ -124,7 +117,7 @@ fn known_parameters(name: &[u16], greatest: u32) -> Parameters
 }
 
 /// The number of the parameter with a name, counted from one on.
-fn parameter_named(first: u32, parameters: &[&[u8]], name: &[u16]) -> Option<u32>
+pub fn parameter_named(first: u32, parameters: &[&[u8]], name: &[u16]) -> Option<u32>
     requires { first + length parameters.now < 2 ^ 32 }
     ensures { result ≡ parameter_named first (map (λ w. w.now) parameters.now) name.now }
 {

@@ -258,9 +258,9 @@ behind_place env place dot at bounded lends f d e y p = record {
   there = λ z below k. ap (λ (w : terms.Term). may_be_class w) k.is;
 }
 
--- a value of a user type is no Boolean
+-- a value of a user type isn't what TypeOf gives
 type_is_none : (made : bound.Node) (of : DeclaredType) → is_some (user_type_in of) ≡ true → may_be_class (a_value made (declared_view of)) ≡ false
-type_is_none (host_object reference) of h = refl
+type_is_none (bound.is_type e u) (Plain (element.UserType number)) h = refl
 type_is_none made (Plain (element.UserType number)) h = refl
 type_is_none made of h = let e : false ≡ true = h in absurd cc
 

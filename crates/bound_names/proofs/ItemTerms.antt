@@ -8,7 +8,7 @@ use Rattle.bound_project.specs.declared.declared_type.DeclaredType.{DeclaredType
 use Rattle.bound_project.specs.declared.node.NodeKind.{NodeKind}
 use Rattle.bound_project.specs.declared.node.NodeKind.TheVariants as kinds
 use Rattle.bound_project.specs.View.{declared_view}
-use Rattle.bound_project.specs.Expressions.{active_sheet, host_object, load, marked, no_exprs, also, Lvalue}
+use Rattle.bound_project.specs.Expressions.{active_sheet, is_type, load, marked, no_exprs, also, Lvalue}
 use Rattle.bound_project.specs.Expressions as bound
 use Rattle.bound_project.specs.Pieces.{Piece, Tables, an_expr, of_place, expr_of, put, put_kind}
 use Rattle.bound_project.specs.Project.{nowhere}
@@ -26,15 +26,18 @@ use Rattle.bound_members.specs.bound_calls.specs.Standing.{Grown, TermNamed, Ter
 use Rattle.bound_members.specs.bound_calls.specs.Steps.{MakesLeaf}
 use Rattle.bound_members.specs.bound_calls.specs.Taking.{PushesSheet}
 use Rattle.bound_members.specs.bound_calls.proofs.Growing.{grown_same, grown_pieces, grown_twice}
+use Rattle.bound_members.specs.bound_calls.proofs.LastNodes.{any_node}
 use Rattle.bound_members.specs.bound_calls.proofs.Taking.{named_still, sheet_stands}
+use Rattle.bound_members.specs.bound_calls.proofs.TypedNodes.{typed_made}
 use Rattle.bound_members.specs.declared.kinds.HostKind as declared
 use Rattle.bound_members.specs.declared.kinds.HostKind.TheVariants as declared_kind
 use Rattle.bound_members.specs.Kinds.{EndingOfKind, kind_view}
 use Rattle.bound_members.specs.Members.{Finds, FindsMember}
-use Rattle.bound_names.specs.Items.{FindsBehindPlace, FindsBehindValue, LacksMembers, MakesItem, found_term, may_be_class, takes_item, unknown_term}
+use Rattle.bound_names.specs.Items.{FindsBehindPlace, FindsBehindValue, LacksMembers, MakesItem, MakesPlaceItem, MakesValueItem, ValueLacks, found_term, is_host_term, may_be_class, unknown_term}
+use Rattle.bound_names.proofs.Tested.{no_test_made}
 
 -- an object of a kind that is known
-of_kind : (place dot : Place) (node : bound.Node) (of : Declared) (fold : List ℕ) (k : HostKind) → host_kind node of ≡ Some k → object_member place dot node of fold ≡ member_of_kind k dot (expression_of node place of) fold
+pub of_kind : (place dot : Place) (node : bound.Node) (of : Declared) (fold : List ℕ) (k : HostKind) → host_kind node of ≡ Some k → object_member place dot node of fold ≡ member_of_kind k dot (expression_of node place of) fold
 of_kind place dot node of fold k h =
     ap (λ (o : Option HostKind). unwrap_or (option_map (λ (x : HostKind). member_of_kind x dot (expression_of node place of) fold) o) (member_of_other dot (expression_of node place of))) h
 
@@ -85,10 +88,10 @@ behind_place place at fold k d b c e found h one two f =
           (ap (λ (st : List Piece). of_place (λ (y : Lvalue). expr_of (node_of kinds.Load place at.of) (load y)) st) (ends (node_of at.kind place at.of)));
     }) f
 
--- a place of no object's type
-other_unknown : (place dot : Place) (x : Lvalue) (of : Declared) (fold : List ℕ) → kind_by_type of ≡ None → is_object of ≡ false → object_member place dot (load x) of fold ≡ unknown_member dot (expression_of (load x) place of)
-other_unknown place dot x of fold h o =
-    let e = expression_of (load x) place of in
+-- what is of no object's type
+other_unknown : (place dot : Place) (node : bound.Node) (of : Declared) (fold : List ℕ) → host_kind node of ≡ None → is_object of ≡ false → object_member place dot node of fold ≡ unknown_member dot (expression_of node place of)
+other_unknown place dot node of fold h o =
+    let e = expression_of node place of in
     ap (λ (z : Option HostKind). unwrap_or (option_map (λ (k : HostKind). member_of_kind k dot e fold) z) (member_of_other dot e)) h ∙ ap (λ (b : Bool). if b then no_term else unknown_member dot e) o
 
 pub behind_other : (place : Place) (at : Ending) (fold : List ℕ) (d b c : Drafted) (found : Option HostMember) → kind_by_type (declared_view at.of) ≡ None → LacksMembers at.of found → b ≡ one_more d at.kind at.of place
@@ -103,14 +106,13 @@ behind_other place at fold d b c found h lacks one two =
       grown = grown_twice d b1 c1 (grown_pieces d b1.pieces) (grown_pieces b1 c1.pieces);
       named = λ dot. tt;
       stands = λ env dot x below ends.
-          unknown_stands env d.tables dot (expression_of (load x) place (declared_view at.of)) (object_member place dot (load x) (declared_view at.of) fold) c1.pieces below (other_unknown place dot x (declared_view at.of) fold h lacks.no_object)
+          unknown_stands env d.tables dot (expression_of (load x) place (declared_view at.of)) (object_member place dot (load x) (declared_view at.of) fold) c1.pieces below (other_unknown place dot (load x) (declared_view at.of) fold h lacks.no_object)
           (ap (λ (st : List Piece). of_place (λ (y : Lvalue). expr_of (node_of kinds.Load place at.of) (load y)) st) (ends (node_of at.kind place at.of)));
     }))
 
--- an object of a kind is no Boolean
+-- an object of a kind isn't what TypeOf gives
 kind_is_none : (made : bound.Node) (of : Declared) (k : HostKind) → host_kind made of ≡ Some k → may_be_class (a_value made of) ≡ false
-kind_is_none (host_object reference) of k h = refl
-kind_is_none made type.boolean k h = let e : None ≡ Some k = h in absurd cc
+kind_is_none (is_type e u) type.boolean k h = let e : None ≡ Some k = h in absurd cc
 kind_is_none made of k h = refl
 
 pub behind_value : (place : Place) (ending : Ending) (fold : List ℕ) (k : declared.HostKind) (d b e : Drafted) (found : Option HostMember) → EndingOfKind ending k → b ≡ one_more d ending.kind ending.of place → Finds k fold b e found
@@ -126,6 +128,23 @@ behind_value place ending fold k d b e found h one f =
       there = λ made below ends. kind_is_none made (declared_view ending.of) (kind_view k) (h d.tables made d.pieces below ends);
     }) f
 
+-- a value of no object's type
+pub behind_other_value : (place : Place) (ending : Ending) (fold : List ℕ) (d b : Drafted) (found : Option HostMember) → ValueLacks ending found → b ≡ one_more d ending.kind ending.of place → FindsBehindValue place ending fold d b found
+behind_other_value place ending fold d b found lacks one =
+    let b1 = one_more d ending.kind ending.of place in
+    let of = declared_view ending.of in
+    let P : Drafted → Type 0 = λ (z : Drafted). FindsBehindValue place ending fold d z found in
+    let Q : Option HostMember → Type 0 = λ (o : Option HostMember). FindsBehindValue place ending fold d b1 o in
+    subst P (sym one) (subst Q (sym lacks.lacks.none) (record {
+      grown = grown_pieces d b1.pieces;
+      named = λ dot. tt;
+      stands = λ env dot made below ends.
+          let no_kind : host_kind made of ≡ None = typed_made d.tables any_node ending.kind made d.pieces below lacks.typed (ends any_node) of ∙ lacks.no_kind in
+          unknown_stands env d.tables dot (expression_of made place of) (object_member place dot made of fold) b1.pieces below (other_unknown place dot made of fold no_kind lacks.lacks.no_object)
+          (ends (node_of ending.kind place ending.of));
+      there = λ made below ends. no_test_made d.tables any_node ending.kind made d.pieces below lacks.typed lacks.no_test (ends any_node) of;
+    }))
+
 -- a member of the active sheet
 pub sheet_leaf : (fold : List ℕ) (d e : Drafted) (m : HostMember) → FindsMember declared_kind.Sheet fold d e m → (env : Env) → MakesLeaf env d e (term.SheetMember m) (object_member nowhere nowhere active_sheet type.worksheet fold)
 sheet_leaf fold d e m f env = record {
@@ -137,28 +156,27 @@ sheet_leaf fold d e m f env = record {
 
 -- ---- before brackets
 
-item_place : (place : Place) (x : Lvalue) (of : Declared) (bounded lends : Bool) → is_host_type of ≡ true → item_of place (plain.a_place x of bounded lends) ≡ object_member place place (load x) of (codes "item")
+pub item_place : (place : Place) (x : Lvalue) (of : Declared) (bounded lends : Bool) → is_host_type of ≡ true → item_of place (plain.a_place x of bounded lends) ≡ object_member place place (load x) of (codes "item")
 item_place place x of bounded lends h = ap (λ (b : Bool). if b then object_member place place (load x) of (codes "item") else plain.a_place x of bounded lends) h
 
-item_value : (place : Place) (node : bound.Node) (of : Declared) → is_host_type of ≡ true → item_of place (a_value node of) ≡ object_member place place node of (codes "item")
+pub item_value : (place : Place) (node : bound.Node) (of : Declared) → is_host_type of ≡ true → item_of place (a_value node of) ≡ object_member place place node of (codes "item")
 item_value place node of h = ap (λ (b : Bool). if b then object_member place place node of (codes "item") else a_value node of) h
 
-pub place_item : (place : Place) (kind : NodeKind) (of : DeclaredType) (bounded lends : Bool) (d e : Drafted) (m : HostMember) → is_host_type (declared_view of) ≡ true
-    → FindsBehindPlace place (record { kind = kind; of = of }) (codes "item") d e (Some m) → MakesItem place (term.Place kind of bounded lends) d e (term.HostMember m)
-place_item place kind of bounded lends d e m h f = record {
+pub place_item : (place : Place) (at : Ending) (d e : Drafted) (found : Option HostMember) → FindsBehindPlace place at (codes "item") d e found → MakesPlaceItem place at d e (found_term found place)
+place_item place at d e found f = λ bounded lends h. record {
   grown = f.grown;
   named = f.named place;
   stands = λ env z below k.
-      let A : plain.Term → Type 0 = λ (w : plain.Term). TermStands env e.tables (term.HostMember m) w e.pieces below in
-      subst A (sym (ap (λ (w : plain.Term). item_of place w) k.is ∙ item_place place k.at (declared_view of) bounded lends h)) (f.stands env place k.at below k.ends);
+      let A : plain.Term → Type 0 = λ (w : plain.Term). TermStands env e.tables (found_term found place) w e.pieces below in
+      subst A (sym (ap (λ (w : plain.Term). item_of place w) k.is ∙ item_place place k.at (declared_view at.of) bounded lends h)) (f.stands env place k.at below k.ends);
 }
 
-pub value_item : (place : Place) (v : Ending) (d e : Drafted) (m : HostMember) → is_host_type (declared_view v.of) ≡ true → FindsBehindValue place v (codes "item") d e (Some m) → MakesItem place (term.Value v) d e (term.HostMember m)
-value_item place v d e m h f = record {
+pub value_item : (place : Place) (v : Ending) (d e : Drafted) (found : Option HostMember) → FindsBehindValue place v (codes "item") d e found → MakesValueItem place v d e (found_term found place)
+value_item place v d e found f = λ h. record {
   grown = f.grown;
   named = f.named place;
   stands = λ env z below k.
-      let A : plain.Term → Type 0 = λ (w : plain.Term). TermStands env e.tables (term.HostMember m) w e.pieces below in
+      let A : plain.Term → Type 0 = λ (w : plain.Term). TermStands env e.tables (found_term found place) w e.pieces below in
       subst A (sym (ap (λ (w : plain.Term). item_of place w) k.is ∙ item_value place k.made (declared_view v.of) h)) (f.stands env place k.made below k.ends);
 }
 
@@ -186,7 +204,7 @@ no_value place node of h = ap (λ (b : Bool). if b then object_member place plac
 Same : Place → plain.Term → Type 0
 Same place w = item_of place w ≡ w
 
-same_item : (env : Env) (t : Tables) (place : Place) (x : Term) (z : plain.Term) (ps below : List Piece) → takes_item x ≡ false → TermStands env t x z ps below → item_of place z ≡ z
+pub same_item : (env : Env) (t : Tables) (place : Place) (x : Term) (z : plain.Term) (ps below : List Piece) → is_host_term x ≡ false → TermStands env t x z ps below → item_of place z ≡ z
 unfolding Same
 same_item env t place (term.Place kind of bounded lends) z ps below h k = subst (Same place) (sym k.is) (no_place place k.at (declared_view of) bounded lends h)
 same_item env t place (term.Value v) z ps below h k = subst (Same place) (sym k.is) (no_value place k.made (declared_view v.of) h)
@@ -201,7 +219,7 @@ same_item env t place term.ErrClear z ps below h k = subst (Same place) (sym k.0
 same_item env t place term.ErrorWord z ps below h k = subst (Same place) (sym k.0) refl
 same_item env t place term.Nothing z ps below h k = subst (Same place) (sym k) refl
 
-pub other_item : (place : Place) (x : Term) (d : Drafted) → TermNamed d.tables x → takes_item x ≡ false → MakesItem place x d d x
+pub other_item : (place : Place) (x : Term) (d : Drafted) → TermNamed d.tables x → is_host_term x ≡ false → MakesItem place x d d x
 other_item place x d n h = record {
   grown = grown_same d;
   named = n;

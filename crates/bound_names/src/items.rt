@@ -3,16 +3,19 @@
 ghost use Rattle.std.specs.Prelude.{◌≡◌, true, codes, IfOk, Some};
 ghost use Rattle.bound_project.specs.DraftView.{draft_view};
 ghost use Rattle.bound_project.specs.Drafts.{NodeNamed};
-ghost use Rattle.bound_names.specs.Items.{FindsBehindPlace, FindsBehindValue, LacksMembers, MakesItem, found_term, takes_item, unknown_term};
+ghost use Rattle.bound_names.specs.Items.{FindsBehindPlace, FindsBehindValue, LacksMembers, MakesItem, MakesPlaceItem, MakesValueItem, ValueLacks, found_term, is_bare, is_host_term, is_sheet, is_test, lacks_item, takes_item, unknown_term};
 ghost use Rattle.bound_members.specs.bound_calls.specs.Standing.{TermNamed};
 
-use bound_members::bound_calls::{Ending, HostMember, Term, is_host_type, push_node, push_sheet};
+use bound_members::bound_calls::{
+    Ending, HostMember, Term, is_host_type, is_typed_kind, push_node, push_sheet,
+};
 use bound_members::bound_declarations::NotYet;
 use bound_members::declared_names::is_object;
 use bound_members::{find_member, kind_of_ending, kind_of_type};
 use bound_project::{DeclaredType, Draft, ElementType, NodeKind};
 use std::alloc::Global;
 use vba_base::{NoMemory, OrMemory, Place, Refusal, Units};
+use vba_values::HostRef;
 
 /// An ASCII word.
 fn word(alloc: Global, bytes: &[u8]) -> Result<Units, NoMemory>
@@ -79,6 +82,33 @@ pub fn behind_object_place(
     }
 }
 
+/// Is a node the last one of what TypeOf gives?
+fn is_test(kind: NodeKind) -> bool
+    ensures { result ≡ is_test kind }
+{
+    match kind {
+        NodeKind::IsType(_) => true,
+        _ => false,
+    }
+}
+
+/// A value of no object's type has no members. What TypeOf gives isn't looked at: a dot behind that belongs to the
+/// class.
+fn behind_other_value(ending: Ending) -> Result<Option<HostMember>, OrMemory<NotYet>>
+    ensures { IfOk result (λ found. ValueLacks ending found) }
+{
+    if is_test(ending.kind) {
+        return Err(OrMemory::Fault(NotYet));
+    }
+    if !is_typed_kind(ending.kind) {
+        return Err(OrMemory::Fault(NotYet));
+    }
+    match kind_of_type(ending.of) {
+        None => behind_other_place(ending.of),
+        Some(_) => Err(OrMemory::Fault(NotYet)),
+    }
+}
+
 /// A member of the object that a value gives, which is pushed; none where there is none.
 pub fn behind_object_value(
     draft: &mut Draft,
@@ -89,16 +119,16 @@ pub fn behind_object_value(
     requires { NodeNamed (draft_view draft.old).tables ending.kind }
     ensures { IfOk result (λ found. FindsBehindValue place ending name (draft_view draft.old) (draft_view draft.new) found) }
 {
-    let Some(kind) = kind_of_ending(ending) else {
-        return Err(OrMemory::Fault(NotYet));
-    };
     push_node(draft, ending.kind, ending.of, place)?;
-    find_member(draft, kind, name)
+    match kind_of_ending(ending) {
+        None => behind_other_value(ending),
+        Some(kind) => find_member(draft, kind, name),
+    }
 }
 
-/// Do brackets behind a term take a member of an object?
-pub fn takes_item<'a>(term: Term<'a>) -> bool
-    ensures { result ≡ takes_item term.entry }
+/// Is a term an object, behind which brackets take a member?
+fn is_host_term<'a>(term: Term<'a>) -> bool
+    ensures { result ≡ is_host_term term.entry }
 {
     match term {
         Term::Place { of, .. } => is_host_type(of),
@@ -109,64 +139,107 @@ pub fn takes_item<'a>(term: Term<'a>) -> bool
     }
 }
 
-/// The member of an object at a place that brackets take.
-fn place_item(
+/// Is a type that of sheets?
+fn is_sheet(of: DeclaredType) -> bool
+    ensures { result ≡ is_sheet of }
+{
+    match of {
+        DeclaredType::Plain(ElementType::Worksheet) => true,
+        _ => false,
+    }
+}
+
+/// Is a node the last one of Application, or of the workbook?
+fn is_bare(kind: NodeKind) -> bool
+    ensures { result ≡ is_bare kind }
+{
+    match kind {
+        NodeKind::HostObject(HostRef::Application) => true,
+        NodeKind::HostObject(HostRef::Workbook) => true,
+        _ => false,
+    }
+}
+
+/// Is a term an object without a default member with arguments: a sheet, the workbook, or Application?
+pub fn lacks_item<'a>(term: Term<'a>) -> bool
+    ensures { result ≡ lacks_item term.entry }
+{
+    match term {
+        Term::Place { of, .. } => is_sheet(of),
+        Term::Value(ending) => {
+            if is_sheet(ending.of) {
+                is_typed_kind(ending.kind)
+            } else {
+                is_host_type(ending.of) && is_bare(ending.kind)
+            }
+        }
+        _ => false,
+    }
+}
+
+/// Do brackets behind a term take a member of an object?
+pub fn takes_item<'a>(term: Term<'a>) -> bool
+    ensures { result ≡ takes_item term.entry }
+{
+    is_host_term(term) && !lacks_item(term)
+}
+
+/// What brackets take of an object at a place: a member, or what is told where there is none.
+fn place_item<'a>(
     alloc: Global,
     draft: &mut Draft,
     place: Place,
     at: Ending,
-) -> Result<HostMember, OrMemory<NotYet>>
+) -> Result<Term<'a>, OrMemory<NotYet>>
     requires { NodeNamed (draft_view draft.old).tables at.kind }
-    ensures { IfOk result (λ member. FindsBehindPlace place at (codes "item") (draft_view draft.old) (draft_view draft.new) (Some member)) }
+    ensures { IfOk result (λ item. MakesPlaceItem place at (draft_view draft.old) (draft_view draft.new) item) }
 {
     let item = word(alloc, b"item")?;
-    let Some(member) = behind_object_place(draft, place, at, item)? else {
-        return Err(OrMemory::Fault(NotYet));
-    };
-    Ok(member)
+    let found = behind_object_place(draft, place, at, item)?;
+    Ok(found_term(found, place))
 }
 
 /// The same of an object that a value gives.
-fn value_item(
+fn value_item<'a>(
     alloc: Global,
     draft: &mut Draft,
     place: Place,
     ending: Ending,
-) -> Result<HostMember, OrMemory<NotYet>>
+) -> Result<Term<'a>, OrMemory<NotYet>>
     requires { NodeNamed (draft_view draft.old).tables ending.kind }
-    ensures { IfOk result (λ member. FindsBehindValue place ending (codes "item") (draft_view draft.old) (draft_view draft.new) (Some member)) }
+    ensures { IfOk result (λ item. MakesValueItem place ending (draft_view draft.old) (draft_view draft.new) item) }
 {
     let item = word(alloc, b"item")?;
-    let Some(member) = behind_object_value(draft, place, ending, item)? else {
-        return Err(OrMemory::Fault(NotYet));
-    };
-    Ok(member)
+    let found = behind_object_value(draft, place, ending, item)?;
+    Ok(found_term(found, place))
 }
 
-/// The member that brackets behind a term take: of an object its default member with arguments. The object is pushed.
-pub fn item_member<'a>(
+/// What brackets behind an object take, which is pushed: its default member with arguments, or what is told where it
+/// has none.
+fn host_item<'a>(
     alloc: Global,
     draft: &mut Draft,
     place: Place,
     term: Term<'a>,
-) -> Result<HostMember, OrMemory<NotYet>>
+) -> Result<Term<'a>, OrMemory<NotYet>>
     requires named { TermNamed (draft_view draft.old).tables term }
-    requires item { takes_item term ≡ true }
-    ensures { IfOk result (λ member. MakesItem place term.entry (draft_view draft.old) (draft_view draft.new) (Term.HostMember member)) }
+    requires object { is_host_term term ≡ true }
+    ensures { IfOk result (λ item. MakesItem place term.entry (draft_view draft.old) (draft_view draft.new) item) }
 {
     match term {
         Term::Place { kind, of, .. } => place_item(alloc, draft, place, Ending { kind, of }),
         Term::Value(ending) => value_item(alloc, draft, place, ending),
-        Term::HostMember(member) => Ok(member),
+        Term::HostMember(_) => Ok(term),
         Term::SheetMember(member) => {
             push_sheet(draft)?;
-            Ok(member)
+            Ok(Term::HostMember(member))
         }
         _ => Err(OrMemory::Fault(NotYet)),
     }
 }
 
-/// What brackets behind a term take: of an object its default member with arguments, whose object is pushed.
+/// What brackets behind a term take: of an object, which is pushed, its default member with arguments, or what is
+/// told where it has none.
 pub fn item_term<'a>(
     alloc: Global,
     draft: &mut Draft,
@@ -176,9 +249,24 @@ pub fn item_term<'a>(
     requires { TermNamed (draft_view draft.old).tables term }
     ensures { IfOk result (λ item. MakesItem place term.entry (draft_view draft.old) (draft_view draft.new) item) }
 {
-    if takes_item(term) {
-        let member = item_member(alloc, draft, place, term)?;
-        return Ok(Term::HostMember(member));
+    if is_host_term(term) {
+        return host_item(alloc, draft, place, term);
     }
     Ok(term)
+}
+
+/// The member that brackets behind a term take: of an object its default member with arguments. The object is pushed.
+pub fn item_member<'a>(
+    alloc: Global,
+    draft: &mut Draft,
+    place: Place,
+    term: Term<'a>,
+) -> Result<HostMember, OrMemory<NotYet>>
+    requires { TermNamed (draft_view draft.old).tables term }
+    ensures { IfOk result (λ member. MakesItem place term.entry (draft_view draft.old) (draft_view draft.new) (Term.HostMember member)) }
+{
+    match item_term(alloc, draft, place, term)? {
+        Term::HostMember(member) => Ok(member),
+        _ => Err(OrMemory::Fault(NotYet)),
+    }
 }

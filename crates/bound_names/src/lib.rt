@@ -14,7 +14,7 @@ mod routines;
 pub use callee::callee_term;
 pub use env::{Env, Within};
 pub use fields::step_with_member;
-pub use items::{item_member, item_term, takes_item};
+pub use items::{item_member, item_term, lacks_item, takes_item};
 pub use members::step_member;
 pub use names::{meant_term, meant_variable};
 pub use properties::{Writer, writer_of};

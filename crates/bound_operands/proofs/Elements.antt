@@ -24,7 +24,7 @@ use Rattle.bound_project.specs.Pieces.{Piece, Tables, an_expr, a_place, exprs_of
 use Rattle.bound_project.specs.Drafts.{Drafted}
 use Rattle.bound_members.specs.bound_forms.specs.Terms.{Env, Given, a_value, expression_of, has_names, listed_values}
 use Rattle.bound_members.specs.bound_forms.specs.Terms as terms
-use Rattle.bound_members.specs.bound_forms.specs.ExpressionsBound.{are_numbers, numbers_of, element_place, element_type, with_type, indexed, is_host_type, item_of, object_member, callee, term_of, operand_of, givens, place_told}
+use Rattle.bound_members.specs.bound_forms.specs.ExpressionsBound.{are_numbers, numbers_of, element_place, element_type, with_type, indexed, is_host_type, item_of, object_member, callee, term_of, operand_of, givens, place_told, term_or, wrong_term}
 use Rattle.bound_members.specs.bound_calls.specs.declared.term.Ending.{Ending}
 use Rattle.bound_members.specs.bound_calls.specs.declared.term.Routine.{Routine}
 use Rattle.bound_members.specs.bound_calls.specs.declared.term.Term.{Term}
@@ -141,13 +141,15 @@ place_indexed : (env : Env) (place : Place) (at : Lvalue) (whole : Declared) (bo
     → indexed env place (terms.a_place at whole bounded lends) gs ≡ terms.a_place (element_place at es) of false lends
 place_indexed env place at whole bounded lends gs of es h k =
     let T : Declared → Exprs → terms.Term = λ (u : Declared) (xs : Exprs). terms.a_place (element_place at xs) u false lends in
-    ap (λ (o : Option Declared). with_type o (numbers_of (operand_of env) gs) T) h ∙ ap (λ (o : Option Exprs). with_type (Some of) o T) k
+    let wrong = wrong_term env place (terms.a_place at whole bounded lends) gs in
+    ap (λ (o : Option Declared). term_or (with_type o (numbers_of (operand_of env) gs) T) wrong) h ∙ ap (λ (o : Option Exprs). term_or (with_type (Some of) o T) wrong) k
 
-value_indexed : (env : Env) (place : Place) (made : bound.Node) (whole : Declared) (gs : List Given) (of : Declared) (es : Exprs) → element_type whole ≡ Some of → numbers_of (operand_of env) gs ≡ Some es
+pub value_indexed : (env : Env) (place : Place) (made : bound.Node) (whole : Declared) (gs : List Given) (of : Declared) (es : Exprs) → element_type whole ≡ Some of → numbers_of (operand_of env) gs ≡ Some es
     → indexed env place (a_value made whole) gs ≡ a_value (element_value (expression_of made place whole) es) of
 value_indexed env place made whole gs of es h k =
     let T : Declared → Exprs → terms.Term = λ (u : Declared) (xs : Exprs). a_value (element_value (expression_of made place whole) xs) u in
-    ap (λ (o : Option Declared). with_type o (numbers_of (operand_of env) gs) T) h ∙ ap (λ (o : Option Exprs). with_type (Some of) o T) k
+    let wrong = wrong_term env place (a_value made whole) gs in
+    ap (λ (o : Option Declared). term_or (with_type o (numbers_of (operand_of env) gs) T) wrong) h ∙ ap (λ (o : Option Exprs). term_or (with_type (Some of) o T) wrong) k
 
 -- ---- arguments begin
 

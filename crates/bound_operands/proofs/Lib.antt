@@ -2,3 +2,4 @@ pub mod NamedMembers
 pub mod Elements
 pub mod Library
 pub mod ParamArrays
+pub mod Untaking

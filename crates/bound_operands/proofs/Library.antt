@@ -34,7 +34,7 @@ use Rattle.bound_members.specs.binder.specs.Constants.{compare_in}
 use Rattle.bound_members.specs.binder.specs.Options.{from_two}
 use Rattle.bound_members.specs.bound_forms.specs.Terms.{Env, Given, a_value, given_to, has_names}
 use Rattle.bound_members.specs.bound_forms.specs.Terms as terms
-use Rattle.bound_members.specs.bound_forms.specs.ExpressionsBound.{callee, first_given, function_called, function_takes, function_value, function_values, givens, has_start, if_there, indexed, is_wrong, item_of, lacks_needed, needs, taken_as, takes_count, taking, term_of, place_told}
+use Rattle.bound_members.specs.bound_forms.specs.ExpressionsBound.{callee, first_given, function_called, function_takes, function_value, function_values, givens, has_start, if_there, indexed, is_wrong, item_of, lacks_needed, needs, taken_as, takes_count, taking, term_of, place_told, term_or}
 use Rattle.bound_members.specs.bound_calls.specs.declared.term.Ending.{Ending}
 use Rattle.bound_members.specs.bound_calls.specs.declared.term.Function.{Function}
 use Rattle.bound_members.specs.bound_calls.specs.declared.term.FunctionCall.{FunctionCall}
@@ -336,7 +336,8 @@ ends_function x of takes typed = record {
       let A : terms.Term → Type 0 = λ (z : terms.Term). indexed env (place_told e) (item_of (place_told e) z) gs ≡ a_value (library f.function f.is_text_form (exprs_of s.made) f.compare (base_view f.is_base_one)) (declared_view of) in
       record {
         made = library f.function f.is_text_form (exprs_of s.made) f.compare (base_view f.is_base_one);
-        is = subst A (sym s.function_is.is) (called_is env (place_told e) f.function f.is_text_form f.is_base_one f.compare of gs s.made s.function_is.compare_is (takes_them env x e args ps below s ∙ takes) typed s.values);
+        is = subst A (sym s.function_is.is)
+            (ap (λ (z : terms.Term). term_or z terms.no_term) (called_is env (place_told e) f.function f.is_text_form f.is_base_one f.compare of gs s.made s.function_is.compare_is (takes_them env x e args ps below s ∙ takes) typed s.values));
         ends = λ n.
             ap (λ (o : Option (Exprs × List Piece)). of_found (λ (xs : Exprs). expr_of n (library f.function f.is_text_form xs f.compare (base_view f.is_base_one))) o) (taken_off x.count s.made ps below s.count_is s.on_top);
       };
@@ -358,7 +359,8 @@ ends_untaken x takes = record {
       let B : Place → Type 0 = λ (p : Place). indexed env place (item_of place (callee env e (term_of env e))) gs ≡ a_value (marked (record { rule = 25; place = p }) (exprs_of s.made)) type.variant in
       record {
         made = marked broken (exprs_of s.made);
-        is = subst B (sym s.place_is) (subst A (sym s.function_is.is) (valued_call env place f.function f.is_text_form (base_number f.is_base_one) false gs s.made (takes_them env x e args ps below s ∙ takes) s.values));
+        is = subst B (sym s.place_is) (subst A (sym s.function_is.is)
+            (ap (λ (z : terms.Term). term_or z terms.no_term) (valued_call env place f.function f.is_text_form (base_number f.is_base_one) false gs s.made (takes_them env x e args ps below s ∙ takes) s.values)));
         ends = λ n. ap (λ (o : Option (Exprs × List Piece)). of_found (λ (xs : Exprs). expr_of n (marked broken xs)) o) (taken_off x.count s.made ps below s.count_is s.on_top);
       };
 }

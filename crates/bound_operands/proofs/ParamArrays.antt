@@ -33,7 +33,7 @@ use Rattle.bound_members.specs.binder.specs.Scopes.{Scope}
 use Rattle.bound_members.specs.binder.specs.Storage.{bound_parameters}
 use Rattle.bound_members.specs.bound_forms.specs.Terms.{Env, Given, Item as Taken_item, a_value, are_apart, bound_arguments, built, by_position, has_names, left_over, listed_values, taken_by}
 use Rattle.bound_members.specs.bound_forms.specs.Terms as terms
-use Rattle.bound_members.specs.bound_forms.specs.ExpressionsBound.{argument_of, callee, givens, indexed, operand_of, term_of, place_told}
+use Rattle.bound_members.specs.bound_forms.specs.ExpressionsBound.{argument_of, callee, givens, indexed, operand_of, term_of, term_or, wrong_term, place_told}
 use Rattle.bound_members.specs.bound_calls.specs.declared.term.Call.{Call}
 use Rattle.bound_members.specs.bound_calls.specs.declared.term.Ending.{Ending}
 use Rattle.bound_members.specs.bound_calls.specs.declared.term.Item.{Item}
@@ -74,6 +74,9 @@ first_below (item.Function x) xs p f = let e : None ≡ Some p = f in absurd cc
 first_below (item.Member x) xs p f = let e : None ≡ Some p = f in absurd cc
 first_below (item.Named x) xs p f = let e : None ≡ Some p = f in absurd cc
 first_below item.Gathered xs p f = let e : None ≡ Some p = f in absurd cc
+first_below (item.Untaken x) xs p f = let e : None ≡ Some p = f in absurd cc
+first_below item.Unlisted xs p f = let e : None ≡ Some p = f in absurd cc
+first_below (item.Shape s) xs p f = let e : None ≡ Some p = f in absurd cc
 
 below_gathered : (n : ℕ) (i : Item) (xs : List Item) (p : Passed) → passed_in i ≡ Some p → gathered_below (with_gathered n (i ∷ xs)) ≡ Some p
 below_gathered zero i xs p f = first_below i xs p f
@@ -103,6 +106,9 @@ gather_stands env x (item.Indexed y) xs comma d e g k m (nodes.tree a ∷ is) ba
 gather_stands env x (item.Function y) xs comma d e g k m (nodes.tree a ∷ is) base h = let n : false ≡ true = g in absurd cc
 gather_stands env x (item.Member y) xs comma d e g k m (nodes.tree a ∷ is) base h = let n : false ≡ true = g in absurd cc
 gather_stands env x (item.Named y) xs comma d e g k m (nodes.tree a ∷ is) base h = let n : false ≡ true = g in absurd cc
+gather_stands env x (item.Untaken y) xs comma d e g k m (nodes.tree a ∷ is) base h = let n : false ≡ true = g in absurd cc
+gather_stands env x item.Unlisted xs comma d e g k m (nodes.tree a ∷ is) base h = let n : false ≡ true = g in absurd cc
+gather_stands env x (item.Shape s) xs comma d e g k m (nodes.tree a ∷ is) base h = let n : false ≡ true = g in absurd cc
 gather_stands env x (item.Call y) xs comma d e g k m (nodes.tree a ∷ []) base h = absurd h.1.1
 gather_stands env x (item.Call y) xs comma d e g k m (nodes.tree a ∷ nodes.tree b ∷ is) base h = absurd h.1.1
 gather_stands env x (item.Call y) xs comma d e g k m (nodes.tree a ∷ nodes.arguments args ∷ is) base h =
@@ -160,6 +166,9 @@ missing_stands env (item.Indexed y) xs comma d g is base h = let n : false ≡ t
 missing_stands env (item.Function y) xs comma d g is base h = let n : false ≡ true = g in absurd cc
 missing_stands env (item.Member y) xs comma d g is base h = let n : false ≡ true = g in absurd cc
 missing_stands env (item.Named y) xs comma d g is base h = let n : false ≡ true = g in absurd cc
+missing_stands env (item.Untaken y) xs comma d g is base h = let n : false ≡ true = g in absurd cc
+missing_stands env item.Unlisted xs comma d g is base h = let n : false ≡ true = g in absurd cc
+missing_stands env (item.Shape s) xs comma d g is base h = let n : false ≡ true = g in absurd cc
 missing_stands env (item.Call y) xs comma d g [] base h = absurd h
 missing_stands env (item.Call y) xs comma d g (nodes.tree a ∷ is) base h = absurd h
 missing_stands env (item.Call y) xs comma d g (nodes.arguments args ∷ is) base h = (d.pieces, (none_above env y.passed d.pieces g, h))
@@ -259,18 +268,18 @@ behind_list n [] gs = []
 behind_list n (p ∷ ps) [] = rest_from (suc n) ps
 behind_list n (p ∷ ps) (g ∷ gs) = behind_list (suc n) ps gs
 
-list_position : (value : Declared → terms.Term → Place → Option bound.Expr) (n : ℕ) (p : project.Parameter) (left : List project.Parameter) (g : Given) (ns : List Given) (es : Exprs) → p.many ≡ true → g.name ≡ None → listed_values (value type.variant) (g ∷ ns) ≡ Some es
+list_position : (value : Declared → terms.Term → Place → Option bound.Expr) (n : ℕ) (p : project.Parameter) (left : List project.Parameter) (g : Given) (ns : List Given) (es : Exprs) → p.many ≡ true → g.name ≡ None → has_names ns ≡ false → listed_values (value type.variant) (g ∷ ns) ≡ Some es
     → by_position value n (p ∷ left) (g ∷ ns) ≡ Some (list_item n es ∷ [])
-list_position value n p left g ns es many name listed = rw (name, many, listed) refl
+list_position value n p left g ns es many name others listed = rw (name, many, others, listed) refl
 
 positions : (value : Declared → terms.Term → Place → Option bound.Expr) (n : ℕ) (ps : List project.Parameter) (gs : List Given) (xs : List Argument) (p : project.Parameter) (left : List project.Parameter) (g : Given) (ns : List Given) (es : Exprs)
-    → AllTaken value ps gs xs (p ∷ left) → p.many ≡ true → g.name ≡ None → listed_values (value type.variant) (g ∷ ns) ≡ Some es → by_position value n ps (gs ++ g ∷ ns) ≡ Some (gathered_from value n ps gs es)
-positions value n ps [] [] p left g ns es t many name listed =
-    let A : List project.Parameter → Type 0 = λ l. by_position value n l (g ∷ ns) ≡ Some (gathered_from value n l [] es) in subst A (sym t) (list_position value n p left g ns es many name listed)
-positions value n ps [] (x ∷ xs) p left g ns es t many name listed = absurd t
-positions value n [] (f ∷ gs) xs p left g ns es t many name listed = absurd t
-positions value n (q ∷ ps) (f ∷ gs) [] p left g ns es t many name listed = absurd t
-positions value n (q ∷ ps) (f ∷ gs) (x ∷ xs) p left g ns es t many name listed = rw (t.0.no_name, t.0.no_list, positions value (suc n) ps gs xs p left g ns es t.1 many name listed) refl
+    → AllTaken value ps gs xs (p ∷ left) → p.many ≡ true → g.name ≡ None → has_names ns ≡ false → listed_values (value type.variant) (g ∷ ns) ≡ Some es → by_position value n ps (gs ++ g ∷ ns) ≡ Some (gathered_from value n ps gs es)
+positions value n ps [] [] p left g ns es t many name others listed =
+    let A : List project.Parameter → Type 0 = λ l. by_position value n l (g ∷ ns) ≡ Some (gathered_from value n l [] es) in subst A (sym t) (list_position value n p left g ns es many name others listed)
+positions value n ps [] (x ∷ xs) p left g ns es t many name others listed = absurd t
+positions value n [] (f ∷ gs) xs p left g ns es t many name others listed = absurd t
+positions value n (q ∷ ps) (f ∷ gs) [] p left g ns es t many name others listed = absurd t
+positions value n (q ∷ ps) (f ∷ gs) (x ∷ xs) p left g ns es t many name others listed = rw (t.0.no_name, t.0.no_list, positions value (suc n) ps gs xs p left g ns es t.1 many name others listed) refl
 
 none_before : (value : Declared → terms.Term → Place → Option bound.Expr) (m n : ℕ) (ps : List project.Parameter) (gs : List Given) (es : Exprs) → m < n → is_for m (gathered_from value n ps gs es) ≡ false
 none_before value m n [] gs es lt = refl
@@ -318,12 +327,16 @@ first_nameless : (value : Declared → terms.Term → Place → Option bound.Exp
 first_nameless value g ns [] h = absurd h
 first_nameless value g ns (e ∷ es) h = h.0.no_name
 
+others_nameless : (value : Declared → terms.Term → Place → Option bound.Expr) (g : Given) (ns : List Given) (es : List bound.Expr) → AllListed (value type.variant) (g ∷ ns) es → has_names ns ≡ false
+others_nameless value g ns [] h = absurd h
+others_nameless value g ns (e ∷ es) h = listed_nameless (value type.variant) ns es h.1
+
 pub gathered_bound : (value : Declared → terms.Term → Place → Option bound.Expr) (ps : List project.Parameter) (gs : List Given) (xs : List Argument) (p : project.Parameter) (left : List project.Parameter) (g : Given) (ns : List Given) (es : List bound.Expr)
     (ds : List Argument) → AllTaken value ps gs xs (p ∷ left) → p.many ≡ true → AllListed (value type.variant) (g ∷ ns) es → AllLeft left ds → bound_arguments value ps (gs ++ g ∷ ns) ≡ Some (args_of (xs ++ values_listed (exprs_of es) ∷ ds))
 gathered_bound value ps gs xs p left g ns es ds t many v h =
     let is = gathered_from value 0 ps gs (exprs_of es) in
     let listed = every_listed (value type.variant) (g ∷ ns) es v in
-    bound_by value ps (gs ++ g ∷ ns) is (behind_list 0 ps gs) (args_of (xs ++ values_listed (exprs_of es) ∷ ds)) (positions value 0 ps gs xs p left g ns (exprs_of es) t many (first_nameless value g ns es v) listed)
+    bound_by value ps (gs ++ g ∷ ns) is (behind_list 0 ps gs) (args_of (xs ++ values_listed (exprs_of es) ∷ ds)) (positions value 0 ps gs xs p left g ns (exprs_of es) t many (first_nameless value g ns es v) (others_nameless value g ns es v) listed)
     (apart value 0 ps gs (exprs_of es)) (left_is value is 0 ps gs (exprs_of es) (λ k le. refl)) (built_all value 0 ps gs xs p left (exprs_of es) ds t h) (nameless_more value ps gs xs (p ∷ left) (g ∷ ns) t (listed_nameless (value type.variant) (g ∷ ns) es v))
 
 -- ---- the ends of calls
@@ -397,10 +410,10 @@ called_gathered env r x values d e ending y place gs xs (g ∷ ns) es qs between
     let A : List project.Parameter → Type 0 = λ l. AllTaken value l gs xs (first ∷ others) in
     let there : (length s.read.1.parameters == 0) ≡ false = some_there value (scope_in (home env.scope s.space) s.read.1) _ s.read.1.parameters gs xs first others (subst A s.parameters_are t) in
     let P : Ending → Type 0 = λ z. ValueStands e.tables z (indexed env place y (gs ++ g ∷ ns)) e.pieces below in
-    let B : terms.Term → Type 0 = λ z. indexed env place z (gs ++ g ∷ ns) ≡ a_value (call r.procedure args) (declared_view r.of) in
+    let z = terms.a_routine s.space s.number s.written in
     subst P (sym h.ending_is) (record {
       made = call r.procedure args;
-      is = subst B (sym s.is) (call_is value (operand_of env) env place (gs ++ g ∷ ns) s.space s.number s.written s.read r.procedure (declared_view r.of) ps args s.reads s.procedure_is s.parameters_are s.of_is there given);
+      is = ap (λ w. indexed env place w (gs ++ g ∷ ns)) s.is ∙ ap (λ w. term_or w (wrong_term env place z (gs ++ g ∷ ns))) (call_is value (operand_of env) env place (gs ++ g ∷ ns) s.space s.number s.written s.read r.procedure (declared_view r.of) ps args s.reads s.procedure_is s.parameters_are s.of_is there given);
       ends = call_ends e.tables r.procedure h.arguments all e.pieces below count on_top;
     })
 

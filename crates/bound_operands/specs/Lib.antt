@@ -1,3 +1,4 @@
 pub mod Functions
 pub mod Gathering
 pub mod Indexing
+pub mod Untaken

@@ -10,6 +10,7 @@ ghost use Rattle.bound_members.specs.bound_calls.specs.Steps.{Goes};
 
 use crate::gathering::{gather, gather_missing, gathers};
 use crate::indexing::{add_argument, end_arguments, skip_argument};
+use crate::untaken::{is_refused, refuse, refuse_missing};
 use bound_members::bound_calls::{Call, Item, Passed, put_item, take_item};
 use bound_members::bound_declarations::NotYet;
 use bound_project::Draft;
@@ -57,6 +58,9 @@ pub fn step_plain_argument<'a>(
         gather(alloc, draft, stack, item, tree)?;
         return Ok(());
     }
+    if is_refused(item) {
+        return refuse(alloc, draft, stack, item, tree, None);
+    }
     let item = add_argument(alloc, draft, item, tree)?;
     put_item(stack, item)?;
     Ok(())
@@ -77,6 +81,9 @@ pub fn step_missing_argument<'a>(
     if gathers(item) {
         gather_missing(draft, stack, item)?;
         return Ok(());
+    }
+    if is_refused(item) {
+        return refuse_missing(draft, stack, item);
     }
     let item = skip_argument(alloc, draft, item)?;
     put_item(stack, item)?;

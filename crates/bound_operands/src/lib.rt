@@ -10,6 +10,7 @@ mod named;
 mod operators;
 mod step;
 mod types;
+mod untaken;
 
 pub use call_steps::{step_missing_argument, step_plain_argument};
 pub use functions::open_function;
@@ -17,3 +18,4 @@ pub use gathering::{gathered_ending, take_gathered};
 pub use indexing::{open_call, open_place, open_value, push_whole};
 pub use named::{step_index, step_named_argument};
 pub use step::{step_binary, step_literal, step_parenthesised, step_unary};
+pub use untaken::{count_shapes, refused_rule};

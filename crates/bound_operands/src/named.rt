@@ -16,6 +16,7 @@ ghost use Rattle.bound_members.specs.bound_calls.specs.Steps.{Goes};
 use crate::call_steps;
 use crate::functions::add_named_value;
 use crate::gathering::{index_gathered, take_gathered};
+use crate::untaken::{index_untaken, is_refused, refuse};
 use bound_members::add_named;
 use bound_members::bound_calls::{
     FunctionCall, Item, MemberCall, Named, Passed, Term, Tree, named_ending, pass_tree, put_item,
@@ -129,7 +130,7 @@ pub fn step_named_argument<'a>(
     alloc: Global,
     draft: &mut Draft,
     stack: &mut Vec<Item<'a>>,
-    name: &Identifier,
+    name: &'a Identifier,
 ) -> Result<(), OrMemory<NotYet>>
     requires { AllNamed (draft_view draft.old).tables (reverse stack.old.items) }
     ensures { OnOk result ((env : plain.Env) (comma : Option Token) (mark : Token) → Goes env (draft_view draft.old) (reverse stack.old.items) (draft_view draft.new) (reverse stack.new.items) (behind_node (node.NamedArgument comma name.now mark))) }
@@ -141,6 +142,9 @@ pub fn step_named_argument<'a>(
         Some(Item::Member(call)) => give_named(alloc, draft, stack, call, tree, name),
         Some(Item::Function(call)) => give_function(alloc, draft, stack, call, tree),
         Some(item) => {
+            if is_refused(item) {
+                return refuse(alloc, draft, stack, item, tree, Some(name));
+            }
             put_item(stack, item)?;
             pass_named(alloc, draft, stack, tree, name)
         }
@@ -200,6 +204,9 @@ pub fn step_index<'a>(
     requires { AllNamed (draft_view draft.old).tables (reverse stack.old.items) }
     ensures { OnOk result ((env : plain.Env) (left right : Token) → Goes env (draft_view draft.old) (reverse stack.old.items) (draft_view draft.new) (reverse stack.new.items) (behind_node (node.Index left right))) }
 {
+    if index_untaken(alloc, draft, stack)? {
+        return Ok(());
+    }
     let values = take_gathered(stack)?;
     if values == 0 {
         return end_index(alloc, draft, stack);

@@ -1,16 +1,14 @@
 -- Brackets behind properties without parameters, which index what these give.
-use Rattle.std.specs.Prelude.{option_and_then, MatchBool}
-use Rattle.std.proofs.Common.{◌≡◌, ℕ, suc, ◌==◌, Bool, true, false, ◌&&◌, List, [], ◌∷◌, map, length, Option, Some, None, option_map, if◌then◌else◌, refl, sym, ap, subst, ◌∙◌}
+use Rattle.std.specs.Prelude.{MatchBool}
+use Rattle.std.proofs.Common.{◌≡◌, ℕ, suc, ◌==◌, Bool, true, false, ◌&&◌, List, [], ◌∷◌, map, length, Option, Some, None, option_map, if◌then◌else◌, refl, sym, ap, ◌∙◌}
 use Rattle.vba_base.specs.declared.place.Place.{Place}
 use Rattle.vba_words.specs.declared.identifier.Identifier.{Identifier}
 use Rattle.vba_tree.specs.Tree.{Parameter}
-use Rattle.vba_expression.specs.Tree.{Expr}
 use Rattle.vba_values.specs.Types.{Declared}
-use Rattle.vba_values.specs.Types as type
 use Rattle.bound_project.specs.View.{declared_view, parameter_view}
 use Rattle.bound_project.specs.Expressions.{Exprs, element_value}
 use Rattle.bound_project.specs.Expressions as bound
-use Rattle.bound_project.specs.Pieces.{Piece, an_expr}
+use Rattle.bound_project.specs.Pieces.{an_expr}
 use Rattle.bound_project.specs.Project as project
 use Rattle.bound_project.specs.Drafts.{Drafted}
 use Rattle.bound_names.specs.binder.specs.Constants.{home}
@@ -20,7 +18,7 @@ use Rattle.bound_names.specs.binder.specs.Scopes.{Space, Scope, first_at, is_nam
 use Rattle.bound_names.specs.binder.specs.Storage.{bound_parameter, bound_parameters, takes_value}
 use Rattle.bound_names.specs.bound_forms.specs.Terms.{Env, Given, a_routine, a_value, bound_arguments, expression_of}
 use Rattle.bound_names.specs.bound_forms.specs.Terms as terms
-use Rattle.bound_names.specs.bound_forms.specs.ExpressionsBound.{argument_of, bare_call, call_value, call_with, callee, element_type, if_there, indexed, indexed_value, indexes_value, item_of, node_or, numbers_of, operand_of, term_of, with_type, place_told}
+use Rattle.bound_names.specs.bound_forms.specs.ExpressionsBound.{argument_of, bare_call, call_value, callee, element_type, if_there, indexed, indexed_value, item_of, node_or, numbers_of, operand_of, taken_by_term, term_of, term_or, with_type, wrong_term, place_told}
 use Rattle.bound_names.specs.binder.specs.Signatures.{is_get, is_property, parameters_in, procedure_with, reader}
 use Rattle.bound_names.specs.declared_names.specs.View.{written_view}
 use Rattle.bound_names.specs.bound_calls.specs.declared.term.Ending.{Ending}
@@ -30,12 +28,11 @@ use Rattle.bound_names.specs.bound_calls.specs.declared.term.Routine.{Routine}
 use Rattle.bound_names.specs.bound_calls.specs.declared.term.Term.TheVariants as term
 use Rattle.bound_names.specs.bound_calls.specs.declared.term.Tree.{Tree}
 use Rattle.bound_names.specs.bound_calls.specs.Indexing.{OpensTerm}
-use Rattle.bound_names.specs.bound_calls.specs.Standing.{RoutineStands}
 use Rattle.bound_names.specs.bound_calls.specs.Taking.{CallsRoutine}
 use Rattle.bound_names.specs.bound_calls.proofs.Growing.{grown_twice}
 use Rattle.bound_operands.specs.Indexing.{PushesWhole}
-use Rattle.bound_terms.specs.Indexing.{IndexesValue}
-use Rattle.bound_names.specs.Properties.{first_wanted, is_wanted, property_with, wants}
+use Rattle.bound_terms.specs.Indexing.{IndexesValue, NotIndexed}
+use Rattle.bound_names.specs.Properties.{first_wanted, wants}
 use Rattle.bound_operands.proofs.Elements.{opens_whole}
 use Rattle.bound_names.proofs.Lookups.{get_same, property_found, with_entry}
 
@@ -81,12 +78,12 @@ found_get s space x read h =
     at (Some f) p h = wanted_get f.1.what f.0 f.1.name f.1.is_public read (last_holds (is_named x.name f.1.name) (seen_from s space f.1) (wants true f.1.what) p) h
 
 -- what is read of a property is a Get
-read_get : (s : Scope) (space : Space) (number : ℕ) (w : Written) (read : ℕ × Written) → is_property w.kind ≡ true → reader s space number w ≡ Some read → is_get read.1.kind ≡ true
+pub read_get : (s : Scope) (space : Space) (number : ℕ) (w : Written) (read : ℕ × Written) → is_property w.kind ≡ true → reader s space number w ≡ Some read → is_get read.1.kind ≡ true
 read_get s space number w read property reads =
     found_get s space w.name read (sym (ap (λ (b : Bool). if b then procedure_with s is_get space w.name else Some (number, w)) property) ∙ reads)
 
 -- without parameters none are written
-none_written : (s : Scope) (takes : Bool) (ps : List Parameter) → bound_parameters s takes ps ≡ [] → (length ps == 0) ≡ true
+pub none_written : (s : Scope) (takes : Bool) (ps : List Parameter) → bound_parameters s takes ps ≡ [] → (length ps == 0) ≡ true
 none_written s takes [] h = refl
 none_written s takes (p ∷ []) h = let e : bound_parameter s takes p ∷ [] ≡ [] = h in absurd cc
 none_written s takes (p ∷ q ∷ ps) h = let e : bound_parameter s false p ∷ bound_parameters s takes (q ∷ ps) ≡ [] = h in absurd cc
@@ -95,6 +92,14 @@ none_written s takes (p ∷ q ∷ ps) h = let e : bound_parameter s false p ∷ 
 
 abbrev no_value : Declared → terms.Term → Place → Option bound.Expr
 no_value of t place = None
+
+-- the value of what has no parameters
+pub property_value : (env : Env) (space : Space) (number : ℕ) (w : Written) (read : ℕ × Written) (made : bound.Node) (of : Declared) → reader env.scope space number w ≡ Some read → parameters_in env.scope space read.1 ≡ []
+    → bare_call env space number w ≡ a_value made of → call_value env space read.0 read.1 (Some bound.no_args) ≡ a_value made of
+property_value env space number w read made of reads none call =
+    let bare : ℕ × Written → terms.Term = λ (f : ℕ × Written). call_value env space f.0 f.1 (bound_arguments no_value (parameters_in env.scope space f.1) []) in
+    let bare_is : bare_call env space number w ≡ bare read = ap (λ (o : Option (ℕ × Written)). if_there (option_map bare o)) reads in
+    ap (λ (ps : List project.Parameter). call_value env space read.0 read.1 (bound_arguments no_value ps [])) (sym none) ∙ sym bare_is ∙ call
 
 property_indexed : (env : Env) (place : Place) (z : terms.Term) (space : Space) (number : ℕ) (w : Written) (read : ℕ × Written) (made : bound.Node) (of u : Declared) (gs : List Given) (es : Exprs) → z ≡ a_routine space number w
     → reader env.scope space number w ≡ Some read → is_get read.1.kind ≡ true → parameters_in env.scope space read.1 ≡ [] → bare_call env space number w ≡ a_value made of → element_type of ≡ Some u → numbers_of (operand_of env) gs ≡ Some es
@@ -105,25 +110,22 @@ property_indexed env place z space number w read made of u (g ∷ gs) es is read
     let called_as : ℕ × Written → terms.Term = λ (f : ℕ × Written).
     if is_get f.1.kind && length f.1.parameters == 0 then node_or (call_value env space f.0 f.1 (Some bound.no_args)) index
     else call_value env space f.0 f.1 (bound_arguments (argument_of env) (parameters_in env.scope space f.1) (g ∷ gs)) in
-    let bare : ℕ × Written → terms.Term = λ (f : ℕ × Written). call_value env space f.0 f.1 (bound_arguments no_value (parameters_in env.scope space f.1) []) in
-    let found : indexed env place (a_routine space number w) (g ∷ gs) ≡ called_as read = ap (λ (o : Option (ℕ × Written)). if_there (option_map called_as o)) reads in
-    let bare_is : bare_call env space number w ≡ bare read = ap (λ (o : Option (ℕ × Written)). if_there (option_map bare o)) reads in
-    let value_is : call_value env space read.0 read.1 (Some bound.no_args) ≡ a_value made of =
-    ap (λ (ps : List project.Parameter). call_value env space read.0 read.1 (bound_arguments no_value ps [])) (sym none) ∙ sym bare_is ∙ call in
+    let found : taken_by_term env place (a_routine space number w) (g ∷ gs) ≡ called_as read = ap (λ (o : Option (ℕ × Written)). if_there (option_map called_as o)) reads in
+    let value_is : call_value env space read.0 read.1 (Some bound.no_args) ≡ a_value made of = property_value env space number w read made of reads none call in
     let no_parameters : (length read.1.parameters == 0) ≡ true = none_written (scope_in (home env.scope space) read.1) (takes_value read.1.kind) read.1.parameters none in
     let T : Declared → Exprs → terms.Term = λ (v : Declared) (xs : Exprs). a_value (element_value (expression_of made place of) xs) v in
     let rest : terms.Term = call_value env space read.0 read.1 (bound_arguments (argument_of env) (parameters_in env.scope space read.1) (g ∷ gs)) in
-    ap (λ (y : terms.Term). indexed env place (item_of place y) (g ∷ gs)) is ∙ found
-    ∙ ap (λ (b : Bool). if b && length read.1.parameters == 0 then node_or (call_value env space read.0 read.1 (Some bound.no_args)) index else rest) get
-    ∙ ap (λ (b : Bool). if b then node_or (call_value env space read.0 read.1 (Some bound.no_args)) index else rest) no_parameters
-    ∙ ap (λ (y : terms.Term). node_or y index) value_is
-    ∙ ap (λ (o : Option Declared). with_type o (numbers_of (operand_of env) (g ∷ gs)) T) element ∙ ap (λ (o : Option Exprs). with_type (Some u) o T) numbers
+    let taken : taken_by_term env place (a_routine space number w) (g ∷ gs) ≡ a_value (element_value (expression_of made place of) es) u =
+    found ∙ ap (λ (b : Bool). if b && length read.1.parameters == 0 then node_or (call_value env space read.0 read.1 (Some bound.no_args)) index else rest) get
+    ∙ ap (λ (b : Bool). if b then node_or (call_value env space read.0 read.1 (Some bound.no_args)) index else rest) no_parameters ∙ ap (λ (y : terms.Term). node_or y index) value_is
+    ∙ ap (λ (o : Option Declared). with_type o (numbers_of (operand_of env) (g ∷ gs)) T) element ∙ ap (λ (o : Option Exprs). with_type (Some u) o T) numbers in
+    ap (λ (y : terms.Term). indexed env place (item_of place y) (g ∷ gs)) is ∙ ap (λ (y : terms.Term). term_or y (wrong_term env place (a_routine space number w) (g ∷ gs))) taken
 
 -- ---- arguments begin
 
-pub indexes : (r : Routine) (b : Bool) → b ≡ is_property (written_view r.written).kind → r.parameters.now ≡ [] → MatchBool b (IndexesValue r) (Unit {0})
+pub indexes : (r : Routine) (b : Bool) → b ≡ is_property (written_view r.written).kind → r.parameters.now ≡ [] → MatchBool b (IndexesValue r) (NotIndexed r)
 indexes r true is none = record { property = sym is; none = none }
-indexes r false is none = tt
+indexes r false is none = λ v. let e : false ≡ true = is ∙ v.property in absurd cc
 
 pub opens_property : (env : Env) (x : Tree) (r : Routine) (ending : Ending) (d m e : Drafted) (i : Indexed) → IndexesValue r → CallsRoutine r d m ending → PushesWhole ending x.place m e i → OpensTerm env x (term.Routine r) d e (items.Indexed i)
 opens_property env x r ending d m e i v c p =

@@ -1,3 +1,5 @@
 pub mod Beginnings
+pub mod LackingItems
 pub mod IndexedProperties
+pub mod Refused
 pub mod TypesAsked

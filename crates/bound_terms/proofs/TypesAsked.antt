@@ -1,8 +1,8 @@
 -- What TypeOf makes of the expression on top.
-use Rattle.std.proofs.Common.{◌≡◌, List, ◌∷◌, Option, Some, None, false, refl, sym, ap, ◌∙◌}
+use Rattle.std.proofs.Common.{◌≡◌, List, ◌∷◌, Option, None, refl, sym, ap, ◌∙◌}
 use Rattle.vba_lexer.specs.declared.token.Token.{Token}
 use Rattle.vba_words.specs.declared.identifier.Identifier.{Identifier}
-use Rattle.vba_expression.specs.Tree.{Expr, type_of}
+use Rattle.vba_expression.specs.Tree.{type_of}
 use Rattle.vba_expression.specs.Reader.{short_type}
 use Rattle.vba_expression.specs.Nodes.{behind_node}
 use Rattle.vba_expression.specs.declared.node.ExpressionNode.TheVariants as node

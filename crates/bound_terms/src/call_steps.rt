@@ -8,20 +8,19 @@ ghost use Rattle.bound_names.specs.View.{EnvStands, env_view};
 
 use crate::indexing::begin_arguments;
 use bound_names::Env;
-use bound_names::bound_calls::{Item, put_item, take_item};
+use bound_names::bound_calls::{Item, Shape, put_item, take_item};
 use bound_names::bound_declarations::NotYet;
 use bound_project::Draft;
 use std::alloc::Global;
 use vba_base::OrMemory;
-use vba_expression::ExpressionNode;
 
-/// Arguments begin, with which these nodes begin: the expression on top is called or indexed.
+/// Arguments begin, these: the expression on top is called or indexed.
 pub fn step_no_arguments<'a>(
     alloc: Global,
     draft: &mut Draft,
     env: Env<'a>,
     stack: &mut Vec<Item<'a>>,
-    nodes: &[ExpressionNode],
+    shapes: &[Shape<'a>],
 ) -> Result<(), OrMemory<NotYet>>
     requires env { EnvStands env }
     requires named { AllNamed (draft_view draft.old).tables (reverse stack.old.items) }
@@ -30,7 +29,7 @@ pub fn step_no_arguments<'a>(
     let Some(Item::Tree(tree)) = take_item(stack) else {
         return Err(OrMemory::NoMemory);
     };
-    let item = begin_arguments(alloc, draft, env, tree, nodes)?;
+    let item = begin_arguments(alloc, draft, env, tree, shapes)?;
     put_item(stack, item)?;
     Ok(())
 }

@@ -1,31 +1,71 @@
 //! What stands before brackets, and what the numbers in them make of it: elements of places and of values.
 
-ghost use Rattle.std.specs.Prelude.{IfOk, MatchBool};
+ghost use Rattle.std.specs.Prelude.{◌≡◌, ◌<◌, Bool, IfOk, MatchBool, length};
 ghost use Rattle.bound_project.specs.DraftView.{draft_view};
+ghost use Rattle.bound_project.specs.Drafts.{NodeNamed};
 ghost use Rattle.bound_names.specs.bound_forms.specs.Terms as plain;
 ghost use Rattle.bound_names.specs.bound_calls.specs.Indexing.{Opens, OpensTerm};
 ghost use Rattle.bound_names.specs.bound_calls.specs.Standing.{TermNamed};
-ghost use Rattle.bound_terms.specs.Indexing.{IndexesValue};
+ghost use Rattle.bound_terms.specs.Indexing.{IndexesValue, NotIndexed, OpensItem, untaken_at};
 ghost use Rattle.bound_names.specs.View.{EnvStands, env_view};
 
-use bound_names::bound_calls::{Indexed, Item, Routine, Term, Tree, routine_ending};
+use bound_names::bound_calls::{
+    Ending, HostMember, Indexed, Item, Refuser, Routine, Shape, Term, Tree, Untaken, push_node,
+    routine_ending,
+};
 use bound_names::bound_declarations::{NotYet, is_property};
-use bound_names::bound_members::{given_ahead, open_member};
-use bound_names::{Env, callee_term, item_member, takes_item};
-use bound_operands::{open_call, open_function, open_place, open_value, push_whole};
-use bound_project::Draft;
+use bound_names::bound_members::open_member;
+use bound_names::{Env, callee_term, item_member, item_term, lacks_item, takes_item};
+use bound_operands::{open_call, open_function, open_place, open_value, push_whole, refused_rule};
+use bound_project::{Draft, NodeKind};
 use std::alloc::Global;
-use vba_base::OrMemory;
-use vba_expression::ExpressionNode;
+use vba_base::{NoMemory, OrMemory};
 
 /// Do brackets behind a procedure index its value? It is a property then, whose Get has no parameters.
 pub fn indexes_value<'a>(routine: Routine<'a>) -> bool
-    ensures { MatchBool result (IndexesValue routine.entry) (Unit {0}) }
+    ensures { MatchBool result (IndexesValue routine.entry) (NotIndexed routine.entry) }
 {
     match routine.parameters {
         [] => is_property(routine.written.header.words),
         _ => false,
     }
+}
+
+/// Do these arguments break a rule behind what takes others? No promise rests on it: where they end it is tested what has
+/// come.
+fn is_refused<'a>(
+    alloc: Global,
+    draft: &Draft,
+    refuser: Refuser<'a>,
+    shapes: &[Shape<'a>],
+) -> Result<bool, NoMemory> {
+    let rule = refused_rule(alloc, draft, refuser, shapes)?;
+    Ok(rule.is_some())
+}
+
+/// What doesn't take its arguments, which are read from now on.
+fn untaken<'a>(tree: Tree<'a>, refuser: Refuser<'a>) -> Item<'a>
+    ensures { result ≡ untaken_at tree.entry.place refuser.entry }
+{
+    Item::Untaken(Untaken {
+        place: tree.place,
+        refuser,
+    })
+}
+
+/// A property that is called without arguments, and whose value doesn't take those that are read from now on.
+fn refuse_property<'a>(
+    alloc: Global,
+    draft: &mut Draft,
+    tree: Tree<'a>,
+    routine: Routine<'a>,
+) -> Result<Item<'a>, OrMemory<NotYet>>
+    requires { IndexesValue routine }
+    ensures { IfOk result (λ item. (env : plain.Env) → OpensTerm env tree.entry (Term.Routine routine.entry) (draft_view draft.old) (draft_view draft.new) item) }
+{
+    let ending = routine_ending(alloc, draft, routine)?;
+    push_node(draft, ending.kind, ending.of, tree.place)?;
+    Ok(untaken(tree, Refuser::Called(ending.of)))
 }
 
 /// A property that is called without arguments, and whose value's numbers in brackets are read from now on.
@@ -42,61 +82,173 @@ fn open_property<'a>(
     push_whole(draft, ending, tree.place)
 }
 
-/// A procedure whose arguments are read from now on, or a property whose value so many numbers index.
+/// A procedure whose arguments, these, are read from now on.
+fn open_procedure<'a>(
+    alloc: Global,
+    draft: &Draft,
+    tree: Tree<'a>,
+    routine: Routine<'a>,
+    shapes: &[Shape<'a>],
+) -> Result<Item<'a>, NoMemory>
+    requires { NotIndexed routine }
+    ensures { IfOk result (λ item. (env : plain.Env) → OpensTerm env tree.entry (Term.Routine routine.entry) (draft_view draft.now) (draft_view draft.now) item) }
+{
+    let refuser = Refuser::Procedure(routine.parameters);
+    if is_refused(alloc, draft, refuser, shapes)? {
+        return Ok(untaken(tree, refuser));
+    }
+    Ok(Item::Call(open_call(tree, routine)))
+}
+
+/// A procedure whose arguments, these, are read from now on, or a property whose value they index.
 fn open_routine<'a>(
     alloc: Global,
     draft: &mut Draft,
     tree: Tree<'a>,
     routine: Routine<'a>,
-    given: u32,
+    shapes: &[Shape<'a>],
 ) -> Result<Item<'a>, OrMemory<NotYet>>
     ensures { IfOk result (λ item. (env : plain.Env) → OpensTerm env tree.entry (Term.Routine routine.entry) (draft_view draft.old) (draft_view draft.new) item) }
 {
-    if given != 0 && indexes_value(routine) {
-        let indexed = open_property(alloc, draft, tree, routine)?;
-        return Ok(Item::Indexed(indexed));
+    if !indexes_value(routine) {
+        let item = open_procedure(alloc, draft, tree, routine, shapes)?;
+        return Ok(item);
     }
-    Ok(Item::Call(open_call(tree, routine)))
+    if shapes.is_empty() {
+        return Ok(Item::Call(open_call(tree, routine)));
+    }
+    if is_refused(alloc, draft, Refuser::Called(routine.of), shapes)? {
+        return refuse_property(alloc, draft, tree, routine);
+    }
+    let indexed = open_property(alloc, draft, tree, routine)?;
+    Ok(Item::Indexed(indexed))
 }
 
-/// What a term is whose arguments, so many, are read from now on.
+/// A place that these arguments index: all but its last node is pushed.
+fn open_indexed<'a>(
+    alloc: Global,
+    draft: &mut Draft,
+    tree: Tree<'a>,
+    at: Ending,
+    lends: bool,
+    shapes: &[Shape<'a>],
+) -> Result<Item<'a>, OrMemory<NotYet>>
+    requires { NodeNamed (draft_view draft.old).tables at.kind }
+    ensures { IfOk result (λ item. (env : plain.Env) (bounded : Bool) → OpensTerm env tree.entry (Term.Place at.kind at.of bounded lends) (draft_view draft.old) (draft_view draft.new) item) }
+{
+    if is_refused(alloc, draft, Refuser::Value(at.of), shapes)? {
+        push_node(draft, at.kind, at.of, tree.place)?;
+        push_node(draft, NodeKind::Load, at.of, tree.place)?;
+        return Ok(untaken(tree, Refuser::Value(at.of)));
+    }
+    let indexed = open_place(draft, tree, at.kind, at.of, lends)?;
+    Ok(Item::Indexed(indexed))
+}
+
+/// A value that these arguments index: all but its last node is pushed.
+fn open_whole<'a>(
+    alloc: Global,
+    draft: &mut Draft,
+    tree: Tree<'a>,
+    ending: Ending,
+    shapes: &[Shape<'a>],
+) -> Result<Item<'a>, OrMemory<NotYet>>
+    requires { NodeNamed (draft_view draft.old).tables ending.kind }
+    ensures { IfOk result (λ item. (env : plain.Env) → OpensTerm env tree.entry (Term.Value ending) (draft_view draft.old) (draft_view draft.new) item) }
+{
+    if is_refused(alloc, draft, Refuser::Value(ending.of), shapes)? {
+        push_node(draft, ending.kind, ending.of, tree.place)?;
+        return Ok(untaken(tree, Refuser::Value(ending.of)));
+    }
+    let indexed = open_value(draft, tree, ending)?;
+    Ok(Item::Indexed(indexed))
+}
+
+/// What takes no arguments, of which these are read from now on.
+fn open_none<'a>(tree: Tree<'a>, shapes: &[Shape<'a>]) -> Result<Item<'a>, OrMemory<NotYet>>
+    ensures { IfOk result (λ item. item ≡ untaken_at tree.entry.place Refuser.Bare) }
+{
+    if shapes.is_empty() {
+        return Err(OrMemory::Fault(NotYet));
+    }
+    Ok(untaken(tree, Refuser::Bare))
+}
+
+/// What an object is that has no default member with arguments, where these are read from now on: what is told of that
+/// is indexed.
+fn open_lacking<'a>(
+    alloc: Global,
+    draft: &mut Draft,
+    tree: Tree<'a>,
+    term: Term<'a>,
+) -> Result<Item<'a>, OrMemory<NotYet>>
+    requires { TermNamed (draft_view draft.old).tables term }
+    ensures { IfOk result (λ item. (env : plain.Env) → OpensTerm env tree.entry term.entry (draft_view draft.old) (draft_view draft.new) item) }
+{
+    let item = item_term(alloc, draft, tree.place, term)?;
+    let Term::Value(ending) = item else {
+        return Err(OrMemory::Fault(NotYet));
+    };
+    let indexed = push_whole(draft, ending, tree.place)?;
+    Ok(Item::Indexed(indexed))
+}
+
+/// What a term is whose arguments, these, are read from now on.
 fn open_term<'a>(
     alloc: Global,
     draft: &mut Draft,
     tree: Tree<'a>,
     term: Term<'a>,
-    given: u32,
+    shapes: &[Shape<'a>],
 ) -> Result<Item<'a>, OrMemory<NotYet>>
     requires { TermNamed (draft_view draft.old).tables term }
     ensures { IfOk result (λ item. (env : plain.Env) → OpensTerm env tree.entry term.entry (draft_view draft.old) (draft_view draft.new) item) }
 {
+    if lacks_item(term) {
+        return open_lacking(alloc, draft, tree, term);
+    }
     match term {
         Term::Place {
             kind,
             of,
             lends,
             ..
-        } => {
-            let indexed = open_place(draft, tree, kind, of, lends)?;
-            Ok(Item::Indexed(indexed))
-        }
-        Term::Value(ending) => {
-            let indexed = open_value(draft, tree, ending)?;
-            Ok(Item::Indexed(indexed))
-        }
-        Term::Routine(routine) => open_routine(alloc, draft, tree, routine, given),
+        } => open_indexed(alloc, draft, tree, Ending { kind, of }, lends, shapes),
+        Term::Value(ending) => open_whole(alloc, draft, tree, ending, shapes),
+        Term::Routine(routine) => open_routine(alloc, draft, tree, routine, shapes),
         Term::Function(function) => Ok(Item::Function(open_function(tree, function))),
+        Term::Err => open_none(tree, shapes),
+        Term::ErrClear => open_none(tree, shapes),
         _ => Err(OrMemory::Fault(NotYet)),
     }
 }
 
-/// What an expression is whose arguments are read from now on: they are to come in these nodes.
+/// A member whose arguments, these, are read from now on; its object was pushed.
+fn open_item<'a>(
+    alloc: Global,
+    draft: &mut Draft,
+    tree: Tree<'a>,
+    member: HostMember,
+    shapes: &[Shape<'a>],
+) -> Result<Item<'a>, OrMemory<NotYet>>
+    requires { member.name < length (draft_view draft.old).tables.constants }
+    ensures { IfOk result (λ item. (env : plain.Env) → OpensItem env tree.entry member (draft_view draft.old) (draft_view draft.new) item) }
+{
+    let refuser = Refuser::Member(member);
+    if is_refused(alloc, draft, refuser, shapes)? {
+        return Ok(untaken(tree, refuser));
+    }
+    let call = open_member(alloc, draft, tree.place, member, shapes)?;
+    Ok(Item::Member(call))
+}
+
+/// What an expression is whose arguments, these, are read from now on.
 pub fn begin_arguments<'a>(
     alloc: Global,
     draft: &mut Draft,
     env: Env<'a>,
     tree: Tree<'a>,
-    nodes: &[ExpressionNode],
+    shapes: &[Shape<'a>],
 ) -> Result<Item<'a>, OrMemory<NotYet>>
     requires env { EnvStands env }
     requires named { TermNamed (draft_view draft.old).tables tree.term }
@@ -105,8 +257,7 @@ pub fn begin_arguments<'a>(
     let term = callee_term(alloc, draft, env, tree)?;
     if takes_item(term) {
         let member = item_member(alloc, draft, tree.place, term)?;
-        let call = open_member(alloc, draft, tree.place, member, nodes)?;
-        return Ok(Item::Member(call));
+        return open_item(alloc, draft, tree, member, shapes);
     }
-    open_term(alloc, draft, tree, term, given_ahead(nodes))
+    open_term(alloc, draft, tree, term, shapes)
 }

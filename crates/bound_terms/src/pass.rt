@@ -10,9 +10,11 @@ ghost use Rattle.bound_names.specs.View.{EnvStands, env_view};
 use crate::call_steps::step_no_arguments;
 use crate::step::{step_name, step_type_of};
 use bound_names::bound_calls::{
-    Item, Tree, push_ending, push_given, push_operand, push_reference, take_item, value_ending,
+    Item, Shape, Tree, push_ending, push_given, push_operand, push_reference, take_item,
+    value_ending,
 };
 use bound_names::bound_declarations::NotYet;
+use bound_names::bound_members::{links_of, shapes_at};
 use bound_names::{Env, step_member, step_with_member};
 use bound_operands::{
     step_binary, step_index, step_literal, step_missing_argument, step_named_argument,
@@ -20,16 +22,8 @@ use bound_operands::{
 };
 use bound_project::{DeclaredType, Draft};
 use std::alloc::Global;
-use vba_base::OrMemory;
+use vba_base::{NoMemory, OrMemory};
 use vba_expression::{BinaryOperator, Expression, ExpressionNode};
-
-/// The nodes from a number on.
-fn nodes_from(nodes: &[ExpressionNode], number: usize) -> &[ExpressionNode] {
-    match nodes.split_at_checked(number) {
-        Some((_before, behind)) => behind,
-        None => &[],
-    }
-}
 
 /// Is it the operator Is?
 fn is_same(node: &ExpressionNode) -> bool {
@@ -92,14 +86,15 @@ fn refers_at(nodes: &[ExpressionNode], number: usize, has_same: bool) -> bool {
     is_before_same(behind)
 }
 
-/// Reads one node, with which these nodes begin; a left operand before a leaf is a reference or none.
+/// Reads one node, which stands before these arguments where it begins some; a left operand before a leaf is a reference or
+/// none.
 fn step<'a>(
     alloc: Global,
     draft: &mut Draft,
     env: Env<'a>,
     stack: &mut Vec<Item<'a>>,
     node: &'a ExpressionNode,
-    nodes: &[ExpressionNode],
+    shapes: &[Shape<'a>],
     refers: bool,
 ) -> Result<(), OrMemory<NotYet>>
     requires env { EnvStands env }
@@ -127,7 +122,7 @@ fn step<'a>(
         ExpressionNode::Binary { operator, token } => {
             step_binary(alloc, draft, env.compare, stack, *operator, *token)
         }
-        ExpressionNode::NoArguments => step_no_arguments(alloc, draft, env, stack, nodes),
+        ExpressionNode::NoArguments => step_no_arguments(alloc, draft, env, stack, shapes),
         ExpressionNode::MissingArgument { .. } => step_missing_argument(alloc, draft, stack),
         ExpressionNode::PlainArgument { .. } => step_plain_argument(alloc, draft, stack),
         ExpressionNode::NamedArgument { name, .. } => {
@@ -135,6 +130,20 @@ fn step<'a>(
         }
         ExpressionNode::Index { .. } => step_index(alloc, draft, stack),
         _ => Err(OrMemory::Fault(NotYet)),
+    }
+}
+
+/// The arguments that a node begins, where it begins some.
+fn shapes_behind<'a>(
+    alloc: Global,
+    nodes: &'a [ExpressionNode],
+    links: &[usize],
+    number: usize,
+    node: &ExpressionNode,
+) -> Result<Vec<Shape<'a>>, NoMemory> {
+    match node {
+        ExpressionNode::NoArguments => shapes_at(alloc, nodes, links, number),
+        _ => Ok(Vec::new(alloc)),
     }
 }
 
@@ -151,11 +160,12 @@ pub fn run<'a>(
     ensures { OnOk result (Goes (env_view env.entry) (draft_view draft.old) (reverse stack.old.items) (draft_view draft.new) (reverse stack.new.items) (λ is. behind_nodes is nodes.now)) }
 {
     let has_same = has_same(nodes);
+    let links = links_of(alloc, nodes)?;
     let mut number: usize = 0;
     for node in nodes {
-        let ahead = nodes_from(nodes, number);
+        let shapes = shapes_behind(alloc, nodes, &links, number, node)?;
         let refers = refers_at(nodes, number, has_same);
-        step(alloc, draft, env, stack, node, ahead, refers)?;
+        step(alloc, draft, env, stack, node, &shapes, refers)?;
         number = number.saturating_add(1);
     }
     Ok(())

@@ -1,6 +1,6 @@
 -- What the value of an assignment goes to.
-use Rattle.std.proofs.Common.{◌≡◌, ℕ, Bool, true, false, List, [], ◌∷◌, ◌++◌, map, length, Option, Some, None, is_some, if◌then◌else◌, refl, sym, ap, subst, ◌∙◌}
-use Rattle.std.specs.Prelude.{◌||◌, codes, option_and_then, slice_get}
+use Rattle.std.proofs.Common.{◌≡◌, ℕ, Bool, true, false, List, [], ◌∷◌, ◌++◌, map, length, Some, if◌then◌else◌, refl, sym, ap, subst, ◌∙◌}
+use Rattle.std.specs.Prelude.{◌||◌, option_and_then, option_map, slice_get}
 use Rattle.vba_base.specs.declared.place.Place.{Place}
 use Rattle.vba_lexer.specs.declared.token.Token.{Token}
 use Rattle.bound_project.specs.Project as project
@@ -9,11 +9,11 @@ use Rattle.vba_expression.specs.Nodes as nodes
 use Rattle.vba_expression.specs.Nodes.{behind_node, behind_nodes, last_arguments, last_tree, tree_in}
 use Rattle.vba_expression.specs.declared.node.ExpressionNode.{ExpressionNode}
 use Rattle.vba_expression.specs.declared.node.ExpressionNode.TheVariants as node
-use Rattle.vba_words.specs.declared.identifier.Identifier.{Identifier}
 use Rattle.bound_project.specs.declared.declared_type.DeclaredType.{DeclaredType}
 use Rattle.bound_project.specs.declared.declarations.Parameter.{Parameter}
 use Rattle.bound_project.specs.declared.statement.ActionKind.{ActionKind}
 use Rattle.bound_project.specs.declared.statement.ActionKind.TheVariants as action
+use Rattle.bound_project.specs.Expressions.{no_exprs}
 use Rattle.bound_project.specs.Expressions as bound
 use Rattle.bound_project.specs.Statements as to
 use Rattle.bound_project.specs.Bodies.{action_of, behind_value}
@@ -22,13 +22,14 @@ use Rattle.bound_project.specs.Lists.{above, args_of}
 use Rattle.bound_project.proofs.Lists.{args_are}
 use Rattle.bound_project.specs.Pieces.{Piece, Tables, an_argument, an_expr}
 use Rattle.bound_project.specs.Drafts.{Drafted, ActionNamed}
+use Rattle.bound_members.specs.binder.specs.Options.{or_else}
 use Rattle.bound_members.specs.binder.specs.Types.{is_object}
 use Rattle.bound_members.specs.binder.specs.Declarations.{Written}
 use Rattle.bound_members.specs.binder.specs.Scopes.{Space}
 use Rattle.bound_members.specs.bound_forms.specs.Terms.{Env, Given, a_routine}
 use Rattle.bound_members.specs.bound_forms.specs.Terms as plain
 use Rattle.bound_members.specs.bound_forms.specs.ExpressionsBound.{argument_of, item_of, givens, indexed, term_of, place_told}
-use Rattle.bound_members.specs.bound_forms.specs.StatementsBound.{assigned, assigned_to, is_given_with, is_variant_place, takes_value, target_before, value_given}
+use Rattle.bound_members.specs.bound_forms.specs.StatementsBound.{assigned, assigned_to, broken_target, is_given_with, is_no_target, is_variant_place, takes_value, target_before, untaken, value_given, written_to}
 use Rattle.bound_members.specs.declared_names.specs.View.{space_view}
 use Rattle.statement_terms.specs.declared.trees.Split.{Split}
 use Rattle.bound_members.specs.bound_calls.specs.declared.term.Routine.{Routine}
@@ -38,11 +39,10 @@ use Rattle.bound_members.specs.bound_calls.specs.Standing.{PropertyStands, Routi
 use Rattle.bound_members.specs.bound_calls.specs.Steps.{Leaves}
 use Rattle.statement_nodes.specs.Pushed.{ActionStands}
 use Rattle.statement_terms.specs.Assigning.{ValueFor}
-use Rattle.statement_terms.specs.Members.{AssignsTree, NamedBy}
+use Rattle.statement_terms.specs.Members.{AssignsTree}
 use Rattle.bound_members.specs.bound_calls.specs.Calls.{PassesRest}
-use Rattle.statement_terms.specs.Called.{AllPassed, AssignsTo, IsBare, LetMade, SplitAt, property_kind}
+use Rattle.statement_terms.specs.Called.{ActionIs, AllPassed, AssignsTo, IsBare, LetMade, SplitAt, let_action, let_with, property_kind}
 use Rattle.statement_terms.specs.Heights.{AddsOne}
-use Rattle.statement_terms.specs.Targets.{is_variant_term}
 use Rattle.bound_members.specs.bound_calls.proofs.Growing.{grown_twice}
 use Rattle.bound_members.specs.bound_calls.proofs.Arguing.{left_long}
 use Rattle.bound_members.specs.bound_calls.proofs.CallSteps.{parameters_long}
@@ -80,6 +80,12 @@ pub let_made : (env : Env) (parameters : List project.Parameter) (gs : List Give
     → LetMade env parameters procedure of gs value (property_kind procedure all of) t ps
 let_made env parameters gs written all procedure of t ps below value h alone = record { args = args_of h.made; bound_is = h.bound; fits = let_fits env parameters gs written all procedure of t ps below value alone h }
 
+pub let_done : (env : Env) (place : Place) (parameters : List project.Parameter) (procedure : ℕ) (of : DeclaredType) (gs : List Given) (value : bound.Expr) (kind : ActionKind) (t : Tables) (ps : List Piece)
+    → LetMade env parameters procedure of gs value kind t ps → ActionIs kind (let_with env place parameters procedure (declared_view of) gs value) t ps
+let_done env place parameters procedure of gs value kind t ps m =
+    let other = option_map (broken_target 25 place value) (untaken env parameters gs) in
+    record { made = let_action procedure m.args value (declared_view of); is = ap (λ o. or_else (option_map (λ args. let_action procedure args value (declared_view of)) o) other) m.bound_is; fits = m.fits }
+
 pub property_named : (t : Tables) (procedure all : ℕ) (of : DeclaredType) → ActionNamed t (property_kind procedure all of)
 property_named t procedure all of = by_type (is_object (declared_view of))
   where
@@ -89,9 +95,15 @@ property_named t procedure all of = by_type (is_object (declared_view of))
 
 -- ---- assignments
 
-pub bare_assigned : (env : Env) (place : Expr) (value : bound.Expr) → IsBare place → assigned_to env place value ≡ assigned env (place_told place) value [] (term_of env place)
-bare_assigned env (index base left args right) value h = absurd h
-bare_assigned env e value h = refl
+pub a_target : (env : Env) (place : Expr) (value : bound.Expr) → is_no_target env place ≡ false → assigned_to env place value ≡ written_to env place value
+a_target env place value h = ap (λ (b : Bool). if b then Some (broken_target 27 (place_told place) value no_exprs) else written_to env place value) h
+
+bare_written : (env : Env) (place : Expr) (value : bound.Expr) → IsBare place → written_to env place value ≡ assigned env (place_told place) value [] (term_of env place)
+bare_written env (index base left args right) value h = absurd h
+bare_written env e value h = refl
+
+pub bare_assigned : (env : Env) (place : Expr) (value : bound.Expr) → IsBare place → is_no_target env place ≡ false → assigned_to env place value ≡ assigned env (place_told place) value [] (term_of env place)
+bare_assigned env place value bare target = a_target env place value target ∙ bare_written env place value bare
 
 pub bare_given : (env : Env) (place : Expr) → IsBare place → is_given_with env place ≡ takes_value env (term_of env place)
 bare_given env (index base left args right) h = absurd h
@@ -109,15 +121,15 @@ property_of env r y ps below s =
     }
 
 -- to another expression that doesn't end with arguments
-pub assigns_tree : (env : Env) (place : Expr) (x : Tree) (name : Option Identifier) (d f e : Drafted) (kind : ActionKind) (given : Bool) → IsBare place → NamedBy name (term_of env place) → Leaves env place d f x → AssignsTree x name f e kind given
+pub assigns_tree : (env : Env) (place : Expr) (x : Tree) (d f e : Drafted) (kind : ActionKind) (given : Bool) → IsBare place → is_no_target env place ≡ false → Leaves env place d f x → AssignsTree x f e kind given
     → AssignsTo env place d e kind given
-assigns_tree env place x name d f e kind given bare called l a = record {
+assigns_tree env place x d f e kind given bare target l a = record {
   grown = grown_twice d f e l.grown a.grown;
   named = a.named;
   takes = a.takes env place d.pieces bare l.stands;
   stands = λ value alone.
       let T : List Piece → Type 0 = λ ps. TreeStands env f.tables x place f.pieces ps in
-      a.stands env place value bare called (subst T alone l.stands);
+      a.stands env place value bare target (subst T alone l.stands);
 }
 
 -- to a property with arguments
@@ -127,11 +139,12 @@ item_itself place y space number p e = ap (λ z. item_of place z) e ∙ sym e
 pub split_given : (env : Env) (base : Expr) (left right : Token) (args : Args) → takes_value env (target_before env base) ≡ true → is_given_with env (index base left args right) ≡ true
 split_given env base left right args h = ap (λ (b : Bool). b || is_variant_place (target_before env base)) h
 
-pub split_assigned : (env : Env) (base : Expr) (left right : Token) (args : Args) (value : bound.Expr) → takes_value env (target_before env base) ≡ true
+pub split_assigned : (env : Env) (base : Expr) (left right : Token) (args : Args) (value : bound.Expr) → is_no_target env (index base left args right) ≡ false → takes_value env (target_before env base) ≡ true
     → assigned_to env (index base left args right) value ≡ assigned env (place_told base) value (givens env args) (target_before env base)
-split_assigned env base left right args value h =
+split_assigned env base left right args value target h =
     let t = target_before env base in
-    ap (λ (b : Bool). if b then assigned env (place_told base) value (givens env args) t else assigned env (place_told base) value [] (indexed env (place_told base) t (givens env args))) h
+    a_target env (index base left args right) value target
+    ∙ ap (λ (b : Bool). if b then assigned env (place_told base) value (givens env args) t else assigned env (place_told base) value [] (indexed env (place_told base) t (givens env args))) h
 
 -- to a member with arguments
 pub all_is : (split : Split) (all : List ExpressionNode) (s : SplitAt split all) → behind_nodes [] split.target.now ≡ nodes.tree (tree_in split.target.now) ∷ []
@@ -142,17 +155,12 @@ all_is split all s alone =
     ∙ ap (λ (l : List ExpressionNode). last_tree (behind_nodes base l)) s.closed_is
 
 -- to what brackets make of what takes no value with arguments
-pub record Untaken (env : Env) (place : Place) (x : Term) (z : plain.Term) : Type 0 where
-  pub same : item_of place z ≡ z
-  pub takes : takes_value env z ≡ false
-  pub variant : is_variant_place z ≡ is_variant_term x
+pub record Untaken (env : Env) (place : Place) (given : Bool) (z : plain.Term) : Type 0 where
+  pub takes : takes_value env (item_of place z) ≡ false
+  pub variant : is_variant_place (item_of place z) ≡ given
 
-pub other_untaken : (env : Env) (place : Place) (x : Term) (z y : plain.Term) → z ≡ y → item_of place y ≡ y → takes_value env y ≡ false → is_variant_place y ≡ is_variant_term x → Untaken env place x z
-other_untaken env place x z y is a b c = record {
-  same = ap (λ (t : plain.Term). item_of place t) is ∙ a ∙ sym is;
-  takes = ap (λ (t : plain.Term). takes_value env t) is ∙ b;
-  variant = ap is_variant_place is ∙ c;
-}
+pub other_untaken : (env : Env) (place : Place) (given : Bool) (z y : plain.Term) → item_of place z ≡ y → takes_value env y ≡ false → is_variant_place y ≡ given → Untaken env place given z
+other_untaken env place given z y is a b = record { takes = ap (λ (t : plain.Term). takes_value env t) is ∙ a; variant = ap is_variant_place is ∙ b }
 
 -- arguments that are one more item
 pub index_at : (split : Split) (all : List ExpressionNode) (s : SplitAt split all) → behind_nodes [] split.target.now ≡ nodes.tree (tree_in split.target.now) ∷ [] → AddsOne split.arguments.now

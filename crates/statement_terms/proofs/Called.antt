@@ -11,6 +11,7 @@ use Rattle.vba_expression.specs.declared.node.ExpressionNode.TheVariants as node
 use Rattle.bound_project.specs.declared.declarations.Parameter.{Parameter}
 use Rattle.bound_project.specs.declared.statement.ActionKind.{ActionKind}
 use Rattle.bound_project.specs.declared.statement.ActionKind.TheVariants as action
+use Rattle.bound_project.specs.Expressions.{no_exprs}
 use Rattle.bound_project.specs.Expressions as bound
 use Rattle.bound_project.specs.Statements.{evaluate}
 use Rattle.bound_project.specs.Statements as to
@@ -24,10 +25,11 @@ use Rattle.bound_project.specs.Project as project
 use Rattle.bound_project.specs.Drafts.{Drafted}
 use Rattle.bound_members.specs.binder.specs.Declarations.{Written}
 use Rattle.bound_members.specs.binder.specs.Scopes.{Space}
-use Rattle.bound_members.specs.bound_forms.specs.Terms.{Env, Given, a_value, a_routine, err_raise, err_clear, error_word, no_term, bound_arguments, has_names}
+use Rattle.bound_members.specs.binder.specs.Options.{or_else}
+use Rattle.bound_members.specs.bound_forms.specs.Terms.{Env, Given, a_routine, broken_rule, err_raise, err_clear, error_word, no_term, bound_arguments, has_names}
 use Rattle.bound_members.specs.bound_forms.specs.Terms as plain
-use Rattle.bound_members.specs.bound_forms.specs.ExpressionsBound.{argument_of, bare_call, given_as, givens, indexed}
-use Rattle.bound_members.specs.bound_forms.specs.StatementsBound.{called_place, called_term, called_with, is_one, raise_parameters}
+use Rattle.bound_members.specs.bound_forms.specs.ExpressionsBound.{argument_of, given_as, givens, indexed}
+use Rattle.bound_members.specs.bound_forms.specs.StatementsBound.{called_place, called_term, called_with, is_one, raise_parameters, raised, untaken}
 use Rattle.statement_terms.specs.declared.trees.Split.{Split}
 use Rattle.bound_members.specs.bound_calls.specs.declared.term.Ending.{Ending}
 use Rattle.bound_members.specs.bound_calls.specs.declared.term.Term.{Term}
@@ -38,6 +40,7 @@ use Rattle.bound_members.specs.bound_calls.specs.Passing.{AllTaken}
 use Rattle.bound_members.specs.bound_calls.specs.Standing.{TermStands, TreeStands}
 use Rattle.bound_members.specs.bound_calls.specs.Steps.{Leaves}
 use Rattle.bound_members.specs.bound_calls.specs.References.{TakesGiven}
+use Rattle.bound_members.specs.bound_calls.specs.Taking.{broken_ending}
 use Rattle.statement_terms.specs.Assigning.{GivenPushed}
 use Rattle.statement_nodes.specs.Pushed.{ActionStands}
 use Rattle.bound_members.specs.bound_calls.specs.Calls.{PassesRest, node_of}
@@ -45,6 +48,7 @@ use Rattle.statement_terms.specs.Called.{IsBare, LeavesAlone, SplitAt, args_on, 
 use Rattle.bound_members.specs.bound_calls.proofs.Growing.{grown_same, grown_pieces, grown_twice}
 use Rattle.bound_members.specs.bound_calls.proofs.Arguing.{left_long}
 use Rattle.bound_members.specs.bound_calls.proofs.CallSteps.{above_both, parameters_long}
+use Rattle.statement_terms.proofs.Calling.{called_same}
 use Rattle.statement_terms.proofs.NodeTrees.{behind_both}
 use Rattle.bound_members.specs.bound_calls.proofs.Passing.{arguments_bound, nameless}
 
@@ -96,7 +100,7 @@ raise_fits env parameters gs written all t ps below none h =
 -- what raises an error with these arguments
 raises : (env : Env) (x : Term) (z : plain.Term) (place : Place) (ns : List ExpressionNode) (d e : Drafted) (written all : ℕ) → PassesAll env raise_parameters ns d e written all
     → ((y : plain.Term) → TermStands env d.tables x y d.pieces [] → (y ≡ z) × (d.pieces ≡ []))
-    → ((items : List nodes.Item) → called_term env place z (givens env (args_on items ns)) ≡ option_map to.raise (bound_arguments (argument_of env) raise_parameters (givens env (args_on items ns))))
+    → ((items : List nodes.Item) (args : bound.Args) → bound_arguments (argument_of env) raise_parameters (givens env (args_on items ns)) ≡ Some args → called_term env place z (givens env (args_on items ns)) ≡ Some (to.raise args))
     → ActsOn env x place ns d e (action.Raise all)
 raises env x z place ns d e written all p there called = record {
   framed = p.framed;
@@ -110,24 +114,29 @@ raises env x z place ns d e written all p there called = record {
             let k = there y h in
             record {
               made = to.raise (args_of s.made);
-              is = ap (λ t. called_term env place t gs) k.0 ∙ called items ∙ ap (λ o. option_map to.raise o) s.bound;
+              is = ap (λ t. called_term env place t gs) k.0 ∙ called items (args_of s.made) s.bound;
               fits = raise_fits env raise_parameters gs written all e.tables e.pieces d.pieces k.1 s;
             };
       };
 }
 
+pub raised_with : (env : Env) (place : Place) (gs : List Given) (args : bound.Args) → bound_arguments (argument_of env) raise_parameters gs ≡ Some args → raised env place gs ≡ Some (to.raise args)
+raised_with env place gs args h =
+    let other = option_map (λ es. to.evaluate (broken_rule 25 place es)) (untaken env raise_parameters gs) in
+    ap (λ o. or_else (option_map to.raise o) other) h
+
 pub acts_raise : (env : Env) (place : Place) (ns : List ExpressionNode) (d e : Drafted) (written all : ℕ) → PassesAll env raise_parameters ns d e written all → ActsOn env term.ErrRaise place ns d e (action.Raise all)
-acts_raise env place ns d e written all p = raises env term.ErrRaise err_raise place ns d e written all p (λ y h. h) (λ items. refl)
+acts_raise env place ns d e written all p = raises env term.ErrRaise err_raise place ns d e written all p (λ y h. h) (λ items args h. raised_with env place (givens env (args_on items ns)) args h)
 
 one_given : (gs : List Given) → 1 ≡ length gs → has_names gs ≡ false → is_one gs ≡ true
 one_given gs a b = ap (λ (n : ℕ). n == 1 && not (has_names gs)) (sym a) ∙ ap (λ c. not c) b
 
 pub acts_number : (env : Env) (place : Place) (ns : List ExpressionNode) (d e : Drafted) (written all : ℕ) → written ≡ 1 → PassesAll env raise_parameters ns d e written all → ActsOn env term.ErrorWord place ns d e (action.Raise all)
 acts_number env place ns d e written all one p =
-    raises env term.ErrorWord error_word place ns d e written all p (λ y h. h) (λ items.
+    raises env term.ErrorWord error_word place ns d e written all p (λ y h. h) (λ items args h.
     let gs = givens env (args_on items ns) in
     let s = p.stands items in
-    ap (λ (b : Bool). if b then option_map to.raise (bound_arguments (argument_of env) raise_parameters gs) else None) (one_given gs (sym one ∙ s.written_is) s.no_names))
+    ap (λ (b : Bool). if b then raised env place gs else None) (one_given gs (sym one ∙ s.written_is) s.no_names) ∙ raised_with env place gs args h)
 
 pub acts_clear : (env : Env) (x : Term) (place : Place) (d : Drafted) → x ≡ term.ErrClear → Acts env x place [] d d action.ClearErr
 acts_clear env x place d is =
@@ -138,6 +147,20 @@ acts_clear env x place d is =
       stands = λ y h.
           record { made = to.clear_err; is = ap (λ z. called_term env place z []) h.0; fits = ap (λ ps. action_of d.tables action.ClearErr ps) h.1 };
     })
+
+-- Err.Raise without arguments needs one
+pub acts_lacking : (env : Env) (x : Term) (place : Place) (d e : Drafted) → x ≡ term.ErrRaise → e ≡ record d { pieces = put d.tables (node_of (broken_ending 25 place 0).kind place (broken_ending 25 place 0).of) d.pieces }
+    → Acts env x place [] d e action.Evaluate
+acts_lacking env x place d e is eq =
+    let n = node_of (broken_ending 25 place 0).kind place (broken_ending 25 place 0).of in
+    let P : Term → Type 0 = λ z. Acts env z place [] d e action.Evaluate in
+    let Q : Drafted → Type 0 = λ z. Acts env term.ErrRaise place [] d z action.Evaluate in
+    subst P (sym is) (subst Q (sym eq) (record {
+      grown = grown_pieces d (put d.tables n d.pieces);
+      named = tt;
+      stands = λ y h.
+          record { made = evaluate (broken_rule 25 place no_exprs); is = ap (λ z. called_term env place z []) h.0; fits = ap (λ ps. action_of d.tables action.Evaluate (put d.tables n ps)) h.1 };
+    }))
 
 -- a procedure is called by a statement
 pub routine_called : (env : Env) (place : Place) (y : plain.Term) (space : Space) (number : ℕ) (w : Written) (gs : List Given) (made : bound.Expr) → y ≡ a_routine space number w
@@ -152,17 +175,8 @@ routine_called env place y space number w gs made is h =
 pub none_there : (e : bound.Expr) → None ≡ Some e → ⊥
 none_there e h = subst T (ap (λ (o : Option bound.Expr). is_some o) (sym h)) tt
 
--- what a procedure gives that is called without arguments
-bare_given : (env : Env) (place : Place) (s : Space) (n : ℕ) (w : Written) (t : plain.Term) (made : bound.Expr) → bare_call env s n w ≡ t → given_as env (a_routine s n w) place ≡ Some made → given_as env t place ≡ Some made
-bare_given env place s n w (a_value node of) made e h = rw e at h
-bare_given env place s n w t made e h = absurd (none_there made (rw e at h))
-
-no_arguments : (env : Env) (place : Place) (s : Space) (n : ℕ) (w : Written) → indexed env place (a_routine s n w) [] ≡ bare_call env s n w
-no_arguments env place s n w = refl
-
 routine_evaluated : (env : Env) (place : Place) (s : Space) (n : ℕ) (w : Written) (made : bound.Expr) → given_as env (a_routine s n w) place ≡ Some made → called_term env place (a_routine s n w) [] ≡ Some (evaluate made)
-routine_evaluated env place s n w made h =
-    ap (λ t. option_map evaluate (given_as env t place)) (no_arguments env place s n w) ∙ ap (λ o. option_map evaluate o) (bare_given env place s n w (bare_call env s n w) made refl h)
+routine_evaluated env place s n w made h = ap (λ o. option_map evaluate o) (sym (called_same env place s n w) ∙ h)
 
 given_none : (env : Env) (place : Place) (z t : plain.Term) (made : bound.Expr) → z ≡ t → given_as env t place ≡ None → given_as env z place ≡ Some made → ⊥
 given_none env place z t made is none h = none_there made (sym none ∙ sym (ap (λ y. given_as env y place) is) ∙ h)
@@ -195,7 +209,7 @@ called_given env t term.ErrRaise z ps below place made h k = absurd (given_none 
 called_given env t term.ErrClear z ps below place made h k = absurd (given_none env place z err_clear made h.0 refl k)
 called_given env t term.ErrorWord z ps below place made h k = absurd (given_none env place z error_word made h.0 refl k)
 
-pub given_pushed : (x : Term) (place : Place) (d d1 e : Drafted) (ending : Ending) → TakesGiven x d d1 ending → e ≡ record d1 { pieces = put d1.tables (node_of ending.kind place ending.of) d1.pieces } → GivenPushed x place d e
+pub given_pushed : (x : Term) (place : Place) (d d1 e : Drafted) (ending : Ending) → TakesGiven x place d d1 ending → e ≡ record d1 { pieces = put d1.tables (node_of ending.kind place ending.of) d1.pieces } → GivenPushed x place d e
 given_pushed x place d d1 e ending t eq =
     let P : Drafted → Type 0 = λ z. GivenPushed x place d z in
     let n = node_of ending.kind place ending.of in
@@ -203,7 +217,7 @@ given_pushed x place d d1 e ending t eq =
       grown = grown_twice d d1 (record d1 { pieces = put d1.tables n d1.pieces }) t.grown (grown_pieces d1 (put d1.tables n d1.pieces));
       stands = λ env y below h.
           let m = t.stands env y below h in
-          record { made = plain.expression_of m.made place (declared_view ending.of); is = m.is place; on_top = m.ends n };
+          record { made = plain.expression_of m.made place (declared_view ending.of); is = m.is; on_top = m.ends n };
     })
 
 pub acts_given : (env : Env) (x : Term) (place : Place) (d e : Drafted) → GivenPushed x place d e → Acts env x place [] d e action.Evaluate

@@ -77,10 +77,15 @@ stays_itself made place of e plain h = by_type (is_object (declared_view of)) h
         let P : bound.Expr → Type 0 = λ (y : bound.Expr). plain_operand y ≡ y in
         subst P same (ap (λ (c : Bool). if c && may_be_object_at made then expression_of (bound.default_of x) place type.variant else x) variant)
 
+alone : (o : Option bound.Expr) (e : bound.Expr) → or_else o None ≡ Some e → o ≡ Some e
+alone None e h = h
+alone (Some x) e h = h
+
 plain_itself : (env : Env) (t : Tables) (x : Term) (z : plain.Term) (ps below : List Piece) (place : Place) (made : bound.Expr) → is_plain x ≡ true → TermStands env t x z ps below → value_of env z place ≡ Some made → plain_operand made ≡ made
 plain_itself env t (term.Place kind of bounded lends) z ps below place made p h v =
-    stays_itself (bound.load h.at) place of made p (ap (λ (y : plain.Term). value_of env y place) (sym h.is) ∙ v)
-plain_itself env t (term.Value e) z ps below place made p h v = stays_itself h.made place e.of made p (ap (λ (y : plain.Term). value_of env y place) (sym h.is) ∙ v)
+    stays_itself (bound.load h.at) place of made p (alone (typed_value (bound.load h.at) place (declared_view of)) made (ap (λ (y : plain.Term). value_of env y place) (sym h.is) ∙ v))
+plain_itself env t (term.Value e) z ps below place made p h v =
+    stays_itself h.made place e.of made p (alone (typed_value h.made place (declared_view e.of)) made (ap (λ (y : plain.Term). value_of env y place) (sym h.is) ∙ v))
 plain_itself env t x z ps below place made p h v = let e : false ≡ true = p in absurd cc
 
 pub plain_pushed : (given : Bool) (x : Tree) (of : DeclaredType) (d e : Drafted) → is_plain x.term ≡ true → PushesValue x d e (Some of) → PushesFor given x d e of

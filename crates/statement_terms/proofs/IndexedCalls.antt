@@ -21,7 +21,6 @@ use Rattle.bound_members.specs.bound_forms.specs.ExpressionsBound.{callee, given
 use Rattle.bound_members.specs.bound_forms.specs.StatementsBound.{called_term, called_with}
 use Rattle.bound_members.specs.bound_calls.specs.declared.term.Item.{Item}
 use Rattle.bound_members.specs.bound_calls.specs.declared.term.Item.TheVariants as item
-use Rattle.bound_members.specs.bound_calls.specs.declared.term.Term.{Term}
 use Rattle.bound_members.specs.bound_calls.specs.declared.term.Tree.{Tree}
 use Rattle.bound_members.specs.bound_calls.specs.Standing.{Grown, TermNamed, TreeStands, on_pieces}
 use Rattle.bound_members.specs.bound_calls.specs.Steps.{Goes}

@@ -1,11 +1,11 @@
 pub mod Acting
 pub mod NodeTrees
+pub mod Calling
 pub mod Called
 pub mod Assigned
 pub mod Placing
 pub mod Folding
 pub mod NamedCalls
-pub mod NamesOfMembers
 pub mod WrittenMembers
 pub mod GivenValues
 pub mod Heights

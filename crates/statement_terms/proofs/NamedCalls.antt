@@ -1,10 +1,10 @@
 -- Calls of which the last arguments have names, and that stand as statements.
-use Rattle.std.proofs.Common.{◌≡◌, ℕ, zero, suc, List, [], ◌∷◌, ◌++◌, map, length, Option, Some, refl, sym, ap, subst, ◌∙◌, append-nil, arith}
-use Rattle.std.specs.Prelude.{option_map, reverse}
+use Rattle.std.proofs.Common.{◌≡◌, ℕ, List, [], ◌∷◌, ◌++◌, map, length, Option, Some, refl, sym, ap, subst, ◌∙◌, append-nil, arith}
+use Rattle.std.specs.Prelude.{reverse}
 use Rattle.std.proofs.lemmas.List.{length-reverse}
 use Rattle.vba_base.specs.declared.place.Place.{Place}
 use Rattle.vba_values.specs.Types.{Declared}
-use Rattle.vba_expression.specs.Tree.{Args, no_args}
+use Rattle.vba_expression.specs.Tree.{Args}
 use Rattle.vba_expression.specs.Nodes as nodes
 use Rattle.vba_expression.specs.declared.node.ExpressionNode.{ExpressionNode}
 use Rattle.bound_project.specs.declared.declarations.Parameter.{Parameter}
@@ -24,7 +24,6 @@ use Rattle.bound_members.specs.bound_forms.specs.StatementsBound.{called_term, r
 use Rattle.bound_members.specs.bound_forms.specs.Terms as plain
 use Rattle.bound_members.specs.bound_forms.specs.ExpressionsBound.{argument_of, givens, indexed}
 use Rattle.bound_members.specs.bound_calls.specs.declared.term.Ending.{Ending}
-use Rattle.bound_members.specs.bound_calls.specs.declared.term.Item.{Item}
 use Rattle.bound_members.specs.bound_calls.specs.declared.term.Item.TheVariants as item
 use Rattle.bound_members.specs.bound_calls.specs.declared.term.Term.TheVariants as term
 use Rattle.bound_members.specs.bound_calls.specs.declared.term.Ordered.{Ordered}
@@ -40,7 +39,7 @@ use Rattle.statement_terms.specs.Assigning.{GivenPushed}
 use Rattle.bound_members.specs.bound_calls.proofs.Growing.{grown_twice}
 use Rattle.bound_members.specs.bound_calls.proofs.CallSteps.{call_stands as plain_stands}
 use Rattle.bound_members.specs.bound_calls.proofs.NamedSteps.{InOrderBound, call_stands, in_order_bound, unpacked}
-use Rattle.statement_terms.proofs.Called.{acts_raise, passes_all, routine_called}
+use Rattle.statement_terms.proofs.Called.{acts_raise, passes_all, raised_with, routine_called}
 
 -- ---- arguments of which none has a name
 
@@ -169,7 +168,7 @@ acts_raise_named env place ns parameters x named o d d1 e raised some a h = reco
             let made = to.raise (bound.in_order m.places (args_of m.all)) in
             let A : plain.Term → Type 0 = λ z. called_term env place z gs ≡ Some made in
             let given : bound_arguments (argument_of env) raise_parameters gs ≡ Some (bound.in_order m.places (args_of m.all)) = ap (λ ps. bound_arguments (argument_of env) ps gs) (sym raised) ∙ m.bound in
-            record { made = made; is = subst A (sym s.0) (ap (λ g. option_map to.raise g) given); fits = raised_in_order e.tables o m.all m.places e.pieces d.pieces s.1 m.arguments_is m.order_is m.on_top };
+            record { made = made; is = subst A (sym s.0) (raised_with env place gs (bound.in_order m.places (args_of m.all)) given); fits = raised_in_order e.tables o m.all m.places e.pieces d.pieces s.1 m.arguments_is m.order_is m.on_top };
       };
 }
 

@@ -1,5 +1,5 @@
 -- What takes the values of assignments.
-use Rattle.std.proofs.Common.{◌≡◌, Bool, true, false, List, Option, Some, None, refl, sym, ap, subst, ◌∙◌}
+use Rattle.std.proofs.Common.{◌≡◌, Bool, true, false, List, Option, Some, None, refl, sym, ap, subst}
 use Rattle.std.specs.Prelude.{option_map, if◌then◌else◌}
 use Rattle.vba_base.specs.declared.place.Place.{Place}
 use Rattle.vba_lexer.specs.declared.token.Token.{Token}
@@ -16,12 +16,11 @@ use Rattle.bound_members.specs.bound_forms.specs.StatementsBound.{takes_value, t
 use Rattle.bound_members.specs.bound_calls.specs.declared.term.Term.{Term}
 use Rattle.bound_members.specs.bound_calls.specs.declared.term.Term.TheVariants as term
 use Rattle.bound_members.specs.bound_calls.specs.Calls.{MarksGiven}
-use Rattle.bound_members.specs.bound_calls.specs.Standing.{PushedIs, TermStands}
+use Rattle.bound_members.specs.bound_calls.specs.Standing.{TermStands}
 use Rattle.bound_members.specs.bound_calls.proofs.Growing.{grown_same}
 use Rattle.statement_terms.specs.declared.takers.Taker.{Taker}
-use Rattle.statement_terms.specs.Assigning.{ExprPushed}
 use Rattle.statement_terms.specs.Called.{IsBare}
-use Rattle.statement_terms.specs.Takers.{MarksTaken, TakenBy, given_by, taker_of}
+use Rattle.statement_terms.specs.Takers.{MarksTaken, TakenBy, taker_of}
 
 -- ---- terms
 

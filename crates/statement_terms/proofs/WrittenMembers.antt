@@ -6,39 +6,41 @@ use Rattle.std.proofs.lemmas.List.{length-map}
 use Rattle.vba_base.specs.declared.place.Place.{Place}
 use Rattle.vba_values.specs.Types as type
 use Rattle.vba_lexer.specs.declared.token.Token.{Token}
-use Rattle.vba_words.specs.declared.identifier.Identifier.{Identifier}
 use Rattle.vba_expression.specs.Tree.{Expr, Args, index}
 use Rattle.vba_expression.specs.Nodes as nodes
 use Rattle.vba_expression.specs.Nodes.{behind_node, last_tree}
 use Rattle.vba_expression.specs.declared.node.ExpressionNode.TheVariants as node
 use Rattle.bound_project.specs.declared.node.ArgumentNames.{ArgumentNames}
+use Rattle.bound_project.specs.declared.node.Node.{Node}
 use Rattle.bound_project.specs.declared.node.NodeKind.TheVariants as kinds
 use Rattle.bound_project.specs.declared.statement.ActionKind.{ActionKind}
 use Rattle.bound_project.specs.declared.statement.ActionKind.TheVariants as action
 use Rattle.bound_project.specs.Bodies.{action_of, member_found}
-use Rattle.bound_project.specs.Expressions.{Exprs, no_exprs, given_count, named_member}
+use Rattle.bound_project.specs.Expressions.{Exprs, no_exprs, also, given_count, marked, named_member}
 use Rattle.bound_project.specs.Expressions as bound
 use Rattle.bound_project.specs.Lists.{above, exprs_of}
 use Rattle.bound_project.proofs.Lists.{exprs_are, is_itself}
-use Rattle.bound_project.specs.Pieces.{Piece, Tables, a_member, an_expr, by_name_in, expr_of, exprs_off, name_in, of_value, order_in, put}
+use Rattle.bound_project.specs.Pieces.{Piece, Tables, a_member, an_expr, by_name_in, expr_of, exprs_off, name_in, of_found, of_value, order_in, put}
 use Rattle.bound_project.specs.Drafts.{Drafted}
 use Rattle.bound_project.specs.Statements.{Action, assign_default, assign_member}
 use Rattle.bound_project.specs.View.{declared_view}
+use Rattle.bound_members.specs.binder.specs.Options.{or_else}
 use Rattle.bound_members.specs.binder.specs.Types.{is_object}
 use Rattle.bound_members.specs.bound_forms.specs.Terms.{Env, Given, a_host_member, expression_of, has_names}
 use Rattle.bound_members.specs.bound_forms.specs.Terms as plain
-use Rattle.bound_members.specs.bound_forms.specs.ExpressionsBound.{argument_of, givens, host_arguments, indexed, mark_members, named_called, takes_arguments, term_of, place_told}
-use Rattle.bound_members.specs.bound_forms.specs.StatementsBound.{arguments_written, assigned, assigned_to, fits_written, has_written_default, is_given_with, is_variant_place, is_written_member, member_written, named_written, takes_value, target_before}
+use Rattle.bound_members.specs.bound_forms.specs.ExpressionsBound.{argument_of, arguments_rule, callee, givens, item_of, member_takes, host_arguments, indexed, mark_members, named_called, takes_arguments, term_of, place_told}
+use Rattle.bound_members.specs.bound_forms.specs.StatementsBound.{arguments_written, assigned, assigned_to, broken_target, fits_written, has_written_default, is_given_with, is_no_target, is_param_array, is_sub, is_variant_place, is_written_member, member_written, named_written, takes_value, target_before, unwritten_rule, written_rule, wrong_written}
 use Rattle.bound_members.specs.bound_calls.specs.declared.term.HostMember.{HostMember}
 use Rattle.bound_members.specs.bound_calls.specs.declared.term.MemberCall.{MemberCall}
-use Rattle.bound_members.specs.bound_calls.specs.declared.term.Item.{Item}
 use Rattle.bound_members.specs.bound_calls.specs.declared.term.Item.TheVariants as item
+use Rattle.bound_members.specs.bound_calls.specs.declared.term.Shape.{Shape}
 use Rattle.bound_members.specs.bound_calls.specs.declared.term.Term.{Term}
 use Rattle.bound_members.specs.bound_calls.specs.declared.term.Term.TheVariants as term
 use Rattle.bound_members.specs.bound_calls.specs.declared.term.Tree.{Tree}
 use Rattle.bound_members.specs.bound_calls.specs.Calls.{node_of}
 use Rattle.bound_members.specs.bound_calls.specs.Standing.{AllGiven, MemberNamed, MemberStands, NamesCame, Stands, looked_for, member_is, names_told, on_pieces}
-use Rattle.bound_members.specs.bound_calls.specs.Taking.{PushesSheet, sheet_expression}
+use Rattle.bound_members.specs.bound_calls.specs.Shapes.{shape_given, shapes_given}
+use Rattle.bound_members.specs.bound_calls.specs.Taking.{PushesSheet, broken_ending, sheet_expression}
 use Rattle.bound_members.specs.bound_calls.proofs.Growing.{grown_pieces, grown_same, grown_twice}
 use Rattle.bound_members.specs.bound_calls.proofs.Taking.{sheet_stands}
 use Rattle.bound_members.proofs.Listing.{all_written}
@@ -46,89 +48,152 @@ use Rattle.bound_members.proofs.MemberSteps.{by_name_called, named_ends}
 use Rattle.bound_members.proofs.Naming.{given_listed, given_long, none_named}
 use Rattle.bound_members.specs.MemberCalls.{NamesFit}
 use Rattle.statement_terms.specs.Called.{ActionIs}
-use Rattle.statement_terms.specs.Members.{AssignsTerm, AssignsTree, GivesMember, IsWritten, NamedBy, WritesCall, is_written}
-use Rattle.statement_terms.proofs.Assigned.{bare_assigned, bare_given}
+use Rattle.statement_terms.specs.Members.{AssignsTerm, AssignsTree, GivesMember, IsWritten, WritesBroken, WritesCall, is_written, taken_rule}
+use Rattle.statement_terms.proofs.Assigned.{a_target, bare_assigned, bare_given}
 
 -- ---- which members are written
 
 -- a member of an object of an unknown kind, or one that gives an object with a default member
-late_or_default : (late named object written marked : Bool) → (late || object) ≡ true → written ≡ true → (((late || named) || (object && written)) || marked) ≡ true
-late_or_default true named object written marked h k = refl
-late_or_default false true object written marked h k = refl
-late_or_default false false true true marked h k = refl
-late_or_default false false true false marked h k = let e : false ≡ true = k in absurd cc
-late_or_default false false false written marked h k = let e : false ≡ true = h in absurd cc
-
-late_named : (late named default marked : Bool) → (late || default) ≡ true → (((late || named) || default) || marked) ≡ true
-late_named true named default marked h = refl
-late_named false true default marked h = refl
-late_named false false true marked h = refl
-late_named false false false marked h = let e : false ≡ true = h in absurd cc
-
-written_is : (name : Option Identifier) (object : bound.Expr) (m : plain.HostMember) → NamedBy name (a_host_member object m) → is_written name m.of m.greatest ≡ true → is_written_member m ≡ true
-written_is None object m k h =
-    late_named (not (is_some m.greatest)) (bytes_eq m.name (codes "value")) (is_object m.of && has_written_default m.of) (list_any (λ (w : plain.HostMember). bytes_eq m.name w.name) mark_members) h
-written_is (Some x) object m k h = ap (λ (n : List ℕ). is_written_member (record { name = n; of = m.of; least = 0; greatest = m.greatest })) k ∙ h
+late_or_default : (late named object written mark : Bool) → (late || object) ≡ true → written ≡ true → (((late || named) || (object && written)) || mark) ≡ true
+late_or_default true named object written mark h k = refl
+late_or_default false true object written mark h k = refl
+late_or_default false false true true mark h k = refl
+late_or_default false false true false mark h k = let e : false ≡ true = k in absurd cc
+late_or_default false false false written mark h k = let e : false ≡ true = h in absurd cc
 
 -- ---- without arguments
 
 bare_written : (env : Env) (place : Place) (object : bound.Expr) (m : plain.HostMember) (value : bound.Expr) → is_written_member m ≡ true → m.least ≡ 0 → member_written env place object m [] value ≡ Some (assign_member object m.name no_exprs value)
 bare_written env place object m value w least =
     let done : Option Action = Some (assign_member object m.name no_exprs value) in
-    ap (λ (b : Bool). if b && (m.least == 0) then done else None) w ∙ ap (λ (n : ℕ). if n == 0 then done else None) least
+    let wrong = wrong_written env place object (written_rule m []) [] value in
+    ap (λ (b : Bool). or_else (if b && (m.least == 0) then done else None) wrong) w ∙ ap (λ (n : ℕ). or_else (if n == 0 then done else None) wrong) least
 
 bare_fits : (t : Tables) (name : ℕ) (object value : bound.Expr) → action_of t (action.AssignMember name 0) (a_member object (name_in t name) 0 ∷ an_expr value ∷ []) ≡ Some (assign_member object (name_in t name) no_exprs value)
 bare_fits t name object value =
     let n = name_in t name in
     ap (λ (b : Bool). if b then Some (assign_member object n no_exprs value) else None) (is_itself n no_exprs)
 
-pub member_assigned : (m : HostMember) (name : Option Identifier) (place : Place) (d e : Drafted) → m.name < length d.tables.constants → m.least ≡ 0 → is_written name (declared_view m.of) m.greatest ≡ true
-    → e ≡ record d { pieces = put d.tables (node_of (kinds.MemberThere m.name 0) place m.of) d.pieces } → AssignsTerm place (term.HostMember m) name d e (action.AssignMember m.name 0) true
-member_assigned m name place d e there least written eq =
-    let P : Drafted → Type 0 = λ (z : Drafted). AssignsTerm place (term.HostMember m) name d z (action.AssignMember m.name 0) true in
+pub member_assigned : (m : HostMember) (place : Place) (d e : Drafted) → m.name < length d.tables.constants → m.least ≡ 0 → is_written (name_in d.tables m.name) (declared_view m.of) m.greatest ≡ true
+    → e ≡ record d { pieces = put d.tables (node_of (kinds.MemberThere m.name 0) place m.of) d.pieces } → AssignsTerm place (term.HostMember m) d e (action.AssignMember m.name 0) true
+member_assigned m place d e there least written eq =
+    let P : Drafted → Type 0 = λ (z : Drafted). AssignsTerm place (term.HostMember m) d z (action.AssignMember m.name 0) true in
     let t = d.tables in
     let M = member_is t m in
     subst P (sym eq) (record {
       grown = grown_pieces d (put t (node_of (kinds.MemberThere m.name 0) place m.of) d.pieces);
       named = there;
       takes = λ env z ps below h. ap (λ (y : plain.Term). takes_value env y) h.is;
-      stands = λ env z value k h.
-          let N : plain.Term → Type 0 = λ (y : plain.Term). NamedBy name y in
+      stands = λ env z value h.
           record {
             made = assign_member h.object M.name no_exprs value;
-            is = ap (λ (y : plain.Term). assigned env place value [] y) h.is ∙ bare_written env place h.object M value (written_is name h.object M (subst N h.is k) written) least;
+            is = ap (λ (y : plain.Term). assigned env place value [] y) h.is ∙ bare_written env place h.object M value written least;
             fits = ap (λ (ps : List Piece). action_of t (action.AssignMember m.name 0) (of_value (λ x. a_member x (name_in t m.name) 0) ps)) h.on_top ∙ bare_fits t m.name h.object value;
           };
     })
 
+-- what breaks a rule
+pub writes_broken : (rule count all : ℕ) (place : Place) (d e : Drafted) → all ≡ 2 + count → e ≡ record d { pieces = put d.tables (node_of (broken_ending rule place all).kind place (broken_ending rule place all).of) d.pieces }
+    → WritesBroken rule count place d e action.Evaluate
+writes_broken rule count all place d e long eq =
+    let N : ℕ → Node = λ (k : ℕ). node_of (broken_ending rule place k).kind place (broken_ending rule place k).of in
+    let P : Drafted → Type 0 = λ (z : Drafted). WritesBroken rule count place d z action.Evaluate in
+    subst P (sym eq) (record {
+      grown = grown_pieces d (put d.tables (N all) d.pieces);
+      named = tt;
+      does = λ value object es counted on_top.
+          let xs : List bound.Expr = value ∷ object ∷ es in
+          let same : all ≡ length xs = omega (arith, long, counted) in
+          ap (λ (k : ℕ). action_of d.tables action.Evaluate (put d.tables (N k) d.pieces)) same ∙ ap (λ (ps : List Piece). action_of d.tables action.Evaluate (put d.tables (N (length xs)) ps)) on_top
+          ∙ ap (λ o. action_of d.tables action.Evaluate (of_found (λ (ys : Exprs). expr_of (N (length xs)) (marked (record { rule = rule; place = place }) ys)) o)) (exprs_are xs []);
+    })
+
+-- a member that breaks a rule isn't written
+no_written : (written least : Bool) (rule : ℕ) (kept wrong : Option Action) (other : Option ℕ) → (if not least then Some 25 else if written then None else other) ≡ Some rule → or_else (if written && least then kept else None) wrong ≡ wrong
+no_written true true rule kept wrong other h = let e : None ≡ Some rule = h in absurd cc
+no_written true false rule kept wrong other h = refl
+no_written false least rule kept wrong other h = refl
+
+bare_broken : (env : Env) (place : Place) (object : bound.Expr) (m : plain.HostMember) (rule : ℕ) (value : bound.Expr) → written_rule m [] ≡ Some rule
+    → member_written env place object m [] value ≡ Some (broken_target rule place value (also object no_exprs))
+bare_broken env place object m rule value h =
+    let done = arguments_written env place object m [] value in
+    let wrong = wrong_written env place object (written_rule m []) [] value in
+    no_written (is_written_member m) (m.least == 0) rule done wrong (unwritten_rule m.of) h ∙ ap (λ (o : Option ℕ). wrong_written env place object o [] value) h
+
+pub member_broken : (m : HostMember) (rule : ℕ) (place : Place) (d e : Drafted) (kind : ActionKind) → Some rule ≡ written_rule (member_is d.tables m) [] → WritesBroken rule 0 place d e kind → AssignsTerm place (term.HostMember m) d e kind true
+member_broken m rule place d e kind broken w = record {
+  grown = w.grown;
+  named = w.named;
+  takes = λ env z ps below h. ap (λ (y : plain.Term). takes_value env y) h.is;
+  stands = λ env z value h.
+      record {
+        made = broken_target rule place value (also h.object no_exprs);
+        is = ap (λ (y : plain.Term). assigned env place value [] y) h.is ∙ bare_broken env place h.object (member_is d.tables m) rule value (sym broken);
+        fits = w.does value h.object [] refl h.on_top;
+      };
+}
+
+-- the rule of a member with some arguments
+given_rule_is : (m : plain.HostMember) (gs : List Given) → gs ≢ [] → written_rule m gs ≡ (if not (member_takes m gs) then arguments_rule m else taken_rule m)
+given_rule_is m [] some = absurd (some refl)
+given_rule_is m (g ∷ gs) some = refl
+
+pub rule_taken : (m : plain.HostMember) (gs : List Given) (takes : Bool) (rule : Option ℕ) → gs ≢ [] → takes ≡ member_takes m gs → takes ≡ true → rule ≡ taken_rule m → rule ≡ written_rule m gs
+rule_taken m gs takes rule some is true_is h = h ∙ sym (given_rule_is m gs some ∙ ap (λ (b : Bool). if not b then arguments_rule m else taken_rule m) (sym is ∙ true_is))
+
+pub rule_refused : (m : plain.HostMember) (gs : List Given) (takes : Bool) (rule : Option ℕ) → gs ≢ [] → takes ≡ member_takes m gs → takes ≡ false → rule ≡ arguments_rule m → rule ≡ written_rule m gs
+rule_refused m gs takes rule some is false_is h = h ∙ sym (given_rule_is m gs some ∙ ap (λ (b : Bool). if not b then arguments_rule m else taken_rule m) (sym is ∙ false_is))
+
+pub some_shapes : (ss : List Shape) → ss ≢ [] → shapes_given ss ≢ []
+some_shapes [] some h = some refl
+some_shapes (s ∷ ss) some h = let e : shape_given s ∷ shapes_given ss ≡ [] = h in absurd cc
+
 member_there : (m : HostMember) (d f : Drafted) → PushesSheet d f → (z : plain.Term) → z ≡ a_host_member sheet_expression (member_is d.tables m) → z ≡ a_host_member sheet_expression (member_is f.tables m)
 member_there m d f s z h = h ∙ ap (λ (t : Tables). a_host_member sheet_expression (member_is t m)) (sym s.tables_are)
 
-pub sheet_assigned : (m : HostMember) (name : Option Identifier) (place : Place) (d f e : Drafted) (kind : ActionKind) → PushesSheet d f → AssignsTerm place (term.HostMember m) name f e kind true → AssignsTerm place (term.SheetMember m) name d e kind true
-sheet_assigned m name place d f e kind s a = record {
+pub sheet_assigned : (m : HostMember) (place : Place) (d f e : Drafted) (kind : ActionKind) → PushesSheet d f → AssignsTerm place (term.HostMember m) f e kind true → AssignsTerm place (term.SheetMember m) d e kind true
+sheet_assigned m place d f e kind s a = record {
   grown = grown_twice d f e s.grown a.grown;
   named = a.named;
   takes = λ env z ps below h. a.takes env z (an_expr sheet_expression ∷ ps) below (record { object = sheet_expression; is = member_there m d f s z h.0; on_top = ap (λ (qs : List Piece). an_expr sheet_expression ∷ qs) h.1 });
-  stands = λ env z value k h. a.stands env z value k (sheet_stands m d f s env z (an_expr value ∷ []) h);
+  stands = λ env z value h. a.stands env z value (sheet_stands m d f s env z (an_expr value ∷ []) h);
 }
 
-term_assigned : (x : Tree) (name : Option Identifier) (d e : Drafted) (kind : ActionKind) (given : Bool) → AssignsTerm x.place x.term name d e kind given → AssignsTree x name d e kind given
-term_assigned x name d e kind given a = record {
+-- Err can't be assigned to
+pub err_assigned : (place : Place) (d e : Drafted) → e ≡ record d { pieces = put d.tables (node_of (broken_ending 27 place 1).kind place (broken_ending 27 place 1).of) d.pieces } → AssignsTerm place term.Err d e action.Evaluate false
+err_assigned place d e eq =
+    let n = node_of (broken_ending 27 place 1).kind place (broken_ending 27 place 1).of in
+    let P : Drafted → Type 0 = λ (z : Drafted). AssignsTerm place term.Err d z action.Evaluate false in
+    subst P (sym eq) (record {
+      grown = grown_pieces d (put d.tables n d.pieces);
+      named = tt;
+      takes = λ env z ps below h. ap (λ (y : plain.Term). takes_value env y) h.0;
+      stands = λ env z value h.
+          record {
+            made = broken_target 27 place value no_exprs;
+            is = ap (λ (y : plain.Term). assigned env place value [] y) h.0;
+            fits = ap (λ (ps : List Piece). action_of d.tables action.Evaluate (put d.tables n ps)) h.1;
+          };
+    })
+
+term_assigned : (x : Tree) (d e : Drafted) (kind : ActionKind) (given : Bool) → AssignsTerm x.place x.term d e kind given → AssignsTree x d e kind given
+term_assigned x d e kind given a = record {
   grown = a.grown;
   named = a.named;
   takes = λ env tree below bare h. bare_given env tree bare ∙ a.takes env (term_of env tree) d.pieces below h.term_is;
-  stands = λ env tree value bare k h.
+  stands = λ env tree value bare target h.
       let B : Place → Type 0 = λ (p : Place). ActionIs kind (assigned env p value [] (term_of env tree)) e.tables e.pieces in
-      let m = subst B h.place_is (a.stands env (term_of env tree) value k h.term_is) in
-      record { made = m.made; is = bare_assigned env tree value bare ∙ m.is; fits = m.fits };
+      let m = subst B h.place_is (a.stands env (term_of env tree) value h.term_is) in
+      record { made = m.made; is = bare_assigned env tree value bare target ∙ m.is; fits = m.fits };
 }
 
-pub tree_assigned : (x : Tree) (name : Option Identifier) (t : Term) (d e : Drafted) (kind k : ActionKind) (given g : Bool) → x.term ≡ t → k ≡ kind → g ≡ given → AssignsTerm x.place t name d e kind given → AssignsTree x name d e k g
-tree_assigned x name t d e kind k given g is same flag a =
-    let T : Term → Type 0 = λ (y : Term). AssignsTerm x.place y name d e kind given in
-    let K : ActionKind → Type 0 = λ (l : ActionKind). AssignsTree x name d e l given in
-    let G : Bool → Type 0 = λ (b : Bool). AssignsTree x name d e k b in
-    subst G (sym flag) (subst K (sym same) (term_assigned x name d e kind given (subst T (sym is) a)))
+pub tree_assigned : (x : Tree) (t : Term) (d e : Drafted) (kind k : ActionKind) (given g : Bool) → x.term ≡ t → k ≡ kind → g ≡ given → AssignsTerm x.place t d e kind given → AssignsTree x d e k g
+tree_assigned x t d e kind k given g is same flag a =
+    let T : Term → Type 0 = λ (y : Term). AssignsTerm x.place y d e kind given in
+    let K : ActionKind → Type 0 = λ (l : ActionKind). AssignsTree x d e l given in
+    let G : Bool → Type 0 = λ (b : Bool). AssignsTree x d e k b in
+    subst G (sym flag) (subst K (sym same) (term_assigned x d e kind given (subst T (sym is) a)))
 
 -- ---- with arguments
 
@@ -138,15 +203,16 @@ some_fit m (g ∷ gs) some takes k = ap (λ (b : Bool). b && has_written_default
 
 -- a member with arguments is written with what these are
 is_arguments : (env : Env) (place : Place) (object : bound.Expr) (m : plain.HostMember) (count : ℕ) (gs : List Given) (value : bound.Expr) → count ≡ length gs → count ≢ 0 → takes_arguments m count ≡ true → has_written_default m.of ≡ true
-    → (not (is_some m.greatest) || is_object m.of) ≡ true → member_written env place object m gs value ≡ arguments_written env place object m gs value
-is_arguments env place object m count gs value long some takes k late =
+    → (not (is_some m.greatest) || is_object m.of) ≡ true → (made : Action) → arguments_written env place object m gs value ≡ Some made → member_written env place object m gs value ≡ Some made
+is_arguments env place object m count gs value long some takes k late made given =
     let N : ℕ → Type 0 = λ (n : ℕ). n ≢ 0 in
     let T : ℕ → Type 0 = λ (n : ℕ). takes_arguments m n ≡ true in
     let written : is_written_member m ≡ true =
     late_or_default (not (is_some m.greatest)) (bytes_eq m.name (codes "value")) (is_object m.of) (has_written_default m.of) (list_any (λ (w : plain.HostMember). bytes_eq m.name w.name) mark_members) late k in
     let fits : fits_written m gs ≡ true = some_fit m gs (subst N long some) (subst T long takes) k in
     let done = arguments_written env place object m gs value in
-    ap (λ (b : Bool). if b && fits_written m gs then done else None) written ∙ ap (λ (b : Bool). if b then done else None) fits
+    let wrong = wrong_written env place object (written_rule m gs) gs value in
+    ap (λ (b : Bool). or_else (if b && fits_written m gs then done else None) wrong) written ∙ ap (λ (b : Bool). or_else (if b then done else None) wrong) fits ∙ ap (λ (o : Option Action). or_else o wrong) given
 
 call_written : (env : Env) (place : Place) (object : bound.Expr) (m : plain.HostMember) (named : ℕ) (gs : List Given) (es : List bound.Expr) (value : bound.Expr) → NamesCame [] named gs → AllGiven (argument_of env type.variant) gs es
     → arguments_written env place object m gs value ≡ Some (assign_member object m.name (exprs_of es) value)
@@ -170,14 +236,23 @@ call_fits t name given count object value es ps c g on_top =
     ∙ ap (λ o. member_found n o) (exprs_are es (a_member object n (given_count (exprs_of es)) ∷ an_expr value ∷ []))
     ∙ ap (λ (b : Bool). if b then Some (assign_member object n (exprs_of es) value) else None) (is_itself n (exprs_of es))
 
-indexed_given : (env : Env) (base : Expr) (left right : Token) (args : Args) (object : bound.Expr) (m : plain.HostMember) → target_before env base ≡ a_host_member object m → is_given_with env (index base left args right) ≡ true
+pub indexed_given : (env : Env) (base : Expr) (left right : Token) (args : Args) (object : bound.Expr) (m : plain.HostMember) → target_before env base ≡ a_host_member object m → is_given_with env (index base left args right) ≡ true
 indexed_given env base left right args object m h = ap (λ (t : plain.Term). takes_value env t || is_variant_place t) h
 
-indexed_assigned : (env : Env) (base : Expr) (left right : Token) (args : Args) (object : bound.Expr) (m : plain.HostMember) (value : bound.Expr) → target_before env base ≡ a_host_member object m
+-- a member is no Sub
+no_sub : (place : Place) (t : plain.Term) (object : bound.Expr) (m : plain.HostMember) → item_of place t ≡ a_host_member object m → is_sub t ≡ false
+no_sub place (plain.a_routine space number p) object m h = let e : plain.a_routine space number p ≡ a_host_member object m = h in absurd cc
+no_sub place t object m h = refl
+
+member_target : (env : Env) (base : Expr) (left right : Token) (args : Args) (object : bound.Expr) (m : plain.HostMember) → target_before env base ≡ a_host_member object m → is_no_target env (index base left args right) ≡ false
+member_target env base left right args object m h = ap (λ (b : Bool). b || is_param_array env (index base left args right)) (no_sub (place_told base) (callee env base (term_of env base)) object m h)
+
+pub indexed_assigned : (env : Env) (base : Expr) (left right : Token) (args : Args) (object : bound.Expr) (m : plain.HostMember) (value : bound.Expr) → target_before env base ≡ a_host_member object m
     → assigned_to env (index base left args right) value ≡ member_written env (place_told base) object m (givens env args) value
 indexed_assigned env base left right args object m value h =
     let p = place_told base in
-    ap (λ (t : plain.Term). if takes_value env t then assigned env p value (givens env args) t else assigned env p value [] (indexed env p t (givens env args))) h
+    a_target env (index base left args right) value (member_target env base left right args object m h)
+    ∙ ap (λ (t : plain.Term). if takes_value env t then assigned env p value (givens env args) t else assigned env p value [] (indexed env p t (givens env args))) h
 
 -- an assignment to a member whose arguments have no names
 pub writes_plain : (x : MemberCall) (d : Drafted) → MemberNamed d.tables x → x.names ≡ None → IsWritten x → WritesCall x d d (action.AssignMember x.member.name x.count)
@@ -193,7 +268,8 @@ writes_plain x d named none w = record {
       let long : x.count ≡ length gs = omega (arith, s.count_is, given_long (argument_of env type.variant) gs s.made s.values) in
       record {
         made = assign_member s.object m.name (exprs_of s.made) value;
-        is = is_arguments env place s.object m x.count gs value long w.some (w.takes t) w.default w.written ∙ call_written env place s.object m x.named gs s.made value (subst N none s.names) s.values;
+        is = is_arguments env place s.object m x.count gs value long w.some (w.takes t) w.default w.written (assign_member s.object m.name (exprs_of s.made) value)
+            (call_written env place s.object m x.named gs s.made value (subst N none s.names) s.values);
         fits = call_fits t x.member.name x.given x.count s.object value s.made d.pieces s.count_is (w.given_is ∙ sym (all_written s.made x.written s.written_is))
             (s.on_top ∙ ap (λ (o : Option ArgumentNames). above (map an_expr s.made) (looked_for t x.member.name o x.given s.object ∷ an_expr value ∷ [])) none);
       };
@@ -225,7 +301,8 @@ writes_named x by d e told w other fit eq =
           let A : Place → Type 0 = λ (place : Place). ActionIs action.AssignDefault (member_written env place s.object m gs value) t (put t n d.pieces) in
           subst A s.place_is (record {
             made = assign_default (expression_of made x.place m.of) value;
-            is = is_arguments env x.place s.object m x.count gs value long w.some (w.takes t) w.default w.written ∙ by_name_written env x.place s.object m gs made value other r.0 r.1;
+            is = is_arguments env x.place s.object m x.count gs value long w.some (w.takes t) w.default w.written (assign_default (expression_of made x.place m.of) value)
+                (by_name_written env x.place s.object m gs made value other r.0 r.1);
             fits = ap (λ (ps : List Piece). action_of t action.AssignDefault ps) top;
           });
     })

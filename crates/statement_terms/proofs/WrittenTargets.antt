@@ -4,18 +4,15 @@ use Rattle.std.specs.Prelude.{◌||◌, not, MatchBool}
 use Rattle.vba_base.specs.declared.place.Place.{Place}
 use Rattle.vba_values.specs.Types.{Declared}
 use Rattle.vba_values.specs.Types as type
-use Rattle.vba_words.specs.declared.identifier.Identifier.{Identifier}
-use Rattle.bound_project.specs.declared.declared_type.DeclaredType.TheVariants.{Plain}
-use Rattle.bound_project.specs.declared.declared_type.ElementType.TheVariants as element
 use Rattle.bound_project.specs.declared.node.NodeKind.{NodeKind}
 use Rattle.bound_project.specs.declared.node.NodeKind.TheVariants as kinds
 use Rattle.bound_project.specs.declared.node.Node.{Node}
 use Rattle.bound_project.specs.declared.statement.ActionKind.{ActionKind}
 use Rattle.bound_project.specs.declared.statement.ActionKind.TheVariants as action
 use Rattle.bound_project.specs.Bodies.{action_of, item_found}
-use Rattle.bound_project.specs.Expressions.{Exprs, Lvalue, no_exprs, also, expr, load, marked, element_value, field_value, call, library, host_member, named_member, no_args, in_order}
+use Rattle.bound_project.specs.Expressions.{Exprs, Lvalue, no_exprs, also, expr, constant, load, err_value, marked, element_value, field_value, unary, binary, call, same, is_type, library, host_member, named_member, no_args, in_order}
 use Rattle.bound_project.specs.Expressions as bound
-use Rattle.bound_project.specs.Pieces.{Piece, Tables, a_place, an_expr, arguments_off, expr_of, exprs_off, misfit, by_name_in, name_in, of_place, of_value, of_value_found, order_in, put, put_kind}
+use Rattle.bound_project.specs.Pieces.{Piece, Tables, an_expr, arguments_off, as_operand, expr_of, exprs_off, misfit, by_name_in, name_in, of_place, of_value, of_value_found, order_in, put, put_kind}
 use Rattle.bound_project.specs.Drafts.{Drafted}
 use Rattle.bound_project.specs.Statements.{assign, assign_default, assign_item}
 use Rattle.bound_project.specs.View.{base_view, declared_view}
@@ -23,7 +20,7 @@ use Rattle.bound_members.specs.binder.specs.Types.{is_object}
 use Rattle.bound_members.specs.bound_forms.specs.Terms.{Env, expression_of}
 use Rattle.bound_members.specs.bound_forms.specs.Terms as plain
 use Rattle.bound_members.specs.bound_forms.specs.ExpressionsBound.{HostKind, has_object, host_kind, kind_by_type}
-use Rattle.bound_members.specs.bound_forms.specs.StatementsBound.{assigned, broken_target, default_written, has_written_default, takes_value, value_written, write_rule, written_or_broken}
+use Rattle.bound_members.specs.bound_forms.specs.StatementsBound.{assigned, broken_target, default_written, has_written_default, is_unassignable, not_assignable, takes_value, value_written, write_rule, written_or_broken}
 use Rattle.bound_members.specs.bound_calls.specs.declared.term.Ending.{Ending}
 use Rattle.bound_members.specs.declared.kinds.HostKind as declared
 use Rattle.bound_members.specs.Kinds.{EndingOfKind, kind_view}
@@ -32,10 +29,11 @@ use Rattle.bound_members.specs.bound_calls.specs.declared.term.Term.TheVariants 
 use Rattle.bound_members.specs.bound_calls.specs.Calls.{node_of}
 use Rattle.bound_members.specs.bound_calls.specs.References.{EndingGives}
 use Rattle.bound_members.specs.bound_calls.specs.Standing.{ValueEnds}
+use Rattle.bound_members.specs.bound_calls.specs.Taking.{broken_ending}
 use Rattle.bound_members.specs.bound_calls.proofs.Growing.{grown_pieces, grown_same}
-use Rattle.bound_members.specs.bound_calls.proofs.LastNodes.{any_node, found_passes, member_found_passes, named_found_passes, place_passes, value_passes}
+use Rattle.bound_members.specs.bound_calls.proofs.LastNodes.{any_node, both_pass, found_passes, member_found_passes, named_found_passes, place_passes, value_found_passes, value_passes}
 use Rattle.statement_terms.specs.Members.{AssignsTerm}
-use Rattle.statement_terms.specs.Targets.{AssignsIndexed, EndsItem, EndsObject, ends_value, gives_object}
+use Rattle.statement_terms.specs.Targets.{AssignsIndexed, EndsItem, EndsObject, EndsValue, EndsWrong, ends_unassignable, ends_value, gives_object, is_library, is_value_kind}
 
 -- ---- places
 
@@ -45,15 +43,15 @@ to_place env place v t x of bounded lends e h =
     ∙ ap (λ (b : Bool). if b then default_written place (load x) of v else Some (assign x v)) h
 
 pub plain_assigned : (place : Place) (at : Ending) (d e : Drafted) → is_object (declared_view at.of) ≡ false → e ≡ record d { pieces = put d.tables (node_of at.kind place at.of) d.pieces }
-    → (bounded lends : Bool) (name : Option Identifier) → AssignsTerm place (term.Place at.kind at.of bounded lends) name d e action.Assign false
-plain_assigned place at d e none eq bounded lends name =
-    let P : Drafted → Type 0 = λ (z : Drafted). AssignsTerm place (term.Place at.kind at.of bounded lends) name d z action.Assign false in
+    → (bounded lends : Bool) → AssignsTerm place (term.Place at.kind at.of bounded lends) d e action.Assign false
+plain_assigned place at d e none eq bounded lends =
+    let P : Drafted → Type 0 = λ (z : Drafted). AssignsTerm place (term.Place at.kind at.of bounded lends) d z action.Assign false in
     let n = node_of at.kind place at.of in
     subst P (sym eq) (record {
       grown = grown_pieces d (put d.tables n d.pieces);
       named = tt;
       takes = λ env z ps below h. ap (λ (y : plain.Term). takes_value env y) h.is;
-      stands = λ env z value k h.
+      stands = λ env z value h.
           record {
             made = assign h.at value;
             is = to_place env place value z h.at (declared_view at.of) bounded lends h.is none;
@@ -88,20 +86,20 @@ to_object env place v t x of bounded lends e h k =
 
 pub object_assigned : (place : Place) (at : Ending) (d f e : Drafted) → is_object (declared_view at.of) ≡ true → has_written_default (declared_view at.of) ≡ true
     → f ≡ record d { pieces = put d.tables (node_of at.kind place at.of) d.pieces } → e ≡ record f { pieces = put f.tables (node_of kinds.Load place at.of) f.pieces }
-    → (bounded lends : Bool) (name : Option Identifier) → AssignsTerm place (term.Place at.kind at.of bounded lends) name d e action.AssignDefault false
-object_assigned place at d f e object written first second bounded lends name =
+    → (bounded lends : Bool) → AssignsTerm place (term.Place at.kind at.of bounded lends) d e action.AssignDefault false
+object_assigned place at d f e object written first second bounded lends =
     let n = node_of at.kind place at.of in
     let m = node_of kinds.Load place at.of in
     let low = put d.tables n d.pieces in
     let F : Drafted = record d { pieces = low } in
     let E : Drafted = record d { pieces = put d.tables m low } in
-    let P : Drafted → Type 0 = λ (z : Drafted). AssignsTerm place (term.Place at.kind at.of bounded lends) name d z action.AssignDefault false in
+    let P : Drafted → Type 0 = λ (z : Drafted). AssignsTerm place (term.Place at.kind at.of bounded lends) d z action.AssignDefault false in
     let is : e ≡ E = second ∙ ap (λ (z : Drafted). record z { pieces = put z.tables m z.pieces }) first in
     subst P (sym is) (record {
       grown = grown_pieces d (put d.tables m low);
       named = tt;
       takes = λ env z ps below h. ap (λ (y : plain.Term). takes_value env y) h.is;
-      stands = λ env z value k h.
+      stands = λ env z value h.
           let target = expression_of (load h.at) place (declared_view at.of) in
           record {
             made = assign_default target value;
@@ -114,7 +112,7 @@ object_assigned place at d f e object written first second bounded lends name =
 
 -- the mark of a target, of its value and what it is written with
 abbrev mark_node : (rule : ℕ) → Place → Node
-mark_node rule place = node_of (kinds.Marked (record { rule = rule; place = place }) 2) place (Plain element.Variant)
+mark_node rule place = node_of (broken_ending rule place 2).kind place (broken_ending rule place 2).of
 
 evaluated : (t : Tables) (rule : ℕ) (place : Place) (v target : bound.Expr) (ps : List Piece) → ps ≡ an_expr target ∷ an_expr v ∷ [] → action_of t action.Evaluate (put t (mark_node rule place) ps) ≡ Some (broken_target rule place v (also target no_exprs))
 evaluated t rule place v target ps h = ap (λ (st : List Piece). action_of t action.Evaluate (put t (mark_node rule place) st)) h
@@ -128,19 +126,19 @@ to_sheet env place v t x of bounded lends e h =
 
 pub sheet_assigned : (place : Place) (at : Ending) (d f g e : Drafted) → declared_view at.of ≡ type.worksheet → f ≡ record d { pieces = put d.tables (node_of at.kind place at.of) d.pieces }
     → g ≡ record f { pieces = put f.tables (node_of kinds.Load place at.of) f.pieces } → e ≡ record g { pieces = put g.tables (mark_node 34 place) g.pieces }
-    → (bounded lends : Bool) (name : Option Identifier) → AssignsTerm place (term.Place at.kind at.of bounded lends) name d e action.Evaluate false
-sheet_assigned place at d f g e sheet first second third bounded lends name =
+    → (bounded lends : Bool) → AssignsTerm place (term.Place at.kind at.of bounded lends) d e action.Evaluate false
+sheet_assigned place at d f g e sheet first second third bounded lends =
     let n = node_of at.kind place at.of in
     let m = node_of kinds.Load place at.of in
     let low = put d.tables m (put d.tables n d.pieces) in
     let two : g ≡ record d { pieces = low } = second ∙ ap (λ (z : Drafted). record z { pieces = put z.tables m z.pieces }) first in
     let is : e ≡ record d { pieces = put d.tables (mark_node 34 place) low } = third ∙ ap (λ (z : Drafted). record z { pieces = put z.tables (mark_node 34 place) z.pieces }) two in
-    let P : Drafted → Type 0 = λ (z : Drafted). AssignsTerm place (term.Place at.kind at.of bounded lends) name d z action.Evaluate false in
+    let P : Drafted → Type 0 = λ (z : Drafted). AssignsTerm place (term.Place at.kind at.of bounded lends) d z action.Evaluate false in
     subst P (sym is) (record {
       grown = grown_pieces d (put d.tables (mark_node 34 place) low);
       named = tt;
       takes = λ env z ps below h. ap (λ (y : plain.Term). takes_value env y) h.is;
-      stands = λ env z value k h.
+      stands = λ env z value h.
           let target = expression_of (load h.at) place (declared_view at.of) in
           record {
             made = broken_target 34 place value (also target no_exprs);
@@ -149,11 +147,15 @@ sheet_assigned place at d f g e sheet first second third bounded lends name =
           };
     })
 
--- ---- values that are no elements
+-- ---- values by their last nodes
 
 abbrev is_element : bound.Node → Bool
 is_element (element_value e es) = true
 is_element node = false
+
+abbrev is_use : bound.Node → Bool
+is_use (library f text_form es compare base) = true
+is_use node = false
 
 -- no element is on top
 none_on_top : List Piece → Bool
@@ -186,6 +188,36 @@ no_element : (t : Tables) (k : NodeKind) (made : bound.Node) (ps below : List Pi
 unfolding none_on_top
 no_element t k made ps below h ends = not_true (is_element made) (sym (ap none_on_top (ends any_node)) ∙ no_element_there t any_node k ps h)
 
+-- no use of a function of the library is on top
+no_use_on_top : List Piece → Bool
+no_use_on_top (an_expr (expr made place of operand) ∷ st) = not (is_use made)
+no_use_on_top st = true
+
+no_use_there : (t : Tables) (n : Node) (k : NodeKind) (st : List Piece) → is_library k ≡ false → is_value_kind k ≡ true → no_use_on_top (put_kind t n k st) ≡ true
+unfolding no_use_on_top
+no_use_there t n (kinds.Constant i) st h value = refl
+no_use_there t n kinds.Load st h value = place_passes no_use_on_top refl (λ x. expr_of n (load x)) (λ x rest. refl) st
+no_use_there t n (kinds.ElementValue count) st h value = value_found_passes no_use_on_top refl (λ e es. expr_of n (element_value e es)) (λ e es rest. refl) (exprs_off count st no_exprs)
+no_use_there t n (kinds.FieldValue i) st h value = value_passes no_use_on_top refl (λ e. expr_of n (field_value e i)) (λ e rest. refl) st
+no_use_there t n (kinds.Unary o of) st h value = value_passes no_use_on_top refl (λ a. expr_of n (unary o (as_operand of a))) (λ e rest. refl) st
+no_use_there t n (kinds.Binary o compare left right) st h value =
+    both_pass no_use_on_top refl (λ a b. expr_of n (binary o compare (as_operand left a) (as_operand right b))) (λ a b rest. refl) st
+no_use_there t n (kinds.Call p count) st h value = found_passes no_use_on_top refl (λ args. expr_of n (call p args)) (λ args rest. refl) (arguments_off count st no_args)
+no_use_there t n (kinds.CallInOrder p count order) st h value =
+    found_passes no_use_on_top refl (λ args. expr_of n (call p (in_order (order_in t order) args))) (λ args rest. refl) (arguments_off count st no_args)
+no_use_there t n (kinds.ErrValue _) st h value = refl
+no_use_there t n (kinds.Library f text_form count compare one) st h value = let e : true ≡ false = h in absurd cc
+no_use_there t n (kinds.Marked broken count) st h value = found_passes no_use_on_top refl (λ es. expr_of n (marked broken es)) (λ es rest. refl) (exprs_off count st no_exprs)
+no_use_there t n kinds.Same st h value = both_pass no_use_on_top refl (λ a b. expr_of n (same a b)) (λ a b rest. refl) st
+no_use_there t n (kinds.IsType of) st h value = value_passes no_use_on_top refl (λ e. expr_of n (is_type e (declared_view of))) (λ e rest. refl) st
+no_use_there t n (kinds.HostObject reference) st h value = refl
+no_use_there t n kinds.ActiveSheet st h value = refl
+no_use_there t n (kinds.HostMember i count) st h value =
+    member_found_passes no_use_on_top refl (name_in t i) (λ e es. expr_of n (host_member e (name_in t i) es)) (λ e es rest. refl) (exprs_off count st no_exprs)
+no_use_there t n (kinds.NamedMember i by count) st h value =
+    named_found_passes no_use_on_top refl (name_in t i) (by_name_in t by) (λ e es. expr_of n (named_member e (name_in t i) (by_name_in t by) es)) (λ e es rest. refl) (exprs_off count st no_exprs)
+no_use_there t n k st h value = let e : false ≡ true = value in absurd cc
+
 or_left : (a b : Bool) → a ≡ true → (a || b) ≡ true
 or_left a b h = ap (λ (c : Bool). c || b) h
 
@@ -193,35 +225,49 @@ or_right : (a b : Bool) → b ≡ true → (a || b) ≡ true
 or_right true b h = refl
 or_right false b h = h
 
-pub ends_object : (e : Ending) → is_object (declared_view e.of) ≡ true → EndsObject e
-ends_object e object t made ps below ends = any_made made
-  where
-    any_made : (made : bound.Node) → gives_object made (declared_view e.of) ≡ true
-    any_made (element_value x es) = object
-    any_made made = or_left (is_object (declared_view e.of)) (has_object made (declared_view e.of)) object
+or_none : (a b : Bool) → a ≡ false → b ≡ false → (a || b) ≡ false
+or_none true b h k = h
+or_none false b h k = k
 
-variant_gives : (made : bound.Node) (of : Declared) → is_element made ≡ false → has_object made of ≡ true → gives_object made of ≡ true
-variant_gives (element_value x es) of n h = let e : true ≡ false = n in absurd cc
-variant_gives made of n h = or_right (is_object of) (has_object made of) h
+no_use : (e : Ending) (t : Tables) (made : bound.Node) (ps below : List Piece) → is_library e.kind ≡ false → is_value_kind e.kind ≡ true → ValueEnds t e.kind made ps below → is_use made ≡ false
+unfolding no_use_on_top
+no_use e t made ps below other value ends = not_true (is_use made) (sym (ap no_use_on_top (ends any_node)) ∙ no_use_there t any_node e.kind ps other value)
 
-pub ends_variant : (e : Ending) (gives : Bool) → ends_value e.kind ≡ true → EndingGives e gives → MatchBool gives (EndsObject e) (Unit {0})
-ends_variant e true value g = λ t made ps below ends. variant_gives made (declared_view e.of) (no_element t e.kind made ps below value ends) (g t made ps below ends)
-ends_variant e false value g = tt
+-- ---- values that give objects
+
+object_gives : (made : bound.Node) (of : Declared) → is_use made ≡ false → is_object of ≡ true → gives_object made of ≡ true
+object_gives (element_value x es) of n h = h
+object_gives (library f text_form es compare base) of n h = let e : true ≡ false = n in absurd cc
+object_gives made of n h = or_left (is_object of) (has_object made of) h
+
+pub ends_object : (e : Ending) → is_library e.kind ≡ false → is_value_kind e.kind ≡ true → is_object (declared_view e.of) ≡ true → EndsObject e
+ends_object e other value object t made ps below ends = object_gives made (declared_view e.of) (no_use e t made ps below other value ends) object
+
+variant_gives : (made : bound.Node) (of : Declared) → is_element made ≡ false → is_use made ≡ false → has_object made of ≡ true → gives_object made of ≡ true
+variant_gives (element_value x es) of n u h = let e : true ≡ false = n in absurd cc
+variant_gives (library f text_form es compare base) of n u h = let e : true ≡ false = u in absurd cc
+variant_gives made of n u h = or_right (is_object of) (has_object made of) h
+
+pub ends_variant : (e : Ending) (gives : Bool) → is_library e.kind ≡ false → is_value_kind e.kind ≡ true → ends_value e.kind ≡ true → EndingGives e gives → MatchBool gives (EndsObject e) (Unit {0})
+ends_variant e true other value no_item g = λ t made ps below ends.
+    variant_gives made (declared_view e.of) (no_element t e.kind made ps below no_item ends) (no_use e t made ps below other value ends) (g t made ps below ends)
+ends_variant e false other value no_item g = tt
 
 value_default : (place : Place) (v : bound.Expr) (made : bound.Node) (of : Declared) → gives_object made of ≡ true → value_written place v made of ≡ default_written place made of v
 value_default place v (element_value x es) of h = ap (λ (b : Bool). if b then default_written place (element_value x es) of v else Some (assign_item x es v)) h
-value_default place v made of h = ap (λ (b : Bool). if b then default_written place made of v else None) h
+value_default place v (library f text_form es compare base) of h = let e : false ≡ true = h in absurd cc
+value_default place v made of h = ap (λ (b : Bool). if b then default_written place made of v else (if is_unassignable made then Some (not_assignable place v made of) else None)) h
 
 pub value_assigned : (place : Place) (ending : Ending) (kind : declared.HostKind) (d e : Drafted) → EndsObject ending → EndingOfKind ending kind → write_rule (Some (kind_view kind)) ≡ None → has_written_default (declared_view ending.of) ≡ true
-    → e ≡ record d { pieces = put d.tables (node_of ending.kind place ending.of) d.pieces } → (name : Option Identifier) → AssignsTerm place (term.Value ending) name d e action.AssignDefault false
-value_assigned place ending kind d e gives known rule written eq name =
-    let P : Drafted → Type 0 = λ (z : Drafted). AssignsTerm place (term.Value ending) name d z action.AssignDefault false in
+    → e ≡ record d { pieces = put d.tables (node_of ending.kind place ending.of) d.pieces } → AssignsTerm place (term.Value ending) d e action.AssignDefault false
+value_assigned place ending kind d e gives known rule written eq =
+    let P : Drafted → Type 0 = λ (z : Drafted). AssignsTerm place (term.Value ending) d z action.AssignDefault false in
     let n = node_of ending.kind place ending.of in
     subst P (sym eq) (record {
       grown = grown_pieces d (put d.tables n d.pieces);
       named = tt;
       takes = λ env z ps below h. ap (λ (y : plain.Term). takes_value env y) h.is;
-      stands = λ env z value k h.
+      stands = λ env z value h.
           let of = declared_view ending.of in
           let below : List Piece = an_expr value ∷ [] in
           record {
@@ -232,26 +278,88 @@ value_assigned place ending kind d e gives known rule written eq name =
           };
     })
 
-pub value_broken : (place : Place) (ending : Ending) (kind : declared.HostKind) (rule : ℕ) (d f e : Drafted) → EndsObject ending → EndingOfKind ending kind → write_rule (Some (kind_view kind)) ≡ Some rule
-    → f ≡ record d { pieces = put d.tables (node_of ending.kind place ending.of) d.pieces } → e ≡ record f { pieces = put f.tables (mark_node rule place) f.pieces }
-    → (name : Option Identifier) → AssignsTerm place (term.Value ending) name d e action.Evaluate false
-value_broken place ending kind rule d f e gives known broken first second name =
+-- ---- values that can't be assigned to
+
+pub known_wrong : (place : Place) (ending : Ending) (kind : declared.HostKind) (rule : ℕ) → EndsObject ending → EndingOfKind ending kind → write_rule (Some (kind_view kind)) ≡ Some rule → EndsWrong ending rule place
+known_wrong place ending kind rule gives known broken t made value ps below ends =
+    let of = declared_view ending.of in
+    value_default place value made of (gives t made ps below ends) ∙ kind_written place made of value (Some (kind_view kind)) (Some rule) (known t made ps below ends) broken
+
+-- no other value is on top
+wrong_on_top : List Piece → Bool
+wrong_on_top (an_expr (expr made place of operand) ∷ st) = is_unassignable made
+wrong_on_top st = true
+
+wrong_there : (t : Tables) (n : Node) (k : NodeKind) (st : List Piece) → ends_unassignable k ≡ true → wrong_on_top (put_kind t n k st) ≡ true
+unfolding wrong_on_top
+wrong_there t n (kinds.Constant i) st h = refl
+wrong_there t n (kinds.ErrValue _) st h = refl
+wrong_there t n (kinds.Library f text_form count compare one) st h =
+    found_passes wrong_on_top refl (λ es. expr_of n (library f text_form es compare (base_view one))) (λ es rest. refl) (exprs_off count st no_exprs)
+wrong_there t n (kinds.Call p count) st h = found_passes wrong_on_top refl (λ args. expr_of n (call p args)) (λ args rest. refl) (arguments_off count st no_args)
+wrong_there t n (kinds.CallInOrder p count order) st h =
+    found_passes wrong_on_top refl (λ args. expr_of n (call p (in_order (order_in t order) args))) (λ args rest. refl) (arguments_off count st no_args)
+wrong_there t n k st h = let e : false ≡ true = h in absurd cc
+
+pub unassignable : (t : Tables) (k : NodeKind) (made : bound.Node) (ps below : List Piece) → ends_unassignable k ≡ true → ValueEnds t k made ps below → is_unassignable made ≡ true
+unfolding wrong_on_top
+unassignable t k made ps below h ends = sym (ap wrong_on_top (ends any_node)) ∙ wrong_there t any_node k ps h
+
+-- no other value than a use of a function of the library is on top
+use_on_top : List Piece → Bool
+use_on_top (an_expr (expr made place of operand) ∷ st) = is_use made
+use_on_top st = true
+
+use_there : (t : Tables) (n : Node) (k : NodeKind) (st : List Piece) → is_library k ≡ true → use_on_top (put_kind t n k st) ≡ true
+unfolding use_on_top
+use_there t n (kinds.Library f text_form count compare one) st h =
+    found_passes use_on_top refl (λ es. expr_of n (library f text_form es compare (base_view one))) (λ es rest. refl) (exprs_off count st no_exprs)
+use_there t n k st h = let e : false ≡ true = h in absurd cc
+
+use_is : (t : Tables) (k : NodeKind) (made : bound.Node) (ps below : List Piece) → is_library k ≡ true → ValueEnds t k made ps below → is_use made ≡ true
+unfolding use_on_top
+use_is t k made ps below h ends = sym (ap use_on_top (ends any_node)) ∙ use_there t any_node k ps h
+
+use_written : (place : Place) (v : bound.Expr) (made : bound.Node) (of : Declared) → is_use made ≡ true → value_written place v made of ≡ Some (not_assignable place v made of)
+use_written place v (library f text_form es compare base) of h = refl
+use_written place v made of h = let e : false ≡ true = h in absurd cc
+
+pub library_wrong : (ending : Ending) → is_library ending.kind ≡ true → (place : Place) → EndsWrong ending 27 place
+library_wrong ending h place t made value ps below ends = use_written place value made (declared_view ending.of) (use_is t ending.kind made ps below h ends)
+
+constant_written : (place : Place) (v : bound.Expr) (made : bound.Node) (of : Declared) → is_unassignable made ≡ true → (is_object of || has_object made of) ≡ false → value_written place v made of ≡ Some (not_assignable place v made of)
+constant_written place v (constant c) of h none = ap (λ (b : Bool). if b then default_written place (constant c) of v else Some (not_assignable place v (constant c) of)) none
+constant_written place v (err_value m) of h none = ap (λ (b : Bool). if b then default_written place (err_value m) of v else Some (not_assignable place v (err_value m) of)) none
+constant_written place v (library f text_form es compare base) of h none = refl
+constant_written place v (call p args) of h none = ap (λ (b : Bool). if b then default_written place (call p args) of v else Some (not_assignable place v (call p args) of)) none
+constant_written place v made of h none = let e : false ≡ true = h in absurd cc
+
+pub constant_wrong : (ending : Ending) (value : Bool) → ends_unassignable ending.kind ≡ true → MatchBool value (EndsValue ending) (Unit {0}) → MatchBool value ((place : Place) → EndsWrong ending 27 place) (Unit {0})
+constant_wrong ending true h plainly = λ place t made v ps below ends.
+    constant_written place v made (declared_view ending.of) (unassignable t ending.kind made ps below h ends) (plainly t made ps below ends)
+constant_wrong ending false h plainly = tt
+
+pub ends_plain : (ending : Ending) (gives : Bool) → is_object (declared_view ending.of) ≡ false → EndingGives ending gives → MatchBool (not gives) (EndsValue ending) (Unit {0})
+ends_plain ending true none g = tt
+ends_plain ending false none g = λ t made ps below ends. or_none (is_object (declared_view ending.of)) (has_object made (declared_view ending.of)) none (g t made ps below ends)
+
+pub value_broken : (place : Place) (ending : Ending) (rule : ℕ) (d f e : Drafted) → EndsWrong ending rule place → f ≡ record d { pieces = put d.tables (node_of ending.kind place ending.of) d.pieces }
+    → e ≡ record f { pieces = put f.tables (mark_node rule place) f.pieces } → AssignsTerm place (term.Value ending) d e action.Evaluate false
+value_broken place ending rule d f e wrong first second =
     let n = node_of ending.kind place ending.of in
     let low = put d.tables n d.pieces in
     let is : e ≡ record d { pieces = put d.tables (mark_node rule place) low } = second ∙ ap (λ (z : Drafted). record z { pieces = put z.tables (mark_node rule place) z.pieces }) first in
-    let P : Drafted → Type 0 = λ (z : Drafted). AssignsTerm place (term.Value ending) name d z action.Evaluate false in
+    let P : Drafted → Type 0 = λ (z : Drafted). AssignsTerm place (term.Value ending) d z action.Evaluate false in
     subst P (sym is) (record {
       grown = grown_pieces d (put d.tables (mark_node rule place) low);
       named = tt;
       takes = λ env z ps below h. ap (λ (y : plain.Term). takes_value env y) h.is;
-      stands = λ env z value k h.
-          let of = declared_view ending.of in
+      stands = λ env z value h.
           let below : List Piece = an_expr value ∷ [] in
-          let target = expression_of h.made place of in
+          let target = expression_of h.made place (declared_view ending.of) in
           record {
             made = broken_target rule place value (also target no_exprs);
-            is = ap (λ (y : plain.Term). assigned env place value [] y) h.is ∙ value_default place value h.made of (gives d.tables h.made d.pieces below h.ends)
-                ∙ kind_written place h.made of value (Some (kind_view kind)) (Some rule) (known d.tables h.made d.pieces below h.ends) broken;
+            is = ap (λ (y : plain.Term). assigned env place value [] y) h.is ∙ wrong d.tables h.made value d.pieces below h.ends;
             fits = evaluated d.tables rule place value target low (h.ends n);
           };
     })
@@ -297,5 +405,5 @@ item_indexed place ending count d ends = record {
 }
 
 -- what brackets made
-pub term_indexed : (place : Place) (x : Term) (d e : Drafted) (kind : ActionKind) → AssignsTerm place x None d e kind false → AssignsIndexed place x d e kind
-term_indexed place x d e kind a = record { grown = a.grown; named = a.named; stands = λ env z value h. a.stands env z value tt h }
+pub term_indexed : (place : Place) (x : Term) (d e : Drafted) (kind : ActionKind) → AssignsTerm place x d e kind false → AssignsIndexed place x d e kind
+term_indexed place x d e kind a = record { grown = a.grown; named = a.named; stands = λ env z value h. a.stands env z value h }

@@ -1,5 +1,5 @@
 -- Serves the code: calls that stand as statements.
-use Rattle.std.specs.Prelude.{◌≡◌, ℕ, ◌+◌, length, Bool, false, List, [], ◌∷◌, ◌++◌, map, Option, Some, if◌then◌else◌}
+use Rattle.std.specs.Prelude.{◌≡◌, ℕ, ◌+◌, length, Bool, false, List, [], ◌∷◌, ◌++◌, map, Option, Some, option_map, if◌then◌else◌}
 use Rattle.vba_base.specs.declared.place.Place.{Place}
 use Rattle.vba_lexer.specs.declared.token.Token.{Token}
 use Rattle.vba_values.specs.Types.{Declared}
@@ -20,11 +20,12 @@ use Rattle.bound_project.specs.Pieces.{Argument, Piece, Tables, an_argument, an_
 use Rattle.bound_project.specs.Project as project
 use Rattle.bound_project.specs.Statements.{Action}
 use Rattle.bound_project.specs.Statements as to
+use Rattle.bound_members.specs.binder.specs.Options.{or_else}
 use Rattle.bound_members.specs.binder.specs.Types.{is_object}
 use Rattle.bound_members.specs.bound_forms.specs.Terms.{Env, Given, bound_arguments, has_names}
 use Rattle.bound_members.specs.bound_forms.specs.Terms as plain
 use Rattle.bound_members.specs.bound_forms.specs.ExpressionsBound.{argument_of, givens}
-use Rattle.bound_members.specs.bound_forms.specs.StatementsBound.{assigned, assigned_to, called_term, called_with, is_given_with}
+use Rattle.bound_members.specs.bound_forms.specs.StatementsBound.{assigned, assigned_to, broken_target, untaken, called_term, called_with, is_given_with}
 use Rattle.statement_terms.specs.declared.trees.Split.{Split}
 use Rattle.bound_members.specs.bound_calls.specs.declared.term.Item.TheVariants as item
 use Rattle.bound_members.specs.bound_calls.specs.declared.term.Ordered.{Ordered}
@@ -137,27 +138,32 @@ ordered_kind procedure o of =
 abbrev pub let_action : (procedure : ℕ) → bound.Args → bound.Expr → Declared → Action
 let_action procedure args value of = if is_object of then to.set_property procedure args value of else to.let_property procedure args value of
 
+-- what is done with the value and what is given to a property with these parameters before it
+abbrev pub let_with : Env → Place → List project.Parameter → (procedure : ℕ) → Declared → List Given → bound.Expr → Option Action
+let_with env place parameters procedure of gs value =
+    or_else (option_map (λ args. let_action procedure args value of) (bound_arguments (argument_of env) parameters gs)) (option_map (broken_target 25 place value) (untaken env parameters gs))
+
 -- arguments were pushed for these parameters, behind the value
 pub record LetMade (env : Env) (parameters : List project.Parameter) (procedure : ℕ) (of : DeclaredType) (gs : List Given) (value : bound.Expr) (kind : ActionKind) (t : Tables) (ps : List Piece) : Type 0 where
   pub args : bound.Args
   pub bound_is : bound_arguments (argument_of env) parameters gs ≡ Some args
   pub fits : action_of t kind ps ≡ Some (let_action procedure args value (declared_view of))
 
-pub record LetsWith (env : Env) (parameters : List project.Parameter) (procedure : ℕ) (of : DeclaredType) (ns : List ExpressionNode) (d e : Drafted) (kind : ActionKind) : Type 0 where
+pub record LetsWith (env : Env) (place : Place) (parameters : List project.Parameter) (procedure : ℕ) (of : DeclaredType) (ns : List ExpressionNode) (d e : Drafted) (kind : ActionKind) : Type 0 where
   pub grown : Grown d e
   pub named : ActionNamed e.tables kind
   pub framed : Framed ns
-  pub stands : (items : List nodes.Item) (value : bound.Expr) → d.pieces ≡ an_expr value ∷ [] → LetMade env parameters procedure of (givens env (args_on items ns)) value kind e.tables e.pieces
+  pub stands : (items : List nodes.Item) (value : bound.Expr) → d.pieces ≡ an_expr value ∷ [] → ActionIs kind (let_with env place parameters procedure (declared_view of) (givens env (args_on items ns)) value) e.tables e.pieces
 
 -- its arguments were pushed behind the value that it is given
-pub record Lets (env : Env) (p : Property) (gs : List Given) (d e : Drafted) (kind : ActionKind) : Type 0 where
+pub record Lets (env : Env) (p : Property) (place : Place) (gs : List Given) (d e : Drafted) (kind : ActionKind) : Type 0 where
   pub grown : Grown d e
   pub named : ActionNamed e.tables kind
-  pub stands : (y : plain.Term) (place : Place) (value : bound.Expr) (ps below : List Piece) → PropertyStands env p y ps below → d.pieces ≡ an_expr value ∷ [] → ActionIs kind (assigned env place value gs y) e.tables e.pieces
+  pub stands : (y : plain.Term) (value : bound.Expr) (ps below : List Piece) → PropertyStands env p y ps below → d.pieces ≡ an_expr value ∷ [] → ActionIs kind (assigned env place value gs y) e.tables e.pieces
 
-pub record LetsOn (env : Env) (p : Property) (ns : List ExpressionNode) (d e : Drafted) (kind : ActionKind) : Type 0 where
+pub record LetsOn (env : Env) (p : Property) (place : Place) (ns : List ExpressionNode) (d e : Drafted) (kind : ActionKind) : Type 0 where
   pub framed : Framed ns
-  pub lets : (items : List nodes.Item) → Lets env p (givens env (args_on items ns)) d e kind
+  pub lets : (items : List nodes.Item) → Lets env p place (givens env (args_on items ns)) d e kind
 
 -- an expression is assigned the value that was pushed, and whether that comes as it is
 pub record AssignsTo (env : Env) (place : Expr) (d e : Drafted) (kind : ActionKind) (given : Bool) : Type 0 where

@@ -5,7 +5,6 @@ use Rattle.bound_project.specs.declared.node.NodeKind.{NodeKind}
 use Rattle.bound_project.specs.Expressions.{Lvalue}
 use Rattle.bound_project.specs.Pieces.{Piece, a_place}
 use Rattle.bound_project.specs.Drafts.{Drafted}
-use Rattle.bound_members.specs.bound_forms.specs.Terms as plain
 use Rattle.bound_members.specs.bound_calls.specs.declared.term.Ending.{Ending}
 use Rattle.bound_members.specs.bound_calls.specs.declared.term.Term.{Term}
 use Rattle.bound_members.specs.bound_calls.specs.declared.term.Term.TheVariants as term

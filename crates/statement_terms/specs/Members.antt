@@ -1,9 +1,8 @@
 -- Serves the code: members of objects, and other objects, that are assigned to.
-use Rattle.std.specs.Prelude.{◌≡◌, ◌≢◌, ℕ, Bool, true, ◌&&◌, ◌||◌, not, List, [], ◌∷◌, ◌++◌, Option, Some, None, is_some}
+use Rattle.std.specs.Prelude.{◌≡◌, ◌≢◌, ℕ, length, Bool, true, false, ◌&&◌, ◌||◌, not, List, [], ◌∷◌, ◌++◌, map, Option, Some, None, is_some, if◌then◌else◌}
 use Rattle.vba_base.specs.declared.place.Place.{Place}
 use Rattle.vba_values.specs.Types.{Declared}
 use Rattle.vba_lexer.specs.declared.token.Token.{Token}
-use Rattle.vba_words.specs.declared.identifier.Identifier.{Identifier}
 use Rattle.vba_expression.specs.Tree.{Expr, Args}
 use Rattle.vba_expression.specs.Nodes as nodes
 use Rattle.vba_expression.specs.Nodes.{behind_nodes, last_tree}
@@ -11,14 +10,16 @@ use Rattle.vba_expression.specs.declared.node.ExpressionNode.{ExpressionNode}
 use Rattle.vba_expression.specs.declared.node.ExpressionNode.TheVariants as node
 use Rattle.bound_project.specs.declared.statement.ActionKind.{ActionKind}
 use Rattle.bound_project.specs.View.{declared_view}
+use Rattle.bound_project.specs.Bodies.{action_of}
 use Rattle.bound_project.specs.Drafts.{Drafted, ActionNamed}
 use Rattle.bound_project.specs.Expressions as bound
+use Rattle.bound_project.specs.Lists.{above, exprs_of}
 use Rattle.bound_project.specs.Pieces.{Piece, Tables, an_expr}
 use Rattle.bound_members.specs.binder.specs.Types.{is_object}
-use Rattle.bound_members.specs.bound_forms.specs.Terms.{Env, a_host_member}
+use Rattle.bound_members.specs.bound_forms.specs.Terms.{Env}
 use Rattle.bound_members.specs.bound_forms.specs.Terms as plain
 use Rattle.bound_members.specs.bound_forms.specs.ExpressionsBound.{callee, givens, takes_arguments, term_of, place_told}
-use Rattle.bound_members.specs.bound_forms.specs.StatementsBound.{assigned, assigned_to, has_written_default, is_given_with, is_written_member, member_written, takes_value}
+use Rattle.bound_members.specs.bound_forms.specs.StatementsBound.{assigned, assigned_to, broken_target, has_written_default, is_given_with, is_no_target, is_written_member, member_written, takes_value, unwritten_rule}
 use Rattle.bound_members.specs.bound_calls.specs.declared.term.MemberCall.{MemberCall}
 use Rattle.bound_members.specs.bound_calls.specs.declared.term.Term.{Term}
 use Rattle.bound_members.specs.bound_calls.specs.declared.term.Tree.{Tree}
@@ -27,39 +28,37 @@ use Rattle.bound_members.specs.bound_calls.specs.Standing.{MemberStands, TermSta
 use Rattle.bound_members.specs.bound_calls.specs.Steps.{Goes}
 use Rattle.statement_terms.specs.Called.{ActionIs, IsBare}
 
--- ---- names of members
+-- whether a member is written, by its name, the type of what it gives and the greatest number of its arguments
+abbrev pub is_written : List ℕ → Declared → (greatest : Option ℕ) → Bool
+is_written name of greatest = is_written_member (record { name = name; of = of; least = 0; greatest = greatest })
 
--- a term has this name where it is a member of an object; the same where a name is known
-abbrev pub MemberNamed : List ℕ → plain.Term → Type 0
-MemberNamed fold (a_host_member e m) = m.name ≡ fold
-MemberNamed fold t = Unit {0}
+-- the rule that an assignment breaks to a member with arguments that it takes
+abbrev pub taken_rule : plain.HostMember → Option ℕ
+taken_rule m = if is_written_member m && has_written_default m.of then None else unwritten_rule m.of
 
-abbrev pub NamedBy : Option Identifier → plain.Term → Type 0
-NamedBy None t = Unit {0}
-NamedBy (Some x) t = MemberNamed x.name t
-
--- whether a member is written, by its name, where that is known, the type of what it gives and the greatest number of its
--- arguments
-abbrev pub is_written : Option Identifier → Declared → (greatest : Option ℕ) → Bool
-is_written None of greatest = not (is_some greatest) || (is_object of && has_written_default of)
-is_written (Some x) of greatest = is_written_member (record { name = x.name; of = of; least = 0; greatest = greatest })
+-- what breaks this rule as a target was made of the value, the object and so many arguments, which were pushed
+pub record WritesBroken (rule count : ℕ) (place : Place) (d e : Drafted) (kind : ActionKind) : Type 0 where
+  pub grown : Grown d e
+  pub named : ActionNamed e.tables kind
+  pub does : (value object : bound.Expr) (es : List bound.Expr) → length es ≡ count → d.pieces ≡ above (map an_expr es) (an_expr object ∷ an_expr value ∷ [])
+      → action_of e.tables kind e.pieces ≡ Some (broken_target rule place value (bound.also object (exprs_of es)))
 
 -- ---- without arguments
 
 -- a term at this place in the source is assigned the value that was pushed below it, and whether that comes as it is
-pub record AssignsTerm (place : Place) (x : Term) (name : Option Identifier) (d e : Drafted) (kind : ActionKind) (given : Bool) : Type 0 where
+pub record AssignsTerm (place : Place) (x : Term) (d e : Drafted) (kind : ActionKind) (given : Bool) : Type 0 where
   pub grown : Grown d e
   pub named : ActionNamed e.tables kind
   pub takes : (env : Env) (z : plain.Term) (ps below : List Piece) → TermStands env d.tables x z ps below → takes_value env z ≡ given
-  pub stands : (env : Env) (z : plain.Term) (value : bound.Expr) → NamedBy name z → TermStands env d.tables x z d.pieces (an_expr value ∷ [])
+  pub stands : (env : Env) (z : plain.Term) (value : bound.Expr) → TermStands env d.tables x z d.pieces (an_expr value ∷ [])
       → ActionIs kind (assigned env place value [] z) e.tables e.pieces
 
--- the same of an expression that doesn't end with arguments in brackets
-pub record AssignsTree (x : Tree) (name : Option Identifier) (d e : Drafted) (kind : ActionKind) (given : Bool) : Type 0 where
+-- the same of an expression that doesn't end with arguments in brackets, and is no Sub and no ParamArray
+pub record AssignsTree (x : Tree) (d e : Drafted) (kind : ActionKind) (given : Bool) : Type 0 where
   pub grown : Grown d e
   pub named : ActionNamed e.tables kind
   pub takes : (env : Env) (tree : Expr) (below : List Piece) → IsBare tree → TreeStands env d.tables x tree d.pieces below → is_given_with env tree ≡ given
-  pub stands : (env : Env) (tree : Expr) (value : bound.Expr) → IsBare tree → NamedBy name (term_of env tree) → TreeStands env d.tables x tree d.pieces (an_expr value ∷ [])
+  pub stands : (env : Env) (tree : Expr) (value : bound.Expr) → IsBare tree → is_no_target env tree ≡ false → TreeStands env d.tables x tree d.pieces (an_expr value ∷ [])
       → ActionIs kind (assigned_to env tree value) e.tables e.pieces
 
 -- ---- with arguments

@@ -1,24 +1,25 @@
 -- Serves the code: places and values that are assigned to.
-use Rattle.std.specs.Prelude.{◌≡◌, ℕ, Bool, true, false, ◌||◌, List, [], ◌∷◌}
+use Rattle.std.specs.Prelude.{◌≡◌, ℕ, Bool, true, false, ◌||◌, List, [], ◌∷◌, Some}
 use Rattle.vba_base.specs.declared.place.Place.{Place}
 use Rattle.bound_project.specs.declared.node.NodeKind.{NodeKind}
 use Rattle.bound_project.specs.declared.node.NodeKind.TheVariants as kinds
 use Rattle.bound_project.specs.declared.statement.ActionKind.{ActionKind}
 use Rattle.vba_values.specs.Types.{Declared}
 use Rattle.bound_project.specs.View.{declared_view}
-use Rattle.bound_project.specs.Expressions.{element_value}
+use Rattle.bound_project.specs.Expressions.{element_value, library, no_exprs, also}
 use Rattle.bound_project.specs.Expressions as bound
 use Rattle.bound_project.specs.Pieces.{Piece, Tables, an_expr}
 use Rattle.bound_project.specs.Drafts.{Drafted, ActionNamed}
 use Rattle.bound_members.specs.binder.specs.Types.{is_object}
 use Rattle.bound_members.specs.binder.specs.Constants.{is_variant}
-use Rattle.bound_members.specs.bound_forms.specs.Terms.{Env}
+use Rattle.bound_members.specs.bound_forms.specs.Terms.{Env, expression_of}
 use Rattle.bound_members.specs.bound_forms.specs.Terms as plain
 use Rattle.bound_members.specs.bound_forms.specs.ExpressionsBound.{has_object}
-use Rattle.bound_members.specs.bound_forms.specs.StatementsBound.{assigned}
+use Rattle.bound_members.specs.bound_forms.specs.StatementsBound.{assigned, broken_target, value_written}
 use Rattle.bound_members.specs.bound_calls.specs.declared.term.Ending.{Ending}
 use Rattle.bound_members.specs.bound_calls.specs.declared.term.Term.{Term}
 use Rattle.bound_members.specs.bound_calls.specs.declared.term.Term.TheVariants as term
+use Rattle.bound_members.specs.bound_calls.specs.References.{is_typed_kind}
 use Rattle.bound_members.specs.bound_calls.specs.Standing.{TermStands, ValueEnds, Grown}
 use Rattle.statement_terms.specs.Called.{ActionIs}
 
@@ -36,13 +37,44 @@ ends_value kinds.ActiveSheet = true
 ends_value (kinds.Marked broken count) = true
 ends_value kind = false
 
--- a value that is an object, or that may be one and is no element
+-- a value that is an object, or that may be one and is no element; no use of a function of the library, to which nothing is
+-- assigned
 abbrev pub gives_object : bound.Node → Declared → Bool
 gives_object (element_value e es) of = is_object of
+gives_object (library f text_form es compare base) of = false
 gives_object node of = is_object of || has_object node of
 
 abbrev pub EndsObject : Ending → Type 0
 EndsObject e = (t : Tables) (made : bound.Node) (ps below : List Piece) → ValueEnds t e.kind made ps below → gives_object made (declared_view e.of) ≡ true
+
+-- the last node of a use of a function of the library
+abbrev pub is_library : NodeKind → Bool
+is_library (kinds.Library f text_form count compare one) = true
+is_library kind = false
+
+-- the last node of a value
+abbrev pub is_value_kind : NodeKind → Bool
+is_value_kind (kinds.HostObject reference) = true
+is_value_kind kind = is_typed_kind kind
+
+-- the last node of what can't be assigned to: a constant, what Err tells, and what is called
+abbrev pub ends_unassignable : NodeKind → Bool
+ends_unassignable (kinds.Constant i) = true
+ends_unassignable (kinds.ErrValue _) = true
+ends_unassignable (kinds.Library f text_form count compare one) = true
+ends_unassignable (kinds.Call p count) = true
+ends_unassignable (kinds.CallInOrder p count order) = true
+ends_unassignable kind = false
+
+-- a value that is no object, and can be none
+abbrev pub EndsValue : Ending → Type 0
+EndsValue e = (t : Tables) (made : bound.Node) (ps below : List Piece) → ValueEnds t e.kind made ps below → (is_object (declared_view e.of) || has_object made (declared_view e.of)) ≡ false
+
+-- a value that breaks this rule where it is assigned to at this place
+abbrev pub EndsWrong : Ending → (rule : ℕ) → Place → Type 0
+EndsWrong e rule place =
+    (t : Tables) (made : bound.Node) (value : bound.Expr) (ps below : List Piece) → ValueEnds t e.kind made ps below
+    → value_written place value made (declared_view e.of) ≡ Some (broken_target rule place value (also (expression_of made place (declared_view e.of)) no_exprs))
 
 -- a value is an element with so many numbers, and no object
 pub record EndsItem (e : Ending) (count : ℕ) : Type 0 where

@@ -1,6 +1,6 @@
 //! What is done with the value of an assignment.
 
-ghost use Rattle.std.specs.Prelude.{◌≡◌, true, false, IfOk, option_map};
+ghost use Rattle.std.specs.Prelude.{◌≡◌, true, false, IfOk};
 ghost use Rattle.bound_project.specs.DraftView.{draft_view};
 ghost use Rattle.statement_terms.specs.Called.{ordered_kind, property_kind};
 ghost use Rattle.statement_terms.specs.Members.{AssignsTree};
@@ -8,12 +8,11 @@ ghost use Rattle.bound_members.specs.bound_calls.specs.Standing.{TermNamed};
 
 use crate::member_targets::{assign_member, assign_sheet};
 use crate::targets::{assign_place, assign_value};
-use bound_members::bound_calls::{Ending, Ordered, Term, Tree};
+use bound_members::bound_calls::{Ending, Ordered, Term, Tree, push_broken};
 use bound_members::bound_declarations::NotYet;
 use bound_members::declared_names::is_object;
 use bound_project::{ActionKind, DeclaredType, Draft};
 use vba_base::OrMemory;
-use vba_words::Identifier;
 
 /// What is done with a value that was pushed, where it is assigned, and whether it comes as it is: where its target takes
 /// it with arguments or is an item of a Variant.
@@ -35,7 +34,7 @@ pub fn as_given(kind: ActionKind) -> Assignment
 }
 
 /// An assignment of an operand.
-fn as_operand(kind: ActionKind) -> Assignment
+pub fn as_operand(kind: ActionKind) -> Assignment
     ensures kind { result.kind ≡ kind }
     ensures given { result.is_given ≡ false }
 {
@@ -92,14 +91,10 @@ pub fn ordered_kind(property: PropertyLet, ordered: Ordered) -> ActionKind
     }
 }
 
-/// An expression that doesn't end with arguments in brackets, by the name behind its dot, behind the value that it is given.
-pub fn assign_tree<'a>(
-    draft: &mut Draft,
-    tree: Tree<'a>,
-    name: Option<&Identifier>,
-) -> Result<Assignment, OrMemory<NotYet>>
+/// An expression that doesn't end with arguments in brackets, behind the value that it is given.
+pub fn assign_tree<'a>(draft: &mut Draft, tree: Tree<'a>) -> Result<Assignment, OrMemory<NotYet>>
     requires { TermNamed (draft_view draft.old).tables tree.term }
-    ensures { IfOk result (λ done. AssignsTree tree.entry (option_map (λ name. name.now) name.entry) (draft_view draft.old) (draft_view draft.new) done.kind done.is_given) }
+    ensures { IfOk result (λ done. AssignsTree tree.entry (draft_view draft.old) (draft_view draft.new) done.kind done.is_given) }
 {
     let place = tree.place;
     match tree.term {
@@ -112,12 +107,16 @@ pub fn assign_tree<'a>(
             Ok(as_operand(kind))
         }
         Term::HostMember(member) => {
-            let kind = assign_member(draft, member, name, place)?;
+            let kind = assign_member(draft, member, place)?;
             Ok(as_given(kind))
         }
         Term::SheetMember(member) => {
-            let kind = assign_sheet(draft, member, name, place)?;
+            let kind = assign_sheet(draft, member, place)?;
             Ok(as_given(kind))
+        }
+        Term::Err => {
+            push_broken(draft, 27, place, 1)?;
+            Ok(as_operand(ActionKind::Evaluate))
         }
         _ => Err(OrMemory::Fault(NotYet)),
     }

@@ -17,17 +17,19 @@ mod trees;
 
 pub use actions::variable_in;
 pub use assigned_values::{is_plain, push_assigned};
-pub use assigning::{Assignment, PropertyLet, as_given, assign_tree, ordered_kind, property_kind};
+pub use assigning::{
+    Assignment, PropertyLet, as_given, as_operand, assign_tree, ordered_kind, property_kind,
+};
 pub use indexed_calls::{brackets, gives_some};
-pub use member_targets::write_call;
+pub use member_targets::{is_late, write_broken, write_call, written_rule};
 pub use places::{place_ending, with_place};
 pub use pushed_terms::push_term;
 pub use raising::raise_parameters;
-pub use setting::{push_broken, set_member, set_term};
+pub use setting::{push_broken, set_marked, set_member, set_term};
 pub use statement_calls::{are_none, bare_term, push_given, push_rest};
 pub use takers::{Taker, mark_taken, may_break, taker_of};
-pub use targets::{assign_indexed, is_variant_term, may_be_object};
-pub use trees::{Split, adds_one, ends_bare, member_name, split_call};
+pub use targets::{assign_indexed, assign_value, is_variant_term, may_be_object};
+pub use trees::{Split, adds_one, ends_bare, split_call};
 
 // What stands below, for the crates above.
 pub use statement_nodes;

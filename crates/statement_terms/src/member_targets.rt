@@ -1,23 +1,26 @@
 //! Members of objects that are assigned to, once their arguments were read.
 
-ghost use Rattle.std.specs.Prelude.{◌≡◌, ◌<◌, true, not, length, is_some, IfOk, MatchBool, Some, bytes_eq, option_map};
+ghost use Rattle.std.specs.Prelude.{◌≡◌, ◌≢◌, ◌<◌, [], true, not, length, is_some, IfOk, MatchBool, Some, bytes_eq};
 ghost use Rattle.std.specs.List.{list_any};
 ghost use Rattle.bound_project.specs.DraftView.{draft_view};
 ghost use Rattle.bound_project.specs.View.{declared_view};
 ghost use Rattle.bound_members.specs.bound_forms.specs.ExpressionsBound.{mark_members};
+ghost use Rattle.bound_members.specs.bound_forms.specs.StatementsBound as plain;
 ghost use Rattle.bound_members.specs.bound_forms.specs.Terms as terms;
-ghost use Rattle.statement_terms.specs.Members.{AssignsTerm, IsWritten, WritesCall, is_written};
+ghost use Rattle.bound_members.specs.bound_calls.specs.Shapes.{shapes_given};
+ghost use Rattle.statement_terms.specs.Members.{AssignsTerm, IsWritten, WritesBroken, WritesCall, is_written, taken_rule};
 ghost use Rattle.bound_members.specs.bound_calls.specs.declared.term.Term.TheVariants as term;
-ghost use Rattle.bound_members.specs.bound_calls.specs.Standing.{MemberNamed};
+ghost use Rattle.bound_members.specs.bound_calls.specs.Standing.{MemberNamed, member_is};
 
 use crate::targets::has_written_default;
-use bound_members::bound_calls::{HostMember, MemberCall, push_node, push_sheet};
+use bound_members::bound_calls::{
+    HostMember, MemberCall, Shape, push_broken, push_node, push_sheet, sum,
+};
 use bound_members::bound_declarations::NotYet;
 use bound_members::declared_names::is_object;
-use bound_members::{is_word, names_fit, takes_arguments};
-use bound_project::{ActionKind, ArgumentNames, DeclaredType, Draft, NodeKind};
-use vba_base::{OrMemory, Place};
-use vba_words::Identifier;
+use bound_members::{arguments_rule, is_word, member_takes, names_fit, takes_arguments};
+use bound_project::{ActionKind, ArgumentNames, DeclaredType, Draft, ElementType, NodeKind};
+use vba_base::{NoMemory, OrMemory, Place};
 
 /// Is it the name of a mark of Application?
 fn is_mark(name: &[u16]) -> bool
@@ -37,31 +40,91 @@ pub fn is_late(greatest: Option<u32>) -> bool
     }
 }
 
-/// Is a member written that has a name, where that is known, gives what is of a type and takes so many arguments at most?
-fn is_written(name: Option<&Identifier>, of: DeclaredType, greatest: Option<u32>) -> bool
-    ensures { result ≡ is_written (option_map (λ name. name.now) name.entry) (declared_view of) greatest }
+/// Is a member written that has a name, gives what is of a type and takes so many arguments at most?
+fn is_written(name: &[u16], of: DeclaredType, greatest: Option<u32>) -> bool
+    ensures { result ≡ is_written name.now (declared_view of) greatest }
 {
     let gives_default = is_object(of) && has_written_default(of);
-    match name {
-        None => is_late(greatest) || gives_default,
-        Some(name) => {
-            let units = name.name.units();
-            ((is_late(greatest) || is_word(units, b"value")) || gives_default) || is_mark(units)
-        }
+    ((is_late(greatest) || is_word(name, b"value")) || gives_default) || is_mark(name)
+}
+
+/// The rule that an assignment breaks to what a member gives of a type, and can't be written; none where the run decides.
+fn unwritten_rule(of: DeclaredType) -> Option<u8>
+    ensures { result ≡ plain.unwritten_rule (declared_view of) }
+{
+    match of {
+        DeclaredType::Plain(ElementType::Worksheet) => Some(34),
+        DeclaredType::Plain(ElementType::Object) => None,
+        _ => Some(27),
     }
 }
 
-/// `object.member = value`, behind the value and the object.
-pub fn assign_member(
+/// The rule that an assignment to a member without arguments breaks.
+fn bare_rule(draft: &Draft, member: HostMember) -> Option<u8>
+    ensures { result ≡ plain.written_rule (member_is (draft_view draft.now).tables member) [] }
+{
+    if member.least != 0 {
+        return Some(25);
+    }
+    if is_written(draft.name(member.name), member.of, member.greatest) {
+        return None;
+    }
+    unwritten_rule(member.of)
+}
+
+/// The rule that an assignment breaks to a member with arguments that it takes: the default member of what it gives is written.
+fn taken_rule(draft: &Draft, member: HostMember) -> Option<u8>
+    ensures { result ≡ taken_rule (member_is (draft_view draft.now).tables member) }
+{
+    let is_member = is_written(draft.name(member.name), member.of, member.greatest);
+    let is_default = is_member && has_written_default(member.of);
+    if is_default {
+        None
+    } else {
+        unwritten_rule(member.of)
+    }
+}
+
+/// The rule that an assignment to a member breaks with these arguments, of which there are some.
+fn given_rule<'a>(
+    draft: &Draft,
+    member: HostMember,
+    shapes: &[Shape<'a>],
+) -> Result<Option<u8>, NoMemory>
+    requires { shapes.now ≢ [] }
+    ensures { IfOk result (λ rule. rule ≡ plain.written_rule (member_is (draft_view draft.now).tables member) (shapes_given shapes.now)) }
+{
+    let takes = member_takes(draft, member, shapes)?;
+    if takes {
+        return Ok(taken_rule(draft, member));
+    }
+    Ok(arguments_rule(member))
+}
+
+/// The rule that an assignment to a member breaks with these arguments; none where it is written, or where the run decides.
+pub fn written_rule<'a>(
+    draft: &Draft,
+    member: HostMember,
+    shapes: &[Shape<'a>],
+) -> Result<Option<u8>, NoMemory>
+    ensures { IfOk result (λ rule. rule ≡ plain.written_rule (member_is (draft_view draft.now).tables member) (shapes_given shapes.now)) }
+{
+    if shapes.is_empty() {
+        return Ok(bare_rule(draft, member));
+    }
+    given_rule(draft, member, shapes)
+}
+
+/// `object.member = value`, behind the value and the object, of a member that is written.
+fn write_member(
     draft: &mut Draft,
     member: HostMember,
-    name: Option<&Identifier>,
     place: Place,
 ) -> Result<ActionKind, OrMemory<NotYet>>
     requires { member.name < length (draft_view draft.old).tables.constants }
-    ensures { IfOk result (λ kind. AssignsTerm place (term.HostMember member) (option_map (λ name. name.now) name.entry) (draft_view draft.old) (draft_view draft.new) kind true) }
+    ensures { IfOk result (λ kind. AssignsTerm place (term.HostMember member) (draft_view draft.old) (draft_view draft.new) kind true) }
 {
-    if member.least != 0 || !is_written(name, member.of, member.greatest) {
+    if member.least != 0 || !is_written(draft.name(member.name), member.of, member.greatest) {
         return Err(OrMemory::Fault(NotYet));
     }
     let there = NodeKind::MemberThere {
@@ -75,18 +138,46 @@ pub fn assign_member(
     })
 }
 
+/// What breaks a rule as the target of an assignment: the value, the object and so many arguments were pushed.
+pub fn write_broken(
+    draft: &mut Draft,
+    rule: u8,
+    arguments: u32,
+    place: Place,
+) -> Result<ActionKind, OrMemory<NotYet>>
+    ensures { IfOk result (λ kind. WritesBroken rule arguments place (draft_view draft.old) (draft_view draft.new) kind) }
+{
+    let values = sum(2, arguments)?;
+    push_broken(draft, rule, place, values)?;
+    Ok(ActionKind::Evaluate)
+}
+
+/// `object.member = value`, behind the value and the object.
+pub fn assign_member(
+    draft: &mut Draft,
+    member: HostMember,
+    place: Place,
+) -> Result<ActionKind, OrMemory<NotYet>>
+    requires { member.name < length (draft_view draft.old).tables.constants }
+    ensures { IfOk result (λ kind. AssignsTerm place (term.HostMember member) (draft_view draft.old) (draft_view draft.new) kind true) }
+{
+    match bare_rule(draft, member) {
+        Some(rule) => write_broken(draft, rule, 0, place),
+        None => write_member(draft, member, place),
+    }
+}
+
 /// The same of a member of the active sheet, behind the value.
 pub fn assign_sheet(
     draft: &mut Draft,
     member: HostMember,
-    name: Option<&Identifier>,
     place: Place,
 ) -> Result<ActionKind, OrMemory<NotYet>>
     requires { member.name < length (draft_view draft.old).tables.constants }
-    ensures { IfOk result (λ kind. AssignsTerm place (term.SheetMember member) (option_map (λ name. name.now) name.entry) (draft_view draft.old) (draft_view draft.new) kind true) }
+    ensures { IfOk result (λ kind. AssignsTerm place (term.SheetMember member) (draft_view draft.old) (draft_view draft.new) kind true) }
 {
     push_sheet(draft)?;
-    assign_member(draft, member, name, place)
+    assign_member(draft, member, place)
 }
 
 /// Is the default member written of what a member gives of the arguments that were read?

@@ -1,10 +1,11 @@
 //! Set: terms that are given a reference to an object.
 
-ghost use Rattle.std.specs.Prelude.{◌≡◌, Bool, IfOk, OnOk};
+ghost use Rattle.std.specs.Prelude.{◌≡◌, Bool, true, IfOk, OnOk};
 ghost use Rattle.vba_base.specs.declared.place.Place as told;
 ghost use Rattle.bound_project.specs.DraftView.{draft_view};
 ghost use Rattle.bound_project.specs.Drafts.{Drafted, NodeNamed};
 ghost use Rattle.statement_terms.specs.Setting.{SetsTerm, is_marked};
+ghost use Rattle.statement_terms.specs.Targets.{ends_unassignable};
 ghost use Rattle.bound_members.specs.bound_calls.specs.declared.term.Term.TheVariants as term;
 ghost use Rattle.bound_members.specs.bound_calls.specs.Calls.{node_of};
 ghost use Rattle.bound_members.specs.bound_calls.specs.Standing.{TermNamed};
@@ -14,7 +15,8 @@ ghost use Rattle.bound_project.specs.declared.node.NodeKind.TheVariants as node;
 ghost use Rattle.bound_project.specs.Pieces.{put};
 
 use crate::member_targets::is_late;
-use crate::targets::may_be_object;
+use crate::targets::{is_unassignable, may_be_object};
+use bound_members::bound_calls;
 use bound_members::bound_calls::{Ending, HostMember, Term, push_node};
 use bound_members::bound_declarations::NotYet;
 use bound_project::{ActionKind, DeclaredType, Draft, ElementType, NodeKind};
@@ -44,7 +46,7 @@ fn set_place(
 ) -> Result<ActionKind, OrMemory<NotYet>>
     requires { NodeNamed (draft_view draft.old).tables at.kind }
     ensures { IfOk result (λ kind. (bounded lends : Bool)
-        → SetsTerm set_word (term.Place at.kind at.of bounded lends) (draft_view draft.old) (draft_view draft.new) kind) }
+        → SetsTerm set_word place (term.Place at.kind at.of bounded lends) (draft_view draft.old) (draft_view draft.new) kind) }
 {
     push_node(draft, at.kind, at.of, place)?;
     if may_be_object(at.of) {
@@ -67,7 +69,7 @@ fn is_marked(kind: NodeKind) -> bool
 
 /// A member of an object that is found in the run, behind the reference that it is given and the object.
 pub fn set_member(member: HostMember) -> Result<ActionKind, OrMemory<NotYet>>
-    ensures { IfOk result (λ kind. (word : told.Place) (d : Drafted) → SetsTerm word (term.HostMember member) d d kind) }
+    ensures { IfOk result (λ kind. (word place : told.Place) (d : Drafted) → SetsTerm word place (term.HostMember member) d d kind) }
 {
     if !is_late(member.greatest) {
         return Err(OrMemory::Fault(NotYet));
@@ -76,19 +78,56 @@ pub fn set_member(member: HostMember) -> Result<ActionKind, OrMemory<NotYet>>
 }
 
 /// What breaks a rule as a value, behind the reference that it is given.
-fn set_value(
+pub fn set_marked(
     draft: &mut Draft,
     set_word: Place,
     ending: Ending,
 ) -> Result<ActionKind, OrMemory<NotYet>>
-    requires { NodeNamed (draft_view draft.old).tables ending.kind }
-    ensures { IfOk result (λ kind. SetsTerm set_word (term.Value ending) (draft_view draft.old) (draft_view draft.new) kind) }
+    requires named { NodeNamed (draft_view draft.old).tables ending.kind }
+    requires marked { is_marked ending.kind ≡ true }
+    ensures { IfOk result (λ kind. (place : told.Place) → SetsTerm set_word place (term.Value ending) (draft_view draft.old) (draft_view draft.new) kind) }
 {
-    if !is_marked(ending.kind) {
-        return Err(OrMemory::Fault(NotYet));
-    }
     push_node(draft, ending.kind, ending.of, set_word)?;
     Ok(ActionKind::SetMember)
+}
+
+/// A value that can't be assigned to, behind the reference that it is given.
+fn set_constant(
+    draft: &mut Draft,
+    set_word: Place,
+    ending: Ending,
+    place: Place,
+) -> Result<ActionKind, OrMemory<NotYet>>
+    requires named { NodeNamed (draft_view draft.old).tables ending.kind }
+    requires constant { ends_unassignable ending.kind ≡ true }
+    ensures { IfOk result (λ kind. SetsTerm set_word place (term.Value ending) (draft_view draft.old) (draft_view draft.new) kind) }
+{
+    push_node(draft, ending.kind, ending.of, place)?;
+    if may_be_object(ending.of) {
+        bound_calls::push_broken(draft, 27, place, 2)?;
+        return Ok(ActionKind::Evaluate);
+    }
+    push_broken(draft, set_word, 2)?;
+    Ok(ActionKind::Evaluate)
+}
+
+/// A value, behind the reference that it is given.
+fn set_value(
+    draft: &mut Draft,
+    set_word: Place,
+    ending: Ending,
+    place: Place,
+) -> Result<ActionKind, OrMemory<NotYet>>
+    requires { NodeNamed (draft_view draft.old).tables ending.kind }
+    ensures { IfOk result (λ kind. SetsTerm set_word place (term.Value ending) (draft_view draft.old) (draft_view draft.new) kind) }
+{
+    if is_marked(ending.kind) {
+        return set_marked(draft, set_word, ending);
+    }
+    if is_unassignable(ending.kind) {
+        return set_constant(draft, set_word, ending, place);
+    }
+    Err(OrMemory::Fault(NotYet))
 }
 
 /// A term, behind the reference that it is given.
@@ -99,12 +138,12 @@ pub fn set_term<'a>(
     place: Place,
 ) -> Result<ActionKind, OrMemory<NotYet>>
     requires { TermNamed (draft_view draft.old).tables term }
-    ensures { IfOk result (λ kind. SetsTerm set_word term.entry (draft_view draft.old) (draft_view draft.new) kind) }
+    ensures { IfOk result (λ kind. SetsTerm set_word place term.entry (draft_view draft.old) (draft_view draft.new) kind) }
 {
     match term {
         Term::Place { kind, of, .. } => set_place(draft, set_word, Ending { kind, of }, place),
         Term::HostMember(member) => set_member(member),
-        Term::Value(ending) => set_value(draft, set_word, ending),
+        Term::Value(ending) => set_value(draft, set_word, ending, place),
         _ => Err(OrMemory::Fault(NotYet)),
     }
 }

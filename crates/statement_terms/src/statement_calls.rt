@@ -11,7 +11,7 @@ ghost use Rattle.bound_members.specs.bound_calls.specs.declared.term.Term.TheVar
 
 use crate::pushed_terms::push_term;
 use bound_members::bound_calls::{
-    Passed, Routine, Term, call_ending, count_of, named_ending, pass_rest, sum,
+    Passed, Routine, Term, call_ending, count_of, named_ending, pass_rest, push_broken, sum,
 };
 use bound_members::bound_declarations::NotYet;
 use bound_project::{ActionKind, Draft};
@@ -97,7 +97,7 @@ fn evaluate_term<'a>(
     Ok(ActionKind::Evaluate)
 }
 
-/// A statement that calls without arguments.
+/// A statement that calls without arguments. Err.Raise needs one.
 pub fn bare_term<'a>(
     alloc: Global,
     draft: &mut Draft,
@@ -109,6 +109,10 @@ pub fn bare_term<'a>(
 {
     match term {
         Term::ErrClear => Ok(ActionKind::ClearErr),
+        Term::ErrRaise => {
+            push_broken(draft, 25, place, 0)?;
+            Ok(ActionKind::Evaluate)
+        }
         _ => evaluate_term(alloc, draft, term, place),
     }
 }

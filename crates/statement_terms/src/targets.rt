@@ -1,32 +1,29 @@
 //! Places and values that are assigned to, other than members of objects.
 
-ghost use Rattle.std.specs.Prelude.{◌≡◌, true, false, Bool, Option, Some, None, IfOk, IfSome, MatchBool, OnOk};
+ghost use Rattle.std.specs.Prelude.{◌≡◌, true, false, Bool, Some, None, IfOk, IfSome, MatchBool};
+ghost use Rattle.vba_base.specs.declared.place.Place as told;
 ghost use Rattle.vba_values.specs.Types as type;
-ghost use Rattle.vba_words.specs.declared.identifier.Identifier.{Identifier};
 ghost use Rattle.bound_project.specs.DraftView.{draft_view};
 ghost use Rattle.bound_project.specs.Drafts.{NodeNamed};
-ghost use Rattle.bound_project.specs.declared.declared_type.DeclaredType.TheVariants.{Plain};
-ghost use Rattle.bound_project.specs.declared.declared_type.ElementType.TheVariants.{Variant};
-ghost use Rattle.bound_project.specs.declared.node.NodeKind.TheVariants as node;
-ghost use Rattle.bound_project.specs.Pieces.{put};
 ghost use Rattle.bound_project.specs.View.{declared_view};
 ghost use Rattle.bound_members.specs.bound_forms.specs.StatementsBound as plain;
 ghost use Rattle.bound_members.specs.binder.specs.Types as types;
 ghost use Rattle.statement_terms.specs.Terms.{may_be_object};
 ghost use Rattle.statement_terms.specs.Members.{AssignsTerm};
-ghost use Rattle.statement_terms.specs.Targets.{AssignsIndexed, EndsItem, EndsObject, ends_value, is_variant_term};
+ghost use Rattle.statement_terms.specs.Targets.{AssignsIndexed, EndsItem, EndsObject, EndsValue, EndsWrong, ends_unassignable, ends_value, is_library, is_value_kind, is_variant_term};
 ghost use Rattle.bound_members.specs.bound_calls.specs.declared.term.Term.TheVariants as term;
-ghost use Rattle.bound_members.specs.bound_calls.specs.Calls.{node_of};
 ghost use Rattle.bound_members.specs.bound_calls.specs.Standing.{TermNamed};
 ghost use Rattle.bound_members.specs.declared.kinds.HostKind as declared;
 ghost use Rattle.bound_members.specs.Kinds.{EndingOfKind, kind_view};
 
-use bound_members::bound_calls::{Ending, Term, has_object, is_variant, push_node};
+use bound_members::bound_calls::{
+    Ending, Term, has_object, is_typed_kind, is_variant, push_broken, push_node,
+};
 use bound_members::bound_declarations::NotYet;
 use bound_members::declared_names::is_object;
 use bound_members::{HostKind, kind_of_ending};
 use bound_project::{ActionKind, DeclaredType, Draft, ElementType, NodeKind};
-use vba_base::{NoMemory, OrMemory, Place, Refusal};
+use vba_base::{NoMemory, OrMemory, Place};
 
 /// Is a type one of what may be an object?
 pub fn may_be_object(of: DeclaredType) -> bool
@@ -77,10 +74,51 @@ fn ends_value(kind: NodeKind) -> bool
     }
 }
 
-/// Is a value an object, or, where it is no element, what may be one?
+/// Is a node that of a use of a function of the library?
+fn is_library(kind: NodeKind) -> bool
+    ensures { result ≡ is_library kind }
+{
+    match kind {
+        NodeKind::Library { .. } => true,
+        _ => false,
+    }
+}
+
+/// Is a node the last one of a value?
+fn is_value_kind(kind: NodeKind) -> bool
+    ensures { result ≡ is_value_kind kind }
+{
+    match kind {
+        NodeKind::HostObject(_) => true,
+        _ => is_typed_kind(kind),
+    }
+}
+
+/// Can't a value with such a node be assigned to: a constant, what Err tells, and what is called?
+pub fn is_unassignable(kind: NodeKind) -> bool
+    ensures { result ≡ ends_unassignable kind }
+{
+    match kind {
+        NodeKind::Constant { .. } => true,
+        NodeKind::ErrValue(_) => true,
+        NodeKind::Library { .. } => true,
+        NodeKind::Call { .. } => true,
+        NodeKind::CallInOrder { .. } => true,
+        _ => false,
+    }
+}
+
+/// Is a value an object, or, where it is no element, what may be one? To a use of a function of the library nothing is
+/// assigned.
 fn gives_object(ending: Ending) -> bool
     ensures { MatchBool result (EndsObject ending) (Unit {0}) }
 {
+    if is_library(ending.kind) {
+        return false;
+    }
+    if !is_value_kind(ending.kind) {
+        return false;
+    }
     if is_object(ending.of) {
         return true;
     }
@@ -97,8 +135,8 @@ fn gives_object(ending: Ending) -> bool
 fn assign_plain(draft: &mut Draft, at: Ending, place: Place) -> Result<ActionKind, NoMemory>
     requires named { NodeNamed (draft_view draft.old).tables at.kind }
     requires plain { types.is_object (declared_view at.of) ≡ false }
-    ensures { IfOk result (λ kind. (bounded lends : Bool) (name : Option Identifier)
-        → AssignsTerm place (term.Place at.kind at.of bounded lends) name (draft_view draft.old) (draft_view draft.new) kind false) }
+    ensures { IfOk result (λ kind. (bounded lends : Bool)
+        → AssignsTerm place (term.Place at.kind at.of bounded lends) (draft_view draft.old) (draft_view draft.new) kind false) }
 {
     push_node(draft, at.kind, at.of, place)?;
     Ok(ActionKind::Assign)
@@ -109,36 +147,24 @@ fn assign_object(draft: &mut Draft, at: Ending, place: Place) -> Result<ActionKi
     requires named { NodeNamed (draft_view draft.old).tables at.kind }
     requires object { types.is_object (declared_view at.of) ≡ true }
     requires written { plain.has_written_default (declared_view at.of) ≡ true }
-    ensures { IfOk result (λ kind. (bounded lends : Bool) (name : Option Identifier)
-        → AssignsTerm place (term.Place at.kind at.of bounded lends) name (draft_view draft.old) (draft_view draft.new) kind false) }
+    ensures { IfOk result (λ kind. (bounded lends : Bool)
+        → AssignsTerm place (term.Place at.kind at.of bounded lends) (draft_view draft.old) (draft_view draft.new) kind false) }
 {
     push_node(draft, at.kind, at.of, place)?;
     push_node(draft, NodeKind::Load, at.of, place)?;
     Ok(ActionKind::AssignDefault)
 }
 
-/// What breaks a static rule as a target: the value that it is given, and what it is written with, were pushed.
-fn push_wrong(draft: &mut Draft, rule: u8, place: Place) -> Result<(), NoMemory>
-    ensures { OnOk result (draft_view draft.new ≡ record (draft_view draft.old) { pieces = put (draft_view draft.old).tables (node_of (node.Marked (record { rule = rule; place = place }) 2) place (Plain Variant)) (draft_view draft.old).pieces }) }
-{
-    let variant = DeclaredType::Plain(ElementType::Variant);
-    let broken = NodeKind::Marked {
-        broken: Refusal { rule, place },
-        values: 2,
-    };
-    push_node(draft, broken, variant, place)
-}
-
 /// A place of a sheet, which has no default member, behind the value that it is given.
 fn assign_sheet(draft: &mut Draft, at: Ending, place: Place) -> Result<ActionKind, NoMemory>
     requires named { NodeNamed (draft_view draft.old).tables at.kind }
     requires sheet { declared_view at.of ≡ type.worksheet }
-    ensures { IfOk result (λ kind. (bounded lends : Bool) (name : Option Identifier)
-        → AssignsTerm place (term.Place at.kind at.of bounded lends) name (draft_view draft.old) (draft_view draft.new) kind false) }
+    ensures { IfOk result (λ kind. (bounded lends : Bool)
+        → AssignsTerm place (term.Place at.kind at.of bounded lends) (draft_view draft.old) (draft_view draft.new) kind false) }
 {
     push_node(draft, at.kind, at.of, place)?;
     push_node(draft, NodeKind::Load, at.of, place)?;
-    push_wrong(draft, 34, place)?;
+    push_broken(draft, 34, place, 2)?;
     Ok(ActionKind::Evaluate)
 }
 
@@ -160,8 +186,8 @@ fn assign_default(
 ) -> Result<ActionKind, OrMemory<NotYet>>
     requires named { NodeNamed (draft_view draft.old).tables at.kind }
     requires object { types.is_object (declared_view at.of) ≡ true }
-    ensures { IfOk result (λ kind. (bounded lends : Bool) (name : Option Identifier)
-        → AssignsTerm place (term.Place at.kind at.of bounded lends) name (draft_view draft.old) (draft_view draft.new) kind false) }
+    ensures { IfOk result (λ kind. (bounded lends : Bool)
+        → AssignsTerm place (term.Place at.kind at.of bounded lends) (draft_view draft.old) (draft_view draft.new) kind false) }
 {
     if has_written_default(at.of) {
         return Ok(assign_object(draft, at, place)?);
@@ -179,8 +205,8 @@ pub fn assign_place(
     place: Place,
 ) -> Result<ActionKind, OrMemory<NotYet>>
     requires { NodeNamed (draft_view draft.old).tables at.kind }
-    ensures { IfOk result (λ kind. (bounded lends : Bool) (name : Option Identifier)
-        → AssignsTerm place (term.Place at.kind at.of bounded lends) name (draft_view draft.old) (draft_view draft.new) kind false) }
+    ensures { IfOk result (λ kind. (bounded lends : Bool)
+        → AssignsTerm place (term.Place at.kind at.of bounded lends) (draft_view draft.old) (draft_view draft.new) kind false) }
 {
     if !is_object(at.of) {
         return Ok(assign_plain(draft, at, place)?);
@@ -209,8 +235,8 @@ fn assign_written(
     place: Place,
 ) -> Result<ActionKind, OrMemory<NotYet>>
     requires { NodeNamed (draft_view draft.old).tables ending.kind }
-    ensures { IfOk result (λ kind. (of : declared.HostKind) → EndsObject ending → EndingOfKind ending of → plain.write_rule (Some (kind_view of)) ≡ None → (name : Option Identifier)
-        → AssignsTerm place (term.Value ending) name (draft_view draft.old) (draft_view draft.new) kind false) }
+    ensures { IfOk result (λ kind. (of : declared.HostKind) → EndsObject ending → EndingOfKind ending of → plain.write_rule (Some (kind_view of)) ≡ None
+        → AssignsTerm place (term.Value ending) (draft_view draft.old) (draft_view draft.new) kind false) }
 {
     if !has_written_default(ending.of) {
         return Err(OrMemory::Fault(NotYet));
@@ -219,19 +245,19 @@ fn assign_written(
     Ok(ActionKind::AssignDefault)
 }
 
-/// What a value gives, whose default member can't be written, behind the value that it is given.
+/// A value that breaks a rule where it is assigned to, behind the value that it is given.
 fn assign_wrong(
     draft: &mut Draft,
     ending: Ending,
     rule: u8,
     place: Place,
 ) -> Result<ActionKind, OrMemory<NotYet>>
-    requires { NodeNamed (draft_view draft.old).tables ending.kind }
-    ensures { IfOk result (λ kind. (of : declared.HostKind) → EndsObject ending → EndingOfKind ending of → plain.write_rule (Some (kind_view of)) ≡ Some rule → (name : Option Identifier)
-        → AssignsTerm place (term.Value ending) name (draft_view draft.old) (draft_view draft.new) kind false) }
+    requires named { NodeNamed (draft_view draft.old).tables ending.kind }
+    requires wrong { EndsWrong ending rule place }
+    ensures { IfOk result (λ kind. AssignsTerm place (term.Value ending) (draft_view draft.old) (draft_view draft.new) kind false) }
 {
     push_node(draft, ending.kind, ending.of, place)?;
-    push_wrong(draft, rule, place)?;
+    push_broken(draft, rule, place, 2)?;
     Ok(ActionKind::Evaluate)
 }
 
@@ -245,8 +271,7 @@ fn assign_known(
     requires named { NodeNamed (draft_view draft.old).tables ending.kind }
     requires gives { EndsObject ending }
     requires known { EndingOfKind ending of }
-    ensures { IfOk result (λ kind. (name : Option Identifier)
-        → AssignsTerm place (term.Value ending) name (draft_view draft.old) (draft_view draft.new) kind false) }
+    ensures { IfOk result (λ kind. AssignsTerm place (term.Value ending) (draft_view draft.old) (draft_view draft.new) kind false) }
 {
     match write_rule(of) {
         Some(rule) => assign_wrong(draft, ending, rule, place),
@@ -254,18 +279,58 @@ fn assign_known(
     }
 }
 
-/// What a value gives, whose default member is written, behind the value that it is given.
+/// Is a value no object, and can it be none?
+fn is_value(ending: Ending) -> bool
+    ensures { MatchBool result (EndsValue ending) (Unit {0}) }
+{
+    if is_object(ending.of) {
+        return false;
+    }
+    match has_object(ending) {
+        Some(gives) => !gives,
+        None => false,
+    }
+}
+
+/// Is a value, whatever it is given, one that can't be assigned to?
+fn is_wrong(ending: Ending) -> bool
+    ensures { MatchBool result ((place : told.Place) → EndsWrong ending 27 place) (Unit {0}) }
+{
+    if is_library(ending.kind) {
+        return true;
+    }
+    if !is_unassignable(ending.kind) {
+        return false;
+    }
+    is_value(ending)
+}
+
+/// A value that gives no object, behind the value that it is given.
+fn assign_constant(
+    draft: &mut Draft,
+    ending: Ending,
+    place: Place,
+) -> Result<ActionKind, OrMemory<NotYet>>
+    requires { NodeNamed (draft_view draft.old).tables ending.kind }
+    ensures { IfOk result (λ kind. AssignsTerm place (term.Value ending) (draft_view draft.old) (draft_view draft.new) kind false) }
+{
+    if !is_wrong(ending) {
+        return Err(OrMemory::Fault(NotYet));
+    }
+    assign_wrong(draft, ending, 27, place)
+}
+
+/// A value, behind the value that it is given: the default member of what it gives is written.
 pub fn assign_value(
     draft: &mut Draft,
     ending: Ending,
     place: Place,
 ) -> Result<ActionKind, OrMemory<NotYet>>
     requires { NodeNamed (draft_view draft.old).tables ending.kind }
-    ensures { IfOk result (λ kind. (name : Option Identifier)
-        → AssignsTerm place (term.Value ending) name (draft_view draft.old) (draft_view draft.new) kind false) }
+    ensures { IfOk result (λ kind. AssignsTerm place (term.Value ending) (draft_view draft.old) (draft_view draft.new) kind false) }
 {
     if !gives_object(ending) {
-        return Err(OrMemory::Fault(NotYet));
+        return assign_constant(draft, ending, place);
     }
     let Some(of) = kind_of_ending(ending) else {
         return Err(OrMemory::Fault(NotYet));

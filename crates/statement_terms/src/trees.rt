@@ -1,15 +1,11 @@
 //! Nodes of expressions: what stands before the last arguments in brackets, and what nodes leave.
 
-ghost use Rattle.std.specs.Prelude.{◌≡◌, Some, MatchBool, IfSome, option_map};
+ghost use Rattle.std.specs.Prelude.{◌≡◌, Some, MatchBool, IfSome};
 ghost use Rattle.vba_expression.specs.Nodes.{tree_in};
-ghost use Rattle.bound_members.specs.bound_forms.specs.ExpressionsBound.{term_of};
-ghost use Rattle.bound_members.specs.bound_forms.specs.Terms as plain;
 ghost use Rattle.statement_terms.specs.Called.{IsBare, SplitAt};
 ghost use Rattle.statement_terms.specs.Heights.{AddsOne, height_behind, items_taken};
-ghost use Rattle.statement_terms.specs.Members.{NamedBy};
 
 use vba_expression::ExpressionNode;
-use vba_words::Identifier;
 
 /// Where the last arguments begin that stand in no others.
 fn arguments_start(nodes: &[ExpressionNode]) -> usize {
@@ -64,17 +60,6 @@ pub fn ends_bare(nodes: &[ExpressionNode]) -> bool
         Some((ExpressionNode::Member { .. }, _)) => true,
         Some((ExpressionNode::WithMember { .. }, _)) => true,
         _ => false,
-    }
-}
-
-/// The name behind the dot that nodes end with.
-pub fn member_name<'a>(nodes: &'a [ExpressionNode]) -> Option<&'a Identifier>
-    ensures { (env : plain.Env) → NamedBy (option_map (λ name. name.now) result) (term_of env (tree_in nodes.now)) }
-{
-    match nodes.split_last() {
-        Some((ExpressionNode::Member { member, .. }, _)) => Some(member),
-        Some((ExpressionNode::WithMember { member, .. }, _)) => Some(member),
-        _ => None,
     }
 }
 

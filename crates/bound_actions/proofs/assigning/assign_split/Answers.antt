@@ -1,9 +1,14 @@
-use Rattle.std.proofs.Common.{true, refl, sym, ◌∙◌}
+use Rattle.std.proofs.Common.{Bool, true, refl, sym, subst, ◌∙◌}
 use Rattle.bound_project.specs.DraftView.{draft_view}
 use Rattle.vba_expression.specs.Nodes.{tree_in}
+use Rattle.std.specs.Prelude.{◌||◌}
 use Rattle.statement_terms.specs.Targets.{is_variant_term}
+use Rattle.bound_terms.specs.bound_names.specs.Items.{lacks_item}
 use Rattle.bound_terms.specs.bound_names.specs.View.{env_view}
+use Rattle.bound_terms.specs.bound_forms.specs.ExpressionsBound.{callee, term_of}
+use Rattle.bound_actions.specs.NoTargets.{IsSub}
 use Rattle.bound_actions.proofs.Assigned.{assigns_indexed, assigns_member, assigns_split}
+use Rattle.bound_actions.proofs.NoTargets.{split_refused}
 use Rattle.statement_terms.proofs.Assigned.{done_is}
 use Rattle.statement_terms.proofs.NodeTrees.{still_named}
 use Rattle.bound_actions.proofs.assigning.assign_split.Goals as goal
@@ -15,18 +20,28 @@ pub continue_tree-requires-clause-named : goal.continue_tree-requires-clause-nam
 continue_tree-requires-clause-named c =
     still_named c.in_ok-tree.tree (draft_view c.nodes_tree.new.draft) (draft_view c.callee_term.new.draft) c.in_ok-term.ensures.grown c.in_ok-tree.ensures.leaves.named
 
+pub returns-then-is_sub : goal.returns-then-is_sub
+returns-then-is_sub c =
+    let env = env_view c.args.env in
+    let y = c.in_ok-term.term in
+    let A : Bool → Type 0 = λ (b : Bool). IsSub y b in
+    split_refused env c.args.split c.args.nodes.now c.in_ok-tree.tree y c.has_let.result (draft_view c.args.draft.now) (draft_view c.nodes_tree.new.draft) (draft_view c.callee_term.new.draft) (draft_view c.refuse_target.new.draft) c.in_ok-kind.kind
+    c.requires.split c.if-not-adds_one.ensures c.in_ok-tree.ensures c.in_ok-term.ensures (subst A c.if-is_sub.true c.is_sub.ensures) c.has_let.ensures c.in_ok-kind.ensures
+
 pub returns-in-Some : goal.returns-in-Some
 returns-in-Some c =
     let env = env_view c.args.env in
     let ns = c.args.nodes.now in
     let w = c.in-Some.writer in
-    let k = c.in_ok-kind.kind in
+    let k = c.in_ok-kind-2.kind in
     let d = draft_view c.args.draft.now in
     let f = draft_view c.nodes_tree.new.draft in
     let g = draft_view c.callee_term.new.draft in
     let e = draft_view c.let_given.new.draft in
+    let base = tree_in c.args.split.target.now in
+    let no_sub = c.is_sub.ensures env g.tables (callee env base (term_of env base)) f.pieces d.pieces (c.in_ok-term.ensures.stands base f.pieces d.pieces c.in_ok-tree.ensures.leaves.stands) ∙ c.if-is_sub.false in
     done_is env (tree_in ns) d e k c.as_given.result.kind true c.as_given.result.is_given c.as_given.ensures.kind c.as_given.ensures.given
-    (assigns_split env c.args.split ns c.in_ok-tree.tree c.in_ok-term.term w d f g e k c.requires.split c.in_ok-tree.ensures c.in_ok-term.ensures c.in-Some.ensures c.in_ok-kind.ensures)
+    (assigns_split env c.args.split ns c.in_ok-tree.tree c.in_ok-term.term w d f g e k c.requires.split c.in_ok-tree.ensures c.in_ok-term.ensures no_sub c.in-Some.ensures c.in_ok-kind-2.ensures)
 
 pub returns-then-takes_item : goal.returns-then-takes_item
 returns-then-takes_item c =
@@ -34,14 +49,14 @@ returns-then-takes_item c =
     let ns = c.args.nodes.now in
     let x = c.in_ok-tree.tree in
     let y = c.in_ok-term.term in
-    let k = c.in_ok-kind-2.kind in
+    let k = c.in_ok-kind-3.kind in
     let done = c.as_given-then-takes_item in
     let d = draft_view c.args.draft.now in
     let f = draft_view c.nodes_tree.new.draft in
     let g = draft_view c.callee_term.new.draft in
     let e = draft_view c.assign_item.new.draft in
     done_is env (tree_in ns) d e k done.result.kind true done.result.is_given done.ensures.kind done.ensures.given
-    (assigns_member env c.args.split ns x y d f g e k c.requires.split c.in_ok-tree.ensures c.in_ok-term.ensures c.in_ok-kind-2.ensures)
+    (assigns_member env c.args.split ns x y d f g e k c.requires.split c.in_ok-tree.ensures c.in_ok-term.ensures c.in_ok-kind-3.ensures)
 
 pub returns : goal.returns
 returns c =
@@ -49,12 +64,14 @@ returns c =
     let ns = c.args.nodes.now in
     let x = c.in_ok-tree.tree in
     let y = c.in_ok-term.term in
-    let k = c.in_ok-kind-3.kind in
+    let k = c.in_ok-kind-4.kind in
     let d = draft_view c.args.draft.now in
     let f = draft_view c.nodes_tree.new.draft in
     let g = draft_view c.callee_term.new.draft in
     let h = draft_view c.continue_tree.new.draft in
     let e = draft_view c.assign_indexed.new.draft in
-    done_is env (tree_in ns) d e k k (is_variant_term y) c.is_variant_term.result refl c.is_variant_term.ensures
-    (assigns_indexed env c.args.split ns x c.in_ok-more.more y d f g h e k c.requires.split c.if-not-adds_one.ensures c.in_ok-tree.ensures c.in_ok-term.ensures c.in_default.ensures (sym c.takes_item.ensures ∙ c.if-takes_item.false)
-    c.in_ok-more.ensures c.in_ok-kind-3.ensures)
+    let base = tree_in c.args.split.target.now in
+    let no_sub = c.is_sub.ensures env g.tables (callee env base (term_of env base)) f.pieces d.pieces (c.in_ok-term.ensures.stands base f.pieces d.pieces c.in_ok-tree.ensures.leaves.stands) ∙ c.if-is_sub.false in
+    done_is env (tree_in ns) d e k k (is_variant_term y || lacks_item y) c.is_item_given.result refl c.is_item_given.ensures
+    (assigns_indexed env c.args.split ns x c.in_ok-more.more y d f g h e k c.requires.split c.if-not-adds_one.ensures c.in_ok-tree.ensures c.in_ok-term.ensures no_sub c.in_default.ensures (sym c.takes_item.ensures ∙ c.if-takes_item.false)
+    c.in_ok-more.ensures c.in_ok-kind-4.ensures)

@@ -19,6 +19,6 @@ returns c =
     let last = c.in-Some.last.now in
     let d = draft_view c.args.draft.now in
     let e = draft_view c.let_passed.new.draft in
-    IfOk-weaker c.let_passed.result (λ k. LetsWith env (map parameter_view front) number last.of ns d e k) (λ k. LetsOn env w.property ns d e k)
-    (λ k h. lets_given env w number c.in_ok-parameters.parameters.now front last ns d e k c.requires.writer c.in_ok-procedure.ensures
+    IfOk-weaker c.let_passed.result (λ k. LetsWith env c.args.place (map parameter_view front) number last.of ns d e k) (λ k. LetsOn env w.property c.args.place ns d e k)
+    (λ k h. lets_given env w number c.in_ok-parameters.parameters.now front last c.args.place ns d e k c.requires.writer c.in_ok-procedure.ensures
     (λ placed. c.in_ok-parameters.ensures i.entry (written_view w.written) placed i.at i.what) c.in-Some.ensures.cases.0 h) c.let_passed.ensures

@@ -2,8 +2,19 @@ use Rattle.std.proofs.lemmas.Result.{IfOk-weaker}
 use Rattle.bound_project.specs.DraftView.{draft_view}
 use Rattle.bound_terms.specs.bound_names.specs.View.{env_view}
 use Rattle.statement_terms.specs.Members.{AssignsItem, WritesCall}
+use Rattle.bound_actions.proofs.RefusedMembers.{item_refused}
 use Rattle.bound_actions.proofs.WrittenMembers.{item_assigned}
 use Rattle.bound_actions.proofs.member_targets.assign_item.Goals as goal
+
+pub refuse_item-requires-clause-named : goal.refuse_item-requires-clause-named
+refuse_item-requires-clause-named c = c.in_ok-member.ensures.named
+
+pub returns-then-is_some : goal.returns-then-is_some
+returns-then-is_some c =
+    let d = draft_view c.args.draft.now in
+    let h = draft_view c.item_member.new.draft in
+    let e = draft_view c.refuse_item.new.draft in
+    IfOk-weaker c.refuse_item.result _ _ (λ k r. item_refused (env_view c.args.env) c.args.place c.args.term c.in_ok-member.member c.args.nodes.now k d h e c.in_ok-member.ensures r) c.refuse_item.ensures
 
 pub returns : goal.returns
 returns c =

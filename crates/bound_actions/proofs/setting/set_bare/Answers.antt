@@ -1,17 +1,33 @@
+use Rattle.std.proofs.Common.{◌∙◌}
 use Rattle.std.proofs.lemmas.Result.{IfOk-weaker}
 use Rattle.vba_expression.specs.View.{view}
 use Rattle.bound_project.specs.DraftView.{draft_view}
 use Rattle.bound_terms.specs.bound_names.specs.View.{env_view}
-use Rattle.statement_terms.specs.Setting.{SetsTerm, SetsTo}
-use Rattle.statement_terms.proofs.SetTargets.{sets_bare}
+use Rattle.bound_actions.proofs.SetTargets.{sets_bare_routine, sets_bare_sub, sets_other}
 use Rattle.bound_actions.proofs.setting.set_bare.Goals as goal
 
-pub returns : goal.returns
-returns c =
-    let env = env_view c.args.env in
-    let place = view c.args.place.now in
-    let x = c.in_ok-tree.tree in
+pub returns-then-is_sub : goal.returns-then-is_sub
+returns-then-is_sub c =
+    let d = draft_view c.args.draft.now in
+    let f = draft_view c.tree_of.new.draft in
+    let e = draft_view c.refuse_target.new.draft in
+    sets_bare_sub c.args.set_word (env_view c.args.env) (view c.args.place.now) c.in_ok-tree.tree d f e c.in_ok-refuse_target.field-0 c.requires.bare (λ env t y ps below h. c.is_sub.ensures env t y ps below h ∙ c.if-is_sub.true)
+    c.in_ok-tree.ensures c.in_ok-refuse_target.ensures
+
+pub returns-in-Routine : goal.returns-in-Routine
+returns-in-Routine c =
+    let d = draft_view c.args.draft.now in
+    let f = draft_view c.tree_of.new.draft in
+    let e = draft_view c.set_routine.new.draft in
+    IfOk-weaker c.set_routine.result _ _
+    (λ k s. sets_bare_routine c.args.set_word (env_view c.args.env) (view c.args.place.now) c.in_ok-tree.tree c.in-Routine.routine d f e k c.requires.bare c.in-Routine.is
+    (λ env t y ps below h. c.is_sub.ensures env t y ps below h ∙ c.if-is_sub.false) c.in_ok-tree.ensures s) c.set_routine.ensures
+
+pub returns-in_default : goal.returns-in_default
+returns-in_default c =
     let d = draft_view c.args.draft.now in
     let f = draft_view c.tree_of.new.draft in
     let e = draft_view c.set_term.new.draft in
-    IfOk-weaker c.set_term.result (λ k. SetsTerm c.args.set_word x.term f e k) (λ k. SetsTo c.args.set_word env place d e k) (λ k h. sets_bare c.args.set_word env place x d f e k c.requires.bare c.in_ok-tree.ensures h) c.set_term.ensures
+    IfOk-weaker c.set_term.result _ _
+    (λ k s. sets_other c.args.set_word (env_view c.args.env) (view c.args.place.now) c.in_ok-tree.tree d f e k c.requires.bare (λ env t y ps below h. c.is_sub.ensures env t y ps below h ∙ c.if-is_sub.false) c.in_ok-tree.ensures s)
+    c.set_term.ensures

@@ -16,3 +16,6 @@ returns c =
     let e = draft_view c.bare_term.new.draft in
     let y = c.in_ok-term.term in
     IfOk-weaker c.bare_term.result (λ k. (env : plain.Env) → Acts env y x.place [] f e k) (λ k. CallsTree env x [] d e k) (λ k h. calls_bare env x d f e y k c.in_ok-term.ensures (h env)) c.bare_term.ensures
+
+pub bare_term-requires : goal.bare_term-requires
+bare_term-requires c = c.in_ok-term.ensures.named

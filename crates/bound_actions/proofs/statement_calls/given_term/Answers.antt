@@ -21,8 +21,8 @@ returns-in-ErrRaise c =
     let env = env_view c.args.env in
     let d = draft_view c.args.draft.now in
     let e = draft_view c.raise.new.draft in
-    IfOk-weaker c.raise.result (λ k. (place : Place) → ActsOn env term.ErrRaise place c.args.nodes.now d e k) (λ k. ActsOn env c.args.term c.args.place c.args.nodes.now d e k)
-    (λ k h. let A : Term → Type 0 = λ t. ActsOn env t c.args.place c.args.nodes.now d e k in subst A (sym c.in-ErrRaise.is) (h c.args.place)) c.raise.ensures
+    IfOk-weaker c.raise.result (λ k. ActsOn env term.ErrRaise c.args.place c.args.nodes.now d e k) (λ k. ActsOn env c.args.term c.args.place c.args.nodes.now d e k)
+    (λ k h. let A : Term → Type 0 = λ t. ActsOn env t c.args.place c.args.nodes.now d e k in subst A (sym c.in-ErrRaise.is) h) c.raise.ensures
 
 pub returns-in-ErrorWord : goal.returns-in-ErrorWord
 returns-in-ErrorWord c =

@@ -13,5 +13,5 @@ returns c =
     let m = c.args.member in
     let s = draft_view c.push_sheet.new.draft in
     let e = draft_view c.member_value.new.draft in
-    IfOk-weaker c.member_value.result (λ v. TakesValue (term.HostMember m) s e v) (λ v. TakesValue (term.SheetMember m) (draft_view c.args.draft.now) e v)
-    (λ v h. takes_sheet m (draft_view c.args.draft.now) s e v c.in_ok-push_sheet.ensures h) c.member_value.ensures
+    IfOk-weaker c.member_value.result (λ v. TakesValue (term.HostMember m) c.args.place s e v) (λ v. TakesValue (term.SheetMember m) c.args.place (draft_view c.args.draft.now) e v)
+    (λ v h. takes_sheet m c.args.place (draft_view c.args.draft.now) s e v c.in_ok-push_sheet.ensures h) c.member_value.ensures

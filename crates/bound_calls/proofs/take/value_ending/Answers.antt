@@ -12,13 +12,13 @@ pub returns-in_ok-ending-in-Place : goal.returns-in_ok-ending-in-Place
 returns-in_ok-ending-in-Place c =
     let d = draft_view c.args.draft.now in
     let e = draft_view c.load.new.draft in
-    let P : Term → Type 0 = λ x. TakesValue x d e c.in_ok-ending-in-Place.ending in
-    subst P (sym c.in-Place.is) (takes_place c.in-Place.kind c.in-Place.of c.in-Place.is_bounded c.in-Place.lends d e c.in_ok-ending-in-Place.ending c.in_ok-ending-in-Place.ensures)
+    let P : Term → Type 0 = λ x. TakesValue x c.args.place d e c.in_ok-ending-in-Place.ending in
+    subst P (sym c.in-Place.is) (takes_place c.in-Place.kind c.in-Place.of c.in-Place.is_bounded c.in-Place.lends c.args.place d e c.in_ok-ending-in-Place.ending c.in_ok-ending-in-Place.ensures)
 
 pub returns-in-Routine : goal.returns-in-Routine
 returns-in-Routine c =
     let d = draft_view c.args.draft.now in
     let e = draft_view c.bare_call.new.draft in
     let r = c.in-Routine.routine in
-    let P : Term → Type 0 = λ x. IfOk c.bare_call.result (λ ending. TakesValue x d e ending) in
-    subst P (sym c.in-Routine.is) (IfOk-weaker c.bare_call.result (λ ending. CallsBare r d e ending) (λ ending. TakesValue (term.Routine r) d e ending) (λ ending h. takes_routine r d e ending h) c.bare_call.ensures)
+    let P : Term → Type 0 = λ x. IfOk c.bare_call.result (λ ending. TakesValue x c.args.place d e ending) in
+    subst P (sym c.in-Routine.is) (IfOk-weaker c.bare_call.result (λ ending. CallsBare r c.args.place d e ending) (λ ending. TakesValue (term.Routine r) c.args.place d e ending) (λ ending h. takes_routine r c.args.place d e ending h) c.bare_call.ensures)

@@ -1,5 +1,6 @@
 use Rattle.std.proofs.Common.{List, sym, subst}
 use Rattle.std.specs.Prelude.{reverse}
+use Rattle.std.proofs.lemmas.Result.{on_ok_weaker}
 use Rattle.vba_expression.specs.declared.node.ExpressionNode.TheVariants as node
 use Rattle.vba_expression.specs.Nodes.{behind_node}
 use Rattle.bound_project.specs.DraftView.{draft_view}
@@ -25,5 +26,19 @@ returns-then-gathers c =
 
 pub gather_missing-requires-clause-named : goal.gather_missing-requires-clause-named
 gather_missing-requires-clause-named c =
+    let N : List Item → Type 0 = λ l. AllNamed (draft_view c.args.draft.now).tables l in
+    subst N c.in-Some.ensures c.requires
+
+pub returns-then-is_refused : goal.returns-then-is_refused
+returns-then-is_refused c =
+    let d = draft_view c.args.draft.now in
+    let e = draft_view c.refuse_missing.new.draft in
+    on_ok_weaker c.refuse_missing.result
+    (λ g env comma.
+    let G : List Item → Type 0 = λ l. Goes env d l e (reverse c.refuse_missing.new.stack.items) (behind_node (node.MissingArgument comma)) in
+    subst G (sym c.in-Some.ensures) (g env comma)) c.refuse_missing.ensures
+
+pub refuse_missing-requires-clause-named : goal.refuse_missing-requires-clause-named
+refuse_missing-requires-clause-named c =
     let N : List Item → Type 0 = λ l. AllNamed (draft_view c.args.draft.now).tables l in
     subst N c.in-Some.ensures c.requires

@@ -80,3 +80,24 @@ returns-in_ok-put_item-in-Some c =
     let new = reverse c.pass_named.new.stack.items in
     let A : List Item → Type 0 = λ (l : List Item). OnOk c.pass_named.result ((env : plain.Env) (comma : Option Token) (mark : Token) → Goes env d l e new (behind_node (node.NamedArgument comma c.args.name.now mark))) in
     subst A (sym whole) c.pass_named.ensures
+
+pub refuse-requires-clause-named : goal.refuse-requires-clause-named
+refuse-requires-clause-named c =
+    let x = c.in-Some-Tree.tree in
+    let whole : reverse c.args.stack.now.items ≡ item.Tree x ∷ c.in-Some.item ∷ reverse c.take_item-2.new.stack.items =
+    c.in-Some-Tree.ensures ∙ ap (λ i. i ∷ reverse c.take_item.new.stack.items) c.in-Some-Tree.field-0-is ∙ ap (λ (l : List Item). item.Tree x ∷ l) c.in-Some.ensures in
+    let N : List Item → Type 0 = λ (l : List Item). AllNamed (draft_view c.args.draft.now).tables l in
+    subst N whole c.requires
+
+pub returns-then-is_refused : goal.returns-then-is_refused
+returns-then-is_refused c =
+    let x = c.in-Some-Tree.tree in
+    let whole : reverse c.args.stack.now.items ≡ item.Tree x ∷ c.in-Some.item ∷ reverse c.take_item-2.new.stack.items =
+    c.in-Some-Tree.ensures ∙ ap (λ i. i ∷ reverse c.take_item.new.stack.items) c.in-Some-Tree.field-0-is ∙ ap (λ (l : List Item). item.Tree x ∷ l) c.in-Some.ensures in
+    let d = draft_view c.args.draft.now in
+    let e = draft_view c.refuse.new.draft in
+    let new = reverse c.refuse.new.stack.items in
+    on_ok_weaker c.refuse.result
+    (λ g env comma mark.
+    let A : List Item → Type 0 = λ (l : List Item). Goes env d l e new (behind_node (node.NamedArgument comma c.args.name.now mark)) in
+    subst A (sym whole) (g env comma mark)) c.refuse.ensures

@@ -15,10 +15,17 @@ returns c =
     let f = draft_view c.open_term.new.draft in
     IfOk-weaker c.open_term.result _ _ (λ i o. opens env c.args.tree c.in_ok-term.term i d e f c.in_ok-term.ensures (o env)) c.open_term.ensures
 
-pub item_member-requires-clause-named : goal.item_member-requires-clause-named
-item_member-requires-clause-named c = c.in_ok-term.ensures.named
+pub item_member-requires : goal.item_member-requires
+item_member-requires c = c.in_ok-term.ensures.named
+
+pub open_item-requires : goal.open_item-requires
+open_item-requires c = c.in_ok-member.ensures.named
 
 pub returns-then-takes_item : goal.returns-then-takes_item
 returns-then-takes_item c =
-    opens_item (env_view c.args.env) c.args.tree c.in_ok-term.term c.in_ok-member.member c.in_ok-call.call (draft_view c.args.draft.now) (draft_view c.callee_term.new.draft) (draft_view c.item_member.new.draft) (draft_view c.open_member.new.draft)
-    c.in_ok-term.ensures c.in_ok-member.ensures c.in_ok-call.ensures
+    let env = env_view c.args.env in
+    let d = draft_view c.args.draft.now in
+    let e = draft_view c.callee_term.new.draft in
+    let f = draft_view c.item_member.new.draft in
+    let g = draft_view c.open_item.new.draft in
+    IfOk-weaker c.open_item.result _ _ (λ i o. opens_item env c.args.tree c.in_ok-term.term c.in_ok-member.member i d e f g c.in_ok-term.ensures c.in_ok-member.ensures (o env)) c.open_item.ensures

@@ -1,9 +1,15 @@
-use Rattle.std.proofs.Common.{sym}
-use Rattle.std.specs.Prelude.{option_map}
+use Rattle.std.proofs.Common.{true}
+use Rattle.std.proofs.lemmas.Result.{IfOk-weaker}
 use Rattle.bound_project.specs.DraftView.{draft_view}
-use Rattle.statement_terms.proofs.WrittenMembers.{member_assigned}
+use Rattle.bound_members.specs.bound_calls.specs.declared.term.Term.TheVariants as term
+use Rattle.statement_terms.specs.Members.{AssignsTerm}
+use Rattle.statement_terms.proofs.WrittenMembers.{member_broken}
 use Rattle.statement_terms.proofs.member_targets.assign_member.Goals as goal
 
-pub returns : goal.returns
-returns c =
-    member_assigned c.args.member (option_map (λ name. name.now) c.args.name) c.args.place (draft_view c.args.draft.now) (draft_view c.push_node.new.draft) c.requires c.if-member-ne0.false (sym c.if-not-is_written.ensures) c.in_ok-push_node.ensures
+pub returns-in-Some : goal.returns-in-Some
+returns-in-Some c =
+    let d = draft_view c.args.draft.now in
+    let e = draft_view c.write_broken.new.draft in
+    let m = c.args.member in
+    let place = c.args.place in
+    IfOk-weaker c.write_broken.result _ (λ k. AssignsTerm place (term.HostMember m) d e k true) (λ k h. member_broken m c.in-Some.rule place d e k c.in-Some.ensures h) c.write_broken.ensures

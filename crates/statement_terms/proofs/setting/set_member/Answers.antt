@@ -3,4 +3,4 @@ use Rattle.statement_terms.proofs.SetTargets.{sets_late}
 use Rattle.statement_terms.proofs.setting.set_member.Goals as goal
 
 pub returns : goal.returns
-returns c = λ word d. sets_late word c.args.member d (sym c.if-not-is_late.ensures)
+returns c = λ word place d. sets_late word place c.args.member d (sym c.if-not-is_late.ensures)

@@ -13,20 +13,20 @@ returns-in-Place c =
     let i = c.in-Place in
     let d = draft_view c.args.draft.now in
     let e = draft_view c.set_place.new.draft in
-    IfOk-weaker c.set_place.result _ (λ k. SetsTerm c.args.set_word c.args.term d e k)
-    (λ k h. let A : Term → Type 0 = λ t. SetsTerm c.args.set_word t d e k in subst A (sym i.is) (h i.is_bounded i.lends)) c.set_place.ensures
+    IfOk-weaker c.set_place.result _ (λ k. SetsTerm c.args.set_word c.args.place c.args.term d e k)
+    (λ k h. let A : Term → Type 0 = λ t. SetsTerm c.args.set_word c.args.place t d e k in subst A (sym i.is) (h i.is_bounded i.lends)) c.set_place.ensures
 
 pub returns-in-HostMember : goal.returns-in-HostMember
 returns-in-HostMember c =
     let i = c.in-HostMember in
     let d = draft_view c.args.draft.now in
-    IfOk-weaker c.set_member.result (λ k. (word : Place) (d : Drafted) → SetsTerm word (term.HostMember i.member) d d k) (λ k. SetsTerm c.args.set_word c.args.term d d k)
-    (λ k h. let A : Term → Type 0 = λ t. SetsTerm c.args.set_word t d d k in subst A (sym i.is) (h c.args.set_word d)) c.set_member.ensures
+    IfOk-weaker c.set_member.result (λ k. (word place : Place) (d : Drafted) → SetsTerm word place (term.HostMember i.member) d d k) (λ k. SetsTerm c.args.set_word c.args.place c.args.term d d k)
+    (λ k h. let A : Term → Type 0 = λ t. SetsTerm c.args.set_word c.args.place t d d k in subst A (sym i.is) (h c.args.set_word c.args.place d)) c.set_member.ensures
 
 pub returns-in-Value : goal.returns-in-Value
 returns-in-Value c =
     let i = c.in-Value in
     let d = draft_view c.args.draft.now in
     let e = draft_view c.set_value.new.draft in
-    IfOk-weaker c.set_value.result (λ k. SetsTerm c.args.set_word (term.Value i.ending) d e k) (λ k. SetsTerm c.args.set_word c.args.term d e k)
-    (λ k h. let A : Term → Type 0 = λ t. SetsTerm c.args.set_word t d e k in subst A (sym i.is) h) c.set_value.ensures
+    IfOk-weaker c.set_value.result (λ k. SetsTerm c.args.set_word c.args.place (term.Value i.ending) d e k) (λ k. SetsTerm c.args.set_word c.args.place c.args.term d e k)
+    (λ k h. let A : Term → Type 0 = λ t. SetsTerm c.args.set_word c.args.place t d e k in subst A (sym i.is) h) c.set_value.ensures

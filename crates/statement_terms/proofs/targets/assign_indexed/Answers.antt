@@ -1,4 +1,4 @@
-use Rattle.std.proofs.Common.{None, sym, subst}
+use Rattle.std.proofs.Common.{sym, subst}
 use Rattle.std.proofs.lemmas.Result.{IfOk-weaker}
 use Rattle.bound_project.specs.DraftView.{draft_view}
 use Rattle.bound_members.specs.bound_calls.specs.declared.term.Term.{Term}
@@ -15,7 +15,7 @@ returns-in-Place c =
     let e = draft_view c.assign_place.new.draft in
     IfOk-weaker c.assign_place.result _ (λ k. AssignsIndexed place c.args.term d e k)
     (λ k h. let A : Term → Type 0 = λ t. AssignsIndexed place t d e k in
-    subst A (sym i.is) (term_indexed place (term.Place i.kind i.of i.is_bounded i.lends) d e k (h i.is_bounded i.lends None))) c.assign_place.ensures
+    subst A (sym i.is) (term_indexed place (term.Place i.kind i.of i.is_bounded i.lends) d e k (h i.is_bounded i.lends))) c.assign_place.ensures
 
 pub returns-in-Value : goal.returns-in-Value
 returns-in-Value c =

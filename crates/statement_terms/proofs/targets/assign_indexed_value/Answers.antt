@@ -1,4 +1,3 @@
-use Rattle.std.proofs.Common.{None}
 use Rattle.std.proofs.lemmas.Result.{IfOk-weaker}
 use Rattle.bound_project.specs.DraftView.{draft_view}
 use Rattle.bound_members.specs.bound_calls.specs.declared.term.Term.TheVariants as term
@@ -15,4 +14,4 @@ returns-in-None c =
     let x = term.Value c.args.ending in
     let d = draft_view c.args.draft.now in
     let e = draft_view c.assign_value.new.draft in
-    IfOk-weaker c.assign_value.result _ (λ k. AssignsIndexed place x d e k) (λ k h. term_indexed place x d e k (h None)) c.assign_value.ensures
+    IfOk-weaker c.assign_value.result _ (λ k. AssignsIndexed place x d e k) (λ k h. term_indexed place x d e k h) c.assign_value.ensures

@@ -1,0 +1,42 @@
+use Rattle.std.proofs.Common.{◌≡◌, List, [], ◌∷◌, sym, ap, subst, ◌∙◌}
+use Rattle.std.specs.Prelude.{reverse}
+use Rattle.std.proofs.lemmas.Bool.{eqb-true}
+use Rattle.std.proofs.lemmas.List.{nil_from_length}
+use Rattle.vba_expression.specs.Nodes.{behind_nodes}
+use Rattle.vba_expression.specs.declared.node.ExpressionNode.{ExpressionNode}
+use Rattle.bound_project.specs.DraftView.{draft_view}
+use Rattle.bound_terms.specs.bound_calls.specs.declared.term.Item.{Item}
+use Rattle.bound_terms.specs.bound_calls.specs.declared.term.Item.TheVariants as item
+use Rattle.bound_terms.specs.bound_calls.specs.Standing.{AllNamed}
+use Rattle.bound_terms.specs.bound_calls.specs.Steps.{Goes}
+use Rattle.bound_terms.specs.bound_names.specs.View.{env_view}
+use Rattle.bound_actions.specs.Untaken.{ReadsUntaken}
+use Rattle.bound_actions.proofs.Refusing.{untaken_read}
+use Rattle.bound_actions.proofs.untaken.read_untaken.Goals as goal
+
+pub run-requires-clause-named : goal.run-requires-clause-named
+run-requires-clause-named c =
+    let start : reverse c.put_item.new.stack.items ≡ item.Unlisted ∷ [] = c.in_ok-put_item.ensures ∙ ap (λ l. item.Unlisted ∷ reverse l) c.new-stack.ensures.items in
+    let N : List Item → Type 0 = λ l. AllNamed (draft_view c.args.draft.now).tables l in
+    subst N (sym start) (tt, tt)
+
+pub returns-then-is_empty : goal.returns-then-is_empty
+returns-then-is_empty c =
+    let env = env_view c.args.env in
+    let d = draft_view c.args.draft.now in
+    let e = draft_view c.run.new.draft in
+    let m = c.in-Some-NoArguments-default in
+    let ns = m.nodes.now in
+    let v = c.take_item.new.stack in
+    let shapes = c.in_ok-shapes.shapes.items in
+    let ys = reverse c.run.new.stack.items in
+    let mid = reverse c.take_shapes.new.stack.items in
+    let empty : v.items ≡ [] = nil_from_length v.items (sym v.ok.0 ∙ eqb-true v.len 0 (sym c.if-is_empty.ensures)) in
+    let nothing : reverse v.items ≡ [] = ap (λ (l : List Item). reverse l) empty in
+    let start : reverse c.put_item.new.stack.items ≡ item.Unlisted ∷ [] = c.in_ok-put_item.ensures ∙ ap (λ l. item.Unlisted ∷ reverse l) c.new-stack.ensures.items in
+    let G : List Item → Type 0 = λ l. Goes env d l e ys (λ is. behind_nodes is ns) in
+    let Q : ExpressionNode → Type 0 = λ n. ReadsUntaken env (n ∷ ns) d e shapes in
+    let P : List ExpressionNode → Type 0 = λ l. ReadsUntaken env l d e shapes in
+    subst P (sym m.ensures.cases.0)
+    (subst Q (sym m.field-0-0-is)
+    (untaken_read env ns shapes ys mid (reverse v.items) d e c.in_ok-shapes.ensures (c.in-Some-Unlisted.ensures ∙ ap (λ i. i ∷ reverse v.items) c.in-Some-Unlisted.field-0-is) nothing (subst G start c.in_ok-run.ensures)))

@@ -1,0 +1,53 @@
+-- Serves the code: what is assigned to without a Let.
+use Rattle.std.specs.Prelude.{◌≡◌, Bool, true, false, List, [], ◌∷◌, Option, Some, None}
+use Rattle.vba_base.specs.declared.place.Place.{Place}
+use Rattle.vba_words.specs.declared.identifier.Identifier.{Identifier}
+use Rattle.vba_expression.specs.Tree.{Expr}
+use Rattle.bound_project.specs.declared.statement.ActionKind.{ActionKind}
+use Rattle.bound_project.specs.Bodies.{action_of}
+use Rattle.bound_project.specs.Drafts.{ActionNamed, Drafted}
+use Rattle.bound_project.specs.Expressions.{no_exprs}
+use Rattle.bound_project.specs.Expressions as bound
+use Rattle.bound_project.specs.Pieces.{Piece, Tables, an_expr}
+use Rattle.bound_terms.specs.binder.specs.Scopes.{declares, plainly}
+use Rattle.bound_terms.specs.bound_forms.specs.Terms.{Env, a_host_member}
+use Rattle.bound_terms.specs.bound_forms.specs.Terms as plain
+use Rattle.bound_terms.specs.bound_forms.specs.StatementsBound.{assigned_to, broken_target, is_given_with, is_no_target, takes_value}
+use Rattle.bound_terms.specs.bound_calls.specs.declared.term.Term.{Term}
+use Rattle.bound_terms.specs.bound_calls.specs.declared.term.Tree.{Tree}
+use Rattle.bound_terms.specs.bound_calls.specs.Standing.{Grown, TermStands, TreeStands}
+use Rattle.bound_terms.specs.bound_names.specs.Callee.{NoWriter}
+use Rattle.statement_terms.specs.Called.{ActionIs, IsBare}
+use Rattle.bound_actions.specs.NoTargets.{means_list}
+
+-- whether a name, where there is one, means a ParamArray
+abbrev pub named_list : Env → Option Identifier → Bool
+named_list env None = false
+named_list env (Some x) = means_list (declares plainly env.scope x)
+
+-- an expression that doesn't end with arguments can't be assigned to, or it can
+abbrev pub IsNoTarget : Env → Tree → Bool → Type 0
+IsNoTarget env x none = (t : Tables) (tree : Expr) (ps below : List Piece) → IsBare tree → TreeStands env t x tree ps below → is_no_target env tree ≡ none
+
+abbrev pub is_member : plain.Term → Bool
+is_member (a_host_member e m) = true
+is_member t = false
+
+-- whether a term is a property that has a Let, which takes the value with arguments; it is no member of an object
+abbrev pub TakesLet : Env → Term → Bool → Type 0
+TakesLet env x given = (t : Tables) (y : plain.Term) (ps below : List Piece) → is_member y ≡ false → TermStands env t x y ps below → takes_value env y ≡ given
+
+-- S25: a property lacks the arguments that it needs, which was marked with the value
+pub record RefusesNone (place : Place) (d e : Drafted) (kind : ActionKind) : Type 0 where
+  pub grown : Grown d e
+  pub named : ActionNamed e.tables kind
+  pub does : (value : bound.Expr) → d.pieces ≡ an_expr value ∷ [] → action_of e.tables kind e.pieces ≡ Some (broken_target 25 place value no_exprs)
+
+-- an expression that has no Let, is no Sub and no ParamArray, and doesn't end with arguments, is assigned the value that was
+-- pushed below it, and whether that comes as it is
+pub record AssignsOther (x : Tree) (d e : Drafted) (kind : ActionKind) (given : Bool) : Type 0 where
+  pub grown : Grown d e
+  pub named : ActionNamed e.tables kind
+  pub takes : (env : Env) (tree : Expr) (below : List Piece) → NoWriter env.scope x.term → IsBare tree → TreeStands env d.tables x tree d.pieces below → is_given_with env tree ≡ given
+  pub stands : (env : Env) (tree : Expr) (value : bound.Expr) → NoWriter env.scope x.term → IsBare tree → is_no_target env tree ≡ false → TreeStands env d.tables x tree d.pieces (an_expr value ∷ [])
+      → ActionIs kind (assigned_to env tree value) e.tables e.pieces

@@ -1,0 +1,146 @@
+-- Arguments that members take, told by their names.
+use Rattle.std.proofs.Common.{◌≡◌, ℕ, zero, suc, ◌-◌, ◌≤◌, Bor, Bool, true, false, ◌||◌, ◌&&◌, not, List, [], ◌∷◌, length, take, drop, get_or, Option, Some, None, is_some, if◌then◌else◌, refl, sym, ap, ◌∙◌, arith, rules, tests}
+use Rattle.std.proofs.lemmas.List.{take_all}
+use Rattle.vba_words.specs.declared.identifier.Identifier.{Identifier}
+use Rattle.bound_calls.specs.declared.term.Shape.{Shape}
+use Rattle.bound_calls.specs.Shapes.{shape_given, shapes_given}
+use Rattle.std.specs.Prelude.{nat_lt, option_map, option_and_then}
+use Rattle.bound_project.specs.Expressions.{ByName}
+use Rattle.vba_meaning.specs.ByName as by
+use Rattle.vba_meaning.specs.ByName.{given_once, is_parameter, parameter_named, parameters_given}
+use Rattle.vba_meaning.proofs.Named.{fits_once, given_more}
+use Rattle.bound_calls.specs.binder.specs.Options.{from_two}
+use Rattle.bound_calls.specs.bound_forms.specs.Terms.{Given, HostMember, all_named, by_name_from, has_names}
+use Rattle.bound_calls.specs.bound_forms.specs.ExpressionsBound.{known_parameters, member_takes, takes_arguments}
+use Rattle.bound_members.specs.Shapes.{all_given, any_given, by_one, names_from, one_given, takes_named}
+use Rattle.bound_members.proofs.Naming.{by_name, names_of}
+
+-- ---- arguments that all have names
+
+once_none : (before : ℕ) (o : Option ℕ) → given_once before o None ≡ None
+once_none before None = refl
+once_none before (Some p) = refl
+
+one_none : (xs : List (List ℕ)) (before : ℕ) (name : Option (List ℕ)) → one_given xs before name None ≡ None
+one_none xs before None = refl
+one_none xs before (Some name) = once_none before (parameter_named 0 xs name)
+
+abbrev given_so : List (List ℕ) → (before : ℕ) → Option (List (List ℕ)) → Option (List ℕ)
+given_so xs before names = option_and_then (parameters_given xs before) names
+
+abbrev with_name : Option (List ℕ) → Option (List (List ℕ)) → Option (List (List ℕ))
+with_name name names = from_two (λ x xs. x ∷ xs) name names
+
+one_is : (xs : List (List ℕ)) (before : ℕ) (name : Option (List ℕ)) (names : Option (List (List ℕ))) → one_given xs before name (given_so xs before names) ≡ given_so xs before (with_name name names)
+one_is xs before None names = refl
+one_is xs before (Some name) None = once_none before (parameter_named 0 xs name)
+one_is xs before (Some name) (Some names) = refl
+
+all_is : (xs : List (List ℕ)) (before : ℕ) (gs : List Given) → all_given xs before gs ≡ given_so xs before (all_named (names_of gs))
+all_is xs before [] = refl
+all_is xs before (g ∷ gs) = ap (λ r. one_given xs before g.name r) (all_is xs before gs) ∙ one_is xs before g.name (all_named (names_of gs))
+
+-- ---- arguments of which the last ones have names
+
+abbrev taken_by : List (List ℕ) → Option ByName → Bool
+taken_by xs o = is_some (option_and_then (λ (b : ByName). if is_some (parameters_given xs b.before b.names) then Some b else None) o)
+
+some_if : {X : Type 0} → (o : Option X) (b : ByName) → is_some o ≡ is_some (if is_some o then Some b else None)
+some_if None b = refl
+some_if (Some x) b = refl
+
+some_taken : (xs : List (List ℕ)) (before : ℕ) (names : Option (List (List ℕ))) → is_some (given_so xs before names) ≡ taken_by xs (option_map (λ l. by_name before l) names)
+some_taken xs before None = refl
+some_taken xs before (Some names) = some_if (parameters_given xs before names) (by_name before names)
+
+abbrev from_here : List (List ℕ) → (before : ℕ) → Given → List Given → Option (List ℕ) → Bool
+from_here xs before g gs name = if is_some name then is_some (all_given xs before (g ∷ gs)) else names_from xs (suc before) gs
+
+names_at : (xs : List (List ℕ)) (before : ℕ) (g : Given) (gs : List Given) (name : Option (List ℕ)) → g.name ≡ name → names_from xs (suc before) gs ≡ taken_by xs (by_name_from (suc before) (names_of gs))
+    → names_from xs before (g ∷ gs) ≡ taken_by xs (by_name_from before (names_of (g ∷ gs)))
+names_at xs before g gs None e r = ap (λ o. from_here xs before g gs o) e ∙ r ∙ sym (ap (λ o. taken_by xs (by_name_from before (o ∷ names_of gs))) e)
+names_at xs before g gs (Some x) e r =
+    ap (λ o. from_here xs before g gs o) e ∙ ap (λ (o : Option (List ℕ)). is_some o) (all_is xs before (g ∷ gs)) ∙ some_taken xs before (all_named (names_of (g ∷ gs)))
+    ∙ ap (λ o. taken_by xs (option_map (λ l. by_name before l) (all_named (o ∷ names_of gs)))) e ∙ sym (ap (λ o. taken_by xs (by_name_from before (o ∷ names_of gs))) e)
+
+names_are : (xs : List (List ℕ)) (before : ℕ) (gs : List Given) → names_from xs before gs ≡ taken_by xs (by_name_from before (names_of gs))
+names_are xs before [] = refl
+names_are xs before (g ∷ gs) = names_at xs before g gs g.name refl (names_are xs (suc before) gs)
+
+takes_by : (m : HostMember) (o : Option ℕ) (gs : List Given) → member_takes (record m { greatest = o }) gs ≡ (takes_arguments (record m { greatest = o }) (length gs) && (not (has_names gs) || takes_named m.name o gs))
+takes_by m None gs = refl
+takes_by m (Some zero) gs = refl
+takes_by m (Some (suc k)) gs =
+    let x : HostMember = record m { greatest = Some (suc k) } in
+    ap (λ b. takes_arguments x (length gs) && (not (has_names gs) || b)) (sym (names_are (known_parameters m.name (Some (suc k))) 0 gs))
+
+pub member_is_taken : (m : HostMember) (gs : List Given) → member_takes m gs ≡ (takes_arguments m (length gs) && (not (has_names gs) || takes_named m.name m.greatest gs))
+member_is_taken m gs = takes_by m m.greatest gs
+
+-- ---- a parameter is given one of them
+
+abbrev names_or : Option (List (List ℕ)) → List (List ℕ)
+names_or None = []
+names_or (Some names) = names
+
+any_at : (xs : List (List ℕ)) (number : ℕ) (name : Option (List ℕ)) (rest : Option (List (List ℕ))) (names : List (List ℕ)) (others : Bool) → with_name name rest ≡ Some names
+    → ((ns : List (List ℕ)) → rest ≡ Some ns → others ≡ by.any_given xs number ns) → (by_one xs number name || others) ≡ by.any_given xs number names
+any_at xs number None rest names others h r = let e : ◌≡◌ {A = Option (List (List ℕ))} None (Some names) = h in absurd cc
+any_at xs number (Some x) None names others h r = let e : ◌≡◌ {A = Option (List (List ℕ))} None (Some names) = h in absurd cc
+any_at xs number (Some x) (Some ns) names others h r =
+    ap (λ b. is_parameter number (parameter_named 0 xs x) || b) (r ns refl) ∙ ap (λ o. by.any_given xs number (names_or o)) h
+
+any_is : (xs : List (List ℕ)) (number : ℕ) (gs : List Given) (names : List (List ℕ)) → all_named (names_of gs) ≡ Some names → any_given xs number gs ≡ by.any_given xs number names
+any_is xs number [] names h = ap (λ o. by.any_given xs number (names_or o)) h
+any_is xs number (g ∷ gs) names h = any_at xs number g.name (all_named (names_of gs)) names (any_given xs number gs) h (λ ns e. any_is xs number gs ns e)
+
+not_less : (a b : ℕ) → b ≤ a → nat_lt a b ≡ false
+not_less a b h = search (rules, tests)
+
+-- one more whose parameter isn't given another
+one_at : (xs : List (List ℕ)) (before number : ℕ) (gs : List Given) (name : List ℕ) (here : Bool) (names : Option (List (List ℕ))) → before ≤ number → Some number ≡ parameter_named 0 xs name
+    → is_some (all_given xs before gs) ≡ true → here ≡ any_given xs number gs → all_named (names_of gs) ≡ names → not here ≡ is_some (one_given xs before (Some name) (all_given xs before gs))
+one_at xs before number gs name here None behind own all any e =
+    let none : false ≡ true = sym (ap (λ (o : Option (List ℕ)). is_some o) (all_is xs before gs ∙ ap (λ n. given_so xs before n) e)) ∙ all in
+    absurd cc
+one_at xs before number gs name here (Some names) behind own all any e =
+    let given : all_given xs before gs ≡ parameters_given xs before names = all_is xs before gs ∙ ap (λ n. given_so xs before n) e in
+    let some : is_some (parameters_given xs before names) ≡ true = ap (λ (o : Option (List ℕ)). is_some o) (sym given) ∙ all in
+    let all_fit : is_some (parameters_given xs before (name ∷ names)) ≡ not (by.any_given xs number names) =
+    given_more xs before name names ∙ ap (λ o. fits_once xs before o (is_some (parameters_given xs before names)) names) (sym own)
+    ∙ ap (λ b. if nat_lt number before || not b then false else not (by.any_given xs number names)) some ∙ ap (λ b. if b || false then false else not (by.any_given xs number names)) (not_less number before behind) in
+    ap (λ b. not b) (any ∙ any_is xs number gs names e) ∙ sym all_fit ∙ ap (λ o. is_some (given_once before (parameter_named 0 xs name) o)) (sym given)
+
+pub one_more_taken : (xs : List (List ℕ)) (before number : ℕ) (gs : List Given) (name : List ℕ) (here : Bool) → before ≤ number → Some number ≡ parameter_named 0 xs name → is_some (all_given xs before gs) ≡ true → here ≡ any_given xs number gs
+    → not here ≡ is_some (one_given xs before (Some name) (all_given xs before gs))
+one_more_taken xs before number gs name here behind own all any = one_at xs before number gs name here (all_named (names_of gs)) behind own all any refl
+
+-- ---- whether a member takes them
+
+counted : (m : HostMember) (gs : List Given) (count : ℕ) (takes : Bool) → count ≡ length gs → takes ≡ takes_arguments m count → member_takes m gs ≡ (takes && (not (has_names gs) || takes_named m.name m.greatest gs))
+counted m gs count takes long is = member_is_taken m gs ∙ ap (λ b. b && (not (has_names gs) || takes_named m.name m.greatest gs)) (ap (λ n. takes_arguments m n) (sym long) ∙ sym is)
+
+pub takes_other : (m : HostMember) (gs : List Given) (count : ℕ) (takes : Bool) → count ≡ length gs → takes ≡ takes_arguments m count → takes ≡ false → false ≡ member_takes m gs
+takes_other m gs count takes long is h = sym (counted m gs count takes long is ∙ ap (λ b. b && (not (has_names gs) || takes_named m.name m.greatest gs)) h)
+
+pub takes_unnamed : (m : HostMember) (gs : List Given) (count : ℕ) (takes named : Bool) → count ≡ length gs → takes ≡ takes_arguments m count → takes ≡ true → named ≡ has_names gs → named ≡ false → true ≡ member_takes m gs
+takes_unnamed m gs count takes named long is h names k =
+    sym (counted m gs count takes long is ∙ ap (λ b. b && (not (has_names gs) || takes_named m.name m.greatest gs)) h ∙ ap (λ b. not b || takes_named m.name m.greatest gs) (sym names ∙ k))
+
+pub takes_all_named : (m : HostMember) (gs : List Given) (count : ℕ) (takes named fit : Bool) → count ≡ length gs → takes ≡ takes_arguments m count → takes ≡ true → named ≡ has_names gs → named ≡ true
+    → fit ≡ takes_named m.name m.greatest gs → fit ≡ member_takes m gs
+takes_all_named m gs count takes named fit long is h names k fits =
+    fits ∙ sym (counted m gs count takes long is ∙ ap (λ b. b && (not (has_names gs) || takes_named m.name m.greatest gs)) h ∙ ap (λ b. not b || takes_named m.name m.greatest gs) (sym names ∙ k))
+
+-- ---- the first one of the arguments of code
+
+pub one_more_shape : (xs : List (List ℕ)) (before number : ℕ) (ss : List Shape) (s : Shape) (x : Bor Identifier) (here : Bool) → 1 ≤ length ss → s ≡ get_or ss 0 s → s.name ≡ Some x → before ≤ number → Some number ≡ parameter_named 0 xs x.now.name
+    → is_some (all_given xs before (shapes_given (take (length ss - 1) (drop 1 ss)))) ≡ true → here ≡ any_given xs number (shapes_given (take (length ss - 1) (drop 1 ss))) → not here ≡ is_some (all_given xs before (shapes_given ss))
+one_more_shape xs before number [] s x here some is name behind own given any = absurd (omega (arith, some))
+one_more_shape xs before number (r ∷ ss) s x here some is name behind own given any =
+    let all : take (length (r ∷ ss) - 1) ss ≡ ss = take_all (length (r ∷ ss) - 1) ss (omega arith) in
+    let named : (shape_given r).name ≡ Some x.now.name =
+    ap (λ (y : Shape). (shape_given y).name) (sym is) ∙ ap (λ o. option_map (λ (y : Identifier). y.name) (option_map (λ (y : Bor Identifier). y.now) o)) name in
+    let given' : is_some (all_given xs before (shapes_given ss)) ≡ true = ap (λ l. is_some (all_given xs before (shapes_given l))) (sym all) ∙ given in
+    let any' : here ≡ any_given xs number (shapes_given ss) = any ∙ ap (λ l. any_given xs number (shapes_given l)) all in
+    one_more_taken xs before number (shapes_given ss) x.now.name here behind own given' any' ∙ ap (λ o. is_some (one_given xs before o (all_given xs before (shapes_given ss)))) (sym named)

@@ -1,0 +1,41 @@
+-- Serves the code: arguments that members take, by their names.
+use Rattle.std.specs.Prelude.{ℕ, zero, suc, Bool, true, false, ◌||◌, List, [], ◌∷◌, Option, Some, None, is_some, if◌then◌else◌}
+use Rattle.vba_values.specs.Types.{Declared}
+use Rattle.vba_values.specs.Types as type
+use Rattle.vba_meaning.specs.ByName.{given_once, is_parameter, parameter_named}
+use Rattle.bound_calls.specs.bound_forms.specs.Terms.{Given}
+use Rattle.bound_calls.specs.bound_forms.specs.ExpressionsBound.{known_parameters}
+
+-- whether a parameter is given one of these arguments by its name
+abbrev pub by_one : List (List ℕ) → (number : ℕ) → Option (List ℕ) → Bool
+by_one xs number None = false
+by_one xs number (Some name) = is_parameter number (parameter_named 0 xs name)
+
+abbrev pub any_given : List (List ℕ) → (number : ℕ) → List Given → Bool
+any_given xs number [] = false
+any_given xs number (g ∷ gs) = by_one xs number g.name || any_given xs number gs
+
+-- the numbers of the parameters that arguments name, behind the first ones, where all have names and no two the same
+abbrev pub one_given : List (List ℕ) → (before : ℕ) → Option (List ℕ) → Option (List ℕ) → Option (List ℕ)
+one_given xs before None ps = None
+one_given xs before (Some name) ps = given_once before (parameter_named 0 xs name) ps
+
+abbrev pub all_given : List (List ℕ) → (before : ℕ) → List Given → Option (List ℕ)
+all_given xs before [] = Some []
+all_given xs before (g ∷ gs) = one_given xs before g.name (all_given xs before gs)
+
+-- the same of arguments behind others without names
+abbrev pub names_from : List (List ℕ) → (before : ℕ) → List Given → Bool
+names_from xs before [] = true
+names_from xs before (g ∷ gs) = if is_some g.name then is_some (all_given xs before (g ∷ gs)) else names_from xs (suc before) gs
+
+abbrev pub takes_named : (name : List ℕ) → (greatest : Option ℕ) → List Given → Bool
+takes_named name None gs = true
+takes_named name (Some zero) gs = true
+takes_named name (Some greatest) gs = names_from (known_parameters name (Some greatest)) 0 gs
+
+-- the rule that arguments break behind a member that takes none, by what it gives
+abbrev pub rule_behind : Declared → Option ℕ
+rule_behind type.worksheet = Some 34
+rule_behind type.object = None
+rule_behind of = Some 25

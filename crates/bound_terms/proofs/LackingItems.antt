@@ -1,0 +1,35 @@
+-- Objects without a default member with arguments, before brackets.
+use Rattle.std.proofs.Common.{◌∷◌, ap, subst, ◌∙◌}
+use Rattle.vba_base.specs.declared.place.Place.{Place}
+use Rattle.bound_project.specs.View.{declared_view}
+use Rattle.bound_project.specs.Pieces.{an_expr}
+use Rattle.bound_project.specs.Drafts.{Drafted}
+use Rattle.bound_names.specs.bound_forms.specs.Terms.{Env, expression_of}
+use Rattle.bound_names.specs.bound_forms.specs.Terms as terms
+use Rattle.bound_names.specs.bound_forms.specs.ExpressionsBound.{callee, indexed, item_of, place_told, term_of}
+use Rattle.bound_names.specs.bound_calls.specs.declared.term.Ending.{Ending}
+use Rattle.bound_names.specs.bound_calls.specs.declared.term.Indexed.{Indexed}
+use Rattle.bound_names.specs.bound_calls.specs.declared.term.Item.TheVariants as items
+use Rattle.bound_names.specs.bound_calls.specs.declared.term.Term.{Term}
+use Rattle.bound_names.specs.bound_calls.specs.declared.term.Term.TheVariants as term
+use Rattle.bound_names.specs.bound_calls.specs.declared.term.Tree.{Tree}
+use Rattle.bound_names.specs.bound_calls.specs.Indexing.{OpensTerm}
+use Rattle.bound_names.specs.bound_calls.specs.Standing.{TermStands, ValueStands}
+use Rattle.bound_names.specs.bound_calls.proofs.Growing.{grown_twice}
+use Rattle.bound_names.specs.Items.{MakesItem}
+use Rattle.bound_operands.specs.Indexing.{PushesWhole}
+use Rattle.bound_operands.proofs.Elements.{opens_whole, value_indexed}
+
+-- what is told of one is indexed
+pub opens_lacking : (env : Env) (x : Tree) (y : Term) (v : Ending) (i : Indexed) (d e f : Drafted) → MakesItem x.place y d e (term.Value v) → PushesWhole v x.place e f i → OpensTerm env x y d f (items.Indexed i)
+opens_lacking env x y v i d e f m p =
+    opens_whole env x y i d f (grown_twice d e f m.grown p.grown) p.is (λ tree below at h.
+    let place = place_told tree in
+    let z = callee env tree (term_of env tree) in
+    let A : Place → Type 0 = λ (q : Place). TermStands env e.tables (term.Value v) (item_of q z) e.pieces below in
+    let t : ValueStands e.tables v (item_of place z) e.pieces below = subst A at (m.stands env z below h) in
+    record {
+      whole = expression_of t.made place (declared_view v.of);
+      is = λ gs es numbers. ap (λ (w : terms.Term). indexed env place w gs) t.is ∙ value_indexed env place t.made (declared_view v.of) gs (declared_view i.of) es p.element_is numbers;
+      on_top = p.stands t.made below t.ends ∙ ap (λ (q : Place). an_expr (expression_of t.made q (declared_view v.of)) ∷ below) at;
+    })

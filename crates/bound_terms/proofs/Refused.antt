@@ -1,0 +1,390 @@
+-- What doesn't take its arguments, which are read from now on.
+use Rattle.std.proofs.Common.{◌≡◌, ℕ, zero, suc, ◌<◌, ◌==◌, Bool, true, false, ◌&&◌, ◌||◌, not, List, [], ◌∷◌, map, length, is_some, Option, Some, None, option_map, if◌then◌else◌, refl, sym, ap, subst, ◌∙◌, arith}
+use Rattle.std.specs.Prelude.{codes}
+use Rattle.std.proofs.lemmas.Bool.{eqb-true}
+use Rattle.vba_base.specs.declared.place.Place.{Place}
+use Rattle.vba_values.specs.Types.{Declared}
+use Rattle.vba_values.specs.Types as type
+use Rattle.vba_tree.specs.Tree.{Parameter}
+use Rattle.vba_tree.specs.declared.procedure.ProcedureWords.{ProcedureWords}
+use Rattle.vba_tree.specs.declared.procedure.ProcedureWords.TheVariants as words
+use Rattle.vba_expression.specs.Tree.{Expr, no_args}
+use Rattle.bound_project.specs.declared.node.Node.{Node}
+use Rattle.bound_project.specs.declared.node.NodeKind.{NodeKind}
+use Rattle.bound_project.specs.declared.node.NodeKind.TheVariants as kinds
+use Rattle.bound_project.specs.declared.declared_type.DeclaredType.{DeclaredType}
+use Rattle.bound_project.specs.declared.declarations.Parameter.{Parameter as ParameterHere}
+use Rattle.bound_project.specs.View.{declared_view, parameter_view}
+use Rattle.bound_project.specs.Expressions.{Exprs, Lvalue, also, element_value, host_member, load, named_member}
+use Rattle.bound_project.specs.Expressions as bound
+use Rattle.bound_project.specs.Project as project
+use Rattle.bound_project.specs.Lists.{above}
+use Rattle.bound_project.specs.Pieces.{Piece, Tables, an_expr, expr_of, of_place, put}
+use Rattle.bound_project.specs.Drafts.{Drafted}
+use Rattle.bound_names.specs.binder.specs.Constants.{home}
+use Rattle.bound_names.specs.binder.specs.Declarations.{Written}
+use Rattle.bound_names.specs.binder.specs.Scopes.{Scope, Space}
+use Rattle.bound_names.specs.binder.specs.Names.{scope_in}
+use Rattle.bound_names.specs.binder.specs.Signatures.{is_get, is_property, parameters_in, procedure_with, reader}
+use Rattle.bound_names.specs.binder.specs.Options.{from_two}
+use Rattle.bound_names.specs.binder.specs.Storage.{bound_parameters, takes_value}
+use Rattle.bound_names.specs.bound_forms.specs.Terms.{Env, Given, HostMember, a_routine, a_value, bound_arguments, expression_of, has_names, no_term, takes}
+use Rattle.bound_names.specs.bound_forms.specs.Terms as terms
+use Rattle.bound_names.specs.bound_forms.specs.ExpressionsBound.{argument_of, arguments_rule, bare_call, call_value, callee, element_place, element_type, host_arguments, host_called, if_there, indexed, indexed_value, indexes_value, is_host_type, item_of, may_index, member_called, member_takes, names_taken, node_or, numbers_of, object_member, operand_of, place_told, takes_arguments, term_of, term_or, with_type, wrong_arguments, wrong_index, wrong_term}
+use Rattle.bound_names.specs.bound_calls.specs.declared.term.Ending.{Ending}
+use Rattle.bound_names.specs.declared_names.specs.View.{written_view}
+use Rattle.bound_names.specs.bound_calls.specs.declared.term.HostMember.{HostMember as MemberHere}
+use Rattle.bound_names.specs.bound_calls.specs.declared.term.Item.TheVariants as items
+use Rattle.bound_names.specs.bound_calls.specs.declared.term.Refuser.{Refuser}
+use Rattle.bound_names.specs.bound_calls.specs.declared.term.Refuser.TheVariants as refuser
+use Rattle.bound_names.specs.bound_calls.specs.declared.term.MemberCall.{MemberCall}
+use Rattle.bound_names.specs.bound_calls.specs.declared.term.Routine.{Routine}
+use Rattle.bound_names.specs.bound_calls.specs.declared.term.Term.{Term}
+use Rattle.bound_names.specs.bound_calls.specs.declared.term.Term.TheVariants as term
+use Rattle.bound_names.specs.bound_calls.specs.declared.term.Tree.{Tree}
+use Rattle.bound_names.specs.bound_calls.specs.Calls.{node_of}
+use Rattle.bound_names.specs.bound_calls.specs.Indexing.{OpensTerm}
+use Rattle.bound_names.specs.bound_calls.specs.Taking.{CallsRoutine}
+use Rattle.bound_names.specs.bound_members.specs.MemberCalls.{OpensMember}
+use Rattle.bound_terms.specs.Indexing.{IndexesValue, NotIndexed, OpensItem, untaken_at}
+use Rattle.bound_terms.proofs.IndexedProperties.{none_written, property_value, read_get}
+use Rattle.bound_names.specs.bound_calls.specs.Standing.{Grown, RefuserNamed, RoutineStands, TermStands, behind_values, member_is, refused_rule, values_before}
+use Rattle.bound_names.specs.bound_calls.proofs.Growing.{grown_pieces, grown_same, grown_twice}
+use Rattle.bound_names.specs.bound_calls.proofs.Refusing.{refused}
+
+-- ---- what is refused, by its term
+
+abbrev number_or : ℕ → Option ℕ → ℕ
+number_or n None = n
+number_or n (Some m) = m
+
+broken_by : (b : Bool) (rule : ℕ) → (if b then None else Some 25) ≡ Some rule → (b ≡ false) × (25 ≡ rule)
+broken_by true rule h = let e : ◌≡◌ {A = Option ℕ} None (Some rule) = h in absurd cc
+broken_by false rule h = (refl, ap (λ o. number_or rule o) h)
+
+not_host : (of : Declared) (gs : List Given) → may_index of gs ≡ false → is_host_type of ≡ false
+not_host (type.array_of of) gs h = refl
+not_host type.variant gs h = refl
+not_host type.boolean gs h = refl
+not_host type.byte gs h = refl
+not_host type.integer gs h = refl
+not_host type.long gs h = refl
+not_host type.long_long gs h = refl
+not_host type.currency gs h = refl
+not_host type.text gs h = refl
+not_host (type.fixed_text n) gs h = refl
+not_host (type.class n) gs h = refl
+not_host type.collection gs h = refl
+not_host (type.udt n) gs h = refl
+not_host type.object gs h = h
+not_host type.worksheet gs h = h
+not_host type.range gs h = h
+
+not_numbers : (value : terms.Term → Place → Option bound.Expr) (of : Declared) (gs : List Given) (T : Declared → Exprs → terms.Term) → may_index of gs ≡ false → with_type (element_type of) (numbers_of value gs) T ≡ no_term
+not_numbers value (type.array_of of) gs T h = rw h refl
+not_numbers value type.variant gs T h = let e : true ≡ false = h in absurd cc
+not_numbers value type.boolean gs T h = refl
+not_numbers value type.byte gs T h = refl
+not_numbers value type.integer gs T h = refl
+not_numbers value type.long gs T h = refl
+not_numbers value type.long_long gs T h = refl
+not_numbers value type.currency gs T h = refl
+not_numbers value type.text gs T h = refl
+not_numbers value (type.fixed_text n) gs T h = refl
+not_numbers value (type.class n) gs T h = refl
+not_numbers value type.collection gs T h = refl
+not_numbers value (type.udt n) gs T h = refl
+not_numbers value type.object gs T h = refl
+not_numbers value type.worksheet gs T h = refl
+not_numbers value type.range gs T h = refl
+
+value_refused : (env : Env) (place : Place) (made : bound.Node) (of : Declared) (gs : List Given) (rule : ℕ) → (if may_index of gs then None else Some 25) ≡ Some rule
+    → indexed env place (item_of place (a_value made of)) gs ≡ wrong_arguments env place rule (also (expression_of made place of)) gs
+value_refused env place made of gs rule h =
+    let b = broken_by (may_index of gs) rule h in
+    let T : Declared → Exprs → terms.Term = λ (u : Declared) (xs : Exprs). a_value (element_value (expression_of made place of) xs) u in
+    ap (λ (c : Bool). indexed env place (if c then object_member place place made of (codes "item") else a_value made of) gs) (not_host of gs b.0)
+    ∙ ap (λ (z : terms.Term). term_or z (wrong_term env place (a_value made of) gs)) (not_numbers (operand_of env) of gs T b.0)
+    ∙ ap (λ (c : Bool). if c then no_term else wrong_arguments env place 25 (also (expression_of made place of)) gs) b.0
+    ∙ ap (λ (n : ℕ). wrong_arguments env place n (also (expression_of made place of)) gs) b.1
+
+place_refused : (env : Env) (place : Place) (at : Lvalue) (of : Declared) (bounded lends : Bool) (gs : List Given) (rule : ℕ) → (if may_index of gs then None else Some 25) ≡ Some rule
+    → indexed env place (item_of place (terms.a_place at of bounded lends)) gs ≡ wrong_arguments env place rule (also (expression_of (load at) place of)) gs
+place_refused env place at of bounded lends gs rule h =
+    let b = broken_by (may_index of gs) rule h in
+    let T : Declared → Exprs → terms.Term = λ (u : Declared) (xs : Exprs). terms.a_place (element_place at xs) u false lends in
+    ap (λ (c : Bool). indexed env place (if c then object_member place place (load at) of (codes "item") else terms.a_place at of bounded lends) gs) (not_host of gs b.0)
+    ∙ ap (λ (z : terms.Term). term_or z (wrong_term env place (terms.a_place at of bounded lends) gs)) (not_numbers (operand_of env) of gs T b.0)
+    ∙ ap (λ (c : Bool). if c then no_term else wrong_arguments env place 25 (also (expression_of (load at) place of)) gs) b.0
+    ∙ ap (λ (n : ℕ). wrong_arguments env place n (also (expression_of (load at) place of)) gs) b.1
+
+-- what takes no arguments at all
+error_refused : (env : Env) (t : Tables) (place : Place) (gs : List Given) (rule : ℕ) → refused_rule t refuser.Bare gs ≡ Some rule → indexed env place terms.err_object gs ≡ wrong_arguments env place rule (λ es. es) gs
+error_refused env t place [] rule h = let e : ◌≡◌ {A = Option ℕ} None (Some rule) = h in absurd cc
+error_refused env t place (g ∷ gs) rule h = ap (λ (n : ℕ). wrong_arguments env place n (λ es. es) (g ∷ gs)) (ap (λ o. number_or rule o) h)
+
+clear_refused : (env : Env) (t : Tables) (place : Place) (gs : List Given) (rule : ℕ) → refused_rule t refuser.Bare gs ≡ Some rule → indexed env place terms.err_clear gs ≡ wrong_arguments env place rule (λ es. es) gs
+clear_refused env t place [] rule h = let e : ◌≡◌ {A = Option ℕ} None (Some rule) = h in absurd cc
+clear_refused env t place (g ∷ gs) rule h = ap (λ (n : ℕ). wrong_arguments env place n (λ es. es) (g ∷ gs)) (ap (λ o. number_or rule o) h)
+
+-- ---- what stands then
+
+record Refuses (env : Env) (t : Tables) (r : Refuser) (place : Place) (z : terms.Term) (ps below : List Piece) : Type 0 where
+  pub before : List bound.Expr
+  pub before_long : length before ≡ values_before r
+  pub wrong : (gs : List Given) (rule : ℕ) → refused_rule t r gs ≡ Some rule → indexed env place (item_of place z) gs ≡ wrong_arguments env place rule (behind_values before) gs
+  pub on_top : ps ≡ above (map an_expr before) below
+
+opens_refused : (env : Env) (x : Tree) (y : Term) (r : Refuser) (d e : Drafted) → Grown d e → RefuserNamed e.tables r
+    → ((tree : Expr) (below : List Piece) → x.place ≡ place_told tree → TermStands env d.tables y (callee env tree (term_of env tree)) d.pieces below → Refuses env e.tables r (place_told tree) (callee env tree (term_of env tree)) e.pieces below)
+    → OpensTerm env x y d e (untaken_at x.place r)
+opens_refused env x y r d e grown named f = record {
+  grown = grown;
+  named = named;
+  stands = λ tree xs is below base at h s.
+      let u = f tree below at h in
+      (below, (record { place_is = at; before = u.before; before_long = u.before_long; wrong = u.wrong; on_top = u.on_top }, s));
+}
+
+-- a value
+pub value_untaken : (env : Env) (x : Tree) (v : Ending) (d e : Drafted) → e ≡ record d { pieces = put d.tables (node_of v.kind x.place v.of) d.pieces } → OpensTerm env x (term.Value v) d e (untaken_at x.place (refuser.Value v.of))
+value_untaken env x v d e eq =
+    let n = node_of v.kind x.place v.of in
+    let after : Drafted = record d { pieces = put d.tables n d.pieces } in
+    let P : Drafted → Type 0 = λ (z : Drafted). OpensTerm env x (term.Value v) d z (untaken_at x.place (refuser.Value v.of)) in
+    subst P (sym eq) (opens_refused env x (term.Value v) (refuser.Value v.of) d after (grown_pieces d (put d.tables n d.pieces)) tt (λ tree below at h.
+    let place = place_told tree in
+    let of = declared_view v.of in
+    record {
+      before = expression_of h.made place of ∷ [];
+      before_long = refl;
+      wrong = λ gs rule k. ap (λ (z : terms.Term). indexed env place (item_of place z) gs) h.is ∙ value_refused env place h.made of gs rule k;
+      on_top = h.ends n ∙ ap (λ (p : Place). an_expr (expression_of h.made p of) ∷ below) at;
+    }))
+
+-- a place, of which the value is pushed
+pub place_untaken : (env : Env) (x : Tree) (kind : NodeKind) (of : DeclaredType) (bounded lends : Bool) (d m e : Drafted) → m ≡ record d { pieces = put d.tables (node_of kind x.place of) d.pieces }
+    → e ≡ record m { pieces = put m.tables (node_of kinds.Load x.place of) m.pieces } → OpensTerm env x (term.Place kind of bounded lends) d e (untaken_at x.place (refuser.Value of))
+place_untaken env x kind of bounded lends d m e first second =
+    let y = term.Place kind of bounded lends in
+    let n = node_of kind x.place of in
+    let l = node_of kinds.Load x.place of in
+    let between : Drafted = record d { pieces = put d.tables n d.pieces } in
+    let after : Drafted = record between { pieces = put between.tables l between.pieces } in
+    let same : e ≡ after = second ∙ ap (λ (z : Drafted). record z { pieces = put z.tables l z.pieces }) first in
+    let P : Drafted → Type 0 = λ (z : Drafted). OpensTerm env x y d z (untaken_at x.place (refuser.Value of)) in
+    subst P (sym same) (opens_refused env x y (refuser.Value of) d after (grown_twice d between after (grown_pieces d (put d.tables n d.pieces)) (grown_pieces between (put between.tables l between.pieces))) tt (λ tree below at h.
+    let place = place_told tree in
+    let u = declared_view of in
+    record {
+      before = expression_of (load h.at) place u ∷ [];
+      before_long = refl;
+      wrong = λ gs rule k. ap (λ (z : terms.Term). indexed env place (item_of place z) gs) h.is ∙ place_refused env place h.at u bounded lends gs rule k;
+      on_top = ap (λ (ps : List Piece). of_place (λ (z : Lvalue). expr_of l (load z)) ps) (h.ends n) ∙ ap (λ (p : Place). an_expr (expression_of (load h.at) p u) ∷ below) at;
+    }))
+
+-- the object Err, and its Clear
+pub error_untaken : (env : Env) (x : Tree) (d : Drafted) → OpensTerm env x term.Err d d (untaken_at x.place refuser.Bare)
+error_untaken env x d = opens_refused env x term.Err refuser.Bare d d (grown_same d) tt (λ tree below at h.
+    record {
+      before = [];
+      before_long = refl;
+      wrong = λ gs rule k. ap (λ (z : terms.Term). indexed env (place_told tree) (item_of (place_told tree) z) gs) h.0 ∙ error_refused env d.tables (place_told tree) gs rule k;
+      on_top = h.1;
+    })
+
+pub clear_untaken : (env : Env) (x : Tree) (d : Drafted) → OpensTerm env x term.ErrClear d d (untaken_at x.place refuser.Bare)
+clear_untaken env x d = opens_refused env x term.ErrClear refuser.Bare d d (grown_same d) tt (λ tree below at h.
+    record {
+      before = [];
+      before_long = refl;
+      wrong = λ gs rule k. ap (λ (z : terms.Term). indexed env (place_told tree) (item_of (place_told tree) z) gs) h.0 ∙ clear_refused env d.tables (place_told tree) gs rule k;
+      on_top = h.1;
+    })
+
+-- ---- procedures, and what properties give
+
+-- what has a parameter, or is no property, isn't indexed
+both_hold : (a b : Bool) → (a && b) ≡ true → (a ≡ true) × (b ≡ true)
+both_hold true b h = (refl, h)
+both_hold false b h = let e : false ≡ true = h in absurd cc
+
+get_is_property : (kind : ProcedureWords) → is_get kind ≡ true → is_property kind ≡ true
+get_is_property (words.Sub a) h = let e : false ≡ true = h in absurd cc
+get_is_property (words.Function a) h = let e : false ≡ true = h in absurd cc
+get_is_property (words.PropertyGet a b) h = refl
+get_is_property (words.PropertyLet a b) h = refl
+get_is_property (words.PropertySet a b) h = refl
+
+read_property : (s : Scope) (space : Space) (number : ℕ) (w : Written) (read : ℕ × Written) → reader s space number w ≡ Some read → is_get read.1.kind ≡ true → is_property w.kind ≡ true
+read_property s space number w read reads get = at (is_property w.kind) refl
+  where
+    second : Option (ℕ × Written) → Written
+    second None = w
+    second (Some f) = f.1
+
+    at : (b : Bool) → is_property w.kind ≡ b → b ≡ true
+    at true e = refl
+    at false e =
+        let found : Some (number, w) ≡ Some read = ap (λ (b : Bool). if b then procedure_with s is_get space w.name else Some (number, w)) (sym e) ∙ reads in
+        let same : w ≡ read.1 = ap (λ o. second o) found in
+        sym e ∙ get_is_property w.kind (ap (λ (v : Written). is_get v.kind) same ∙ get)
+
+none_bound : (s : Scope) (w : Bool) (ps : List Parameter) → (length ps == 0) ≡ true → bound_parameters s w ps ≡ []
+none_bound s w [] h = refl
+none_bound s w (p ∷ ps) h = let e : length (p ∷ ps) ≡ 0 = eqb-true (length (p ∷ ps)) 0 h in absurd (omega (arith, e))
+
+none_mapped : (ps : List ParameterHere) → map parameter_view ps ≡ [] → ps ≡ []
+none_mapped [] h = refl
+none_mapped (p ∷ ps) h = let e : ◌≡◌ {A = List project.Parameter} (parameter_view p ∷ map parameter_view ps) [] = h in absurd cc
+
+not_indexed : (env : Env) (r : Routine) {z : terms.Term} {ps below : List Piece} (s : RoutineStands env r z ps below) → NotIndexed r → (gs : List Given) → indexes_value s.read.1 gs ≡ false
+not_indexed env r s none [] = refl
+not_indexed env r s none (g ∷ gs) = at (is_get s.read.1.kind && length s.read.1.parameters == 0) refl
+  where
+    at : (b : Bool) → (is_get s.read.1.kind && length s.read.1.parameters == 0) ≡ b → b ≡ false
+    at false e = refl
+    at true e =
+        let h = both_hold (is_get s.read.1.kind) (length s.read.1.parameters == 0) e in
+        let property : is_property (written_view r.written).kind ≡ true = ap (λ (w : Written). is_property w.kind) (sym s.written_is) ∙ read_property env.scope s.space s.number s.written s.read s.reads h.0 in
+        let empty : map parameter_view r.parameters.now ≡ [] = s.parameters_are ∙ none_bound (scope_in (home env.scope s.space) s.read.1) (takes_value s.read.1.kind) s.read.1.parameters h.1 in
+        absurd (none (record { property = property; none = none_mapped r.parameters.now empty }))
+
+procedure_refused : (env : Env) (t : Tables) (place : Place) (r : Routine) (z : terms.Term) {ps below : List Piece} (s : RoutineStands env r z ps below) → NotIndexed r → (gs : List Given) (rule : ℕ) → refused_rule t (refuser.Procedure r.parameters) gs ≡ Some rule
+    → indexed env place (item_of place z) gs ≡ wrong_arguments env place rule (λ es. es) gs
+procedure_refused env t place r z s none gs rule h =
+    let ps = parameters_in env.scope s.space s.read.1 in
+    let b = broken_by (takes (map parameter_view r.parameters.now) gs) rule h in
+    let no_takes : takes ps gs ≡ false = ap (λ (l : List project.Parameter). takes l gs) (sym s.parameters_are) ∙ b.0 in
+    let index : bound.Node → Declared → terms.Term = λ (n : bound.Node) (v : Declared). indexed_value place n v (numbers_of (operand_of env) gs) in
+    let wrong : bound.Node → Declared → terms.Term = λ (n : bound.Node) (v : Declared). wrong_index env place n v gs in
+    let taken_as : ℕ × Written → terms.Term = λ (f : ℕ × Written). if indexes_value f.1 gs then node_or (call_value env s.space f.0 f.1 (Some bound.no_args)) index else call_value env s.space f.0 f.1 (bound_arguments (argument_of env) (parameters_in env.scope s.space f.1) gs) in
+    let wrong_as : ℕ × Written → terms.Term = λ (f : ℕ × Written).
+    if indexes_value f.1 gs then node_or (call_value env s.space f.0 f.1 (Some bound.no_args)) wrong else if takes (parameters_in env.scope s.space f.1) gs then no_term else wrong_arguments env place 25 (λ es. es) gs in
+    let value = call_value env s.space s.read.0 s.read.1 (Some bound.no_args) in
+    let call : Option bound.Args → terms.Term = λ (o : Option bound.Args). call_value env s.space s.read.0 s.read.1 o in
+    let broken : terms.Term = if takes ps gs then no_term else wrong_arguments env place 25 (λ es. es) gs in
+    ap (λ (y : terms.Term). indexed env place (item_of place y) gs) s.is ∙ ap (λ (o : Option (ℕ × Written)). term_or (if_there (option_map taken_as o)) (if_there (option_map wrong_as o))) s.reads
+    ∙ ap (λ (c : Bool). term_or (if c then node_or value index else call (bound_arguments (argument_of env) ps gs)) (if c then node_or value wrong else broken)) (not_indexed env r s none gs)
+    ∙ ap (λ (o : Option bound.Args). term_or (call o) broken) (refused (argument_of env) ps gs no_takes) ∙ ap (λ (c : Bool). if c then no_term else wrong_arguments env place 25 (λ es. es) gs) no_takes
+    ∙ ap (λ (n : ℕ). wrong_arguments env place n (λ es. es) gs) b.1
+
+pub procedure_untaken : (env : Env) (x : Tree) (r : Routine) (d : Drafted) → NotIndexed r → OpensTerm env x (term.Routine r) d d (untaken_at x.place (refuser.Procedure r.parameters))
+procedure_untaken env x r d none = opens_refused env x (term.Routine r) (refuser.Procedure r.parameters) d d (grown_same d) tt (λ tree below at h.
+    record {
+      before = [];
+      before_long = refl;
+      wrong = λ gs rule k. procedure_refused env d.tables (place_told tree) r (callee env tree (term_of env tree)) h none gs rule k;
+      on_top = h.none_pushed;
+    })
+
+abbrev bare_of : Env → terms.Term → terms.Term
+bare_of env (a_routine space number w) = bare_call env space number w
+bare_of env z = no_term
+
+called_refused : (env : Env) (t : Tables) (place : Place) (z : terms.Term) (space : Space) (number : ℕ) (w : Written) (read : ℕ × Written) (made : bound.Node) (u : DeclaredType) (gs : List Given) (rule : ℕ) → z ≡ a_routine space number w
+    → reader env.scope space number w ≡ Some read → is_get read.1.kind ≡ true → parameters_in env.scope space read.1 ≡ [] → bare_call env space number w ≡ a_value made (declared_view u) → refused_rule t (refuser.Called u) gs ≡ Some rule
+    → indexed env place (item_of place z) gs ≡ wrong_arguments env place rule (also (expression_of made place (declared_view u))) gs
+called_refused env t place z space number w read made u [] rule is reads get none call h = let e : ◌≡◌ {A = Option ℕ} None (Some rule) = h in absurd cc
+called_refused env t place z space number w read made u (g ∷ gs) rule is reads get none call h =
+    let of = declared_view u in
+    let b = broken_by (may_index of (g ∷ gs)) rule h in
+    let index : bound.Node → Declared → terms.Term = λ (n : bound.Node) (v : Declared). indexed_value place n v (numbers_of (operand_of env) (g ∷ gs)) in
+    let wrong : bound.Node → Declared → terms.Term = λ (n : bound.Node) (v : Declared). wrong_index env place n v (g ∷ gs) in
+    let test : ℕ × Written → Bool = λ (f : ℕ × Written). is_get f.1.kind && length f.1.parameters == 0 in
+    let call_as : ℕ × Written → terms.Term = λ (f : ℕ × Written). call_value env space f.0 f.1 (bound_arguments (argument_of env) (parameters_in env.scope space f.1) (g ∷ gs)) in
+    let broken_as : ℕ × Written → terms.Term = λ (f : ℕ × Written). if takes (parameters_in env.scope space f.1) (g ∷ gs) then no_term else wrong_arguments env place 25 (λ es. es) (g ∷ gs) in
+    let taken_as : ℕ × Written → terms.Term = λ (f : ℕ × Written). if test f then node_or (call_value env space f.0 f.1 (Some bound.no_args)) index else call_as f in
+    let wrong_as : ℕ × Written → terms.Term = λ (f : ℕ × Written). if test f then node_or (call_value env space f.0 f.1 (Some bound.no_args)) wrong else broken_as f in
+    let value_is : call_value env space read.0 read.1 (Some bound.no_args) ≡ a_value made of = property_value env space number w read made of reads none call in
+    let one : test read ≡ true = ap (λ (c : Bool). c && length read.1.parameters == 0) get ∙ none_written (scope_in (home env.scope space) read.1) (takes_value read.1.kind) read.1.parameters none in
+    let T : Declared → Exprs → terms.Term = λ (v : Declared) (xs : Exprs). a_value (element_value (expression_of made place of) xs) v in
+    let value = call_value env space read.0 read.1 (Some bound.no_args) in
+    ap (λ (y : terms.Term). indexed env place (item_of place y) (g ∷ gs)) is ∙ ap (λ (o : Option (ℕ × Written)). term_or (if_there (option_map taken_as o)) (if_there (option_map wrong_as o))) reads
+    ∙ ap (λ (c : Bool). term_or (if c then node_or value index else call_as read) (if c then node_or value wrong else broken_as read)) one ∙ ap (λ (y : terms.Term). term_or (node_or y index) (node_or y wrong)) value_is
+    ∙ ap (λ (y : terms.Term). term_or y (wrong_index env place made of (g ∷ gs))) (not_numbers (operand_of env) of (g ∷ gs) T b.0)
+    ∙ ap (λ (c : Bool). if c then no_term else wrong_arguments env place 25 (also (expression_of made place of)) (g ∷ gs)) b.0 ∙ ap (λ (n : ℕ). wrong_arguments env place n (also (expression_of made place of)) (g ∷ gs)) b.1
+
+pub property_untaken : (env : Env) (x : Tree) (r : Routine) (v : Ending) (d m e : Drafted) → IndexesValue r → CallsRoutine r d m v → e ≡ record m { pieces = put m.tables (node_of v.kind x.place v.of) m.pieces }
+    → OpensTerm env x (term.Routine r) d e (untaken_at x.place (refuser.Called v.of))
+property_untaken env x r v d m e i c eq =
+    let n = node_of v.kind x.place v.of in
+    let after : Drafted = record m { pieces = put m.tables n m.pieces } in
+    let P : Drafted → Type 0 = λ (z : Drafted). OpensTerm env x (term.Routine r) d z (untaken_at x.place (refuser.Called v.of)) in
+    subst P (sym eq) (opens_refused env x (term.Routine r) (refuser.Called v.of) d after (grown_twice d m after c.grown (grown_pieces m (put m.tables n m.pieces))) tt (λ tree below at h.
+    let place = place_told tree in
+    let z = callee env tree (term_of env tree) in
+    let b = c.stands env z below h in
+    let of = declared_view v.of in
+    let same : a_routine h.space h.number h.written ≡ a_routine b.space b.number b.written = sym h.is ∙ b.is in
+    let call : bare_call env h.space h.number h.written ≡ a_value b.called.made of = ap (λ (y : terms.Term). bare_of env y) same ∙ b.called.is in
+    let property : is_property h.written.kind ≡ true = ap (λ (w : Written). is_property w.kind) h.written_is ∙ i.property in
+    record {
+      before = expression_of b.called.made place of ∷ [];
+      before_long = refl;
+      wrong = λ gs rule k. called_refused env after.tables place z h.space h.number h.written h.read b.called.made v.of gs rule h.is h.reads (read_get env.scope h.space h.number h.written h.read property h.reads)
+          (sym h.parameters_are ∙ ap (λ l. map parameter_view l) i.none) call k;
+      on_top = b.called.ends n ∙ ap (λ (p : Place). an_expr (expression_of b.called.made p of) ∷ below) at;
+    }))
+
+-- ---- members
+
+only_first : (a n : Bool) → (a && (not n || true)) ≡ false → a ≡ false
+only_first true true h = h
+only_first true false h = h
+only_first false n h = refl
+
+no_names_taken : (e : bound.Expr) (m : HostMember) (a n : Bool) (names : Option bound.ByName) (es : Option Exprs) (other : Option bound.Node) → (a && (not n || is_some names)) ≡ false
+    → (if a then if_there (option_map (λ (node : bound.Node). a_value node m.of) (if n then from_two (λ by xs. named_member e m.name by xs) names es else other)) else no_term) ≡ no_term
+no_names_taken e m false n names es other h = refl
+no_names_taken e m true true None es other h = refl
+no_names_taken e m true true (Some by) es other h = let no : true ≡ false = h in absurd cc
+no_names_taken e m true false names es other h = let no : true ≡ false = h in absurd cc
+
+not_called_by : (env : Env) (e : bound.Expr) (m : HostMember) (o : Option ℕ) (gs : List Given) → member_takes (record m { greatest = o }) gs ≡ false → host_called env e (record m { greatest = o }) gs ≡ no_term
+not_called_by env e m None gs h =
+    let x : HostMember = record m { greatest = None } in
+    ap (λ (c : Bool). if c then if_there (option_map (λ (node : bound.Node). a_value node x.of) (member_called env e x gs)) else no_term) (only_first (takes_arguments x (length gs)) (has_names gs) h)
+not_called_by env e m (Some zero) gs h =
+    let x : HostMember = record m { greatest = Some zero } in
+    ap (λ (c : Bool). if c then if_there (option_map (λ (node : bound.Node). a_value node x.of) (member_called env e x gs)) else no_term) (only_first (takes_arguments x (length gs)) (has_names gs) h)
+not_called_by env e m (Some (suc k)) gs h =
+    let x : HostMember = record m { greatest = Some (suc k) } in
+    no_names_taken e x (takes_arguments x (length gs)) (has_names gs) (names_taken x gs) (host_arguments env gs) (option_map (λ es. host_member e x.name es) (host_arguments env gs)) h
+
+not_called : (env : Env) (e : bound.Expr) (m : HostMember) (gs : List Given) → member_takes m gs ≡ false → host_called env e m gs ≡ no_term
+not_called env e m gs h = not_called_by env e m m.greatest gs h
+
+member_broken : (b : Bool) (o : Option ℕ) (rule : ℕ) → (if b then None else o) ≡ Some rule → (b ≡ false) × (o ≡ Some rule)
+member_broken true o rule h = let e : ◌≡◌ {A = Option ℕ} None (Some rule) = h in absurd cc
+member_broken false o rule h = (refl, h)
+
+pub member_refused : (env : Env) (place : Place) (e : bound.Expr) (m : HostMember) (gs : List Given) (rule : ℕ) → (if member_takes m gs then None else arguments_rule m) ≡ Some rule
+    → indexed env place (terms.a_host_member e m) gs ≡ wrong_arguments env place rule (also e) gs
+member_refused env place e m gs rule h =
+    let b = member_broken (member_takes m gs) (arguments_rule m) rule h in
+    let marked : Option ℕ → terms.Term = λ (o : Option ℕ). if_there (option_map (λ n. wrong_arguments env place n (also e) gs) o) in
+    ap (λ (z : terms.Term). term_or z (wrong_term env place (terms.a_host_member e m) gs)) (not_called env e m gs b.0) ∙ ap (λ (c : Bool). if c then no_term else marked (arguments_rule m)) b.0 ∙ ap marked b.1
+
+pub member_untaken : (env : Env) (x : Tree) (m : MemberHere) (d : Drafted) → m.name < length d.tables.constants → OpensItem env x m d d (untaken_at x.place (refuser.Member m))
+member_untaken env x m d named = record {
+  grown = grown_same d;
+  named = named;
+  stands = λ tree xs is below base at h s.
+      let place = place_told tree in (
+        below,
+        (
+          record {
+            place_is = at;
+            before = h.object ∷ [];
+            before_long = refl;
+            wrong = λ gs rule w. ap (λ (v : terms.Term). indexed env place v gs) h.is ∙ member_refused env place h.object (member_is d.tables m) gs rule w;
+            on_top = h.on_top;
+          },
+          s,
+        ),
+      );
+}
+
+pub member_opened : (env : Env) (x : Tree) (m : MemberHere) (d e : Drafted) (c : MemberCall) → OpensMember x.place m d e c → OpensItem env x m d e (items.Member c)
+member_opened env x m d e c o = record { grown = o.grown; named = o.named; stands = λ tree xs is below base at h s. o.stands env tree xs is below base at h s }

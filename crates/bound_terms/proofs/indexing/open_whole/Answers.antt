@@ -1,0 +1,15 @@
+use Rattle.std.proofs.Common.{sym, subst}
+use Rattle.bound_project.specs.DraftView.{draft_view}
+use Rattle.bound_names.specs.bound_forms.specs.Terms.{Env}
+use Rattle.bound_names.specs.bound_calls.specs.declared.term.Item.{Item}
+use Rattle.bound_names.specs.bound_calls.specs.declared.term.Term.TheVariants as term
+use Rattle.bound_names.specs.bound_calls.specs.Indexing.{OpensTerm}
+use Rattle.bound_terms.proofs.Refused.{value_untaken}
+use Rattle.bound_terms.proofs.indexing.open_whole.Goals as goal
+
+pub returns-then-branch : goal.returns-then-branch
+returns-then-branch c =
+    let d = draft_view c.args.draft.now in
+    let e = draft_view c.push_node.new.draft in
+    let P : Item → Type 0 = λ (i : Item). (env : Env) → OpensTerm env c.args.tree (term.Value c.args.ending) d e i in
+    subst P (sym c.untaken.ensures) (λ env. value_untaken env c.args.tree c.args.ending d e c.in_ok-push_node.ensures)
