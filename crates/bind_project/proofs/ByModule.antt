@@ -1,6 +1,6 @@
 -- Modules are bound procedure by procedure.
 use Rattle.std.proofs.Common.{◌≡◌, ℕ, Bool, true, false, List, [], ◌∷◌, ◌++◌, append_assoc, refl, ◌∙◌, sym, ap, subst}
-use Rattle.std.specs.Prelude.{Option, Some, None, option_map, if◌then◌else◌}
+use Rattle.std.specs.Prelude.{Option, Some, None, option_map}
 use Rattle.std.proofs.lemmas.List.{append-nil}
 use Rattle.vba_module.specs.Parts.{Part, label, statement, whole_line, place_of}
 use Rattle.vba_tree.specs.Tree.{procedure_header}
@@ -12,7 +12,7 @@ use Rattle.bound_actions.specs.binder.specs.Scopes.{Outside, Space, Scope}
 use Rattle.bound_actions.specs.binder.specs.Blocks.{blocks_in}
 use Rattle.bound_actions.specs.binder.specs.Names.{scope_of}
 use Rattle.bound_actions.specs.binder.specs.Constants.{home}
-use Rattle.bound_actions.specs.bound_forms.specs.Bind.{around_of, body_with, bodies_of, all_bodies, is_built_part, place_unless, first_part, left_in_body, left_in_parts, left_in_space, left_in_spaces}
+use Rattle.bound_actions.specs.bound_forms.specs.Bind.{around_of, body_with, bodies_of, all_bodies, is_built_part, place_unless, left_in_body, left_in_parts, left_in_space, left_in_spaces}
 use Rattle.bound_actions.specs.binder.specs.Projects.{numbered, no_space}
 use Rattle.statement_nodes.specs.Walks.{BodyAdded}
 use Rattle.bind_project.specs.Modules.{is_header, with_bodies, IsFront, ProcedureAdded, PartsWalked, PartsAdded, SpaceAdded, SpacesWalked, SpacesAdded}
@@ -142,16 +142,11 @@ header_walked s all parts d p ps part left e f same built added w =
     header_goes_on s all parts d p ps part left e f w (header_left s p ps part left same built added.none_left) added
 
 -- a module whose parts were bound
-pub space_added : (s : Scope) (rows : List (ℕ × Written)) (parts : List Part) (d e : Drafted) → s.here.source.is_class ≡ false → rows ≡ numbered 0 s.here.entries
-    → parts ≡ s.here.source.parts → PartsAdded s rows parts d e → SpaceAdded s d e
-space_added s rows parts d e plain is same added =
+pub space_added : (s : Scope) (rows : List (ℕ × Written)) (parts : List Part) (d e : Drafted) → rows ≡ numbered 0 s.here.entries → parts ≡ s.here.source.parts → PartsAdded s rows parts d e → SpaceAdded s d e
+space_added s rows parts d e is same added =
     let there : PartsAdded s (numbered 0 s.here.entries) s.here.source.parts d e =
     subst (λ (qs : List Part). PartsAdded s (numbered 0 s.here.entries) qs d e) same (subst (λ (ps : List (ℕ × Written)). PartsAdded s ps parts d e) is added) in
-    record {
-      none_left =
-          subst (λ (b : Bool). (if b then first_part s.here.source.parts else left_in_parts s (numbered 0 s.here.entries) s.here.source.parts) ≡ None) (sym plain) there.none_left;
-      added = there;
-    }
+    record { none_left = there.none_left; added = there }
 
 pub space_walked : (o : Outside) (spaces : List Space) (d : Drafted) (space : Space) (now : List Space) (e f : Drafted)
     → SpacesWalked o (scope_of o spaces no_space) spaces d (space ∷ now) e → SpaceAdded (scope_of o spaces space) e f → SpacesWalked o (scope_of o spaces no_space) spaces d now f

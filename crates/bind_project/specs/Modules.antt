@@ -53,7 +53,7 @@ pub record PartsAdded (s : Scope) (ps : List (ℕ × Written)) (parts : List Par
   pub bodies : e.bodies ≡ d.bodies ++ made
   pub front : IsFront e
 
--- a module that is no class was bound
+-- a module was bound
 pub record SpaceAdded (s : Scope) (d e : Drafted) : Type 0 where
   pub none_left : left_in_space s ≡ None
   pub added : PartsAdded s (numbered 0 s.here.entries) s.here.source.parts d e

@@ -1,4 +1,5 @@
-//! Declarations of types that run: no classes, no Collections, and no types that the profile hasn't.
+//! Declarations of types that run: no Collections, no types that the profile hasn't, no events, and no arrays declared As
+//! New.
 
 ghost use Rattle.std.specs.Prelude.{◌≡◌, IfOk, option_map};
 ghost use Rattle.std.specs.List.{list_all};
@@ -21,8 +22,9 @@ fn is_built_element(of: ElementType) -> bool
     ensures { result ≡ plain.is_built_type (element_view of) }
 {
     match of {
-        ElementType::Class(_) | ElementType::Collection => false,
-        ElementType::Object
+        ElementType::Collection => false,
+        ElementType::Class(_)
+        | ElementType::Object
         | ElementType::Worksheet
         | ElementType::Range
         | ElementType::Boolean
@@ -97,20 +99,23 @@ fn is_built_clause(
 
 fn is_built_new(
     scope: Scope,
+    is_array: bool,
     suffix: Option<TypeSuffix>,
     clause: &Option<NewTypeClause>,
 ) -> Result<bool, NoMemory>
-    ensures { IfOk result (λ built. built ≡ plain.is_built_new (scope_view scope.entry) suffix (option_map new_type_clause_view clause.now)) }
+    ensures { IfOk result (λ built. built ≡ plain.is_built_new (scope_view scope.entry) is_array suffix (option_map new_type_clause_view clause.now)) }
 {
     if !is_built_suffix(suffix) {
         return Ok(false);
     }
     match clause {
         None => Ok(true),
-        Some(clause) => match clause.new_word {
-            Some(_) => Ok(false),
-            None => is_built_written(scope, &clause.declared_type),
-        },
+        Some(clause) => {
+            if is_array && clause.new_word.is_some() {
+                return Ok(false);
+            }
+            is_built_written(scope, &clause.declared_type)
+        }
     }
 }
 
@@ -127,16 +132,31 @@ pub(crate) fn is_built_result(
     }
 }
 
-/// Do the types of variables run?
+/// Does a variable run?
+fn is_built_variable(scope: Scope, variable: &Variable) -> Result<bool, NoMemory>
+    ensures { IfOk result (λ built. built ≡ plain.is_built_variable (scope_view scope.entry) (variable_view variable.now)) }
+{
+    if variable.with_events_word.is_some() {
+        return Ok(false);
+    }
+    is_built_new(
+        scope,
+        variable.dims.is_some(),
+        variable.name.suffix,
+        &variable.type_clause,
+    )
+}
+
+/// Do variables run?
 pub(crate) fn are_built_variables(scope: Scope, list: &Listed<Variable>) -> Result<bool, NoMemory>
     ensures { IfOk result (λ built. built ≡ list_all (plain.is_built_variable (scope_view scope.entry)) (all_of (listed_view variable_view list.now))) }
 {
-    if !is_built_new(scope, list.first.name.suffix, &list.first.type_clause)? {
+    if !is_built_variable(scope, &list.first)? {
         return Ok(false);
     }
     let mut left = list.others.as_slice();
     'variables: while let [next, behind @ ..] = left {
-        if !is_built_new(scope, next.item.name.suffix, &next.item.type_clause)? {
+        if !is_built_variable(scope, &next.item)? {
             return Ok(false);
         }
         left = behind;

@@ -14,7 +14,7 @@ use crate::home::Home;
 use crate::walk::bind_body;
 use bound_actions::bound_names::Env;
 use bound_actions::constant_values::constants_in;
-use bound_actions::declared_names::Scope;
+use bound_actions::declared_names::{Scope, has_class};
 use bound_actions::project_tables::ProcedureRow;
 use bound_actions::statement_numbers::{blocks_in, body_count};
 use bound_lines::Around;
@@ -41,6 +41,7 @@ fn env_of<'a>(home: Home<'a>, row: &'a ProcedureRow<'a>) -> Env<'a>
         within: None,
         first: row.first,
         compare: scope.here.source.compare(),
+        has_class: has_class(scope.spaces),
     }
 }
 

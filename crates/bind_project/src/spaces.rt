@@ -1,16 +1,14 @@
 //! The modules of a project, bound in order.
 
-ghost use Rattle.std.specs.Prelude.{◌≡◌, OnOk, map, unwrap_or};
+ghost use Rattle.std.specs.Prelude.{◌≡◌, OnOk, map};
 ghost use Rattle.bind_project.specs.Homes.{HomeStands};
 ghost use Rattle.bind_project.specs.Modules as modules;
 ghost use Rattle.bind_project.specs.Modules.{IsFront, SpaceAdded, SpacesAdded};
 ghost use Rattle.bound_actions.specs.binder.specs.Projects as declaring;
-ghost use Rattle.bound_actions.specs.bound_forms.specs.Bind as plain;
 ghost use Rattle.bound_project.specs.DraftView.{draft_view};
 ghost use Rattle.bound_actions.specs.constant_values.specs.Rounds.{AreNumbered};
 ghost use Rattle.bound_actions.specs.declared_names.specs.Outside.{the_outside};
 ghost use Rattle.bound_actions.specs.declared_names.specs.View.{scope_view, space_view};
-ghost use Rattle.module_parts.specs.View.{parts_view};
 ghost use Rattle.bound_actions.specs.project_tables.specs.Rows.{AreRows, AreRowsOf};
 ghost use Rattle.bound_project.specs.View.{declarations_view};
 ghost use Rattle.bound_actions.specs.project_tables.specs.Signed.{AreSignatures, whole_scope};
@@ -20,7 +18,6 @@ use crate::modules::bind_parts;
 use bound_actions::declared_names::{Scope, Space};
 use bound_actions::project_tables::{ProcedureRow, Rows, Signatures};
 use bound_project::{Declarations, Draft};
-use module_parts::{Part, place_of};
 use std::alloc::Global;
 use vba_base::{OrMemory, Place};
 
@@ -35,17 +32,7 @@ pub(crate) fn front() -> Place
     }
 }
 
-/// The place of the first of these parts.
-fn first_place(parts: &[Part]) -> Place
-    ensures { result ≡ unwrap_or (plain.first_part (parts_view parts.now)) modules.front }
-{
-    match parts {
-        [part, ..] => place_of(part),
-        [] => front(),
-    }
-}
-
-/// Binds a module. Classes aren't bound yet.
+/// Binds a module.
 #[tactic(auto, using(crate::proofs::Rows::rows_numbered, crate::proofs::Rows::rows_fit, crate::proofs::ByModule::space_added))]
 fn bind_space<'a>(
     alloc: Global,
@@ -60,9 +47,6 @@ fn bind_space<'a>(
 {
     let source = home.scope.here.source;
     let parts = source.parts.as_slice();
-    if source.is_class {
-        return Err(OrMemory::Fault(first_place(parts)));
-    }
     bind_parts(alloc, draft, home, rows, parts)
 }
 

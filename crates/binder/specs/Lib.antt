@@ -10,6 +10,8 @@ pub mod Numbering
 pub mod Violations
 pub mod LeftOut
 pub mod Storage
+pub mod Classes
 pub mod Signatures
+pub mod ClassTables
 pub mod Blocks
 pub mod Projects

@@ -12,7 +12,8 @@ use Rattle.binder.specs.Declarations.{Written, What, a_procedure, Entry}
 use Rattle.binder.specs.Scopes.{Outside, Space, Scope, spaces_from}
 use Rattle.binder.specs.Names.{scope_of, scope_in}
 use Rattle.binder.specs.Constants.{home}
-use Rattle.binder.specs.Storage.{kind_of, declared_result, declarations_if, is_framed, user_types, shared_from, module_declarations, procedure_number}
+use Rattle.binder.specs.ClassTables.{class_table}
+use Rattle.binder.specs.Storage.{kind_of, declared_result, declarations_if, is_framed, user_types, shared_from, procedure_number}
 use Rattle.binder.specs.Storage as storage
 use Rattle.binder.specs.Violations.{verdict}
 use Rattle.binder.specs.LeftOut.{first_left_out}
@@ -42,21 +43,7 @@ abbrev pub bound_module : Space → Module
 bound_module space = record { name = space.name; compare = compare_of space.source; base = base_of space.source }
 
 abbrev pub class_of : Scope → List Class
-class_of s =
-    if s.here.source.is_class
-    then record {
-      name = s.here.name;
-      fields = module_declarations s s.here.entries;
-      initialize = None;
-      terminate = None;
-      members = [];
-      default = None;
-      enumerator = None;
-      events = [];
-      with_events = [];
-      handlers = [];
-    } ∷ []
-    else []
+class_of s = if s.here.source.is_class then class_table s ∷ [] else []
 
 abbrev pub procedures_of : Scope → List Procedure
 procedures_of s = map (bound_procedure s) (numbered 0 s.here.entries)

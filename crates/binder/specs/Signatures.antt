@@ -6,7 +6,8 @@ use Rattle.vba_words.specs.declared.identifier.Identifier.{Identifier}
 use Rattle.vba_tree.specs.declared.procedure.ProcedureWords.{ProcedureWords}
 use Rattle.bound_project.specs.Project.{Parameter}
 use Rattle.binder.specs.Declarations.{Written, What, a_procedure, Entry}
-use Rattle.binder.specs.Scopes.{Space, Scope, is_named, first_at, seen_from}
+use Rattle.binder.specs.Scopes.{Space, Scope, is_named, first_at}
+use Rattle.binder.specs.Classes.{reaches}
 use Rattle.binder.specs.Names.{scope_in}
 use Rattle.binder.specs.Constants.{home}
 use Rattle.binder.specs.Storage.{result_type, parameters_of, gives_value}
@@ -19,6 +20,10 @@ is_get kind = false
 abbrev pub is_let : ProcedureWords → Bool
 is_let (words.PropertyLet property_word let_word) = true
 is_let kind = false
+
+abbrev pub is_set : ProcedureWords → Bool
+is_set (words.PropertySet property_word set_word) = true
+is_set kind = false
 
 abbrev pub is_property : ProcedureWords → Bool
 is_property (words.Sub token) = false
@@ -33,7 +38,7 @@ procedure_of what = None
 abbrev pub procedure_with : Scope → (ProcedureWords → Bool) → Space → Identifier → Option (ℕ × Written)
 procedure_with s test space x =
     option_and_then (λ f. option_map (λ p. (f.0, p)) (procedure_of f.1.what))
-    (first_at (λ (e : Entry). is_named x.name e.name && (seen_from s space e && passes e.what)) 0 space.entries)
+    (first_at (λ (e : Entry). is_named x.name e.name && (reaches s space e && passes e.what)) 0 space.entries)
   where
     passes : What → Bool
     passes (a_procedure p) = test p.kind
@@ -45,6 +50,9 @@ reader s space number p = if is_property p.kind then procedure_with s is_get spa
 
 abbrev pub writer : Scope → Space → Written → Option (ℕ × Written)
 writer s space p = procedure_with s is_let space p.name
+
+abbrev pub setter : Scope → Space → Written → Option (ℕ × Written)
+setter s space p = procedure_with s is_set space p.name
 
 abbrev pub parameters_in : Scope → Space → Written → List Parameter
 parameters_in s space p = parameters_of (scope_in (home s space) p) p

@@ -24,11 +24,12 @@ use Rattle.bound_terms.specs.bound_calls.specs.declared.term.Term.TheVariants as
 use Rattle.bound_terms.specs.bound_calls.specs.declared.term.Passed.{Passed}
 use Rattle.bound_terms.specs.bound_calls.specs.declared.term.Routine.{Routine}
 use Rattle.statement_terms.specs.Called.{ActsOn, args_on}
+use Rattle.bound_terms.specs.bound_calls.specs.Calls.{PushesReceiver}
 use Rattle.bound_terms.specs.bound_calls.specs.Steps.{Goes}
 use Rattle.bound_terms.specs.bound_calls.specs.InOrder.{with_named}
 use Rattle.statement_terms.specs.NamedCalls.{PushesValues, ReadsNamed, ValuesPassed}
 use Rattle.bound_actions.specs.NamedCalls.{ReadsWritten}
-use Rattle.bound_terms.specs.bound_calls.specs.Standing.{Base, PassedStands, RoutineStands, Stands, ValueStands}
+use Rattle.bound_terms.specs.bound_calls.specs.Standing.{Base, PassedStands, Stands, ValueStands}
 use Rattle.statement_terms.specs.Assigning.{GivenPushed}
 use Rattle.bound_terms.specs.bound_calls.proofs.Growing.{grown_twice}
 use Rattle.bound_terms.specs.bound_operands.specs.Gathering.{EndsGathered, with_gathered}
@@ -109,28 +110,27 @@ some_values env t (suc n) x args is ps base some h =
 pub pushes_values : (r : Routine) (x : Passed) (values : ℕ) (place : Place) (d d1 e : Drafted) (ending : Ending) → (values ≡ 0 → ⊥) → EndsGathered r x values d d1 ending → GivenPushed (term.Value ending) place d1 e → PushesValues r x values place d e
 pushes_values r x values place d d1 e ending some h p = record {
   grown = grown_twice d d1 e h.passes.grown p.grown;
-  stands = λ env y args qs below s t.
+  stands = λ env y args there below s on t.
       let A : List Given → Type 0 = λ l. ValueStands d1.tables ending (indexed env place y l) d1.pieces below in
       p.stands env (indexed env place y (givens env args)) below
-      (subst A (sym t.givens_are) (called_gathered env r x values d d1 ending y place (givens env t.before) t.passed.made t.given t.made qs t.between below t.many t.count_is some h s t.passed.taken t.passed.count_is t.taken t.on_top t.passed.on_top));
+      (subst A (sym t.givens_are) (called_gathered env r x values d d1 ending y place (givens env t.before) t.passed.made t.given t.made t.between there below t.many t.count_is some h s on t.passed.taken t.passed.count_is t.taken t.on_top t.passed.on_top));
 }
 
-pub acts_values : (env : Env) (r : Routine) (x : Passed) (named : List ℕ) (values : ℕ) (place : Place) (ns : List ExpressionNode) (d d1 e : Drafted) → named ≡ [] → (values ≡ 0 → ⊥)
-    → ReadsWritten env (map parameter_view r.parameters.now) ns d d1 x named values → PushesValues r x values place d1 e → ActsOn env (term.Routine r) place ns d e action.Evaluate
-acts_values env r x named values place ns d d1 e none some a p = record {
+pub acts_values : (env : Env) (r : Routine) (x : Passed) (named : List ℕ) (values : ℕ) (place : Place) (ns : List ExpressionNode) (d r0 d1 e : Drafted) → PushesReceiver r.receiver d r0 → named ≡ [] → (values ≡ 0 → ⊥)
+    → ReadsWritten env (map parameter_view r.parameters.now) ns r0 d1 x named values → PushesValues r x values place d1 e → ActsOn env (term.Routine r) place ns d e action.Evaluate
+acts_values env r x named values place ns d r0 d1 e pushed none some a p = record {
   framed = a.framed;
   acts = λ items.
       let args = args_on items ns in
-      let base : Base = record { pieces = d.pieces; parameters = map parameter_view r.parameters.now; items = items } in
+      let base : Base = record { pieces = r0.pieces; parameters = map parameter_view r.parameters.now; items = items } in
       let N : List ℕ → Type 0 = λ l. Stands env d1.tables (with_named l (with_gathered values (item.Listed x ∷ []))) (nodes.arguments args ∷ items) d1.pieces base in
-      let v : ValuesPassed env (map parameter_view r.parameters.now) x values args d1.pieces d.pieces = some_values env d1.tables values x args items d1.pieces base some (subst N none (a.stands items)) in
+      let v : ValuesPassed env (map parameter_view r.parameters.now) x values args d1.pieces r0.pieces = some_values env d1.tables values x args items d1.pieces base some (subst N none (a.stands items)) in
       record {
-        grown = grown_twice d d1 e a.grown p.grown;
+        grown = grown_twice d r0 e pushed.grown (grown_twice r0 d1 e a.grown p.grown);
         named = tt;
         stands = λ y h.
-            let A : List Piece → Type 0 = λ qs. RoutineStands env r y qs [] in
-            let B : List Piece → Type 0 = λ qs. ValuesPassed env (map parameter_view r.parameters.now) x values args d1.pieces qs in
-            let m = p.stands env y args [] [] (subst A h.none_pushed h) (subst B h.none_pushed v) in
-            record { made = evaluate m.made; is = routine_called env place y h.space h.number h.written (givens env args) m.made h.is m.is; fits = ap (λ ps. action_of e.tables action.Evaluate ps) m.on_top };
+            let s = h.routine in
+            let m = p.stands env y args r0.pieces [] s (pushed.there s.base [] s.received h.pushed) v in
+            record { made = evaluate m.made; is = routine_called env place y s.base s.space s.number s.written (givens env args) m.made s.is m.is; fits = ap (λ ps. action_of e.tables action.Evaluate ps) m.on_top };
       };
 }

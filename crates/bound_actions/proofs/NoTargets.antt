@@ -16,6 +16,7 @@ use Rattle.bound_project.specs.declared.statement.ActionKind.{ActionKind}
 use Rattle.bound_project.specs.Bodies.{action_of}
 use Rattle.bound_project.specs.Drafts.{Drafted}
 use Rattle.bound_project.specs.Expressions.{no_exprs}
+use Rattle.bound_project.specs.Expressions as bound
 use Rattle.bound_project.specs.Pieces.{Piece, Tables}
 use Rattle.bound_terms.specs.binder.specs.Declarations.{Own, Written, a_parameter}
 use Rattle.bound_terms.specs.binder.specs.Declarations as declared
@@ -29,16 +30,18 @@ use Rattle.bound_terms.specs.declared_names.specs.declared.local.Own.{Own as Own
 use Rattle.bound_terms.specs.declared_names.specs.declared.local.Own.TheVariants as own
 use Rattle.bound_terms.specs.declared_names.specs.declared.scope.Meant.{Meant as MeantHere}
 use Rattle.bound_terms.specs.declared_names.specs.declared.scope.Meant.TheVariants as meant
-use Rattle.bound_terms.specs.bound_forms.specs.Terms.{Env, a_routine}
+use Rattle.bound_terms.specs.bound_forms.specs.Terms.{Env, a_routine, routine_term}
 use Rattle.bound_terms.specs.bound_forms.specs.Terms as plain
 use Rattle.bound_terms.specs.bound_forms.specs.ExpressionsBound.{callee, item_of, meant_term, own_term, place_told, term_of}
 use Rattle.bound_terms.specs.bound_forms.specs.StatementsBound.{broken_target, is_given_with, is_no_target, is_param_array, is_sub, is_variant_place, takes_value, target_of_call, written_to}
 use Rattle.bound_terms.specs.bound_calls.specs.declared.term.Property.{Property}
+use Rattle.bound_terms.specs.bound_calls.specs.declared.term.Receiver.{Receiver}
+use Rattle.bound_terms.specs.bound_calls.specs.declared.term.Receiver.TheVariants as receiver
 use Rattle.bound_terms.specs.bound_calls.specs.declared.term.Routine.{Routine}
 use Rattle.bound_terms.specs.bound_calls.specs.declared.term.Term.{Term}
 use Rattle.bound_terms.specs.bound_calls.specs.declared.term.Term.TheVariants as term
 use Rattle.bound_terms.specs.bound_calls.specs.declared.term.Tree.{Tree}
-use Rattle.bound_terms.specs.bound_calls.specs.Standing.{LeafStands, TermStands, TreeStands}
+use Rattle.bound_terms.specs.bound_calls.specs.Standing.{IsReceiver, LeafStands, ReceiverStands, TermStands, TreeStands}
 use Rattle.bound_terms.specs.bound_calls.specs.Steps.{Leaves}
 use Rattle.bound_terms.specs.bound_calls.proofs.Growing.{grown_twice}
 use Rattle.bound_terms.specs.bound_names.specs.Callee.{CalleeIs}
@@ -48,7 +51,7 @@ use Rattle.statement_terms.specs.Heights.{AddsOne}
 use Rattle.statement_terms.proofs.Assigned.{bare_given, index_at}
 use Rattle.statement_terms.proofs.SetTargets.{bare_callee}
 use Rattle.bound_actions.specs.Assigning.{IsNoTarget, TakesLet, is_member, named_list}
-use Rattle.bound_actions.specs.NoTargets.{IsProperty, IsSub, RefusesTarget, is_property_term, means_list, owns_list}
+use Rattle.bound_actions.specs.NoTargets.{IsProperty, IsSub, RefusesTarget, is_module_sub, is_property_term, means_list, owns_list}
 use Rattle.bound_actions.proofs.Refusing.{assigns_refused}
 
 -- ---- Subs and properties
@@ -72,18 +75,33 @@ unread_property s space number w h = by (is_property w.kind) refl
     by true e = e
     by false e = let found : Option (ℕ × Written) = Some (number, w) in let k : found ≡ None = sym (ap (λ (b : Bool). if b then procedure_with s is_get space w.name else Some (number, w)) e) ∙ h in absurd cc
 
-pub routine_sub : (r : Routine) (sub : Bool) → sub ≡ (not (gives_value (written_view r.written).kind) && not (is_property (written_view r.written).kind)) → IsSub (term.Routine r) sub
+-- that of an object is none
+received_sub : (r : Receiver) (base : Option bound.Expr) (space : Space) (number : ℕ) (w : Written) → IsReceiver r base → is_sub (routine_term base space number w) ≡ is_module_sub r w.kind
+received_sub receiver.Module None space number w h = sub_is space number w
+received_sub receiver.Module (Some b) space number w h = absurd h
+received_sub (receiver.Own of) None space number w h = absurd h
+received_sub (receiver.Own of) (Some b) space number w h = refl
+received_sub (receiver.Pushed of) None space number w h = absurd h
+received_sub (receiver.Pushed of) (Some b) space number w h = refl
+
+-- and a property is none
+property_no_sub : (base : Option bound.Expr) (space : Space) (number : ℕ) (w : Written) → is_property w.kind ≡ true → is_sub (routine_term base space number w) ≡ false
+property_no_sub None space number w h = sub_is space number w ∙ and_right (not (gives_value w.kind)) (not (is_property w.kind)) (ap not h)
+property_no_sub (Some b) space number w h = refl
+
+pub routine_sub : (r : Routine) (sub : Bool) → sub ≡ is_module_sub r.receiver (written_view r.written).kind → IsSub (term.Routine r) sub
 routine_sub r sub e = λ env t y ps below h.
-    ap is_sub h.is ∙ sub_is h.space h.number h.written ∙ ap (λ (w : Written). not (gives_value w.kind) && not (is_property w.kind)) h.written_is ∙ sym e
+    let s = h.routine in
+    ap is_sub s.is ∙ received_sub r.receiver s.base s.space s.number s.written s.received ∙ ap (λ (w : Written). is_module_sub r.receiver w.kind) s.written_is ∙ sym e
 
 pub other_sub : (x : Term) → ((r : Routine) → (x ≡ term.Routine r) → ⊥) → IsSub x false
-other_sub (term.Place kind of bounded lends) n = λ env t y ps below h. ap is_sub h.is
+other_sub (term.Place kind of bounded lends makes) n = λ env t y ps below h. ap is_sub h.is
 other_sub (term.Value e) n = λ env t y ps below h. ap is_sub h.is
 other_sub (term.Routine r) n = absurd (n r refl)
 other_sub (term.Property p) n = λ env t y ps below h.
+    let s = h.property in
     let w = written_view p.written in
-    ap is_sub h.property.is ∙ sub_is (space_view p.space.now) h.property.number w
-    ∙ and_right (not (gives_value w.kind)) (not (is_property w.kind)) (ap not (unread_property env.scope (space_view p.space.now) h.property.number w h.unread))
+    ap is_sub s.is ∙ property_no_sub s.base (space_view p.space.now) s.number w (unread_property env.scope (space_view p.space.now) s.number w h.unread)
 other_sub (term.Function f) n = λ env t y ps below h. ap is_sub h.0.is
 other_sub (term.HostMember m) n = λ env t y ps below h. ap is_sub h.is
 other_sub (term.SheetMember m) n = λ env t y ps below h. ap is_sub h.0
@@ -93,14 +111,23 @@ other_sub term.ErrClear n = λ env t y ps below h. ap is_sub h.0
 other_sub term.ErrorWord n = λ env t y ps below h. ap is_sub h.0
 other_sub term.Nothing n = λ env t y ps below h. ap is_sub h
 
+pub property_by : (base : Option bound.Expr) (space : Space) (number : ℕ) (w : Written) → is_property_term (routine_term base space number w) ≡ is_property w.kind
+property_by None space number w = refl
+property_by (Some b) space number w = refl
+
 pub routine_property : (r : Routine) (property : Bool) → property ≡ is_property (written_view r.written).kind → IsProperty (term.Routine r) property
-routine_property r property e = λ env t y ps below h. ap is_property_term h.is ∙ ap (λ (w : Written). is_property w.kind) h.written_is ∙ sym e
+routine_property r property e = λ env t y ps below h.
+    let s = h.routine in
+    ap is_property_term s.is ∙ property_by s.base s.space s.number s.written ∙ ap (λ (w : Written). is_property w.kind) s.written_is ∙ sym e
 
 pub property_property : (p : Property) → IsProperty (term.Property p) true
-property_property p = λ env t y ps below h. ap is_property_term h.property.is ∙ unread_property env.scope (space_view p.space.now) h.property.number (written_view p.written) h.unread
+property_property p = λ env t y ps below h.
+    let s = h.property in
+    let w = written_view p.written in
+    ap is_property_term s.is ∙ property_by s.base (space_view p.space.now) s.number w ∙ unread_property env.scope (space_view p.space.now) s.number w h.unread
 
 pub other_property : (x : Term) → ((r : Routine) → (x ≡ term.Routine r) → ⊥) → ((p : Property) → (x ≡ term.Property p) → ⊥) → IsProperty x false
-other_property (term.Place kind of bounded lends) n o = λ env t y ps below h. ap is_property_term h.is
+other_property (term.Place kind of bounded lends makes) n o = λ env t y ps below h. ap is_property_term h.is
 other_property (term.Value e) n o = λ env t y ps below h. ap is_property_term h.is
 other_property (term.Routine r) n o = absurd (n r refl)
 other_property (term.Property p) n o = absurd (o p refl)
@@ -148,25 +175,31 @@ sub_member (plain.a_host_member e m) h = let z : false ≡ true = h in absurd cc
 sub_member y h = refl
 
 -- brackets take nothing else of a Sub
-pub sub_item : (place : Place) (y : plain.Term) → is_sub y ≡ true → item_of place y ≡ y
-sub_item place (a_routine space number w) h = refl
-sub_item place (plain.a_place x of bounded lends) h = let z : false ≡ true = h in absurd cc
-sub_item place (plain.a_value node of) h = let z : false ≡ true = h in absurd cc
-sub_item place (plain.a_function f text_form base) h = let z : false ≡ true = h in absurd cc
-sub_item place (plain.a_host_member e m) h = let z : false ≡ true = h in absurd cc
-sub_item place y h = let z : false ≡ true = h in absurd cc
+pub sub_item : (env : Env) (place : Place) (y : plain.Term) → is_sub y ≡ true → item_of env place y ≡ y
+sub_item env place (a_routine space number w) h = refl
+sub_item env place (plain.a_place x of bounded lends makes) h = let z : false ≡ true = h in absurd cc
+sub_item env place (plain.a_value node of) h = let z : false ≡ true = h in absurd cc
+sub_item env place y h = let z : false ≡ true = h in absurd cc
 
 sub_variant : (y : plain.Term) → is_sub y ≡ true → is_variant_place y ≡ false
-sub_variant (plain.a_place x of bounded lends) h = let z : false ≡ true = h in absurd cc
+sub_variant (plain.a_place x of bounded lends makes) h = let z : false ≡ true = h in absurd cc
 sub_variant (plain.a_value node of) h = let z : false ≡ true = h in absurd cc
 sub_variant y h = refl
 
 -- nothing is pushed for a Sub
+receiver_pushes : (r : Receiver) (base : Option bound.Expr) (space : Space) (number : ℕ) (w : Written) (ps below : List Piece) → IsReceiver r base → is_sub (routine_term base space number w) ≡ true → ReceiverStands r base ps below → ps ≡ below
+receiver_pushes receiver.Module None space number w ps below i s h = h
+receiver_pushes receiver.Module (Some b) space number w ps below i s h = absurd i
+receiver_pushes (receiver.Own of) None space number w ps below i s h = absurd i
+receiver_pushes (receiver.Own of) (Some b) space number w ps below i s h = h
+receiver_pushes (receiver.Pushed of) None space number w ps below i s h = absurd i
+receiver_pushes (receiver.Pushed of) (Some b) space number w ps below i s h = let z : false ≡ true = s in absurd cc
+
 pub sub_pushes : (env : Env) (t : Tables) (x : Term) (y : plain.Term) (ps below : List Piece) → is_sub y ≡ true → TermStands env t x y ps below → ps ≡ below
-sub_pushes env t (term.Place kind of bounded lends) y ps below s h = let z : false ≡ true = sym (ap is_sub h.is) ∙ s in absurd cc
+sub_pushes env t (term.Place kind of bounded lends makes) y ps below s h = let z : false ≡ true = sym (ap is_sub h.is) ∙ s in absurd cc
 sub_pushes env t (term.Value e) y ps below s h = let z : false ≡ true = sym (ap is_sub h.is) ∙ s in absurd cc
-sub_pushes env t (term.Routine r) y ps below s h = h.none_pushed
-sub_pushes env t (term.Property p) y ps below s h = h.property.none_pushed
+sub_pushes env t (term.Routine r) y ps below s h = (let k = h.routine in receiver_pushes r.receiver k.base k.space k.number k.written ps below k.received (sym (ap is_sub k.is) ∙ s) h.pushed)
+sub_pushes env t (term.Property p) y ps below s h = (let k = h.property in receiver_pushes p.receiver k.base (space_view p.space.now) k.number (written_view p.written) ps below k.received (sym (ap is_sub k.is) ∙ s) k.pushed)
 sub_pushes env t (term.Function f) y ps below s h = h.1
 sub_pushes env t (term.HostMember m) y ps below s h = let z : false ≡ true = sym (ap is_sub h.is) ∙ s in absurd cc
 sub_pushes env t (term.SheetMember m) y ps below s h = h.1
@@ -242,9 +275,9 @@ split_refused env split all x y given d f g e kind at one l c sub has r =
     subst P (sym there.1) (record {
       grown = grown_twice d f e l.leaves.grown (grown_twice f g e c.grown r.grown);
       named = r.named;
-      takes = ap (λ (q : plain.Term). takes_value env q || is_variant_place q) (sub_item (place_told base) z is) ∙ ap (λ (b : Bool). b || is_variant_place z) takes
+      takes = ap (λ (q : plain.Term). takes_value env q || is_variant_place q) (sub_item env (place_told base) z is) ∙ ap (λ (b : Bool). b || is_variant_place z) takes
           ∙ ap (λ (b : Bool). given || b) (sub_variant z is) ∙ or-false given;
-      stands = λ value alone.
+      stands = λ value goes alone.
           let F : Place → Type 0 = λ (p : Place). action_of e.tables kind e.pieces ≡ Some (broken_target 27 p value no_exprs) in
           record {
             made = broken_target 27 (place_told base) value no_exprs;

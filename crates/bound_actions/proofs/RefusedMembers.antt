@@ -21,7 +21,7 @@ use Rattle.bound_project.specs.Statements as to
 use Rattle.bound_terms.specs.binder.specs.Options.{from_two, or_else}
 use Rattle.bound_terms.specs.bound_forms.specs.Terms.{Env, Given, a_host_member, broken_value, has_names}
 use Rattle.bound_terms.specs.bound_forms.specs.Terms as plain
-use Rattle.bound_terms.specs.bound_forms.specs.ExpressionsBound.{argument_of, arguments_rule, callee, givens, host_arguments, if_there, indexed, item_of, member_takes, names_taken, place_told, takes_arguments, term_of}
+use Rattle.bound_terms.specs.bound_forms.specs.ExpressionsBound.{argument_of, arguments_rule, callee, givens, host_arguments, if_there, indexed, item_of, may_be_instance, member_takes, names_taken, place_told, takes_arguments, term_of, variant_arguments}
 use Rattle.bound_terms.specs.bound_forms.specs.StatementsBound.{arguments_written, broken_target, fits_written, has_written_default, is_written_member, member_written, named_written, target_before, unwritten_rule, written_rule}
 use Rattle.bound_terms.specs.bound_calls.specs.declared.term.HostMember.{HostMember}
 use Rattle.bound_terms.specs.bound_calls.specs.declared.term.Refuser.TheVariants as refuser
@@ -35,7 +35,7 @@ use Rattle.bound_terms.specs.bound_calls.proofs.Growing.{grown_twice}
 use Rattle.bound_terms.specs.bound_calls.proofs.Growing as growing
 use Rattle.bound_terms.specs.bound_calls.proofs.Shaping.{member_same, rule_shaped, shapes_long}
 use Rattle.bound_terms.specs.bound_members.proofs.Naming.{given_listed, given_long}
-use Rattle.bound_terms.specs.bound_names.specs.Items.{MakesItem}
+use Rattle.bound_terms.specs.bound_accesses.specs.Items.{MakesItem}
 use Rattle.bound_terms.specs.bound_operands.proofs.Untaking.{marked_ends}
 use Rattle.bound_terms.proofs.Refused.{member_refused}
 use Rattle.statement_terms.specs.Called.{args_on}
@@ -89,10 +89,11 @@ by_none env place object m gs value names none =
 
 -- ---- what isn't written
 
-not_kept : (w f : Bool) (kept : Option Action) → (w ≡ true → f ≡ true → kept ≡ None) → (if w && f then kept else None) ≡ None
-not_kept true true kept h = h refl refl
-not_kept true false kept h = refl
-not_kept false f kept h = refl
+not_kept : (w f n : Bool) (kept : Option Action) → (w ≡ true → f ≡ true → kept ≡ None) → (if w && (f && n) then kept else None) ≡ None
+not_kept true true true kept h = h refl refl
+not_kept true true false kept h = refl
+not_kept true false n kept h = refl
+not_kept false f n kept h = refl
 
 no_rule : (a : Bool) (one : Option ℕ) (rule : ℕ) → a ≡ true → (if not a then one else None) ≡ Some rule → ⊥
 no_rule true one rule a h = let e : ◌≡◌ {A = Option ℕ} None (Some rule) = h in absurd cc
@@ -116,12 +117,12 @@ unwritten env place object m (g ∷ gs) rule value h written fits =
     at true e broken takes = absurd (no_rule (member_takes m (g ∷ gs)) (arguments_rule m) rule e broken)
     at false e broken takes = let r = refused_names m m.greatest (g ∷ gs) takes e in by_none env place object m (g ∷ gs) value r.0 r.1
 
-broken_written : (env : Env) (place : Place) (object : bound.Expr) (m : plain.HostMember) (gs : List Given) (rule : ℕ) (es : Exprs) (value : bound.Expr) → written_rule m gs ≡ Some rule → host_arguments env gs ≡ Some es
+broken_written : (env : Env) (place : Place) (object : bound.Expr) (m : plain.HostMember) (gs : List Given) (rule : ℕ) (es : Exprs) (value : bound.Expr) → written_rule m gs ≡ Some rule → variant_arguments env gs ≡ Some es
     → member_written env place object m gs value ≡ Some (broken_target rule place value (also object es))
 broken_written env place object m gs rule es value h given =
     let wrong : Option ℕ → Option Exprs → Option Action = λ (r : Option ℕ) (o : Option Exprs). from_two (λ n xs. broken_target n place value (also object xs)) r o in
-    let kept = not_kept (is_written_member m) (fits_written m gs) (arguments_written env place object m gs value) (unwritten env place object m gs rule value h) in
-    ap (λ (o : Option Action). or_else o (wrong (written_rule m gs) (host_arguments env gs))) kept ∙ ap (λ (r : Option ℕ). wrong r (host_arguments env gs)) h ∙ ap (λ (o : Option Exprs). wrong (Some rule) o) given
+    let kept = not_kept (is_written_member m) (fits_written m gs) (not (may_be_instance env value)) (arguments_written env place object m gs value) (unwritten env place object m gs rule value h) in
+    ap (λ (o : Option Action). or_else o (wrong (written_rule m gs) (variant_arguments env gs))) kept ∙ ap (λ (r : Option ℕ). wrong r (variant_arguments env gs)) h ∙ ap (λ (o : Option Exprs). wrong (Some rule) o) given
 
 -- ---- what is made
 
@@ -137,7 +138,7 @@ written_refused env place m rule count ns ss d f e kind there r breaks counted w
       let M = member_is d.tables m in
       let same : M ≡ member_is f.tables m = growing.member_same d.tables f.tables r.grown.tables m there in
       let broken : written_rule M gs ≡ Some rule = ap (λ (x : plain.HostMember). written_rule x gs) same ∙ sym (rule_same (member_is f.tables m) ss gs s.shaped) ∙ sym breaks in
-      let given : host_arguments env gs ≡ Some (exprs_of s.made) = given_listed (argument_of env type.variant) gs s.made s.values in
+      let given : variant_arguments env gs ≡ Some (exprs_of s.made) = given_listed (argument_of env type.variant) gs s.made s.values in
       let long : length s.made ≡ count = omega (arith, counted, length-map ss shape_given, shapes_long ss gs s.shaped, given_long (argument_of env type.variant) gs s.made s.values) in
       record {
         made = broken_target rule place value (also object (exprs_of s.made));
@@ -161,7 +162,7 @@ set_refused env word place m rule count values ns ss d f e kind there r breaks c
           let all : List bound.Expr = object ∷ p.made in
           let same : M ≡ N = growing.member_same d.tables f.tables r.grown.tables m there in
           let broken : refused_rule f.tables (refuser.Member m) gs ≡ Some rule = sym (rule_shaped f.tables (refuser.Member m) ss gs p.shaped) ∙ sym breaks in
-          let given : host_arguments env gs ≡ Some (exprs_of p.made) = given_listed (argument_of env type.variant) gs p.made p.values in
+          let given : variant_arguments env gs ≡ Some (exprs_of p.made) = given_listed (argument_of env type.variant) gs p.made p.values in
           let long : values ≡ length all = omega (arith, more, counted, length-map ss shape_given, shapes_long ss gs p.shaped, given_long (argument_of env type.variant) gs p.made p.values) in
           let top : f.pieces ≡ above (map an_expr all) (an_expr value ∷ []) = p.on_top ∙ ap (λ (ps : List Piece). above (map an_expr p.made) ps) on_top in
           let is : indexed env place (a_host_member object M) gs ≡ broken_value rule place (exprs_of all) =
@@ -177,7 +178,7 @@ set_refused env word place m rule count values ns ss d f e kind there r breaks c
 
 -- ---- what is called
 
-pub item_refused : (env : Env) (place : Place) (y : Term) (m : HostMember) (ns : List ExpressionNode) (kind : ActionKind) (d h e : Drafted) → MakesItem place y d h (term.HostMember m) → RefusesWritten env place m ns h e kind → AssignsItem env place y ns d e kind
+pub item_refused : (env : Env) (place : Place) (y : Term) (m : HostMember) (ns : List ExpressionNode) (kind : ActionKind) (d h e : Drafted) → MakesItem env place y d h (term.HostMember m) → RefusesWritten env place m ns h e kind → AssignsItem env place y ns d e kind
 item_refused env place y m ns kind d h e made r = record {
   grown = grown_twice d h e made.grown r.grown;
   named = r.named;
@@ -185,15 +186,15 @@ item_refused env place y m ns kind d h e made r = record {
       let z = callee env tree (term_of env tree) in
       let items = nodes.tree tree ∷ [] in
       let args = args_on items ns in
-      let A : Place → Type 0 = λ (p : Place). TermStands env h.tables (term.HostMember m) (item_of p z) h.pieces below in
-      let there : HostMemberStands h.tables m (target_before env tree) h.pieces below = subst A at (made.stands env z below k) in
+      let A : Place → Type 0 = λ (p : Place). TermStands env h.tables (term.HostMember m) (item_of env p z) h.pieces below in
+      let there : HostMemberStands h.tables m (target_before env tree) h.pieces below = subst A at (made.stands z below k) in
       let M = member_is h.tables m in
       let is : index tree left args right ≡ last_tree (behind_nodes items (ns ++ node.Index left right ∷ [])) =
       sym (ap last_tree (behind_push items ns (node.Index left right)) ∙ ap (λ (l : List nodes.Item). last_tree (behind_node (node.Index left right) l)) (r.framed items)) in
       let P : Expr → Type 0 = λ (t : Expr). GivesMember env t kind e.tables e.pieces below in
       subst P is (record {
         given = indexed_given env tree left right args there.object M there.is;
-        does = λ value alone.
+        does = λ value goes alone.
             let done = r.does items there.object value (there.on_top ∙ ap (λ (ps : List Piece). an_expr there.object ∷ ps) alone) in
             let at_place : member_written env (place_told tree) there.object M (givens env args) value ≡ member_written env place there.object M (givens env args) value =
             ap (λ (p : Place). member_written env p there.object M (givens env args) value) (sym at) in

@@ -9,7 +9,6 @@ use Rattle.vba_expression.specs.Nodes as nodes
 use Rattle.vba_expression.specs.Nodes.{behind_nodes, last_arguments}
 use Rattle.vba_expression.specs.declared.node.ExpressionNode.{ExpressionNode}
 use Rattle.vba_expression.specs.declared.node.ExpressionNode.TheVariants as node
-use Rattle.bound_project.specs.declared.declared_type.DeclaredType.{DeclaredType}
 use Rattle.bound_project.specs.declared.node.Node.{Node}
 use Rattle.bound_project.specs.declared.statement.ActionKind.{ActionKind}
 use Rattle.bound_project.specs.declared.statement.ActionKind.TheVariants as action
@@ -21,24 +20,26 @@ use Rattle.bound_project.specs.Lists.{above, exprs_of}
 use Rattle.bound_project.proofs.Lists.{exprs_are}
 use Rattle.bound_project.specs.Pieces.{Piece, Tables, an_expr, expr_of, of_found, put}
 use Rattle.bound_project.specs.Project.{Parameter}
-use Rattle.bound_project.specs.Statements.{evaluate}
+use Rattle.bound_project.specs.Statements.{Action, evaluate}
 use Rattle.bound_project.specs.Statements as to
 use Rattle.bound_project.specs.View.{declared_view}
 use Rattle.bound_terms.specs.binder.specs.Options.{or_else}
 use Rattle.bound_terms.specs.bound_forms.specs.Terms.{Env, Given, bound_arguments, broken_rule, takes}
 use Rattle.bound_terms.specs.bound_forms.specs.Terms as plain
-use Rattle.bound_terms.specs.bound_forms.specs.ExpressionsBound.{argument_of, givens, host_arguments, indexed, place_told}
-use Rattle.bound_terms.specs.bound_forms.specs.StatementsBound.{broken_target, called_term, is_given_with, is_no_target, is_sub, raise_parameters, set_target, set_to, target_of_call, untaken, written_to}
+use Rattle.bound_terms.specs.bound_forms.specs.ExpressionsBound.{argument_of, behind_base, givens, indexed, place_told, variant_arguments}
+use Rattle.bound_terms.specs.bound_forms.specs.StatementsBound.{broken_target, called_term, is_given_with, is_no_target, is_sub, object_set, property_given, raise_parameters, target_of_call, untaken, written_to}
 use Rattle.bound_terms.specs.bound_calls.specs.declared.term.Ending.{Ending}
 use Rattle.bound_terms.specs.bound_calls.specs.declared.term.Item.{Item}
 use Rattle.bound_terms.specs.bound_calls.specs.declared.term.Item.TheVariants as item
+use Rattle.bound_terms.specs.bound_calls.specs.declared.term.Receiver.{Receiver}
+use Rattle.bound_terms.specs.bound_calls.specs.declared.term.Receiver.TheVariants as receiver
 use Rattle.bound_terms.specs.bound_calls.specs.declared.term.Routine.{Routine}
 use Rattle.bound_terms.specs.bound_calls.specs.declared.term.Shape.{Shape}
 use Rattle.bound_terms.specs.bound_calls.specs.declared.term.Term.TheVariants as term
 use Rattle.bound_terms.specs.bound_calls.specs.declared.term.Tree.{Tree}
 use Rattle.bound_terms.specs.bound_calls.specs.Calls.{node_of}
 use Rattle.bound_terms.specs.bound_calls.specs.Shapes.{AreShaped, IsShaped, shapes_given, with_shapes}
-use Rattle.bound_terms.specs.bound_calls.specs.Standing.{AllGiven, Base, GivenIs, RoutineStands, Stands, behind_values}
+use Rattle.bound_terms.specs.bound_calls.specs.Standing.{AllGiven, Base, GivenIs, IsReceiver, ReceiverStands, RoutineStands, Stands, behind_values}
 use Rattle.bound_terms.specs.bound_calls.specs.Steps.{Goes, Leaves}
 use Rattle.bound_terms.specs.bound_calls.specs.Taking.{CallsAt, broken_ending}
 use Rattle.bound_terms.specs.bound_calls.proofs.CallSteps.{above_both}
@@ -46,7 +47,8 @@ use Rattle.bound_terms.specs.bound_calls.proofs.Growing.{grown_pieces, grown_twi
 use Rattle.bound_terms.specs.bound_calls.proofs.Refusing.{refused}
 use Rattle.bound_terms.specs.bound_calls.proofs.Shaping.{takes_shaped}
 use Rattle.bound_terms.specs.bound_members.proofs.Naming.{given_listed, given_long}
-use Rattle.statement_terms.specs.Called.{ActsOn, AssignsTo, LetsWith, args_on, let_action}
+use Rattle.statement_terms.specs.declared.assigning.PropertyLet.{PropertyLet}
+use Rattle.statement_terms.specs.Called.{ActsOn, AssignsTo, LetsWith, args_on, let_with}
 use Rattle.statement_terms.specs.Setting.{SetsTerm, SetsTo}
 use Rattle.bound_actions.specs.Assigning.{RefusesNone}
 use Rattle.bound_actions.specs.NoTargets.{RefusesTarget, SetsRoutine, is_property_term}
@@ -164,13 +166,13 @@ target_refused place d e eq =
     let P : Drafted → Type 0 = λ (z : Drafted). RefusesTarget place d z action.Evaluate in
     subst P (sym eq) (record { grown = grown_pieces d (put d.tables (mark_of 27 place 1) d.pieces); named = tt; does = λ value alone. one_marked 27 place d.tables value d.pieces alone })
 
-pub none_refused : (place : Place) (d e : Drafted) → e ≡ record d { pieces = put d.tables (mark_of 25 place 1) d.pieces } → RefusesNone place d e action.Evaluate
-none_refused place d e eq =
-    let P : Drafted → Type 0 = λ (z : Drafted). RefusesNone place d z action.Evaluate in
-    subst P (sym eq) (record { grown = grown_pieces d (put d.tables (mark_of 25 place 1) d.pieces); named = tt; does = λ value alone. one_marked 25 place d.tables value d.pieces alone })
+pub none_refused : (r : Receiver) (place : Place) (d e : Drafted) → r ≡ receiver.Module → e ≡ record d { pieces = put d.tables (mark_of 25 place 1) d.pieces } → RefusesNone r place d e action.Evaluate
+none_refused r place d e of_module eq =
+    let P : Drafted → Type 0 = λ (z : Drafted). RefusesNone r place d z action.Evaluate in
+    subst P (sym eq) (record { of_module = of_module; grown = grown_pieces d (put d.tables (mark_of 25 place 1) d.pieces); named = tt; does = λ value alone. one_marked 25 place d.tables value d.pieces alone })
 
-untaken_is : (env : Env) (parameters : List Parameter) (gs : List Given) (es : Exprs) → takes parameters gs ≡ false → host_arguments env gs ≡ Some es → untaken env parameters gs ≡ Some es
-untaken_is env parameters gs es none h = ap (λ (b : Bool). if b then None else host_arguments env gs) none ∙ h
+untaken_is : (env : Env) (parameters : List Parameter) (gs : List Given) (es : Exprs) → takes parameters gs ≡ false → variant_arguments env gs ≡ Some es → untaken env parameters gs ≡ Some es
+untaken_is env parameters gs es none h = ap (λ (b : Bool). if b then None else variant_arguments env gs) none ∙ h
 
 pub arguments_refused : (env : Env) (parameters : List Parameter) (before count values : ℕ) (place : Place) (ns : List ExpressionNode) (ss : List Shape) (d m e : Drafted) → ReadsUntaken env ns d m ss → takes parameters (shapes_given ss) ≡ false
     → count ≡ length ss → values ≡ count + before → e ≡ record m { pieces = put m.tables (mark_of 25 place values) m.pieces } → RefusesArguments env parameters before place ns d e action.Evaluate
@@ -199,7 +201,7 @@ arguments_refused env parameters before count values place ns ss d m e r none co
 not_taken : (env : Env) (parameters : List Parameter) (gs : List Given) (es : Exprs) → untaken env parameters gs ≡ Some es → takes parameters gs ≡ false
 not_taken env parameters gs es h = by_taken (takes parameters gs) h
   where
-    by_taken : (b : Bool) → (if b then None else host_arguments env gs) ≡ Some es → b ≡ false
+    by_taken : (b : Bool) → (if b then None else variant_arguments env gs) ≡ Some es → b ≡ false
     by_taken true k = let e : None ≡ Some es = k in absurd cc
     by_taken false k = refl
 
@@ -230,19 +232,30 @@ raise_refused env place parameters ns d e kind is h =
           };
     }
 
-pub let_refused : (env : Env) (place : Place) (parameters : List Parameter) (procedure : ℕ) (of : DeclaredType) (ns : List ExpressionNode) (d e : Drafted) (kind : ActionKind) → RefusesArguments env parameters 1 place ns d e kind
-    → LetsWith env place parameters procedure of ns d e kind
-let_refused env place parameters procedure of ns d e kind r = record {
+-- nothing is pushed for a property of a standard module
+pub module_alone : (r : Receiver) (base : Option bound.Expr) (ps below : List Piece) → r ≡ receiver.Module → IsReceiver r base → ReceiverStands r base ps below → (base ≡ None) × (ps ≡ below)
+module_alone receiver.Module None ps below e i s = (refl, s)
+module_alone receiver.Module (Some base) ps below e i s = absurd i
+module_alone (receiver.Own of) base ps below e i s = let z : receiver.Own of ≡ receiver.Module = e in absurd cc
+module_alone (receiver.Pushed of) base ps below e i s = let z : receiver.Pushed of ≡ receiver.Module = e in absurd cc
+
+pub let_refused : (env : Env) (place : Place) (parameters : List Parameter) (p : PropertyLet) (ns : List ExpressionNode) (d e : Drafted) (kind : ActionKind) → p.receiver ≡ receiver.Module → RefusesArguments env parameters 1 place ns d e kind
+    → LetsWith env place parameters p ns d e kind
+let_refused env place parameters p ns d e kind of_module r = record {
   grown = r.grown;
   named = r.named;
   framed = r.framed;
-  stands = λ items value alone.
+  stands = λ items value base received there.
+      let of = declared_view p.of in
       let gs = givens env (args_on items ns) in
-      let u = r.does items (value ∷ []) refl alone in
+      let m = module_alone p.receiver base d.pieces (an_expr value ∷ []) of_module received there in
+      let u = r.does items (value ∷ []) refl m.1 in
+      let broken : Option Exprs → Option Action = λ (o : Option Exprs). option_map (λ (es : Exprs). broken_target 25 place value (behind_base None es)) o in
       record {
         made = broken_target 25 place value u.made;
-        is = ap (λ (o : Option bound.Args). or_else (option_map (λ (args : bound.Args). let_action procedure args value (declared_view of)) o) (option_map (λ (es : Exprs). broken_target 25 place value es) (untaken env parameters gs)))
-            (none_bound env parameters gs u.made u.untaken_is) ∙ ap (λ (o : Option Exprs). option_map (λ (es : Exprs). broken_target 25 place value es) o) u.untaken_is;
+        is = ap (λ (o : Option bound.Expr). let_with env place p.is_itself o parameters p.procedure of gs value) m.0
+            ∙ ap (λ (o : Option bound.Args). or_else (option_map (λ (args : bound.Args). property_given p.is_itself None p.procedure args value of) o) (broken (untaken env parameters gs))) (none_bound env parameters gs u.made u.untaken_is)
+            ∙ ap broken u.untaken_is;
         fits = u.fits;
       };
 }
@@ -268,7 +281,7 @@ sets_refused word env target x d f e kind l same sub r = record {
       let F : Place → Type 0 = λ (p : Place). action_of e.tables kind e.pieces ≡ Some (broken_target 27 p value no_exprs) in
       record {
         made = broken_target 27 (place_told target) value no_exprs;
-        is = ap (λ (b : Bool). if b then Some (broken_target 27 (place_told target) value no_exprs) else set_to word (place_told target) (set_target env target) value) sub;
+        is = ap (λ (b : Bool). if b then Some (broken_target 27 (place_told target) value no_exprs) else object_set env word target value) sub;
         fits = subst F l.stands.place_is (r.does value (same ∙ alone));
       };
 }
@@ -279,7 +292,7 @@ assigns_refused env target x given d f e kind l same none takes r = record {
   grown = grown_twice d f e l.grown r.grown;
   named = r.named;
   takes = takes;
-  stands = λ value alone.
+  stands = λ value goes alone.
       let F : Place → Type 0 = λ (p : Place). action_of e.tables kind e.pieces ≡ Some (broken_target 27 p value no_exprs) in
       record {
         made = broken_target 27 (place_told target) value no_exprs;

@@ -1,19 +1,23 @@
 -- What takes the value that an expression is assigned.
-use Rattle.std.proofs.Common.{◌≡◌, true, false, List, Option, None, refl, sym, ap, subst, ◌∙◌}
+use Rattle.std.proofs.Common.{◌≡◌, ℕ, true, false, List, Option, Some, None, refl, sym, ap, subst, ◌∙◌}
 use Rattle.vba_base.specs.declared.place.Place.{Place}
 use Rattle.vba_expression.specs.Tree.{Expr, index}
 use Rattle.vba_expression.specs.Nodes.{tree_in}
 use Rattle.vba_expression.specs.declared.node.ExpressionNode.{ExpressionNode}
 use Rattle.bound_project.specs.Drafts.{Drafted}
+use Rattle.bound_project.specs.Expressions as bound
 use Rattle.bound_project.specs.Pieces.{Piece}
-use Rattle.bound_terms.specs.bound_forms.specs.Terms.{Env, a_routine}
+use Rattle.bound_terms.specs.binder.specs.Declarations.{Written}
+use Rattle.bound_terms.specs.binder.specs.Scopes.{Space}
+use Rattle.bound_terms.specs.bound_forms.specs.Terms.{Env, routine_term}
 use Rattle.bound_terms.specs.bound_forms.specs.Terms as plain
 use Rattle.bound_terms.specs.bound_forms.specs.ExpressionsBound.{callee, item_of, place_told, term_of}
 use Rattle.bound_terms.specs.bound_forms.specs.StatementsBound.{takes_value, target_before, target_term}
 use Rattle.bound_terms.specs.declared_names.specs.View.{space_view, written_view}
+use Rattle.bound_terms.specs.bound_names.specs.declared.properties.Part.TheVariants as part
 use Rattle.bound_terms.specs.bound_names.specs.declared.properties.Writer.{Writer}
 use Rattle.bound_terms.specs.bound_names.specs.Callee.{CalleeIs, NoWriter, WriterOf}
-use Rattle.bound_terms.specs.bound_names.specs.Items.{MakesItem, takes_item}
+use Rattle.bound_terms.specs.bound_accesses.specs.Items.{MakesItem, takes_item}
 use Rattle.bound_terms.specs.bound_calls.specs.declared.term.HostMember.{HostMember}
 use Rattle.bound_terms.specs.bound_calls.specs.declared.term.Term.{Term}
 use Rattle.bound_terms.specs.bound_calls.specs.declared.term.Term.TheVariants as term
@@ -36,33 +40,38 @@ tree_taken env place x taker d f bare l is =
     let P : Option Taker → Type 0 = λ (o : Option Taker). TakenBy (target_term env place) o in
     subst P (sym is) (taken_bare env place f.tables x.term f.pieces d.pieces bare l.stands.term_is)
 
+-- a procedure takes its value as it is
+routine_taken : (base : Option bound.Expr) (space : Space) (number : ℕ) (w : Written) → TakenBy (routine_term base space number w) None
+routine_taken None space number w = λ place v. refl
+routine_taken (Some b) space number w = λ place v. refl
+
 -- a property with arguments
 pub property_taken : (env : Env) (split : Split) (all : List ExpressionNode) (x : Tree) (y : Term) (w : Writer) (d f g : Drafted) → SplitAt split all → AddsOne split.arguments.now → LeavesAlone env split.target.now d f x → CalleeIs env x f g y
-    → WriterOf env.scope y w → TakenBy (target_term env (tree_in all)) None
+    → WriterOf part.Let env.scope y w → TakenBy (target_term env (tree_in all)) None
 property_taken env split all x y w d f g at one l c is =
     let base = tree_in split.target.now in
     let there = index_at split all at l.alone one in
     let args = there.0 in
     let z = callee env base (term_of env base) in
     let s = property_stands env g.tables y w.property z f.pieces d.pieces is.is (c.stands base f.pieces d.pieces l.leaves.stands) in
-    let same : target_before env base ≡ z = item_itself (place_told base) z (space_view w.property.space.now) s.number (written_view w.property.written) s.is in
+    let same : target_before env base ≡ z = item_itself env (place_told base) z s.base (space_view w.property.space.now) s.number (written_view w.property.written) s.is in
     let taken : takes_value env (target_before env base) ≡ true = ap (λ (q : plain.Term). takes_value env q) same ∙ has_writer env w z f.pieces d.pieces is.writer s in
     let P : Expr → Type 0 = λ (t : Expr). TakenBy (target_term env t) None in
     subst P (sym there.1)
-    (as_taken (target_term env (index base at.left args at.right)) (a_routine (space_view w.property.space.now) s.number (written_view w.property.written)) None
-    (target_before_is env base at.left at.right args taken ∙ same ∙ s.is) (λ place v. refl))
+    (as_taken (target_term env (index base at.left args at.right)) (routine_term s.base (space_view w.property.space.now) s.number (written_view w.property.written)) None
+    (target_before_is env base at.left at.right args taken ∙ same ∙ s.is) (routine_taken s.base (space_view w.property.space.now) s.number (written_view w.property.written)))
 
 -- a member of an object with arguments
 pub member_taken : (env : Env) (split : Split) (all : List ExpressionNode) (x : Tree) (y : Term) (m : HostMember) (taker : Option Taker) (d f g h : Drafted) → SplitAt split all → AddsOne split.arguments.now → LeavesAlone env split.target.now d f x
-    → CalleeIs env x f g y → MakesItem x.place y g h (term.HostMember m) → taker ≡ taker_of (term.HostMember m) → TakenBy (target_term env (tree_in all)) taker
+    → CalleeIs env x f g y → MakesItem env x.place y g h (term.HostMember m) → taker ≡ taker_of (term.HostMember m) → TakenBy (target_term env (tree_in all)) taker
 member_taken env split all x y m taker d f g h at one l c made is =
     let base = tree_in split.target.now in
     let there = index_at split all at l.alone one in
     let args = there.0 in
     let z = callee env base (term_of env base) in
     let T : List Piece → Type 0 = λ (ps : List Piece). TermStands env g.tables y z ps d.pieces in
-    let A : Place → Type 0 = λ (p : Place). TermStands env h.tables (term.HostMember m) (item_of p z) h.pieces d.pieces in
-    let s = subst A l.leaves.stands.place_is (made.stands env z d.pieces (subst T (sym c.pieces) (c.stands base f.pieces d.pieces l.leaves.stands))) in
+    let A : Place → Type 0 = λ (p : Place). TermStands env h.tables (term.HostMember m) (item_of env p z) h.pieces d.pieces in
+    let s = subst A l.leaves.stands.place_is (made.stands z d.pieces (subst T (sym c.pieces) (c.stands base f.pieces d.pieces l.leaves.stands))) in
     let taken : takes_value env (target_before env base) ≡ true = ap (λ (q : plain.Term). takes_value env q) s.is in
     let P : Expr → Type 0 = λ (t : Expr). TakenBy (target_term env t) taker in
     let Q : Option Taker → Type 0 = λ (o : Option Taker). TakenBy (target_term env (index base at.left args at.right)) o in
@@ -72,7 +81,7 @@ member_taken env split all x y m taker d f g h at one l c made is =
 
 -- what brackets make of what takes no value with arguments
 pub indexed_taken : (env : Env) (split : Split) (all : List ExpressionNode) (x more : Tree) (y : Term) (taker : Option Taker) (d f g h : Drafted) → SplitAt split all → AddsOne split.arguments.now → LeavesAlone env split.target.now d f x
-    → CalleeIs env x f g y → NoWriter env.scope y → takes_item y ≡ false → Continues env x split.closed.now g h more → taker ≡ taker_of more.term → TakenBy (target_term env (tree_in all)) taker
+    → CalleeIs env x f g y → NoWriter part.Let env.scope y → takes_item y ≡ false → Continues env x split.closed.now g h more → taker ≡ taker_of more.term → TakenBy (target_term env (tree_in all)) taker
 indexed_taken env split all x more y taker d f g h at one l c none item r is =
     let base = tree_in split.target.now in
     let z = callee env base (term_of env base) in

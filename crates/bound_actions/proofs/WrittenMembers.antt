@@ -18,14 +18,14 @@ use Rattle.bound_terms.specs.bound_calls.specs.declared.term.Term.TheVariants as
 use Rattle.bound_terms.specs.bound_calls.specs.Standing.{TermStands, on_pieces}
 use Rattle.bound_terms.specs.bound_calls.proofs.Growing.{grown_twice}
 use Rattle.bound_terms.specs.bound_members.specs.MemberCalls.{OpensMember}
-use Rattle.bound_terms.specs.bound_names.specs.Items.{MakesItem}
+use Rattle.bound_terms.specs.bound_accesses.specs.Items.{MakesItem}
 use Rattle.statement_terms.specs.Members.{AssignsItem, GivesMember, ReadsOnto, WritesCall}
 use Rattle.statement_terms.proofs.NodeTrees.{behind_push}
 use Rattle.statement_terms.proofs.WrittenMembers.{member_given}
 
 -- ---- with arguments
 
-pub item_assigned : (env : Env) (place : Place) (y : Term) (m : HostMember) (c x : MemberCall) (ns : List ExpressionNode) (kind : ActionKind) (d h i j e : Drafted) → MakesItem place y d h (term.HostMember m) → OpensMember place m h i c
+pub item_assigned : (env : Env) (place : Place) (y : Term) (m : HostMember) (c x : MemberCall) (ns : List ExpressionNode) (kind : ActionKind) (d h i j e : Drafted) → MakesItem env place y d h (term.HostMember m) → OpensMember place m h i c
     → ReadsOnto env c ns i j x → WritesCall x j e kind → AssignsItem env place y ns d e kind
 item_assigned env place y m c x ns kind d h i j e made opened r w =
     let L : List ExpressionNode → Type 0 = λ (l : List ExpressionNode). AssignsItem env place y l d e kind in
@@ -33,8 +33,8 @@ item_assigned env place y m c x ns kind d h i j e made opened r w =
       grown = grown_twice d h e made.grown (grown_twice h i e opened.grown (grown_twice i j e r.goes.grown w.grown));
       named = w.named;
       stands = λ tree left right below at k.
-          let A : Place → Type 0 = λ (p : Place). TermStands env h.tables (term.HostMember m) (item_of p (callee env tree (term_of env tree))) h.pieces below in
-          let there = subst A at (made.stands env (callee env tree (term_of env tree)) below k) in
+          let A : Place → Type 0 = λ (p : Place). TermStands env h.tables (term.HostMember m) (item_of env p (callee env tree (term_of env tree))) h.pieces below in
+          let there = subst A at (made.stands (callee env tree (term_of env tree)) below k) in
           let start = opened.stands env tree [] [] below (on_pieces below) at there (refl, refl) in
           let is = behind_nodes (nodes.arguments no_args ∷ nodes.tree tree ∷ []) r.behind in
           let done = member_given env x kind left right j e is below w (r.goes.stands (nodes.arguments no_args ∷ nodes.tree tree ∷ []) (on_pieces below) start) in

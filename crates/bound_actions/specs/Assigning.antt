@@ -1,5 +1,5 @@
 -- Serves the code: what is assigned to without a Let.
-use Rattle.std.specs.Prelude.{◌≡◌, Bool, true, false, List, [], ◌∷◌, Option, Some, None}
+use Rattle.std.specs.Prelude.{◌≡◌, ◌||◌, ◌++◌, Bool, true, false, List, [], ◌∷◌, map, slice_get, Option, Some, None}
 use Rattle.vba_base.specs.declared.place.Place.{Place}
 use Rattle.vba_words.specs.declared.identifier.Identifier.{Identifier}
 use Rattle.vba_expression.specs.Tree.{Expr}
@@ -13,12 +13,40 @@ use Rattle.bound_terms.specs.binder.specs.Scopes.{declares, plainly}
 use Rattle.bound_terms.specs.bound_forms.specs.Terms.{Env, a_host_member}
 use Rattle.bound_terms.specs.bound_forms.specs.Terms as plain
 use Rattle.bound_terms.specs.bound_forms.specs.StatementsBound.{assigned_to, broken_target, is_given_with, is_no_target, takes_value}
+use Rattle.bound_terms.specs.bound_calls.specs.declared.term.Receiver.{Receiver}
+use Rattle.bound_terms.specs.bound_calls.specs.declared.term.Receiver.TheVariants as receiver
 use Rattle.bound_terms.specs.bound_calls.specs.declared.term.Term.{Term}
 use Rattle.bound_terms.specs.bound_calls.specs.declared.term.Tree.{Tree}
 use Rattle.bound_terms.specs.bound_calls.specs.Standing.{Grown, TermStands, TreeStands}
 use Rattle.bound_terms.specs.bound_names.specs.Callee.{NoWriter}
-use Rattle.statement_terms.specs.Called.{ActionIs, IsBare}
+use Rattle.bound_project.specs.declared.declarations.Parameter.{Parameter}
+use Rattle.bound_project.specs.View.{declared_view, parameter_view}
+use Rattle.bound_terms.specs.binder.specs.Signatures.{parameters_in}
+use Rattle.bound_terms.specs.binder.specs.Storage.{procedure_number}
+use Rattle.bound_terms.specs.binder.specs.Types.{is_object}
+use Rattle.bound_terms.specs.bound_names.specs.declared.properties.Part.{Part}
+use Rattle.bound_terms.specs.bound_names.specs.declared.properties.Writer.{Writer}
+use Rattle.bound_terms.specs.declared_names.specs.View.{space_view, written_view}
+use Rattle.statement_terms.specs.declared.assigning.PropertyLet.{PropertyLet}
+use Rattle.bound_terms.specs.binder.specs.Classes.{has_class}
+use Rattle.bound_terms.specs.bound_names.specs.declared.properties.Part.TheVariants as part
+use Rattle.statement_terms.specs.Called.{GoesThere, ActionIs, IsBare}
 use Rattle.bound_actions.specs.NoTargets.{means_list}
+
+-- the procedure that an assignment wants, and that a Set wants
+abbrev pub part_for : (sets : Bool) → Part
+part_for false = part.Let
+part_for true = part.Set
+
+-- a procedure that is given a value, and the parameters before its last one
+pub record GivesProperty (env : Env) (sets : Bool) (w : Writer) (p : PropertyLet) (front : List Parameter) : Type 0 where
+  pub last : Parameter
+  pub receiver_is : p.receiver ≡ w.property.receiver
+  pub number_is : p.procedure ≡ procedure_number env.scope (space_view w.property.space.now) w.number
+  pub of_is : p.of ≡ last.of
+  pub itself_is : p.is_itself ≡ (sets || is_object (declared_view last.of))
+  pub parameters_are : slice_get env.scope.spaces (space_view w.property.space.now).number ≡ Some (space_view w.property.space.now)
+      → map parameter_view (front ++ last ∷ []) ≡ parameters_in env.scope (space_view w.property.space.now) (written_view w.written)
 
 -- whether a name, where there is one, means a ParamArray
 abbrev pub named_list : Env → Option Identifier → Bool
@@ -37,17 +65,18 @@ is_member t = false
 abbrev pub TakesLet : Env → Term → Bool → Type 0
 TakesLet env x given = (t : Tables) (y : plain.Term) (ps below : List Piece) → is_member y ≡ false → TermStands env t x y ps below → takes_value env y ≡ given
 
--- S25: a property lacks the arguments that it needs, which was marked with the value
-pub record RefusesNone (place : Place) (d e : Drafted) (kind : ActionKind) : Type 0 where
+-- S25: a property, of no object, lacks the arguments that it needs, which was marked with the value
+pub record RefusesNone (r : Receiver) (place : Place) (d e : Drafted) (kind : ActionKind) : Type 0 where
+  pub of_module : r ≡ receiver.Module
   pub grown : Grown d e
   pub named : ActionNamed e.tables kind
   pub does : (value : bound.Expr) → d.pieces ≡ an_expr value ∷ [] → action_of e.tables kind e.pieces ≡ Some (broken_target 25 place value no_exprs)
 
 -- an expression that has no Let, is no Sub and no ParamArray, and doesn't end with arguments, is assigned the value that was
 -- pushed below it, and whether that comes as it is
-pub record AssignsOther (x : Tree) (d e : Drafted) (kind : ActionKind) (given : Bool) : Type 0 where
+pub record AssignsOther (has : Bool) (x : Tree) (d e : Drafted) (kind : ActionKind) (given : Bool) : Type 0 where
   pub grown : Grown d e
   pub named : ActionNamed e.tables kind
-  pub takes : (env : Env) (tree : Expr) (below : List Piece) → NoWriter env.scope x.term → IsBare tree → TreeStands env d.tables x tree d.pieces below → is_given_with env tree ≡ given
-  pub stands : (env : Env) (tree : Expr) (value : bound.Expr) → NoWriter env.scope x.term → IsBare tree → is_no_target env tree ≡ false → TreeStands env d.tables x tree d.pieces (an_expr value ∷ [])
+  pub takes : (env : Env) (tree : Expr) (below : List Piece) → NoWriter part.Let env.scope x.term → IsBare tree → TreeStands env d.tables x tree d.pieces below → is_given_with env tree ≡ given
+  pub stands : (env : Env) → has_class env.scope.spaces ≡ has → (tree : Expr) (value : bound.Expr) → GoesThere env kind value → NoWriter part.Let env.scope x.term → IsBare tree → is_no_target env tree ≡ false → TreeStands env d.tables x tree d.pieces (an_expr value ∷ [])
       → ActionIs kind (assigned_to env tree value) e.tables e.pieces

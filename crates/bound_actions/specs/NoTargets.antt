@@ -1,7 +1,8 @@
 -- Serves the code: what can't be assigned to, and what isn't set.
-use Rattle.std.specs.Prelude.{◌≡◌, Bool, false, List, [], ◌∷◌, Option, Some, is_some}
+use Rattle.std.specs.Prelude.{◌≡◌, Bool, false, ◌&&◌, not, List, [], ◌∷◌, Option, Some, is_some}
 use Rattle.vba_base.specs.declared.place.Place.{Place}
 use Rattle.vba_expression.specs.Tree.{Expr}
+use Rattle.vba_tree.specs.declared.procedure.ProcedureWords.{ProcedureWords}
 use Rattle.bound_project.specs.declared.statement.ActionKind.{ActionKind}
 use Rattle.bound_project.specs.Bodies.{action_of}
 use Rattle.bound_project.specs.Drafts.{ActionNamed, Drafted}
@@ -11,21 +12,30 @@ use Rattle.bound_project.specs.Pieces.{Piece, Tables, an_expr}
 use Rattle.bound_terms.specs.binder.specs.Declarations.{Own, a_parameter}
 use Rattle.bound_terms.specs.binder.specs.Scopes.{Meant, of_procedure}
 use Rattle.bound_terms.specs.binder.specs.Signatures.{is_property}
-use Rattle.bound_terms.specs.bound_forms.specs.Terms.{Env, a_routine}
+use Rattle.bound_terms.specs.binder.specs.Storage.{gives_value}
+use Rattle.bound_terms.specs.bound_forms.specs.Terms.{Env, a_method, a_routine}
 use Rattle.bound_terms.specs.bound_forms.specs.Terms as plain
 use Rattle.bound_terms.specs.bound_forms.specs.ExpressionsBound.{indexed}
 use Rattle.bound_terms.specs.bound_forms.specs.StatementsBound.{broken_target, is_sub, set_to}
+use Rattle.bound_terms.specs.bound_calls.specs.declared.term.Receiver.{Receiver}
+use Rattle.bound_terms.specs.bound_calls.specs.declared.term.Receiver.TheVariants as receiver
 use Rattle.bound_terms.specs.bound_calls.specs.declared.term.Routine.{Routine}
 use Rattle.bound_terms.specs.bound_calls.specs.declared.term.Term.{Term}
 use Rattle.bound_terms.specs.bound_calls.specs.Standing.{Grown, RoutineStands, TermStands}
 use Rattle.statement_terms.specs.Called.{ActionIs}
 
--- a term is a Sub, or it is none; and the same of a property
+-- whether a procedure, by what it is called of, is a Sub of no object: it gives no value and is no property
+abbrev pub is_module_sub : Receiver → ProcedureWords → Bool
+is_module_sub receiver.Module kind = not (gives_value kind) && not (is_property kind)
+is_module_sub r kind = false
+
+-- a term is a Sub of no object, or it is none; and the same of a property
 abbrev pub IsSub : Term → Bool → Type 0
 IsSub x sub = (env : Env) (t : Tables) (y : plain.Term) (ps below : List Piece) → TermStands env t x y ps below → is_sub y ≡ sub
 
 abbrev pub is_property_term : plain.Term → Bool
 is_property_term (a_routine space number p) = is_property p.kind
+is_property_term (a_method base space number p) = is_property p.kind
 is_property_term t = false
 
 abbrev pub IsProperty : Term → Bool → Type 0

@@ -1,6 +1,6 @@
 //! The value of an assignment.
 
-ghost use Rattle.std.specs.Prelude.{◌≡◌, true, Bool, IfOk, OnOk};
+ghost use Rattle.std.specs.Prelude.{◌≡◌, true, false, Bool, IfOk};
 ghost use Rattle.vba_expression.specs.View.{view as expression_view};
 ghost use Rattle.bound_project.specs.DraftView.{draft_view};
 ghost use Rattle.bound_terms.specs.bound_forms.specs.StatementsBound as plain;
@@ -55,7 +55,7 @@ fn push_plain<'a>(
 ) -> Result<DeclaredType, OrMemory<NotYet>>
     requires named { TermNamed (draft_view draft.old).tables tree.term }
     requires plain { is_plain tree.term ≡ true }
-    ensures { (given : Bool) → IfOk result (λ of. PushesFor given tree.entry (draft_view draft.old) (draft_view draft.new) of) }
+    ensures { (has given : Bool) → IfOk result (λ of. PushesFor has false given tree.entry (draft_view draft.old) (draft_view draft.new) of) }
 {
     let Some(of) = push_value(alloc, draft, tree)? else {
         return Err(OrMemory::Fault(NotYet));
@@ -63,43 +63,45 @@ fn push_plain<'a>(
     Ok(of)
 }
 
-/// Pushes a value as an assignment to this expression takes it; answers its type.
+/// Pushes a value as an assignment to this expression takes it; answers its type, and whether it may be an object of a
+/// class.
 fn push_for<'a>(
     alloc: Global,
     draft: &mut Draft,
     env: Env<'a>,
     place: &'a Expression,
     tree: Tree<'a>,
-) -> Result<DeclaredType, OrMemory<NotYet>>
+) -> Result<(DeclaredType, bool), OrMemory<NotYet>>
     requires env { EnvStands env }
     requires named { TermNamed (draft_view draft.old).tables tree.term }
-    ensures { IfOk result (λ of. PushesFor (plain.is_given_with (env_view env.entry) (expression_view place.now)) tree.entry (draft_view draft.old) (draft_view draft.new) of) }
+    ensures { IfOk result (λ pushed. PushesFor env.entry.has_class pushed.1 (plain.is_given_with (env_view env.entry) (expression_view place.now)) tree.entry (draft_view draft.old) (draft_view draft.new) pushed.0) }
 {
     if is_plain(tree.term) {
-        return push_plain(alloc, draft, tree);
+        let of = push_plain(alloc, draft, tree)?;
+        return Ok((of, false));
     }
     let given = is_given_with(alloc, env, place)?;
-    push_assigned(alloc, draft, tree, given)
+    push_assigned(alloc, draft, tree, given, env.has_class)
 }
 
-/// Pushes the value of an assignment to this expression, marked where that doesn't take it. What takes it is looked up only
-/// for values that aren't taken everywhere.
+/// Pushes the value of an assignment to this expression, marked where that doesn't take it; answers whether it may be an
+/// object of a class. What takes it is looked up only for values that aren't taken everywhere.
 pub fn bind_assigned<'a>(
     alloc: Global,
     draft: &mut Draft,
     env: Env<'a>,
     place: &'a Expression,
     value: &'a Expression,
-) -> Result<(), OrMemory<NotYet>>
+) -> Result<bool, OrMemory<NotYet>>
     requires { EnvStands env }
-    ensures { OnOk result (ValueFor (plain.value_given (env_view env.entry) (expression_view place.now) (expression_view value.now)) (draft_view draft.old) (draft_view draft.new)) }
+    ensures { IfOk result (λ may_be. ValueFor (env_view env.entry) may_be (plain.value_given (env_view env.entry) (expression_view place.now) (expression_view value.now)) (draft_view draft.old) (draft_view draft.new)) }
 {
     let tree = tree_of(alloc, draft, env, value)?;
-    let of = push_for(alloc, draft, env, place, tree)?;
+    let (of, may_be) = push_for(alloc, draft, env, place, tree)?;
     if !may_break(of) {
-        return Ok(());
+        return Ok(may_be);
     }
     let taker = taker_in(alloc, env, place)?;
     mark_taken(draft, taker, of, tree.place)?;
-    Ok(())
+    Ok(may_be)
 }

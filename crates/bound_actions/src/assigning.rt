@@ -4,12 +4,13 @@ ghost use Rattle.std.specs.Prelude.{◌≡◌, ◌||◌, [], IfOk, map};
 ghost use Rattle.vba_expression.specs.View.{view as expression_view};
 ghost use Rattle.vba_expression.specs.Nodes.{tree_in};
 ghost use Rattle.bound_project.specs.DraftView.{draft_view};
-ghost use Rattle.bound_project.specs.View.{parameter_view};
-ghost use Rattle.statement_terms.specs.Called.{AssignsTo, IsBare, Lets, LetsOn, LetsWith, SplitAt};
-ghost use Rattle.bound_actions.specs.Assigning.{AssignsOther, RefusesNone};
+ghost use Rattle.bound_project.specs.View.{declared_view, parameter_view};
+ghost use Rattle.statement_terms.specs.Called.{AssignsTo, IsBare, Lets, LetsOn, LetsTaken, LetsWith, SplitAt, is_method};
+ghost use Rattle.bound_terms.specs.binder.specs.Types as types;
+ghost use Rattle.bound_actions.specs.Assigning.{AssignsOther, GivesProperty, RefusesNone, part_for};
 ghost use Rattle.bound_terms.specs.bound_calls.specs.Standing.{TermNamed};
 ghost use Rattle.bound_terms.specs.bound_names.specs.Callee.{IsWriter};
-ghost use Rattle.bound_terms.specs.bound_names.specs.Items.{lacks_item};
+ghost use Rattle.bound_terms.specs.bound_accesses.specs.Items.{lacks_item};
 ghost use Rattle.statement_terms.specs.Targets.{is_variant_term};
 ghost use Rattle.bound_terms.specs.bound_names.specs.View.{EnvStands, env_view};
 ghost use Rattle.bound_terms.specs.declared_names.specs.View.{scope_view};
@@ -19,23 +20,66 @@ use crate::no_targets::{has_let, is_no_target, is_sub, refuse_target};
 use crate::statement_calls::read_named;
 use crate::trees::{continue_tree, nodes_tree};
 use crate::untaken::refuse_arguments;
-use bound_project::{ActionKind, Draft, Parameter};
+use bound_project::{ActionKind, DeclaredType, Draft, Parameter};
+use bound_terms::bound_accesses::{lacks_item, takes_item};
 use bound_terms::bound_calls::{
-    Term, Tree, called_ending, count_of, pass_rest, push_in_order, takes, takes_none,
+    Receiver, Term, Tree, called_ending, count_of, pass_rest, push_in_order, push_receiver, takes,
+    takes_none,
 };
 use bound_terms::bound_declarations::{NotYet, gives_value, procedure_number};
 use bound_terms::bound_members::shapes_ahead;
-use bound_terms::bound_names::{Env, Writer, callee_term, lacks_item, takes_item, writer_of};
+use bound_terms::bound_names::{Env, Writer, callee_term, writer_of};
+use bound_terms::declared_names::is_object;
 use bound_terms::{bound_calls, tree_of};
 use statement_terms::{
     Assignment, PropertyLet, Split, adds_one, as_given, as_operand, assign_indexed, assign_tree,
     assign_value, ends_bare, is_variant_term, ordered_kind, property_kind, push_rest, split_call,
 };
 use std::alloc::Global;
-use vba_base::{NoMemory, OrMemory, Place};
+use vba_base::{OrMemory, Place};
 use vba_expression::{Expression, ExpressionNode};
 
-/// An assignment to a property whose arguments, for these parameters, are pushed.
+/// An assignment to a property whose arguments, for these parameters, are pushed behind its object, where it has one.
+fn let_taken<'a>(
+    alloc: Global,
+    draft: &mut Draft,
+    env: Env<'a>,
+    property: PropertyLet,
+    front: &'a [Parameter],
+    nodes: &'a [ExpressionNode],
+) -> Result<ActionKind, OrMemory<NotYet>>
+    requires { EnvStands env }
+    ensures { IfOk result (λ kind. LetsTaken (env_view env.entry) (map parameter_view front.now) (is_method property.receiver) property.is_itself property.procedure property.of nodes.now (draft_view draft.old) (draft_view draft.new) kind) }
+{
+    let (passed, named) = read_named(alloc, draft, env, front, nodes)?;
+    if named.is_empty() {
+        let (_written, arguments) = push_rest(alloc, draft, passed)?;
+        return Ok(property_kind(property, arguments));
+    }
+    let ordered = push_in_order(alloc, draft, front, passed, named)?;
+    Ok(ordered_kind(property, ordered))
+}
+
+/// A property that doesn't take its arguments, behind the value that it is given; of an object it isn't built.
+fn let_refused<'a>(
+    alloc: Global,
+    draft: &mut Draft,
+    env: Env<'a>,
+    property: PropertyLet,
+    front: &'a [Parameter],
+    place: Place,
+    nodes: &'a [ExpressionNode],
+) -> Result<ActionKind, OrMemory<NotYet>>
+    requires { EnvStands env }
+    ensures { IfOk result (λ kind. LetsWith (env_view env.entry) place (map parameter_view front.now) property nodes.now (draft_view draft.old) (draft_view draft.new) kind) }
+{
+    let Receiver::Module = property.receiver else {
+        return Err(OrMemory::Fault(NotYet));
+    };
+    refuse_arguments(alloc, draft, env, front, 1, place, nodes)
+}
+
+/// An assignment to a property whose object, where it has one, and whose arguments, for these parameters, are pushed.
 fn let_passed<'a>(
     alloc: Global,
     draft: &mut Draft,
@@ -46,70 +90,33 @@ fn let_passed<'a>(
     nodes: &'a [ExpressionNode],
 ) -> Result<ActionKind, OrMemory<NotYet>>
     requires { EnvStands env }
-    ensures { IfOk result (λ kind. LetsWith (env_view env.entry) place (map parameter_view front.now) property.procedure property.of nodes.now (draft_view draft.old) (draft_view draft.new) kind) }
+    ensures { IfOk result (λ kind. LetsWith (env_view env.entry) place (map parameter_view front.now) property nodes.now (draft_view draft.old) (draft_view draft.new) kind) }
 {
     let shapes = shapes_ahead(alloc, nodes)?;
     let is_taken = takes(alloc, front, &shapes)?;
     if !is_taken {
-        return refuse_arguments(alloc, draft, env, front, 1, place, nodes);
+        return let_refused(alloc, draft, env, property, front, place, nodes);
     }
-    let (passed, named) = read_named(alloc, draft, env, front, nodes)?;
-    if named.is_empty() {
-        let (_written, arguments) = push_rest(alloc, draft, passed)?;
-        return Ok(property_kind(property.procedure, arguments, property.of));
-    }
-    let ordered = push_in_order(alloc, draft, front, passed, named)?;
-    Ok(ordered_kind(property, ordered))
+    push_receiver(draft, property.receiver)?;
+    let_taken(alloc, draft, env, property, front, nodes)
 }
 
-/// A property without the arguments that it needs, behind the value that it is given.
-fn refuse_none(draft: &mut Draft, place: Place) -> Result<ActionKind, NoMemory>
-    ensures { IfOk result (λ kind. RefusesNone place (draft_view draft.old) (draft_view draft.new) kind) }
+/// Is a property given the object itself?
+fn is_itself(sets: bool, of: DeclaredType) -> bool
+    ensures { result ≡ (sets || types.is_object (declared_view of)) }
 {
-    bound_calls::push_broken(draft, 25, place, 1)?;
-    Ok(ActionKind::Evaluate)
+    sets || is_object(of)
 }
 
-/// `property = value`
-fn let_bare<'a>(
-    alloc: Global,
-    draft: &mut Draft,
+/// A property that is given a value, or by Set an object, and the parameters of its other arguments.
+fn property_given<'a>(
     env: Env<'a>,
     writer: Writer<'a>,
-    place: Place,
-) -> Result<ActionKind, OrMemory<NotYet>>
+    sets: bool,
+) -> Result<(PropertyLet, &'a [Parameter]), OrMemory<NotYet>>
     requires env { EnvStands env }
-    requires writer { IsWriter (scope_view env.constants.scope) writer }
-    ensures { IfOk result (λ kind. Lets (env_view env.entry) writer.entry.property place [] (draft_view draft.old) (draft_view draft.new) kind) }
-{
-    let scope = env.constants.scope;
-    let procedure = procedure_number(scope, writer.property.space, writer.number)?;
-    let parameters = env
-        .signatures
-        .parameters(scope, writer.property.space, writer.number)?;
-    let Some((last, front)) = parameters.split_last() else {
-        return Err(OrMemory::Fault(NotYet));
-    };
-    if !takes_none(front) {
-        return Ok(refuse_none(draft, place)?);
-    }
-    let arguments = count_of(front)?;
-    pass_rest(alloc, draft, front)?;
-    Ok(property_kind(procedure, arguments, last.of))
-}
-
-/// `property(arguments) = value`
-fn let_given<'a>(
-    alloc: Global,
-    draft: &mut Draft,
-    env: Env<'a>,
-    writer: Writer<'a>,
-    place: Place,
-    nodes: &'a [ExpressionNode],
-) -> Result<ActionKind, OrMemory<NotYet>>
-    requires env { EnvStands env }
-    requires writer { IsWriter (scope_view env.constants.scope) writer }
-    ensures { IfOk result (λ kind. LetsOn (env_view env.entry) writer.entry.property place nodes.now (draft_view draft.old) (draft_view draft.new) kind) }
+    requires writer { IsWriter (part_for sets) (scope_view env.constants.scope) writer }
+    ensures { IfOk result (λ given. GivesProperty (env_view env.entry) sets writer.entry given.0 given.1.now) }
 {
     let scope = env.constants.scope;
     let procedure = procedure_number(scope, writer.property.space, writer.number)?;
@@ -120,9 +127,69 @@ fn let_given<'a>(
         return Err(OrMemory::Fault(NotYet));
     };
     let property = PropertyLet {
+        receiver: writer.property.receiver,
         procedure,
         of: last.of,
+        is_itself: is_itself(sets, last.of),
     };
+    Ok((property, front))
+}
+
+/// A property of a standard module without the arguments that it needs, behind the value that it is given; of an object it
+/// isn't built.
+fn refuse_none(
+    draft: &mut Draft,
+    property: PropertyLet,
+    place: Place,
+) -> Result<ActionKind, OrMemory<NotYet>>
+    ensures { IfOk result (λ kind. RefusesNone property.receiver place (draft_view draft.old) (draft_view draft.new) kind) }
+{
+    let Receiver::Module = property.receiver else {
+        return Err(OrMemory::Fault(NotYet));
+    };
+    bound_calls::push_broken(draft, 25, place, 1)?;
+    Ok(ActionKind::Evaluate)
+}
+
+/// `property = value`, or Set of it
+pub fn let_bare<'a>(
+    alloc: Global,
+    draft: &mut Draft,
+    env: Env<'a>,
+    writer: Writer<'a>,
+    place: Place,
+    sets: bool,
+) -> Result<ActionKind, OrMemory<NotYet>>
+    requires env { EnvStands env }
+    requires writer { IsWriter (part_for sets) (scope_view env.constants.scope) writer }
+    ensures { IfOk result (λ kind. Lets sets (env_view env.entry) writer.entry.property place [] (draft_view draft.old) (draft_view draft.new) kind) }
+{
+    let (property, front) = property_given(env, writer, sets)?;
+    if !takes_none(front) {
+        let kind = refuse_none(draft, property, place)?;
+        return Ok(kind);
+    }
+    push_receiver(draft, property.receiver)?;
+    let arguments = count_of(front)?;
+    pass_rest(alloc, draft, front)?;
+    Ok(property_kind(property, arguments))
+}
+
+/// `property(arguments) = value`, or Set of it
+pub fn let_given<'a>(
+    alloc: Global,
+    draft: &mut Draft,
+    env: Env<'a>,
+    writer: Writer<'a>,
+    place: Place,
+    nodes: &'a [ExpressionNode],
+    sets: bool,
+) -> Result<ActionKind, OrMemory<NotYet>>
+    requires env { EnvStands env }
+    requires writer { IsWriter (part_for sets) (scope_view env.constants.scope) writer }
+    ensures { IfOk result (λ kind. LetsOn sets (env_view env.entry) writer.entry.property place nodes.now (draft_view draft.old) (draft_view draft.new) kind) }
+{
+    let (property, front) = property_given(env, writer, sets)?;
     let_passed(alloc, draft, env, property, front, place, nodes)
 }
 
@@ -131,9 +198,10 @@ fn assign_other<'a>(
     alloc: Global,
     draft: &mut Draft,
     tree: Tree<'a>,
+    has_class: bool,
 ) -> Result<Assignment, OrMemory<NotYet>>
     requires { TermNamed (draft_view draft.old).tables tree.term }
-    ensures { IfOk result (λ done. AssignsOther tree.entry (draft_view draft.old) (draft_view draft.new) done.kind done.is_given) }
+    ensures { IfOk result (λ done. AssignsOther has_class tree.entry (draft_view draft.old) (draft_view draft.new) done.kind done.is_given) }
 {
     match tree.term {
         Term::Routine(routine) => {
@@ -141,10 +209,10 @@ fn assign_other<'a>(
                 return Err(OrMemory::Fault(NotYet));
             }
             let ending = called_ending(alloc, draft, routine, tree.place)?;
-            let kind = assign_value(draft, ending, tree.place)?;
+            let kind = assign_value(draft, ending, tree.place, has_class)?;
             Ok(as_operand(kind))
         }
-        _ => assign_tree(draft, tree),
+        _ => assign_tree(draft, tree, has_class),
     }
 }
 
@@ -169,10 +237,10 @@ fn assign_bare<'a>(
     }
     match writer_of(env.constants.scope, tree.term) {
         Some(writer) => {
-            let kind = let_bare(alloc, draft, env, writer, tree.place)?;
+            let kind = let_bare(alloc, draft, env, writer, tree.place, false)?;
             Ok(as_given(kind))
         }
-        None => assign_other(alloc, draft, tree),
+        None => assign_other(alloc, draft, tree, env.has_class),
     }
 }
 
@@ -209,7 +277,15 @@ fn assign_split<'a>(
         });
     }
     if let Some(writer) = writer_of(env.constants.scope, term) {
-        let kind = let_given(alloc, draft, env, writer, tree.place, split.arguments)?;
+        let kind = let_given(
+            alloc,
+            draft,
+            env,
+            writer,
+            tree.place,
+            split.arguments,
+            false,
+        )?;
         return Ok(as_given(kind));
     }
     if takes_item(term) {
@@ -217,7 +293,7 @@ fn assign_split<'a>(
         return Ok(as_given(kind));
     }
     let more = continue_tree(alloc, draft, env, tree, split.closed)?;
-    let kind = assign_indexed(draft, more.term, more.place)?;
+    let kind = assign_indexed(draft, more.term, more.place, env.has_class)?;
     Ok(Assignment {
         kind,
         is_given: is_item_given(term),

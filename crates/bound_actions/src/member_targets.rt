@@ -10,10 +10,11 @@ ghost use Rattle.bound_terms.specs.bound_names.specs.View.{EnvStands, env_view};
 
 use crate::untaken::read_untaken;
 use bound_project::{ActionKind, Draft};
+use bound_terms::bound_accesses::item_member;
 use bound_terms::bound_calls::{HostMember, Item, MemberCall, Term, put_item, take_item};
 use bound_terms::bound_declarations::NotYet;
 use bound_terms::bound_members::{open_member, shapes_ahead};
-use bound_terms::bound_names::{Env, item_member};
+use bound_terms::bound_names::Env;
 use bound_terms::bound_operands::count_shapes;
 use bound_terms::run;
 use statement_terms::{write_broken, write_call, written_rule};
@@ -84,7 +85,7 @@ pub fn assign_item<'a>(
     requires named { TermNamed (draft_view draft.old).tables term }
     ensures { IfOk result (λ kind. AssignsItem (env_view env.entry) place term.entry nodes.now (draft_view draft.old) (draft_view draft.new) kind) }
 {
-    let member = item_member(alloc, draft, place, term)?;
+    let member = item_member(alloc, draft, env, place, term)?;
     let shapes = shapes_ahead(alloc, nodes)?;
     if written_rule(draft, member, &shapes)?.is_some() {
         return refuse_item(alloc, draft, env, member, place, nodes);

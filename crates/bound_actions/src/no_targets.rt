@@ -1,30 +1,31 @@
 //! What can't be assigned to by its name: a Sub, and a ParamArray.
 
-ghost use Rattle.std.specs.Prelude.{◌≡◌, ◌&&◌, not, Some, IfOk, option_map};
+ghost use Rattle.std.specs.Prelude.{◌≡◌, Some, IfOk, option_map};
 ghost use Rattle.bound_project.specs.DraftView.{draft_view};
-ghost use Rattle.bound_terms.specs.binder.specs.Signatures as signatures;
-ghost use Rattle.bound_terms.specs.binder.specs.Storage as storage;
 ghost use Rattle.bound_terms.specs.declared_names.specs.View.{meant_view, own_view, written_view};
 ghost use Rattle.bound_terms.specs.bound_names.specs.View.{env_view};
 ghost use Rattle.bound_actions.specs.Assigning.{IsNoTarget, TakesLet, named_list};
-ghost use Rattle.bound_actions.specs.NoTargets.{IsSub, RefusesTarget, means_list, owns_list};
+ghost use Rattle.bound_actions.specs.NoTargets.{IsSub, RefusesTarget, is_module_sub, means_list, owns_list};
 
 use bound_project::{ActionKind, Draft};
-use bound_terms::bound_calls::{Routine, Term, Tree, push_broken};
+use bound_terms::bound_calls::{Receiver, Routine, Term, Tree, push_broken};
 use bound_terms::bound_declarations::{gives_value, is_property};
 use bound_terms::bound_names::{Env, writer_of};
 use bound_terms::declared_names::{Meant, Own, Use, declares};
 use vba_base::{NoMemory, Place};
 
-/// Is a procedure a Sub: does it give no value, and is it no property?
+/// Is a procedure a Sub of no object: does it give no value, and is it no property?
 fn is_sub_routine<'a>(routine: Routine<'a>) -> bool
-    ensures { result ≡ (not (storage.gives_value (written_view routine.entry.written).kind) && not (signatures.is_property (written_view routine.entry.written).kind)) }
+    ensures { result ≡ is_module_sub routine.entry.receiver (written_view routine.entry.written).kind }
 {
     let words = routine.written.header.words;
-    !gives_value(words) && !is_property(words)
+    match routine.receiver {
+        Receiver::Module => !gives_value(words) && !is_property(words),
+        _ => false,
+    }
 }
 
-/// Is a term a Sub?
+/// Is a term a Sub of no object?
 pub fn is_sub<'a>(term: Term<'a>) -> bool
     ensures { IsSub term.entry result }
 {

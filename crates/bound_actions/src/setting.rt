@@ -13,15 +13,17 @@ ghost use Rattle.bound_actions.specs.NoTargets.{IsProperty, SetsRoutine};
 ghost use Rattle.bound_actions.specs.Refused.{RefusesSet};
 ghost use Rattle.bound_terms.specs.bound_names.specs.View.{EnvStands, env_view};
 
+use crate::assigning::{let_bare, let_given};
 use crate::no_targets::{is_sub, refuse_target};
 use crate::trees::{continue_tree, nodes_tree};
 use crate::untaken::read_untaken;
 use bound_project::{ActionKind, Draft};
+use bound_terms::bound_accesses::{item_member, takes_item};
 use bound_terms::bound_calls::{
     HostMember, Refuser, Routine, Term, broken_ending, called_ending, sum,
 };
 use bound_terms::bound_declarations::{NotYet, is_property};
-use bound_terms::bound_names::{Env, callee_term, item_member, takes_item};
+use bound_terms::bound_names::{Env, callee_term, setter_of};
 use bound_terms::bound_operands::{count_shapes, refused_rule};
 use bound_terms::{bind_given, tree_of};
 use statement_terms::{
@@ -32,7 +34,7 @@ use std::alloc::Global;
 use vba_base::{NoMemory, OrMemory, Place};
 use vba_expression::{Expression, ExpressionNode};
 
-/// Is a term a property, whose Set isn't built?
+/// Is a term a property?
 fn is_property_term<'a>(term: Term<'a>) -> bool
     ensures { IsProperty term.entry result }
 {
@@ -101,6 +103,9 @@ fn set_bare<'a>(
     if is_sub(tree.term) {
         return Ok(refuse_target(draft, tree.place)?);
     }
+    if let Some(setter) = setter_of(env.constants.scope, tree.term) {
+        return let_bare(alloc, draft, env, setter, tree.place, true);
+    }
     match tree.term {
         Term::Routine(routine) => set_routine(alloc, draft, set_word, routine, tree.place),
         _ => set_term(draft, set_word, tree.term, tree.place),
@@ -129,11 +134,14 @@ fn set_split<'a>(
     if is_sub(term) {
         return Ok(refuse_target(draft, tree.place)?);
     }
+    if let Some(setter) = setter_of(env.constants.scope, term) {
+        return let_given(alloc, draft, env, setter, tree.place, split.arguments, true);
+    }
     if is_property_term(term) {
         return Err(OrMemory::Fault(NotYet));
     }
     if takes_item(term) {
-        let member = item_member(alloc, draft, tree.place, term)?;
+        let member = item_member(alloc, draft, env, tree.place, term)?;
         if is_late(member.greatest) {
             return set_member(member);
         }

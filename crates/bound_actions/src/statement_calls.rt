@@ -14,7 +14,7 @@ use crate::indexed_calls::call_indexed;
 use crate::raising::{raise, raise_number};
 use bound_project::{ActionKind, Draft, Parameter};
 use bound_terms::bound_calls::{
-    Item, Passed, Routine, Term, Tree, put_item, take_item, take_numbers, takes,
+    Item, Passed, Routine, Term, Tree, push_receiver, put_item, take_item, take_numbers, takes,
 };
 use bound_terms::bound_declarations::NotYet;
 use bound_terms::bound_members::shapes_ahead;
@@ -141,6 +141,7 @@ fn call_routine<'a>(
     requires { EnvStands env }
     ensures { IfOk result (λ kind. ActsOn (env_view env.entry) (term.Routine routine.entry) place nodes.now (draft_view draft.old) (draft_view draft.new) kind) }
 {
+    push_receiver(draft, routine.receiver)?;
     let (passed, named, values) = read_written(alloc, draft, env, routine.parameters, nodes)?;
     if values == 0 {
         push_given(alloc, draft, routine, passed, named, place)?;

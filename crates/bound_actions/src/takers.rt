@@ -10,9 +10,10 @@ ghost use Rattle.bound_terms.specs.bound_names.specs.View.{EnvStands, env_view};
 
 use crate::trees::{continue_tree, nodes_tree};
 use bound_project::Draft;
+use bound_terms::bound_accesses::{item_member, takes_item};
 use bound_terms::bound_calls::Term;
 use bound_terms::bound_declarations::NotYet;
-use bound_terms::bound_names::{Env, callee_term, item_member, takes_item, writer_of};
+use bound_terms::bound_names::{Env, callee_term, writer_of};
 use bound_terms::tree_of;
 use statement_terms::{Split, Taker, adds_one, ends_bare, split_call, taker_of};
 use std::alloc::Global;
@@ -56,7 +57,7 @@ fn taker_split<'a>(
         return Ok(None);
     }
     if takes_item(term) {
-        let member = item_member(alloc, draft, tree.place, term)?;
+        let member = item_member(alloc, draft, env, tree.place, term)?;
         return Ok(taker_of(Term::HostMember(member)));
     }
     let more = continue_tree(alloc, draft, env, tree, split.closed)?;

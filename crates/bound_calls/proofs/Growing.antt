@@ -8,11 +8,11 @@ use Rattle.bound_project.specs.declared.node.NodeKind.TheVariants as node
 use Rattle.bound_project.specs.declared.node.Node.{Node}
 use Rattle.bound_project.specs.declared.node.ArgumentNames.{ArgumentNames}
 use Rattle.bound_project.specs.Project.{nowhere}
-use Rattle.bound_project.specs.Expressions.{constant, call, active_sheet, host_member, named_member, ByName, in_order}
+use Rattle.bound_project.specs.Expressions.{constant, call, active_sheet, host_member, named_member, ByName, in_order, method}
 use Rattle.bound_project.specs.Expressions as bound
 use Rattle.bound_project.specs.Lists.{above}
 use Rattle.bound_project.specs.View.{declared_view}
-use Rattle.bound_project.specs.Pieces.{Piece, a_member, a_named_member, an_argument, an_expr, default_taken, Tables, arguments_off, exprs_off, by_name_in, name_in, name_of, of_found, of_member_found, of_named_found, of_value, expr_of, put_kind}
+use Rattle.bound_project.specs.Pieces.{Piece, a_member, a_named_member, an_argument, an_expr, default_taken, Tables, arguments_off, exprs_off, by_name_in, name_in, name_of, of_found, of_member_found, of_named_found, of_value, expr_of, put_kind, of_object_found}
 use Rattle.bound_project.specs.Drafts.{Drafted, NodeNamed, with_constant}
 use Rattle.bound_project.proofs.Drafts.{Extends, by_name_same, constant_extends, names_named}
 use Rattle.vba_values.specs.Types as type
@@ -70,6 +70,8 @@ pub put_same : (t u : Tables) → Extends t u → (n : Node) (k : NodeKind) → 
 put_same t u e n (node.Constant i) h st = ap (λ v. expr_of n (constant v) ∷ st) (e.constant_is i h)
 put_same t u e n (node.ByDefault i) h st = ap (λ v. an_argument (default_taken v) ∷ st) (e.constant_is i h)
 put_same t u e n (node.CallInOrder p count order) h st = ap (λ o. of_found (λ args. expr_of n (call p (in_order o args))) (arguments_off count st bound.no_args)) (e.order_is order h)
+put_same t u e n (node.MethodInOrder p count order) h st =
+    ap (λ o. of_object_found (λ x args. expr_of n (method x p (in_order o args))) (arguments_off count st bound.no_args)) (e.order_is order h)
 put_same t u e n (node.MemberThere i given) h st = ap (λ v. of_value (λ x. a_member x (name_of v) given) st) (e.constant_is i h)
 put_same t u e n (node.HostMember i count) h st =
     ap (λ v. of_member_found (name_of v) (λ x es. expr_of n (host_member x (name_of v) es)) (exprs_off count st bound.no_exprs)) (e.constant_is i h)
@@ -86,6 +88,7 @@ pub node_named : (t u : Tables) → Extends t u → (k : NodeKind) → NodeNamed
 node_named t u e (node.Constant i) h = omega (arith, e.constants_more)
 node_named t u e (node.ByDefault i) h = omega (arith, e.constants_more)
 node_named t u e (node.CallInOrder p count order) h = omega (arith, e.orders_more)
+node_named t u e (node.MethodInOrder p count order) h = omega (arith, e.orders_more)
 node_named t u e (node.MemberThere i given) h = omega (arith, e.constants_more)
 node_named t u e (node.HostMember i count) h = omega (arith, e.constants_more)
 node_named t u e (node.NamedThere i by given) h = (omega (arith, h.0, e.constants_more), names_named t u e by h.1)
@@ -93,7 +96,7 @@ node_named t u e (node.NamedMember i by count) h = (omega (arith, h.0, e.constan
 node_named t u e k h = tt
 
 pub term_named : (t u : Tables) → Extends t u → (x : Term) → TermNamed t x → TermNamed u x
-term_named t u e (term.Place kind of bounded lends) h = node_named t u e kind h
+term_named t u e (term.Place kind of bounded lends makes) h = node_named t u e kind h
 term_named t u e (term.Value ending) h = node_named t u e ending.kind h
 term_named t u e (term.HostMember m) h = omega (arith, e.constants_more)
 term_named t u e (term.SheetMember m) h = omega (arith, e.constants_more)
@@ -128,7 +131,7 @@ member_same t u e m h = ap named (sym (name_same t u e m.name h))
     named n = record { name = n; of = declared_view m.of; least = m.least; greatest = m.greatest }
 
 pub term_grows : (env : Env) (t u : Tables) → Extends t u → (x : Term) → TermNamed t x → (y : terms.Term) (ps below : List Piece) → TermStands env t x y ps below → TermStands env u x y ps below
-term_grows env t u e (term.Place kind of bounded lends) k y ps below h = record { at = h.at; is = h.is; ends = λ n. put_same t u e n kind k ps ∙ h.ends n }
+term_grows env t u e (term.Place kind of bounded lends makes) k y ps below h = record { at = h.at; is = h.is; ends = λ n. put_same t u e n kind k ps ∙ h.ends n }
 term_grows env t u e (term.Value ending) k y ps below h = record { made = h.made; is = h.is; ends = λ n. put_same t u e n ending.kind k ps ∙ h.ends n }
 term_grows env t u e (term.Routine r) k y ps below h = h
 term_grows env t u e (term.Property p) k y ps below h = h

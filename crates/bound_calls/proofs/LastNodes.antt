@@ -6,15 +6,16 @@ use Rattle.bound_project.specs.declared.declared_type.ElementType.TheVariants as
 use Rattle.bound_project.specs.declared.node.Node.{Node}
 use Rattle.bound_project.specs.declared.node.NodeKind.{NodeKind}
 use Rattle.bound_project.specs.declared.node.NodeKind.TheVariants as node
-use Rattle.bound_project.specs.Expressions.{Expr, expr, load, element_value, field_value, unary, binary, call, same, library, host_member, named_member, ByName, no_args, in_order, Exprs, no_exprs, Lvalue, marked}
+use Rattle.bound_project.specs.Expressions.{Expr, expr, load, element_value, field_value, unary, binary, call, same, library, host_member, named_member, ByName, no_args, in_order, Exprs, no_exprs, Lvalue, marked, load_made, method, Args}
 use Rattle.bound_project.specs.Expressions as bound
-use Rattle.bound_project.specs.Pieces.{Piece, nothing, an_expr, a_place, a_member, a_named_member, an_argument, a_value_shown, a_zone, a_test_begun, a_test_is, a_test_range, a_resize, an_erased, Tables, arguments_off, as_operand, expr_of, exprs_off, is_member, is_named_member, misfit, by_name_in, name_in, of_both, of_found, of_member, of_member_found, of_named, of_named_found, of_place, of_value, of_value_found, order_in, put_kind}
+use Rattle.bound_project.specs.Pieces.{Piece, nothing, an_expr, a_place, a_member, a_named_member, an_argument, a_value_shown, a_zone, a_test_begun, a_test_is, a_test_range, a_resize, an_erased, Tables, arguments_off, as_operand, expr_of, exprs_off, is_member, is_named_member, misfit, by_name_in, name_in, of_both, of_found, of_member, of_member_found, of_named, of_named_found, of_place, of_value, of_value_found, order_in, put_kind, an_object, of_object, of_object_found}
 use Rattle.bound_project.specs.Project.{nowhere}
 use Rattle.bound_project.specs.View.{base_view, declared_view}
 use Rattle.bound_declarations.specs.binder.specs.Constants.{is_variant}
-use Rattle.bound_forms.specs.ExpressionsBound.{may_be_object, may_give_object}
+use Rattle.bound_forms.specs.ExpressionsBound.{may_be_object, may_give_object, is_instance_type, is_of_host}
 use Rattle.bound_calls.specs.declared.term.Ending.{Ending}
-use Rattle.bound_calls.specs.References.{EndingGives, kind_gives}
+use Rattle.bound_calls.specs.References.{EndingGives, kind_gives, NoInstance, instance_at, is_of_host_kind, may_be_instance_by, unknown_may}
+use Rattle.bound_project.specs.declared.declared_type.DeclaredType.{DeclaredType}
 
 -- ---- a test of pieces that misfits pass
 
@@ -23,6 +24,7 @@ value_passes test m make h [] = m
 value_passes test m make h (nothing ∷ st) = m
 value_passes test m make h ((an_expr a) ∷ st) = h a st
 value_passes test m make h ((a_place a) ∷ st) = m
+value_passes test m make h ((an_object a) ∷ st) = m
 value_passes test m make h ((a_member a b c) ∷ st) = m
 value_passes test m make h ((a_named_member a b c d) ∷ st) = m
 value_passes test m make h ((an_argument a) ∷ st) = m
@@ -39,6 +41,7 @@ place_passes test m make h [] = m
 place_passes test m make h (nothing ∷ st) = m
 place_passes test m make h ((an_expr a) ∷ st) = m
 place_passes test m make h ((a_place a) ∷ st) = h a st
+place_passes test m make h ((an_object a) ∷ st) = m
 place_passes test m make h ((a_member a b c) ∷ st) = m
 place_passes test m make h ((a_named_member a b c d) ∷ st) = m
 place_passes test m make h ((an_argument a) ∷ st) = m
@@ -57,6 +60,7 @@ both_pass test m make h (an_expr y ∷ []) = m
 both_pass test m make h (an_expr y ∷ nothing ∷ st) = m
 both_pass test m make h (an_expr y ∷ (an_expr a) ∷ st) = h a y st
 both_pass test m make h (an_expr y ∷ (a_place a) ∷ st) = m
+both_pass test m make h (an_expr y ∷ (an_object a) ∷ st) = m
 both_pass test m make h (an_expr y ∷ (a_member a b c) ∷ st) = m
 both_pass test m make h (an_expr y ∷ (a_named_member a b c d) ∷ st) = m
 both_pass test m make h (an_expr y ∷ (an_argument a) ∷ st) = m
@@ -68,6 +72,7 @@ both_pass test m make h (an_expr y ∷ (a_test_range a b c d) ∷ st) = m
 both_pass test m make h (an_expr y ∷ (a_resize a b c) ∷ st) = m
 both_pass test m make h (an_expr y ∷ (an_erased a) ∷ st) = m
 both_pass test m make h ((a_place a) ∷ st) = m
+both_pass test m make h ((an_object a) ∷ st) = m
 both_pass test m make h ((a_member a b c) ∷ st) = m
 both_pass test m make h ((a_named_member a b c d) ∷ st) = m
 both_pass test m make h ((an_argument a) ∷ st) = m
@@ -98,6 +103,7 @@ member_passes test m name make h es [] = m
 member_passes test m name make h es (nothing ∷ st) = m
 member_passes test m name make h es ((an_expr a) ∷ st) = m
 member_passes test m name make h es ((a_place a) ∷ st) = m
+member_passes test m name make h es ((an_object a) ∷ st) = m
 member_passes test m name make h es (a_member a other given ∷ st) = if_passes test m (is_member name other given es) (make a es ∷ st) (h a es st)
 member_passes test m name make h es (a_named_member a b c d ∷ st) = m
 member_passes test m name make h es ((an_argument a) ∷ st) = m
@@ -120,6 +126,7 @@ named_passes test m name by make h es [] = m
 named_passes test m name by make h es (nothing ∷ st) = m
 named_passes test m name by make h es ((an_expr a) ∷ st) = m
 named_passes test m name by make h es ((a_place a) ∷ st) = m
+named_passes test m name by make h es ((an_object a) ∷ st) = m
 named_passes test m name by make h es ((a_member a b c) ∷ st) = m
 named_passes test m name by make h es (a_named_member a other how given ∷ st) = if_passes test m (is_named_member name other by how given es) (make a es ∷ st) (h a es st)
 named_passes test m name by make h es ((an_argument a) ∷ st) = m
@@ -135,6 +142,29 @@ pub named_found_passes : (test : List Piece → Bool) → test misfit ≡ true �
     → test (of_named_found name by make o) ≡ true
 named_found_passes test m name by make h None = m
 named_found_passes test m name by make h (Some found) = named_passes test m name by make h found.0 found.1
+
+object_passes : (test : List Piece → Bool) → test misfit ≡ true → (make : Expr → Args → Piece) → ((e : Expr) (args : Args) (st : List Piece) → test (make e args ∷ st) ≡ true) → (args : Args) (st : List Piece)
+    → test (of_object make args st) ≡ true
+object_passes test m make h args [] = m
+object_passes test m make h args (nothing ∷ st) = m
+object_passes test m make h args ((an_expr a) ∷ st) = m
+object_passes test m make h args ((a_place a) ∷ st) = m
+object_passes test m make h args ((an_object a) ∷ st) = h a args st
+object_passes test m make h args ((a_member a b c) ∷ st) = m
+object_passes test m make h args ((a_named_member a b c d) ∷ st) = m
+object_passes test m make h args ((an_argument a) ∷ st) = m
+object_passes test m make h args ((a_value_shown a) ∷ st) = m
+object_passes test m make h args (a_zone ∷ st) = m
+object_passes test m make h args (a_test_begun ∷ st) = m
+object_passes test m make h args ((a_test_is a b c) ∷ st) = m
+object_passes test m make h args ((a_test_range a b c d) ∷ st) = m
+object_passes test m make h args ((a_resize a b c) ∷ st) = m
+object_passes test m make h args ((an_erased a) ∷ st) = m
+
+pub object_found_passes : (test : List Piece → Bool) → test misfit ≡ true → (make : Expr → Args → Piece) → ((e : Expr) (args : Args) (st : List Piece) → test (make e args ∷ st) ≡ true) → (o : Option (Args × List Piece))
+    → test (of_object_found make o) ≡ true
+object_found_passes test m make h None = m
+object_found_passes test m make h (Some found) = object_passes test m make h found.0 found.1
 
 -- ---- what may be an object
 
@@ -165,11 +195,16 @@ gives_on_top b st = true
 kind_agrees : (t : Tables) (n : Node) (k : NodeKind) (st : List Piece) (b : Bool) → kind_gives k ≡ Some b → gives_on_top b (put_kind t n k st) ≡ true
 unfolding gives_on_top
 kind_agrees t n node.Load st b h = place_passes (gives_on_top b) refl (λ x. expr_of n (load x)) (λ x rest. agree_same true b h) st
+kind_agrees t n node.LoadMade st b h = place_passes (gives_on_top b) refl (λ x. expr_of n (load_made x)) (λ x rest. agree_same true b h) st
 kind_agrees t n (node.ElementValue count) st b h = value_found_passes (gives_on_top b) refl (λ e es. expr_of n (element_value e es)) (λ e es rest. agree_same true b h) (exprs_off count st no_exprs)
 kind_agrees t n (node.FieldValue i) st b h = value_passes (gives_on_top b) refl (λ e. expr_of n (field_value e i)) (λ e rest. agree_same true b h) st
 kind_agrees t n (node.Call p count) st b h = found_passes (gives_on_top b) refl (λ args. expr_of n (call p args)) (λ args rest. agree_same true b h) (arguments_off count st no_args)
 kind_agrees t n (node.CallInOrder p count order) st b h =
     found_passes (gives_on_top b) refl (λ args. expr_of n (call p (in_order (order_in t order) args))) (λ args rest. agree_same true b h) (arguments_off count st no_args)
+kind_agrees t n (node.Method p count) st b h =
+    object_found_passes (gives_on_top b) refl (λ e args. expr_of n (method e p args)) (λ e args rest. agree_same true b h) (arguments_off count st no_args)
+kind_agrees t n (node.MethodInOrder p count order) st b h =
+    object_found_passes (gives_on_top b) refl (λ e args. expr_of n (method e p (in_order (order_in t order) args))) (λ e args rest. agree_same true b h) (arguments_off count st no_args)
 kind_agrees t n (node.HostMember i count) st b h =
     member_found_passes (gives_on_top b) refl (name_in t i) (λ e es. expr_of n (host_member e (name_in t i) es)) (λ e es rest. agree_same true b h) (exprs_off count st no_exprs)
 kind_agrees t n (node.NamedMember i by count) st b h =
@@ -192,6 +227,12 @@ kind_agrees t n (node.Item x count) st b h = let e : None ≡ Some b = h in absu
 kind_agrees t n (node.Element count) st b h = let e : None ≡ Some b = h in absurd cc
 kind_agrees t n (node.Field i of bounded) st b h = let e : None ≡ Some b = h in absurd cc
 kind_agrees t n (node.KeptPlace header) st b h = let e : None ≡ Some b = h in absurd cc
+kind_agrees t n (node.ObjectField i of bounded) st b h = let e : None ≡ Some b = h in absurd cc
+kind_agrees t n (node.NewVariable x c) st b h = let e : None ≡ Some b = h in absurd cc
+kind_agrees t n (node.AsNew c) st b h = let e : None ≡ Some b = h in absurd cc
+kind_agrees t n node.This st b h = let e : None ≡ Some b = h in absurd cc
+kind_agrees t n (node.NewObject c) st b h = let e : None ≡ Some b = h in absurd cc
+kind_agrees t n node.ObjectThere st b h = let e : None ≡ Some b = h in absurd cc
 kind_agrees t n (node.BoundOf upper z) st b h = let e : None ≡ Some b = h in absurd cc
 kind_agrees t n node.DefaultOf st b h = let e : None ≡ Some b = h in absurd cc
 kind_agrees t n node.DefaultIfAny st b h = let e : None ≡ Some b = h in absurd cc
@@ -223,3 +264,54 @@ ending_plain e v = λ t made ps below ends. ap (λ c. c && may_be_object made) v
 pub gives_some : (e : Ending) (o : Option Bool) → is_variant (declared_view e.of) ≡ true → o ≡ kind_gives e.kind → IfSome o (λ b. EndingGives e b)
 gives_some e None v h = tt
 gives_some e (Some b) v h = ending_gives e b v (sym h)
+
+-- ---- objects of classes
+
+-- a value on top is an object of the host, or Nothing
+host_on_top : List Piece → Bool
+host_on_top (an_expr (expr made place of operand) ∷ st) = is_of_host made
+host_on_top st = true
+
+host_kept : (t : Tables) (k : NodeKind) (st : List Piece) → is_of_host_kind k ≡ true → host_on_top (put_kind t any_node k st) ≡ true
+unfolding host_on_top
+host_kept t (node.Constant i) st h = refl
+host_kept t (node.HostObject reference) st h = refl
+host_kept t (node.HostMember i count) st h =
+    member_found_passes host_on_top refl (name_in t i) (λ e es. expr_of any_node (host_member e (name_in t i) es)) (λ e es rest. refl) (exprs_off count st no_exprs)
+host_kept t (node.NamedMember i by count) st h =
+    named_found_passes host_on_top refl (name_in t i) (by_name_in t by) (λ e es. expr_of any_node (named_member e (name_in t i) (by_name_in t by) es)) (λ e es rest. refl) (exprs_off count st no_exprs)
+host_kept t (node.Marked broken count) st h = found_passes host_on_top refl (λ es. expr_of any_node (marked broken es)) (λ es rest. refl) (exprs_off count st no_exprs)
+host_kept t k st h = let e : false ≡ true = h in absurd cc
+
+of_host : (t : Tables) (k : NodeKind) (made : bound.Node) (ps below : List Piece) → is_of_host_kind k ≡ true → put_kind t any_node k ps ≡ expr_of any_node made ∷ below → is_of_host made ≡ true
+unfolding host_on_top
+of_host t k made ps below h e = sym (ap host_on_top e) ∙ host_kept t k ps h
+
+gives_none : (t : Tables) (k : NodeKind) (o : Option Bool) (made : bound.Node) (ps below : List Piece) → kind_gives k ≡ o → unknown_may o ≡ false → put_kind t any_node k ps ≡ expr_of any_node made ∷ below → may_be_object made ≡ false
+gives_none t k None made ps below is h ends = let e : true ≡ false = h in absurd cc
+gives_none t k (Some true) made ps below is h ends = let e : true ≡ false = h in absurd cc
+gives_none t k (Some false) made ps below is h ends = made_gives t k false made ps below is ends
+
+no_instance_at : (k : NodeKind) (of : DeclaredType) → instance_at k of ≡ false → (t : Tables) (made : bound.Node) (ps below : List Piece) → put_kind t any_node k ps ≡ expr_of any_node made ∷ below
+    → is_instance_type made (declared_view of) ≡ false
+no_instance_at k (Plain element.Object) h t made ps below ends = let e : true ≡ false = h in absurd cc
+no_instance_at k (Plain (element.Class number)) h t made ps below ends = let e : true ≡ false = h in absurd cc
+no_instance_at k (Plain element.Variant) h t made ps below ends = gives_none t k (kind_gives k) made ps below refl h ends
+no_instance_at k of h t made ps below ends = refl
+
+last_no : (b : Bool) → (b && false) ≡ false
+last_no true = refl
+last_no false = refl
+
+-- of what may be an object of a class, and isn't the host's
+either_no : (i w p q : Bool) → (i && not w) ≡ false → (i ≡ false → p ≡ false) → (w ≡ true → q ≡ true) → (p && not q) ≡ false
+either_no false w p q h f g = ap (λ b. b && not q) (f refl)
+either_no true true p q h f g = ap (λ b. p && not b) (g refl) ∙ last_no p
+either_no true false p q h f g = let e : true ≡ false = h in absurd cc
+
+pub no_instance : (has : Bool) (e : Ending) → may_be_instance_by has e ≡ false → NoInstance has e
+no_instance false e h = λ env t made place ps below is ends. ap (λ b. b && (is_instance_type made (declared_view e.of) && not (is_of_host made))) is
+no_instance true e h = λ env t made place ps below is ends.
+    ap (λ b. b && (is_instance_type made (declared_view e.of) && not (is_of_host made))) is
+    ∙ either_no (instance_at e.kind e.of) (is_of_host_kind e.kind) (is_instance_type made (declared_view e.of)) (is_of_host made) h
+    (λ no. no_instance_at e.kind e.of no t made ps below (ends any_node)) (λ yes. of_host t e.kind made ps below yes (ends any_node))

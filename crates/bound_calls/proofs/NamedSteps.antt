@@ -13,14 +13,13 @@ use Rattle.vba_expression.specs.Nodes.{behind_node, last_arguments, rest}
 use Rattle.vba_tree.specs.Tree.{Parameter as Written_parameter}
 use Rattle.vba_values.specs.Types.{Declared}
 use Rattle.bound_project.specs.declared.declarations.Parameter.{Parameter}
-use Rattle.bound_project.specs.declared.node.NodeKind.TheVariants as kind
 use Rattle.bound_project.specs.declared.node.Node.{Node}
 use Rattle.bound_project.specs.View.{declared_view, parameter_view}
 use Rattle.bound_project.specs.Expressions.{call, in_order}
 use Rattle.bound_project.specs.Expressions as bound
 use Rattle.bound_project.specs.Lists.{above, args_of}
 use Rattle.bound_project.proofs.Lists.{above_push, args_are}
-use Rattle.bound_project.specs.Pieces.{Argument, Piece, Tables, an_argument, arguments_off, expr_of, of_found, order_in, put_kind}
+use Rattle.bound_project.specs.Pieces.{Argument, Piece, Tables, an_argument, arguments_off, expr_of, of_found, order_in, put_kind, of_object, of_object_found}
 use Rattle.bound_project.specs.Project as project
 use Rattle.bound_project.specs.Drafts.{Drafted, NodeNamed}
 use Rattle.bound_project.proofs.Drafts.{order_extends}
@@ -32,7 +31,7 @@ use Rattle.bound_declarations.specs.binder.specs.Storage.{bound_parameters, proc
 use Rattle.bound_forms.specs.Terms.{Env, Given, a_value, bound_arguments, parameter_named}
 use Rattle.bound_forms.specs.Terms as plain_terms
 use Rattle.bound_declarations.specs.binder.specs.Signatures.{is_get, reader, parameters_in, call_type}
-use Rattle.bound_forms.specs.ExpressionsBound.{call_value, call_with, if_there, indexes_value, indexed_value, node_or, numbers_of, argument_of, callee, indexed, operand_of, term_of, givens, place_told, term_or, wrong_term}
+use Rattle.bound_forms.specs.ExpressionsBound.{call_value, call_with, if_there, indexes_value, indexed_value, node_or, numbers_of, argument_of, callee, indexed, operand_of, term_of, givens, place_told, term_or, wrong_term, call_node}
 use Rattle.bound_calls.specs.declared.term.Ending.{Ending}
 use Rattle.bound_calls.specs.declared.term.Routine.{Routine}
 use Rattle.bound_calls.specs.declared.term.Term.TheVariants as term
@@ -43,14 +42,16 @@ use Rattle.bound_calls.specs.declared.term.Call.{Call}
 use Rattle.bound_calls.specs.declared.term.Item.{Item}
 use Rattle.bound_calls.specs.declared.term.Item.TheVariants as item
 use Rattle.bound_calls.specs.Passing.{AllTaken, AllLeft}
-use Rattle.bound_calls.specs.Standing.{RoutineStands, ValueStands, CallStands, Stands, NamedStands, NamedAbove, passed_below, AllNamed, Grown, Base}
+use Rattle.bound_calls.specs.Standing.{ValueStands, CallStands, Stands, NamedStands, NamedAbove, passed_below, AllNamed, Grown, Base, IsReceiver, ReceiverThere, RoutineIs}
 use Rattle.bound_calls.specs.Steps.{Goes}
 use Rattle.bound_calls.specs.Calls.{PassesTree, passed_in}
-use Rattle.bound_calls.specs.InOrder.{is_there, all_apart, counted_from, places_from, other_numbers, others, numbers_given, numbers_pushed, NamedTaken, AllNamedTaken, is_named, with_named, OtherPassed, PassesOthers, PassesApart, AddsOrder, Orders, EndsInOrder, EndsNamed}
+use Rattle.bound_calls.specs.InOrder.{is_there, all_apart, counted_from, places_from, other_numbers, others, numbers_given, numbers_pushed, NamedTaken, AllNamedTaken, is_named, with_named, OtherPassed, PassesOthers, PassesApart, AddsOrder, Orders, EndsInOrder, EndsNamed, named_kind}
 use Rattle.bound_calls.proofs.Growing.{grown_same, grown_twice, all_named, stands_grows}
 use Rattle.bound_calls.proofs.Arguing.{left_long}
-use Rattle.bound_calls.proofs.CallSteps.{above_both, parameters_long, routine_item}
+use Rattle.bound_calls.proofs.CallSteps.{above_both, parameters_long, routine_item, taken_routine}
 use Rattle.bound_calls.proofs.InOrder.{named_bound}
+use Rattle.bound_calls.specs.declared.term.Receiver.{Receiver}
+use Rattle.bound_calls.specs.declared.term.Receiver.TheVariants as receiver
 
 -- ---- lists of numbers, with one more
 
@@ -400,13 +401,29 @@ unpacked env t (k ∷ ks) i xs p (tree.named before comma name mark e) is ps bas
 
 -- ---- a call with names
 
--- the node of a call takes all arguments
-call_ends : (t : Tables) (procedure count order : ℕ) (places : List ℕ) (all : List Argument) (ps below : List Piece) → count ≡ length all → order_in t order ≡ places → ps ≡ above (map an_argument all) below
-    → (n : Node) → put_kind t n (kind.CallInOrder procedure count order) ps ≡ expr_of n (call procedure (in_order places (args_of all))) ∷ below
-call_ends t procedure count order places all ps below counted is a n =
+-- all arguments off the stack
+all_taken : (count : ℕ) (all : List Argument) (ps below : List Piece) → count ≡ length all → ps ≡ above (map an_argument all) below → arguments_off count ps bound.no_args ≡ Some (args_of all, below)
+all_taken count all ps below counted a =
+    ap (λ st. arguments_off count st bound.no_args) a ∙ ap (λ m. arguments_off m (above (map an_argument all) below) bound.no_args) counted ∙ args_are all below
+
+-- the node of a call takes all arguments, and what it is called of
+call_ends : (t : Tables) (r : Receiver) (base : Option bound.Expr) (procedure count order : ℕ) (places : List ℕ) (all : List Argument) (ps there below : List Piece) → IsReceiver r base → ReceiverThere base there below
+    → count ≡ length all → order_in t order ≡ places → ps ≡ above (map an_argument all) there
+    → (n : Node) → put_kind t n (named_kind r procedure count order) ps ≡ expr_of n (call_node base procedure (in_order places (args_of all))) ∷ below
+call_ends t receiver.Module None procedure count order places all ps there below received on counted is a n =
     let A : List ℕ → Option (bound.Args × List Piece) → List Piece = λ l o. of_found (λ args. expr_of n (call procedure (in_order l args))) o in
-    ap (λ l. A l (arguments_off count ps bound.no_args)) is ∙ ap (λ st. A places (arguments_off count st bound.no_args)) a
-    ∙ ap (λ m. A places (arguments_off m (above (map an_argument all) below) bound.no_args)) counted ∙ ap (λ o. A places o) (args_are all below)
+    ap (λ l. A l (arguments_off count ps bound.no_args)) is ∙ ap (λ o. A places o) (all_taken count all ps there counted a) ∙ ap (λ st. expr_of n (call procedure (in_order places (args_of all))) ∷ st) on
+call_ends t receiver.Module (Some e) procedure count order places all ps there below received on counted is a n = absurd received
+call_ends t (receiver.Own of) None procedure count order places all ps there below received on counted is a n = absurd received
+call_ends t (receiver.Own of) (Some e) procedure count order places all ps there below received on counted is a n =
+    let A : List ℕ → Option (bound.Args × List Piece) → List Piece = λ l o. of_object_found (λ x args. expr_of n (bound.method x procedure (in_order l args))) o in
+    ap (λ l. A l (arguments_off count ps bound.no_args)) is ∙ ap (λ o. A places o) (all_taken count all ps there counted a)
+    ∙ ap (λ st. of_object (λ x args. expr_of n (bound.method x procedure (in_order places args))) (args_of all) st) on
+call_ends t (receiver.Pushed of) None procedure count order places all ps there below received on counted is a n = absurd received
+call_ends t (receiver.Pushed of) (Some e) procedure count order places all ps there below received on counted is a n =
+    let A : List ℕ → Option (bound.Args × List Piece) → List Piece = λ l o. of_object_found (λ x args. expr_of n (bound.method x procedure (in_order l args))) o in
+    ap (λ l. A l (arguments_off count ps bound.no_args)) is ∙ ap (λ o. A places o) (all_taken count all ps there counted a)
+    ∙ ap (λ st. of_object (λ x args. expr_of n (bound.method x procedure (in_order places args))) (args_of all) st) on
 
 and_no : (b : Bool) → (b && false) ≡ false
 and_no true = refl
@@ -428,15 +445,15 @@ no_index : (value : Declared → plain_terms.Term → Place → Option bound.Exp
 no_index value w [] h = refl
 no_index value w (g ∷ gs) h = ap (λ b. is_get w.kind && b) h ∙ and_no (is_get w.kind)
 
-pub call_is : (value : Declared → plain_terms.Term → Place → Option bound.Expr) (number_of : plain_terms.Term → Place → Option bound.Expr) (env : Env) (place : Place) (gs : List Given) (space : Space) (number : ℕ) (w : Written) (read : ℕ × Written) (procedure : ℕ) (of : Declared) (parameters : List project.Parameter)
+pub call_is : (value : Declared → plain_terms.Term → Place → Option bound.Expr) (number_of : plain_terms.Term → Place → Option bound.Expr) (env : Env) (place : Place) (gs : List Given) (base : Option bound.Expr) (space : Space) (number : ℕ) (w : Written) (read : ℕ × Written) (procedure : ℕ) (of : Declared) (parameters : List project.Parameter)
     (args : bound.Args) → reader env.scope space number w ≡ Some read → procedure ≡ procedure_number env.scope space read.0 → parameters ≡ parameters_in env.scope space read.1 → of ≡ call_type env.scope space read.1
-    → (length read.1.parameters == 0) ≡ false → bound_arguments value parameters gs ≡ Some args → call_with value number_of env place gs space number w ≡ a_value (call procedure args) of
-call_is value number_of env place gs space number w read procedure of parameters args reads number_is parameters_are of_is some given =
+    → (length read.1.parameters == 0) ≡ false → bound_arguments value parameters gs ≡ Some args → call_with value number_of env place gs base space number w ≡ a_value (call_node base procedure args) of
+call_is value number_of env place gs base space number w read procedure of parameters args reads number_is parameters_are of_is some given =
     let all : bound_arguments value (parameters_in env.scope space read.1) gs ≡ Some args = ap (λ l. bound_arguments value l gs) (sym parameters_are) ∙ given in
     let called_as : ℕ × Written → plain_terms.Term = λ (f : ℕ × Written).
-    if indexes_value f.1 gs then node_or (call_value env space f.0 f.1 (Some bound.no_args)) (λ n u. indexed_value place n u (numbers_of number_of gs))
-    else call_value env space f.0 f.1 (bound_arguments value (parameters_in env.scope space f.1) gs) in
-    let found : call_with value number_of env place gs space number w ≡ called_as read = ap (λ o. if_there (option_map called_as o)) reads in
+    if indexes_value f.1 gs then node_or (call_value env base space f.0 f.1 (Some bound.no_args)) (λ n u. indexed_value env place n u (numbers_of number_of gs))
+    else call_value env base space f.0 f.1 (bound_arguments value (parameters_in env.scope space f.1) gs) in
+    let found : call_with value number_of env place gs base space number w ≡ called_as read = ap (λ o. if_there (option_map called_as o)) reads in
     found ∙ rw (no_index value read.1 gs some, all, number_is, of_is) refl
 
 names_long : (value : Declared → plain_terms.Term → Place → Option bound.Expr) (n : ℕ) (ps : List project.Parameter) (gs : List Given) (ks : List ℕ) (xs : List Argument) → AllNamedTaken value n ps gs ks xs → length ks ≡ length xs
@@ -481,30 +498,36 @@ in_order_bound env t parameters x named o gs xs g ns ys between below d e h same
 
 -- the value of a call, behind what was pushed
 pub call_stands : (env : Env) (t : Tables) (r : Routine) (x : Passed) (d e : Drafted) (named : List ℕ) (ending : Ending) (y : plain_terms.Term) (place : Place) (gs : List Given) (xs : List Argument) (g : Given) (ns : List Given) (ys : List Argument)
-    (qs between below : List Piece) → EndsNamed r x named d e ending → t ≡ e.tables → RoutineStands env r y qs qs → AllTaken (argument_of env) (map parameter_view r.parameters.now) gs xs (map parameter_view x.left.now) → x.count ≡ length xs
-    → AllNamedTaken (argument_of env) x.count (map parameter_view x.left.now) (g ∷ ns) named ys → d.pieces ≡ above (map an_argument ys) between → between ≡ above (map an_argument xs) below
+    (between there below : List Piece) → EndsNamed r x named d e ending → t ≡ e.tables → (s : RoutineIs env r y) → ReceiverThere s.base there below → AllTaken (argument_of env) (map parameter_view r.parameters.now) gs xs (map parameter_view x.left.now) → x.count ≡ length xs
+    → AllNamedTaken (argument_of env) x.count (map parameter_view x.left.now) (g ∷ ns) named ys → d.pieces ≡ above (map an_argument ys) between → between ≡ above (map an_argument xs) there
     → ValueStands t ending (indexed env place y (gs ++ g ∷ ns)) e.pieces below
-call_stands env t r x d e named ending y place gs xs g ns ys qs between below h same s taken counted by_name a b =
+call_stands env t r x d e named ending y place gs xs g ns ys between there below h same s on taken counted by_name a b =
     let value = argument_of env in
     let ps = map parameter_view r.parameters.now in
     let left = map parameter_view x.left.now in
     let o = h.ordered in
-    let m = in_order_bound env t r.parameters.now x named o gs xs g ns ys between below d e h.ends same taken counted by_name a b in
+    let m = in_order_bound env t r.parameters.now x named o gs xs g ns ys between there d e h.ends same taken counted by_name a b in
     let args = in_order m.places (args_of m.all) in
     let N : ℕ → Type 0 = λ c. AllNamedTaken value c left (g ∷ ns) named ys in
     let A : List project.Parameter → Type 0 = λ l. AllTaken value l gs xs left in
     let some : (length s.read.1.parameters == 0) ≡ false = some_written value (scope_in (home env.scope s.space) s.read.1) _ s.read.1.parameters gs xs left (length xs) g ns named ys (subst A s.parameters_are taken) (subst N counted by_name) in
     let P : Ending → Type 0 = λ z. ValueStands t z (indexed env place y (gs ++ g ∷ ns)) e.pieces below in
-    let z = plain_terms.a_routine s.space s.number s.written in
+    let z = plain_terms.routine_term s.base s.space s.number s.written in
     let all = gs ++ g ∷ ns in
     subst P (sym h.ending_is) (record {
-      made = call r.procedure args;
-      is = ap (λ w. indexed env place w all) s.is ∙ ap (λ w. term_or w (wrong_term env place z all)) (call_is value (operand_of env) env place (gs ++ g ∷ ns) s.space s.number s.written s.read r.procedure (declared_view r.of) ps args s.reads s.procedure_is s.parameters_are s.of_is some m.bound);
-      ends = call_ends t r.procedure o.arguments o.order m.places m.all e.pieces below m.arguments_is m.order_is m.on_top;
+      made = call_node s.base r.procedure args;
+      is = ap (λ w. indexed env place w all) s.is ∙ ap (λ w. term_or w (wrong_term env place z all)) (taken_routine env place s.base s.space s.number s.written all
+          ∙ call_is value (operand_of env) env place all s.base s.space s.number s.written s.read r.procedure (declared_view r.of) ps args s.reads s.procedure_is s.parameters_are s.of_is some m.bound);
+      ends = call_ends t r.receiver s.base r.procedure o.arguments o.order m.places m.all e.pieces there below s.received on m.arguments_is m.order_is m.on_top;
     })
 
+kind_named : (t : Tables) (r : Receiver) (procedure count order : ℕ) → order < length t.orders → NodeNamed t (named_kind r procedure count order)
+kind_named t receiver.Module procedure count order h = h
+kind_named t (receiver.Own of) procedure count order h = h
+kind_named t (receiver.Pushed of) procedure count order h = h
+
 pub ending_named : (r : Routine) (x : Passed) (named : List ℕ) (d e : Drafted) (ending : Ending) → EndsNamed r x named d e ending → NodeNamed e.tables ending.kind
-ending_named r x named d e ending h = let P : Ending → Type 0 = λ z. NodeNamed e.tables z.kind in subst P (sym h.ending_is) h.ends.order_named
+ending_named r x named d e ending h = let P : Ending → Type 0 = λ z. NodeNamed e.tables z.kind in subst P (sym h.ending_is) (kind_named e.tables r.receiver r.procedure h.ordered.arguments h.ordered.order h.ends.order_named)
 
 -- there is a name
 none_given : (value : Declared → plain_terms.Term → Place → Option bound.Expr) (n : ℕ) (ps : List project.Parameter) (k : ℕ) (ks : List ℕ) (xs : List Argument) → AllNamedTaken value n ps [] (reverse (k ∷ ks)) xs → ⊥
@@ -521,7 +544,7 @@ called_stands env x d e named ending y before [] made gs between below some h is
 called_stands env x d e named ending y before (g ∷ ns) made gs between below some h is s names a =
     let A : List Given → Type 0 = λ l. ValueStands e.tables ending (indexed env (place_told y) (callee env y (term_of env y)) l) e.pieces below in
     let p = s.passed in
-    subst A (sym is) (call_stands env e.tables x.routine x.passed d e named ending (callee env y (term_of env y)) (place_told y) (givens env before) p.made g ns made below between below h refl s.routine p.taken p.count_is names a p.on_top)
+    subst A (sym is) (call_stands env e.tables x.routine x.passed d e named ending (callee env y (term_of env y)) (place_told y) (givens env before) p.made g ns made between s.between below h refl s.routine s.there p.taken p.count_is names a p.on_top)
 
 index_stands : (env : Env) (x : Call) (k : ℕ) (ks : List ℕ) (ending : Ending) (left right : Token) (xs : List Item) (d e : Drafted) → AllNamed d.tables xs → EndsNamed x.routine x.passed (reverse (k ∷ ks)) d e ending → (is : List nodes.Item)
     (base : Base) → Stands env d.tables (with_named (k ∷ ks) (item.Call x ∷ xs)) is d.pieces base
@@ -541,7 +564,7 @@ index_stands env x k ks ending left right xs d e n c (nodes.arguments args ∷ n
       below,
       (
         record {
-          term_is = subst T (sym (routine_item (place_told y) (callee env y (term_of env y)) s.routine.space s.routine.number s.routine.written s.routine.is))
+          term_is = subst T (sym (routine_item env (place_told y) (callee env y (term_of env y)) s.routine.base s.routine.space s.routine.number s.routine.written s.routine.is))
               (called_stands env x d e (reverse (k ∷ ks)) ending y u.before u.given u.made (givens env args) u.between below (λ z. none_given (argument_of env) x.passed.count (map parameter_view x.passed.left.now) k ks u.made (subst N z u.taken)) c u.givens_are s u.taken u.on_top);
           place_is = s.place_is;
           name_is = refl;

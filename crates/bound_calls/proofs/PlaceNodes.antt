@@ -3,13 +3,13 @@ use Rattle.std.proofs.Common.{◌≡◌, Bool, true, false, not, List, [], ◌�
 use Rattle.bound_project.specs.declared.node.Node.{Node}
 use Rattle.bound_project.specs.declared.node.NodeKind.{NodeKind}
 use Rattle.bound_project.specs.declared.node.NodeKind.TheVariants as node
-use Rattle.bound_project.specs.Expressions.{Expr, load, element_value, field_value, unary, binary, call, default_of, default_if_any, same, is_type, library, bound_of, host_member, named_member, no_args, in_order, Exprs, no_exprs, Lvalue, item, element, field, marked}
-use Rattle.bound_project.specs.Pieces.{Piece, nothing, an_expr, a_place, a_member, a_named_member, an_argument, place_lent, value_copied, values_listed, a_value_shown, a_zone, a_test_begun, a_test_is, a_test_range, a_resize, an_erased, Tables, arguments_off, as_operand, expr_of, exprs_off, misfit, by_name_in, name_in, order_in, of_test, of_range, of_place_found, put_kind}
+use Rattle.bound_project.specs.Expressions.{Expr, load, element_value, field_value, unary, binary, call, default_of, default_if_any, same, is_type, library, bound_of, host_member, named_member, no_args, in_order, Exprs, no_exprs, Lvalue, item, element, field, marked, load_made, method, object_field, as_new}
+use Rattle.bound_project.specs.Pieces.{Piece, nothing, an_expr, a_place, a_member, a_named_member, an_argument, place_lent, value_copied, values_listed, a_value_shown, a_zone, a_test_begun, a_test_is, a_test_range, a_resize, an_erased, Tables, arguments_off, as_operand, expr_of, exprs_off, misfit, by_name_in, name_in, order_in, of_test, of_range, of_place_found, put_kind, an_object}
 use Rattle.bound_project.specs.View.{base_view, declared_view, variable_view}
 use Rattle.bound_forms.specs.Terms as plain
 use Rattle.bound_calls.specs.Standing.{PlaceEnds}
 use Rattle.bound_calls.specs.Calls.{may_be_item}
-use Rattle.bound_calls.proofs.LastNodes.{value_passes, place_passes, both_pass, found_passes, value_found_passes, member_found_passes, named_found_passes, any_node}
+use Rattle.bound_calls.proofs.LastNodes.{value_passes, place_passes, both_pass, found_passes, value_found_passes, member_found_passes, named_found_passes, any_node, object_found_passes}
 
 -- ---- tests of pieces that misfits pass
 
@@ -20,6 +20,7 @@ test_passes test m make h (an_expr y ∷ []) = m
 test_passes test m make h (an_expr y ∷ nothing ∷ st) = m
 test_passes test m make h (an_expr y ∷ (an_expr a) ∷ st) = m
 test_passes test m make h (an_expr y ∷ (a_place a) ∷ st) = m
+test_passes test m make h (an_expr y ∷ (an_object a) ∷ st) = m
 test_passes test m make h (an_expr y ∷ (a_member a b c) ∷ st) = m
 test_passes test m make h (an_expr y ∷ (a_named_member a b c d) ∷ st) = m
 test_passes test m make h (an_expr y ∷ (an_argument a) ∷ st) = m
@@ -31,6 +32,7 @@ test_passes test m make h (an_expr y ∷ (a_test_range a b c d) ∷ st) = m
 test_passes test m make h (an_expr y ∷ (a_resize a b c) ∷ st) = m
 test_passes test m make h (an_expr y ∷ (an_erased a) ∷ st) = m
 test_passes test m make h ((a_place a) ∷ st) = m
+test_passes test m make h ((an_object a) ∷ st) = m
 test_passes test m make h ((a_member a b c) ∷ st) = m
 test_passes test m make h ((a_named_member a b c d) ∷ st) = m
 test_passes test m make h ((an_argument a) ∷ st) = m
@@ -51,6 +53,7 @@ range_passes test m make h (an_expr y ∷ an_expr x ∷ []) = m
 range_passes test m make h (an_expr y ∷ an_expr x ∷ nothing ∷ st) = m
 range_passes test m make h (an_expr y ∷ an_expr x ∷ (an_expr a) ∷ st) = m
 range_passes test m make h (an_expr y ∷ an_expr x ∷ (a_place a) ∷ st) = m
+range_passes test m make h (an_expr y ∷ an_expr x ∷ (an_object a) ∷ st) = m
 range_passes test m make h (an_expr y ∷ an_expr x ∷ (a_member a b c) ∷ st) = m
 range_passes test m make h (an_expr y ∷ an_expr x ∷ (a_named_member a b c d) ∷ st) = m
 range_passes test m make h (an_expr y ∷ an_expr x ∷ (an_argument a) ∷ st) = m
@@ -62,6 +65,7 @@ range_passes test m make h (an_expr y ∷ an_expr x ∷ (a_test_range a b c d) �
 range_passes test m make h (an_expr y ∷ an_expr x ∷ (a_resize a b c) ∷ st) = m
 range_passes test m make h (an_expr y ∷ an_expr x ∷ (an_erased a) ∷ st) = m
 range_passes test m make h (an_expr y ∷ (a_place a) ∷ st) = m
+range_passes test m make h (an_expr y ∷ (an_object a) ∷ st) = m
 range_passes test m make h (an_expr y ∷ (a_member a b c) ∷ st) = m
 range_passes test m make h (an_expr y ∷ (a_named_member a b c d) ∷ st) = m
 range_passes test m make h (an_expr y ∷ (an_argument a) ∷ st) = m
@@ -73,6 +77,7 @@ range_passes test m make h (an_expr y ∷ (a_test_range a b c d) ∷ st) = m
 range_passes test m make h (an_expr y ∷ (a_resize a b c) ∷ st) = m
 range_passes test m make h (an_expr y ∷ (an_erased a) ∷ st) = m
 range_passes test m make h ((a_place a) ∷ st) = m
+range_passes test m make h ((an_object a) ∷ st) = m
 range_passes test m make h ((a_member a b c) ∷ st) = m
 range_passes test m make h ((a_named_member a b c d) ∷ st) = m
 range_passes test m make h ((an_argument a) ∷ st) = m
@@ -106,6 +111,16 @@ kind_no_item t n (node.Element count) st h = place_found_passes no_item_on_top r
 kind_no_item t n (node.Field i of bounded) st h = place_passes no_item_on_top refl (λ x. a_place (field x i (declared_view of) bounded)) (λ x rest. refl) st
 kind_no_item t n (node.KeptPlace header) st h = refl
 kind_no_item t n node.Load st h = place_passes no_item_on_top refl (λ x. expr_of n (load x)) (λ x rest. refl) st
+kind_no_item t n (node.ObjectField i of bounded) st h = value_passes no_item_on_top refl (λ e. a_place (object_field e i (declared_view of) bounded)) (λ e rest. refl) st
+kind_no_item t n (node.NewVariable x c) st h = refl
+kind_no_item t n (node.AsNew c) st h = place_passes no_item_on_top refl (λ x. a_place (as_new c x)) (λ x rest. refl) st
+kind_no_item t n node.LoadMade st h = place_passes no_item_on_top refl (λ x. expr_of n (load_made x)) (λ x rest. refl) st
+kind_no_item t n node.This st h = refl
+kind_no_item t n (node.NewObject c) st h = refl
+kind_no_item t n node.ObjectThere st h = value_passes no_item_on_top refl (λ e. an_object e) (λ e rest. refl) st
+kind_no_item t n (node.Method p count) st h = object_found_passes no_item_on_top refl (λ e args. expr_of n (method e p args)) (λ e args rest. refl) (arguments_off count st no_args)
+kind_no_item t n (node.MethodInOrder p count order) st h =
+    object_found_passes no_item_on_top refl (λ e args. expr_of n (method e p (in_order (order_in t order) args))) (λ e args rest. refl) (arguments_off count st no_args)
 kind_no_item t n (node.ElementValue count) st h = value_found_passes no_item_on_top refl (λ e es. expr_of n (element_value e es)) (λ e es rest. refl) (exprs_off count st no_exprs)
 kind_no_item t n (node.FieldValue i) st h = value_passes no_item_on_top refl (λ e. expr_of n (field_value e i)) (λ e rest. refl) st
 kind_no_item t n (node.Unary o of) st h = value_passes no_item_on_top refl (λ a. expr_of n (unary o (as_operand of a))) (λ e rest. refl) st

@@ -1,5 +1,5 @@
 -- Calls of procedures and of properties that are read.
-use Rattle.std.proofs.Common.{◌≡◌, ℕ, ◌==◌, Bool, true, false, ◌&&◌, List, [], ◌∷◌, ◌++◌, length, Option, Some, option_map, refl, sym, ap, subst, ◌∙◌, arith, ne_eqb, if◌then◌else◌}
+use Rattle.std.proofs.Common.{◌≡◌, ℕ, ◌==◌, Bool, true, false, ◌&&◌, List, [], ◌∷◌, ◌++◌, length, Option, Some, None, option_map, refl, sym, ap, subst, ◌∙◌, arith, ne_eqb, if◌then◌else◌}
 use Rattle.vba_base.specs.declared.place.Place.{Place}
 use Rattle.vba_tree.specs.Tree.{Parameter}
 use Rattle.vba_values.specs.Types.{Declared}
@@ -7,7 +7,6 @@ use Rattle.vba_values.specs.Types as type
 use Rattle.bound_project.specs.Expressions as bound
 use Rattle.bound_project.specs.Pieces.{Argument}
 use Rattle.bound_project.specs.Project as project
-use Rattle.bound_project.specs.Statements as to
 use Rattle.bound_project.specs.Statements.{Action}
 use Rattle.bound_declarations.specs.binder.specs.Declarations.{Written}
 use Rattle.bound_declarations.specs.binder.specs.Options.{or_else}
@@ -16,11 +15,11 @@ use Rattle.bound_declarations.specs.binder.specs.Scopes.{Space, Scope}
 use Rattle.bound_declarations.specs.binder.specs.Constants.{home}
 use Rattle.bound_declarations.specs.binder.specs.Names.{scope_in}
 use Rattle.bound_declarations.specs.binder.specs.Storage.{bound_parameters, parameters_of, procedure_number}
-use Rattle.bound_forms.specs.Terms.{Env, Given, a_routine, a_value, bound_arguments}
+use Rattle.bound_forms.specs.Terms.{Env, Given, routine_term, a_value, bound_arguments}
 use Rattle.bound_forms.specs.Terms as plain
 use Rattle.bound_declarations.specs.binder.specs.Signatures.{is_get, reader, parameters_in, call_type, writer}
-use Rattle.bound_forms.specs.ExpressionsBound.{call_value, call_with, if_there, indexes_value, indexed_value, node_or, numbers_of, argument_of}
-use Rattle.bound_forms.specs.StatementsBound.{assigned, broken_target, let_to, untaken}
+use Rattle.bound_forms.specs.ExpressionsBound.{behind_base, call_node, call_value, call_with, if_there, indexes_value, indexed_value, node_or, numbers_of, argument_of}
+use Rattle.bound_forms.specs.StatementsBound.{given_behind, property_given, assigned, broken_target, let_to, untaken}
 use Rattle.bound_calls.specs.Passing.{AllTaken}
 
 and_no : (b : Bool) → (b && false) ≡ false
@@ -37,16 +36,16 @@ no_index : (value : Declared → plain.Term → Place → Option bound.Expr) (s 
 no_index value s w [] xs left t = refl
 no_index value s w (g ∷ gs) xs left t = ap (λ b. is_get w.kind && b) (some_written value s _ w.parameters g gs xs left t) ∙ and_no (is_get w.kind)
 
-pub call_is : (value : Declared → plain.Term → Place → Option bound.Expr) (number_of : plain.Term → Place → Option bound.Expr) (env : Env) (place : Place) (gs : List Given) (space : Space) (number : ℕ) (w : Written) (read : ℕ × Written) (procedure : ℕ) (of : Declared) (parameters : List project.Parameter)
+pub call_is : (value : Declared → plain.Term → Place → Option bound.Expr) (number_of : plain.Term → Place → Option bound.Expr) (env : Env) (place : Place) (gs : List Given) (base : Option bound.Expr) (space : Space) (number : ℕ) (w : Written) (read : ℕ × Written) (procedure : ℕ) (of : Declared) (parameters : List project.Parameter)
     (args : bound.Args) (xs : List Argument) (left : List project.Parameter) → reader env.scope space number w ≡ Some read → procedure ≡ procedure_number env.scope space read.0 → parameters ≡ parameters_in env.scope space read.1
-    → of ≡ call_type env.scope space read.1 → AllTaken value parameters gs xs left → bound_arguments value parameters gs ≡ Some args → call_with value number_of env place gs space number w ≡ a_value (bound.call procedure args) of
-call_is value number_of env place gs space number w read procedure of parameters args xs left reads number_is parameters_are of_is taken given =
+    → of ≡ call_type env.scope space read.1 → AllTaken value parameters gs xs left → bound_arguments value parameters gs ≡ Some args → call_with value number_of env place gs base space number w ≡ a_value (call_node base procedure args) of
+call_is value number_of env place gs base space number w read procedure of parameters args xs left reads number_is parameters_are of_is taken given =
     let all : bound_arguments value (parameters_in env.scope space read.1) gs ≡ Some args = ap (λ l. bound_arguments value l gs) (sym parameters_are) ∙ given in
     let A : List project.Parameter → Type 0 = λ l. AllTaken value l gs xs left in
     let called_as : ℕ × Written → plain.Term = λ (f : ℕ × Written).
-    if indexes_value f.1 gs then node_or (call_value env space f.0 f.1 (Some bound.no_args)) (λ n u. indexed_value place n u (numbers_of number_of gs))
-    else call_value env space f.0 f.1 (bound_arguments value (parameters_in env.scope space f.1) gs) in
-    let found : call_with value number_of env place gs space number w ≡ called_as read = ap (λ o. if_there (option_map called_as o)) reads in
+    if indexes_value f.1 gs then node_or (call_value env base space f.0 f.1 (Some bound.no_args)) (λ n u. indexed_value env place n u (numbers_of number_of gs))
+    else call_value env base space f.0 f.1 (bound_arguments value (parameters_in env.scope space f.1) gs) in
+    let found : call_with value number_of env place gs base space number w ≡ called_as read = ap (λ o. if_there (option_map called_as o)) reads in
     found ∙ rw (no_index value (scope_in (home env.scope space) read.1) read.1 gs xs left (subst A parameters_are taken), all, number_is, of_is) refl
 
 -- ---- assignments
@@ -62,17 +61,18 @@ value_type (p ∷ []) = p.of
 value_type (p ∷ ps) = value_type ps
 
 -- a value parameter of an object type is given the object itself
-abbrev pub written_by : ℕ → bound.Args → bound.Expr → Declared → Action
-written_by procedure args v of = if is_object of then to.set_property procedure args v of else to.let_property procedure args v of
+-- a property that is given a value, by its parts
+given_parts : (itself : Declared → Bool) (env : Env) (base : Option bound.Expr) (place : Place) (space : Space) (gs : List Given) (v : bound.Expr) (f : ℕ × Written) → given_behind itself env base place space gs v f
+    ≡ or_else
+    (option_map (λ args. property_given (itself (value_type (parameters_in env.scope space f.1))) base (procedure_number env.scope space f.0) args v (value_type (parameters_in env.scope space f.1)))
+    (bound_arguments (argument_of env) (but_last (parameters_in env.scope space f.1)) gs))
+    (option_map (λ es. broken_target 25 place v (behind_base base es)) (untaken env (but_last (parameters_in env.scope space f.1)) gs))
+given_parts itself env base place space gs v f = refl
 
-let_parts : (env : Env) (place : Place) (space : Space) (gs : List Given) (v : bound.Expr) (f : ℕ × Written) → let_to env place space gs v f
-    ≡ or_else (option_map (λ args. written_by (procedure_number env.scope space f.0) args v (value_type (parameters_in env.scope space f.1))) (bound_arguments (argument_of env) (but_last (parameters_in env.scope space f.1)) gs))
-    (option_map (broken_target 25 place v) (untaken env (but_last (parameters_in env.scope space f.1)) gs))
-let_parts env place space gs v f = refl
-
-written_found : (env : Env) (place : Place) (v : bound.Expr) (gs : List Given) (space : Space) (number : ℕ) (w : Written) (f : ℕ × Written) → writer env.scope space w ≡ Some f
-    → assigned env place v gs (a_routine space number w) ≡ let_to env place space gs v f
-written_found env place v gs space number w f found = rw found refl
+written_found : (env : Env) (place : Place) (v : bound.Expr) (gs : List Given) (base : Option bound.Expr) (space : Space) (number : ℕ) (w : Written) (f : ℕ × Written) → writer env.scope space w ≡ Some f
+    → assigned env place v gs (routine_term base space number w) ≡ let_to env base place space gs v f
+written_found env place v gs None space number w f found = rw found refl
+written_found env place v gs (Some b) space number w f found = rw found refl
 
 but_last_is : (front : List project.Parameter) (last : project.Parameter) → but_last (front ++ last ∷ []) ≡ front
 but_last_is [] last = refl
@@ -84,17 +84,35 @@ value_type_is [] last = refl
 value_type_is (p ∷ []) last = refl
 value_type_is (p ∷ q ∷ ps) last = value_type_is (q ∷ ps) last
 
--- what a Let of a property is, for its parameters but the last one, and for the type of that
-pub let_whole : (env : Env) (place : Place) (v : bound.Expr) (gs : List Given) (space : Space) (number : ℕ) (w : Written) (f : ℕ × Written) (front : List project.Parameter) (last : project.Parameter)
-    → writer env.scope space w ≡ Some f → parameters_in env.scope space f.1 ≡ front ++ last ∷ []
-    → assigned env place v gs (a_routine space number w)
-    ≡ or_else (option_map (λ args. written_by (procedure_number env.scope space f.0) args v last.of) (bound_arguments (argument_of env) front gs)) (option_map (broken_target 25 place v) (untaken env front gs))
-let_whole env place v gs space number w f front last found parameters =
+-- a property that is given a value, for its parameters but the last one, and for the type of that
+pub given_whole : (itself : Declared → Bool) (env : Env) (place : Place) (v : bound.Expr) (gs : List Given) (base : Option bound.Expr) (space : Space) (f : ℕ × Written) (front : List project.Parameter) (last : project.Parameter)
+    → parameters_in env.scope space f.1 ≡ front ++ last ∷ []
+    → given_behind itself env base place space gs v f
+    ≡ or_else (option_map (λ args. property_given (itself last.of) base (procedure_number env.scope space f.0) args v last.of) (bound_arguments (argument_of env) front gs))
+    (option_map (λ es. broken_target 25 place v (behind_base base es)) (untaken env front gs))
+given_whole itself env place v gs base space f front last parameters =
     let n = procedure_number env.scope space f.0 in
-    let told : List project.Parameter → bound.Args → Action = λ ps args. written_by n args v (value_type ps) in
-    let broken : List project.Parameter → Option Action = λ l. option_map (broken_target 25 place v) (untaken env l gs) in
+    let told : List project.Parameter → bound.Args → Action = λ ps args. property_given (itself (value_type ps)) base n args v (value_type ps) in
+    let broken : List project.Parameter → Option Action = λ l. option_map (λ es. broken_target 25 place v (behind_base base es)) (untaken env l gs) in
     let done : List project.Parameter → Option Action = λ ps. or_else (option_map (told ps) (bound_arguments (argument_of env) (but_last ps) gs)) (broken (but_last ps)) in
     let all = front ++ last ∷ [] in
-    let typed : Declared → Option Action = λ of. or_else (option_map (λ args. written_by n args v of) (bound_arguments (argument_of env) front gs)) (broken front) in
-    written_found env place v gs space number w f found ∙ let_parts env place space gs v f ∙ ap done parameters
-    ∙ ap (λ l. or_else (option_map (told all) (bound_arguments (argument_of env) l gs)) (broken l)) (but_last_is front last) ∙ ap typed (value_type_is front last)
+    given_parts itself env base place space gs v f ∙ ap done parameters
+    ∙ ap (λ l. or_else (option_map (told all) (bound_arguments (argument_of env) l gs)) (broken l)) (but_last_is front last)
+    ∙ ap (λ of. or_else (option_map (λ args. property_given (itself of) base n args v of) (bound_arguments (argument_of env) front gs)) (broken front)) (value_type_is front last)
+
+-- the value and the arguments before it are given to a procedure with these parameters
+pub given_is : (itself : Declared → Bool) (env : Env) (place : Place) (v : bound.Expr) (gs : List Given) (base : Option bound.Expr) (space : Space) (f : ℕ × Written) (front : List project.Parameter) (last : project.Parameter) (args : bound.Args)
+    → parameters_in env.scope space f.1 ≡ front ++ last ∷ [] → bound_arguments (argument_of env) front gs ≡ Some args
+    → given_behind itself env base place space gs v f ≡ Some (property_given (itself last.of) base (procedure_number env.scope space f.0) args v last.of)
+given_is itself env place v gs base space f front last args parameters given =
+    let n = procedure_number env.scope space f.0 in
+    let broken : Option Action = option_map (λ es. broken_target 25 place v (behind_base base es)) (untaken env front gs) in
+    given_whole itself env place v gs base space f front last parameters ∙ ap (λ o. or_else (option_map (λ args. property_given (itself last.of) base n args v last.of) o) broken) given
+
+-- what a Let of a property is
+pub let_whole : (env : Env) (place : Place) (v : bound.Expr) (gs : List Given) (base : Option bound.Expr) (space : Space) (number : ℕ) (w : Written) (f : ℕ × Written) (front : List project.Parameter) (last : project.Parameter)
+    → writer env.scope space w ≡ Some f → parameters_in env.scope space f.1 ≡ front ++ last ∷ []
+    → assigned env place v gs (routine_term base space number w)
+    ≡ or_else (option_map (λ args. property_given (is_object last.of) base (procedure_number env.scope space f.0) args v last.of) (bound_arguments (argument_of env) front gs))
+    (option_map (λ es. broken_target 25 place v (behind_base base es)) (untaken env front gs))
+let_whole env place v gs base space number w f front last found parameters = written_found env place v gs base space number w f found ∙ given_whole is_object env place v gs base space f front last parameters

@@ -1,7 +1,7 @@
 -- How terms are taken as references, and operands that are objects.
 use Rattle.std.proofs.Common.{◌≡◌, Bool, true, false, List, ◌∷◌, Some, None, refl, sym, ap, subst, ◌∙◌}
 use Rattle.std.specs.List.{list_all}
-use Rattle.std.specs.Prelude.{ℕ, ◌==◌, ◌||◌, ◌&&◌, [], Option, if◌then◌else◌, option_map}
+use Rattle.std.specs.Prelude.{ℕ, ◌==◌, ◌||◌, ◌&&◌, [], Option, if◌then◌else◌, option_map, option_and_then}
 use Rattle.vba_base.specs.declared.place.Place.{Place}
 use Rattle.vba_values.specs.declared.object.HostRef.TheVariants as host
 use Rattle.vba_values.specs.Types.{Declared}
@@ -14,9 +14,9 @@ use Rattle.bound_project.specs.declared.node.NodeKind.{NodeKind}
 use Rattle.bound_project.specs.declared.node.NodeKind.TheVariants as node
 use Rattle.bound_project.specs.View.{declared_view}
 use Rattle.bound_project.specs.Project as project
-use Rattle.bound_project.specs.Expressions.{load, err_value, err_number, host_object, host_member, default_of, default_if_any, no_exprs, also}
+use Rattle.bound_project.specs.Expressions.{err_value, err_number, host_object, host_member, default_of, default_if_any, no_exprs, also}
 use Rattle.bound_project.specs.Expressions as bound
-use Rattle.bound_project.specs.Pieces.{Piece, Tables, an_expr, name_in, of_place, of_value, expr_of, put}
+use Rattle.bound_project.specs.Pieces.{Piece, Tables, an_expr, name_in, of_value, expr_of, put}
 use Rattle.bound_project.specs.Drafts.{Drafted, NodeNamed}
 use Rattle.bound_declarations.specs.binder.specs.Options.{or_else}
 use Rattle.bound_declarations.specs.binder.specs.Types.{is_object}
@@ -24,9 +24,9 @@ use Rattle.bound_declarations.specs.binder.specs.Declarations.{Written}
 use Rattle.bound_declarations.specs.binder.specs.Scopes.{Space}
 use Rattle.bound_declarations.specs.binder.specs.Storage.{procedure_number}
 use Rattle.bound_declarations.specs.binder.specs.Constants.{is_variant}
-use Rattle.bound_forms.specs.Terms.{Env, a_routine, a_value, bound_arguments, broken_rule, expression_of, may_lack, typed_value, value_with}
+use Rattle.bound_forms.specs.Terms.{Env, a_value, bound_arguments, broken_rule, expression_of, may_lack, typed_value, routine_term, read_of, value_in}
 use Rattle.bound_forms.specs.Terms as plain
-use Rattle.bound_forms.specs.ExpressionsBound.{bare_call, call_value, if_there, is_host_type, has_object, plain_operand, if_any, given_way, default_value, typed_reference, value_of, operand_of, reference_of, given_as, term_of, place_told, without_arguments}
+use Rattle.bound_forms.specs.ExpressionsBound.{lacking_call, has_default, default_rule, host_kind, bare_call, call_value, if_there, has_object, plain_operand, if_any, given_way, default_value, typed_reference, value_of, operand_of, reference_of, given_as, term_of, place_told, call_node, is_reference_type}
 use Rattle.bound_declarations.specs.binder.specs.Signatures.{call_type, parameters_in}
 use Rattle.bound_calls.specs.declared.term.Ending.{Ending}
 use Rattle.bound_calls.specs.declared.term.HostMember.{HostMember}
@@ -34,15 +34,15 @@ use Rattle.bound_calls.specs.declared.term.Routine.{Routine}
 use Rattle.bound_calls.specs.declared.term.Term.{Term}
 use Rattle.bound_calls.specs.declared.term.Term.TheVariants as term
 use Rattle.bound_calls.specs.declared.term.Tree.{Tree}
-use Rattle.bound_calls.specs.Standing.{RoutineStands, TermStands, EndingIs}
+use Rattle.bound_calls.specs.Standing.{TermStands, EndingIs, RoutineIs}
 use Rattle.bound_calls.specs.Steps.{PushesLeft, PushesOperand}
-use Rattle.bound_calls.specs.Taking.{CallsRoutine, PushesSheet, ReadsMember, TakesValue, sheet_expression}
+use Rattle.bound_calls.specs.Taking.{CallsRoutine, PushesSheet, ReadsMember, TakesValue, sheet_expression, read_kind}
 use Rattle.bound_calls.specs.References.{is_referring, refers, takes_none, may_refer, gives_way, default_node, DefaultBreaks, EndingGives, PushesAs, TakesReference, PushesReference, TakesGiven, PushesGiven, PushesIfAny}
 use Rattle.bound_calls.proofs.Growing.{grown_same, grown_pieces, grown_twice}
-use Rattle.bound_calls.proofs.Taking.{node_of, operand_split, not_err, sheet_stands}
+use Rattle.bound_calls.proofs.Taking.{node_of, operand_split, not_err, sheet_stands, read_ends, read_named, value_called}
 
 -- what is taken as a reference is no value
-object_too : (of : Declared) → is_host_type of ≡ true → is_object of ≡ true
+object_too : (of : Declared) → is_reference_type of ≡ true → is_object of ≡ true
 object_too type.object h = refl
 object_too type.worksheet h = refl
 object_too type.range h = refl
@@ -60,10 +60,10 @@ object_too type.variant h = h
 object_too (type.udt n) h = h
 object_too (type.array_of of) h = h
 
-no_value_typed : (made : bound.Node) (place : Place) (of : Declared) → is_host_type of ≡ true → typed_value made place of ≡ None
+no_value_typed : (made : bound.Node) (place : Place) (of : Declared) → is_reference_type of ≡ true → typed_value made place of ≡ None
 no_value_typed made place of h = ap (λ b. if b then None else Some (expression_of made place of)) (object_too of h)
 
-referred : (made : bound.Node) (place : Place) (of : Declared) → (is_host_type of || is_variant of) ≡ true → typed_reference made place of ≡ Some (expression_of made place of)
+referred : (made : bound.Node) (place : Place) (of : Declared) → (is_reference_type of || is_variant of) ≡ true → typed_reference made place of ≡ Some (expression_of made place of)
 referred made place of h = ap (λ b. if b then Some (expression_of made place of) else None) h
 
 first_of : (a b : Bool) → (a && b) ≡ true → a ≡ true
@@ -74,41 +74,43 @@ second_of : (a b : Bool) → (a && b) ≡ true → b ≡ true
 second_of true b h = h
 second_of false b h = let e : false ≡ true = h in absurd cc
 
-no_member_value : (b : Bool) (made : bound.Node) (place : Place) (of : Declared) (broken : bound.Expr) → (is_host_type of && b) ≡ true → or_else (if b then typed_value made place of else None) (if b then None else Some broken) ≡ None
-no_member_value true made place of broken h = ap (λ (o : Option bound.Expr). or_else o None) (no_value_typed made place of (first_of (is_host_type of) true h))
-no_member_value false made place of broken h = let e : false ≡ true = second_of (is_host_type of) false h in absurd cc
+no_member_value : (b : Bool) (made : bound.Node) (place : Place) (of : Declared) (broken : bound.Expr) → (is_reference_type of && b) ≡ true → or_else (if b then typed_value made place of else None) (if b then None else Some broken) ≡ None
+no_member_value true made place of broken h = ap (λ (o : Option bound.Expr). or_else o None) (no_value_typed made place of (first_of (is_reference_type of) true h))
+no_member_value false made place of broken h = let e : false ≡ true = second_of (is_reference_type of) false h in absurd cc
 
 -- a call without arguments that gives an object
-no_call_value : (env : Env) (space : Space) (number : ℕ) (written : Written) (f : ℕ × Written) (args : Option bound.Args) (place : Place) → is_host_type (call_type env.scope space f.1) ≡ true
-    → value_with (λ a b c. call_value env space f.0 f.1 args) (a_routine space number written) place ≡ None
-no_call_value env space number written f None place h = refl
-no_call_value env space number written f (Some args) place h = no_value_typed (bound.call (procedure_number env.scope space f.0) args) place (call_type env.scope space f.1) h
+no_call_value : (env : Env) (base : Option bound.Expr) (space : Space) (f : ℕ × Written) (args : Option bound.Args) (place : Place) → is_reference_type (call_type env.scope space f.1) ≡ true
+    → value_in typed_value (call_value env base space f.0 f.1 args) place ≡ None
+no_call_value env base space f None place h = refl
+no_call_value env base space f (Some args) place h = no_value_typed (call_node base (procedure_number env.scope space f.0) args) place (call_type env.scope space f.1) h
 
-pub lacks_nothing : (env : Env) (r : Routine) {x : plain.Term} {ps below : List Piece} (s : RoutineStands env r x ps below) → takes_none r ≡ true → (place : Place) → without_arguments env (a_routine s.space s.number s.written) place ≡ None
+pub lacks_nothing : (env : Env) (r : Routine) {x : plain.Term} (s : RoutineIs env r x) → takes_none r ≡ true → (place : Place) → lacking_call env s.base s.space s.number s.written place ≡ None
 lacks_nothing env r s h place =
     let all : list_all may_lack (parameters_in env.scope s.space s.read.1) ≡ true = ap (λ (l : List project.Parameter). list_all may_lack l) (sym s.parameters_are) ∙ h in
     rw (s.reads, all) refl
 
-no_routine_value : (env : Env) (r : Routine) {x : plain.Term} {ps below : List Piece} (s : RoutineStands env r x ps below) → (is_host_type (declared_view r.of) && takes_none r) ≡ true → (place : Place)
-    → value_of env (a_routine s.space s.number s.written) place ≡ None
+no_routine_value : (env : Env) (r : Routine) {x : plain.Term} (s : RoutineIs env r x) → (is_reference_type (declared_view r.of) && takes_none r) ≡ true → (place : Place)
+    → value_of env (routine_term s.base s.space s.number s.written) place ≡ None
 no_routine_value env r s h place =
-    let found : Option (ℕ × Written) → plain.Term = λ o. if_there (option_map (λ f. call_value env s.space f.0 f.1 (bound_arguments (λ of t place. None) (parameters_in env.scope s.space f.1) [])) o) in
-    let bare : bare_call env s.space s.number s.written ≡ call_value env s.space s.read.0 s.read.1 (bound_arguments (λ of t place. None) (parameters_in env.scope s.space s.read.1) []) = ap found s.reads in
-    let lacks : Option bound.Expr = without_arguments env (a_routine s.space s.number s.written) place in
-    let object : is_host_type (declared_view r.of) ≡ true = first_of (is_host_type (declared_view r.of)) (takes_none r) h in
-    ap (λ z. or_else (value_with (λ a b c. z) (a_routine s.space s.number s.written) place) lacks) bare
-    ∙ ap (λ (o : Option bound.Expr). or_else o lacks) (no_call_value env s.space s.number s.written s.read (bound_arguments (λ of t place. None) (parameters_in env.scope s.space s.read.1) []) place (ap is_host_type (sym s.of_is) ∙ object))
-    ∙ lacks_nothing env r s (second_of (is_host_type (declared_view r.of)) (takes_none r) h) place
+    let args : ℕ × Written → Option bound.Args = λ f. bound_arguments (λ of t place. None) (parameters_in env.scope s.space f.1) [] in
+    let found : Option (ℕ × Written) → plain.Term = λ o. if_there (option_map (λ f. call_value env s.base s.space f.0 f.1 (args f)) o) in
+    let bare : bare_call env s.base s.space s.number s.written ≡ call_value env s.base s.space s.read.0 s.read.1 (args s.read) = ap found s.reads in
+    let lacks : Option bound.Expr = lacking_call env s.base s.space s.number s.written place in
+    let object : is_reference_type (declared_view r.of) ≡ true = first_of (is_reference_type (declared_view r.of)) (takes_none r) h in
+    value_called env s.base s.space s.number s.written place ∙ ap (λ z. or_else (value_in typed_value z place) lacks) bare
+    ∙ ap (λ (o : Option bound.Expr). or_else o lacks) (no_call_value env s.base s.space s.read (args s.read) place (ap is_reference_type (sym s.of_is) ∙ object))
+    ∙ lacks_nothing env r s (second_of (is_reference_type (declared_view r.of)) (takes_none r) h) place
 
 -- what is taken as a reference is no value
 pub no_value_there : (env : Env) (t : Tables) (x : Term) (y : plain.Term) (ps below : List Piece) → refers x ≡ true → TermStands env t x y ps below → (place : Place) → value_of env y place ≡ None
-no_value_there env t (term.Place kind of bounded lends) y ps below r h place = ap (λ z. value_of env z place) h.is ∙ ap (λ (o : Option bound.Expr). or_else o None) (no_value_typed (load h.at) place (declared_view of) r)
+no_value_there env t (term.Place kind of bounded lends makes) y ps below r h place =
+    ap (λ z. value_of env z place) h.is ∙ ap (λ (o : Option bound.Expr). or_else o None) (no_value_typed (read_of makes h.at) place (declared_view of) r)
 no_value_there env t (term.Value e) y ps below r h place = ap (λ z. value_of env z place) h.is ∙ ap (λ (o : Option bound.Expr). or_else o None) (no_value_typed h.made place (declared_view e.of) r)
 no_value_there env t (term.HostMember m) y ps below r h place =
     ap (λ z. value_of env z place) h.is ∙ no_member_value (m.least == 0) (host_member h.object (name_in t m.name) no_exprs) place (declared_view m.of) (broken_rule 25 place (also h.object no_exprs)) r
 no_value_there env t (term.SheetMember m) y ps below r h place =
     ap (λ z. value_of env z place) h.0 ∙ no_member_value (m.least == 0) (host_member sheet_expression (name_in t m.name) no_exprs) place (declared_view m.of) (broken_rule 25 place (also sheet_expression no_exprs)) r
-no_value_there env t (term.Routine s) y ps below r h place = ap (λ z. value_of env z place) h.is ∙ no_routine_value env s h r place
+no_value_there env t (term.Routine s) y ps below r h place = ap (λ z. value_of env z place) h.routine.is ∙ no_routine_value env s h.routine r place
 no_value_there env t (term.Property p) y ps below r h place = let e : false ≡ true = r in absurd cc
 no_value_there env t (term.Function f) y ps below r h place = let e : false ≡ true = r in absurd cc
 no_value_there env t term.Err y ps below r h place = ap (λ z. value_of env z place) h.0
@@ -119,20 +121,25 @@ no_value_there env t term.Nothing y ps below r h place = let e : false ≡ true 
 
 -- ---- references
 
-place_referred : (kind : NodeKind) (of : DeclaredType) (bounded lends : Bool) (at : Place) (d : Drafted) → is_referring of ≡ true → (env : Env) (y : plain.Term) (below : List Piece)
-    → TermStands env d.tables (term.Place kind of bounded lends) y d.pieces below
-    → (place : Place) → EndingIs d.tables (record { kind = node.Load; of = of }) place (reference_of env y place) (put d.tables (node_of kind at of) d.pieces) below
-place_referred kind of bounded lends at d r env y below k place = record {
-  made = load k.at;
-  is = ap (λ z. reference_of env z place) k.is ∙ referred (load k.at) place (declared_view of) r;
-  ends = λ n. ap (λ st. of_place (λ x. expr_of n (load x)) st) (k.ends (node_of kind at of));
+place_referred : (kind : NodeKind) (of : DeclaredType) (bounded lends makes : Bool) (at : Place) (d : Drafted) → is_referring of ≡ true → (env : Env) (y : plain.Term) (below : List Piece)
+    → TermStands env d.tables (term.Place kind of bounded lends makes) y d.pieces below
+    → (place : Place) → EndingIs d.tables (record { kind = read_kind makes; of = of }) place (reference_of env y place) (put d.tables (node_of kind at of) d.pieces) below
+place_referred kind of bounded lends makes at d r env y below k place = record {
+  made = read_of makes k.at;
+  is = ap (λ z. reference_of env z place) k.is ∙ referred (read_of makes k.at) place (declared_view of) r;
+  ends = read_ends makes d.tables k.at (put d.tables (node_of kind at of) d.pieces) below (k.ends (node_of kind at of));
 }
 
-pub takes_place : (kind : NodeKind) (of : DeclaredType) (bounded lends : Bool) (at : Place) (d e : Drafted) → is_referring of ≡ true → e ≡ record d { pieces = put d.tables (node_of kind at of) d.pieces }
-    → TakesReference (term.Place kind of bounded lends) d e (record { kind = node.Load; of = of })
-takes_place kind of bounded lends at d e r eq =
-    let P : Drafted → Type 0 = λ x. TakesReference (term.Place kind of bounded lends) d x (record { kind = node.Load; of = of }) in
-    subst P (sym eq) (record { grown = grown_pieces d (put d.tables (node_of kind at of) d.pieces); named = tt; stands = place_referred kind of bounded lends at d r })
+pub takes_place : (kind : NodeKind) (of : DeclaredType) (bounded lends makes : Bool) (at : Place) (d e : Drafted) (read : NodeKind) → read ≡ read_kind makes → is_referring of ≡ true
+    → e ≡ record d { pieces = put d.tables (node_of kind at of) d.pieces } → TakesReference (term.Place kind of bounded lends makes) d e (record { kind = read; of = of })
+takes_place kind of bounded lends makes at d e read reads r eq =
+    let P : Drafted → Type 0 = λ x. TakesReference (term.Place kind of bounded lends makes) d x (record { kind = read_kind makes; of = of }) in
+    let Q : NodeKind → Type 0 = λ q. TakesReference (term.Place kind of bounded lends makes) d e (record { kind = q; of = of }) in
+    subst Q (sym reads) (subst P (sym eq) (record {
+      grown = grown_pieces d (put d.tables (node_of kind at of) d.pieces);
+      named = read_named d.tables makes;
+      stands = place_referred kind of bounded lends makes at d r;
+    }))
 
 pub takes_value : (v : Ending) (d : Drafted) → is_referring v.of ≡ true → NodeNamed d.tables v.kind → TakesReference (term.Value v) d d v
 takes_value v d r n = record {
@@ -145,7 +152,7 @@ takes_value v d r n = record {
   };
 }
 
-read_when : (b : Bool) (made : bound.Node) (place : Place) (of : Declared) → b ≡ true → (is_host_type of || is_variant of) ≡ true → (if b then typed_reference made place of else None) ≡ Some (expression_of made place of)
+read_when : (b : Bool) (made : bound.Node) (place : Place) (of : Declared) → b ≡ true → (is_reference_type of || is_variant of) ≡ true → (if b then typed_reference made place of else None) ≡ Some (expression_of made place of)
 read_when b made place of eq h = ap (λ c. if c then typed_reference made place of else None) eq ∙ referred made place of h
 
 member_referred : (m : HostMember) (d e : Drafted) (v : Ending) → is_referring m.of ≡ true → ReadsMember m d e v → (env : Env) (y : plain.Term) (below : List Piece)
@@ -168,9 +175,14 @@ takes_sheet_member m d s e v r p h =
     record { grown = grown_twice d s e p.grown t.grown; named = t.named; stands = λ env y below k place. t.stands env y below (sheet_stands m d s p env y below k) place }
 
 -- a call without arguments
-bare_reference : (env : Env) (space : Space) (number : ℕ) (w : Written) (made : bound.Node) (of : Declared) (place : Place) → bare_call env space number w ≡ a_value made of
-    → reference_of env (a_routine space number w) place ≡ typed_reference made place of
-bare_reference env space number w made of place h = rw h refl
+reference_called : (env : Env) (base : Option bound.Expr) (space : Space) (number : ℕ) (w : Written) (place : Place)
+    → reference_of env (routine_term base space number w) place ≡ value_in typed_reference (bare_call env base space number w) place
+reference_called env None space number w place = refl
+reference_called env (Some b) space number w place = refl
+
+bare_reference : (env : Env) (base : Option bound.Expr) (space : Space) (number : ℕ) (w : Written) (made : bound.Node) (of : Declared) (place : Place) → bare_call env base space number w ≡ a_value made of
+    → reference_of env (routine_term base space number w) place ≡ typed_reference made place of
+bare_reference env base space number w made of place h = reference_called env base space number w place ∙ ap (λ z. value_in typed_reference z place) h
 
 pub takes_routine : (r : Routine) (d e : Drafted) (v : Ending) → is_referring r.of ≡ true → CallsRoutine r d e v → TakesReference (term.Routine r) d e v
 takes_routine r d e v ref h = record {
@@ -181,7 +193,7 @@ takes_routine r d e v ref h = record {
       let c = b.called in
       record {
         made = c.made;
-        is = ap (λ z. reference_of env z place) b.is ∙ bare_reference env b.space b.number b.written c.made (declared_view v.of) place c.is
+        is = ap (λ z. reference_of env z place) b.is ∙ bare_reference env b.base b.space b.number b.written c.made (declared_view v.of) place c.is
             ∙ referred c.made place (declared_view v.of) (ap (λ of. is_referring of) h.of_is ∙ ref);
         ends = c.ends;
       };
@@ -255,11 +267,11 @@ first_holds : (a b : Bool) → a ≡ true → (a || b) ≡ true
 first_holds a b h = ap (λ c. c || b) h
 
 pub refers_may : (x : Term) → refers x ≡ true → may_refer x ≡ true
-refers_may (term.Place kind of bounded lends) h = first_holds (is_host_type (declared_view of)) (is_variant (declared_view of)) h
-refers_may (term.Value e) h = first_holds (is_host_type (declared_view e.of)) (is_variant (declared_view e.of)) h
-refers_may (term.HostMember m) h = first_holds (is_host_type (declared_view m.of)) (is_variant (declared_view m.of)) (first_of (is_host_type (declared_view m.of)) (m.least == 0) h)
-refers_may (term.SheetMember m) h = first_holds (is_host_type (declared_view m.of)) (is_variant (declared_view m.of)) (first_of (is_host_type (declared_view m.of)) (m.least == 0) h)
-refers_may (term.Routine r) h = first_holds (is_host_type (declared_view r.of)) (is_variant (declared_view r.of)) (first_of (is_host_type (declared_view r.of)) (takes_none r) h)
+refers_may (term.Place kind of bounded lends makes) h = first_holds (is_reference_type (declared_view of)) (is_variant (declared_view of)) h
+refers_may (term.Value e) h = first_holds (is_reference_type (declared_view e.of)) (is_variant (declared_view e.of)) h
+refers_may (term.HostMember m) h = first_holds (is_reference_type (declared_view m.of)) (is_variant (declared_view m.of)) (first_of (is_reference_type (declared_view m.of)) (m.least == 0) h)
+refers_may (term.SheetMember m) h = first_holds (is_reference_type (declared_view m.of)) (is_variant (declared_view m.of)) (first_of (is_reference_type (declared_view m.of)) (m.least == 0) h)
+refers_may (term.Routine r) h = first_holds (is_reference_type (declared_view r.of)) (is_variant (declared_view r.of)) (first_of (is_reference_type (declared_view r.of)) (takes_none r) h)
 refers_may (term.Property p) h = h
 refers_may (term.Function f) h = h
 refers_may term.Err h = refl
@@ -269,7 +281,7 @@ refers_may term.ErrorWord h = h
 refers_may term.Nothing h = h
 
 pub gives_refers : (x : Term) → gives_way x ≡ true → refers x ≡ true
-gives_refers (term.Place kind of bounded lends) h = h
+gives_refers (term.Place kind of bounded lends makes) h = h
 gives_refers (term.Value e) h = h
 gives_refers (term.HostMember m) h = h
 gives_refers (term.SheetMember m) h = h
@@ -284,7 +296,7 @@ gives_refers term.Nothing h = h
 
 gives_no_err : (x : Term) → gives_way x ≡ true → not_err x
 unfolding not_err
-gives_no_err (term.Place kind of bounded lends) h = tt
+gives_no_err (term.Place kind of bounded lends makes) h = tt
 gives_no_err (term.Value e) h = tt
 gives_no_err (term.HostMember m) h = tt
 gives_no_err (term.SheetMember m) h = tt
@@ -312,6 +324,10 @@ pub default_named : (t : Tables) (rule : Option ℕ) (place : Place) → NodeNam
 default_named t None place = tt
 default_named t (Some rule) place = tt
 
+default_found : (place : Place) (made : bound.Node) (at : Place) (of : Declared) → has_default of ≡ true
+    → default_value place (expression_of made at of) ≡ Some (given_way (default_rule (host_kind made of)) place (expression_of made at of))
+default_found place made at of h = ap (λ b. if b then Some (given_way (default_rule (host_kind made of)) place (expression_of made at of)) else None) h
+
 pub pushes_default : (x : Tree) (d m n e : Drafted) (v : Ending) (rule : Option ℕ) → gives_way x.term ≡ true → TakesReference x.term d m v → DefaultBreaks v rule → n ≡ record m { pieces = put m.tables (node_of v.kind x.place v.of) m.pieces }
     → e ≡ record n { pieces = put n.tables (node_of (default_node rule x.place) x.place variant) n.pieces } → PushesOperand x d e (Some variant)
 pushes_default x d m n e v rule w t breaks one two =
@@ -330,9 +346,9 @@ pushes_default x d m n e v rule w t breaks one two =
           record {
             made = given_way rule x.place reference;
             is = operand_split env d.tables x.term (gives_no_err x.term w) y d.pieces below k.term_is place
-                ∙ ap (λ o. or_else (option_map plain_operand o) (option_map (default_value place) (reference_of env y place))) (no_value_there env d.tables x.term y d.pieces below (gives_refers x.term w) k.term_is place)
-                ∙ ap (λ o. option_map (default_value place) o) (subst A k.place_is h.is)
-                ∙ ap (λ (r : Option ℕ). Some (given_way r place reference)) (breaks m.tables h.made m.pieces below h.ends)
+                ∙ ap (λ o. or_else (option_map plain_operand o) (option_and_then (default_value place) (reference_of env y place))) (no_value_there env d.tables x.term y d.pieces below (gives_refers x.term w) k.term_is place)
+                ∙ ap (λ o. option_and_then (default_value place) o) (subst A k.place_is h.is) ∙ default_found place h.made x.place (declared_view v.of) breaks.built
+                ∙ ap (λ (r : Option ℕ). Some (given_way r place reference)) (breaks.breaks m.tables h.made m.pieces below h.ends)
                 ∙ ap (λ (q : Place). Some (given_way rule q reference)) (sym k.place_is);
             operand = given_operand rule x.place reference;
             on_top = ap (λ st. put m.tables (node_of (default_node rule x.place) x.place variant) st) (h.ends (node_of v.kind x.place v.of)) ∙ given_pushed m.tables rule x.place reference below;
@@ -448,8 +464,8 @@ value_plainly x d m e v of n t p = record {
       let here : value_of env y place ≡ Some (expression_of h.made x.place (declared_view v.of)) = ap (λ (q : Place). value_of env y q) (sym k.place_is) ∙ h.is in
       record {
         made = s.made;
-        is = operand_split env d.tables x.term n y d.pieces below k.term_is place ∙ ap (λ o. or_else (option_map plain_operand o) (option_map (default_value place) (reference_of env y place))) here
-            ∙ ap (λ o. or_else o (option_map (default_value place) (reference_of env y place))) s.is;
+        is = operand_split env d.tables x.term n y d.pieces below k.term_is place ∙ ap (λ o. or_else (option_map plain_operand o) (option_and_then (default_value place) (reference_of env y place))) here
+            ∙ ap (λ o. or_else o (option_and_then (default_value place) (reference_of env y place))) s.is;
         operand = s.operand;
         on_top = s.on_top;
       };

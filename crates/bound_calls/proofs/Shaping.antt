@@ -6,7 +6,7 @@ use Rattle.vba_values.specs.Types as type
 use Rattle.bound_project.specs.View.{declared_view, parameter_view}
 use Rattle.bound_project.specs.Pieces.{Tables}
 use Rattle.bound_project.specs.Project.{Parameter}
-use Rattle.bound_forms.specs.Terms.{Given, all_but, by_name_from, given_by_name, has_names, may_lack, takes, takes_named}
+use Rattle.bound_forms.specs.Terms.{Given, all_but, by_name_from, has_names, may_lack, takes, takes_named}
 use Rattle.bound_forms.specs.Terms as plain
 use Rattle.bound_forms.specs.ExpressionsBound.{are_numbers, are_places, arguments_rule, may_index, member_takes, names_taken, takes_arguments, takes_names}
 use Rattle.bound_calls.specs.declared.term.Refuser.{Refuser}

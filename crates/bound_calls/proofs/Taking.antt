@@ -1,6 +1,6 @@
 -- How terms are taken.
 use Rattle.std.proofs.Common.{◌≡◌, ℕ, ◌<◌, length, Bool, true, false, List, [], ◌∷◌, Option, Some, None, refl, sym, ap, subst, ◌∙◌}
-use Rattle.std.specs.Prelude.{◌==◌, if◌then◌else◌, option_map}
+use Rattle.std.specs.Prelude.{◌==◌, if◌then◌else◌, option_map, option_and_then}
 use Rattle.vba_base.specs.declared.place.Place.{Place}
 use Rattle.vba_values.specs.Types as type
 use Rattle.bound_project.specs.declared.declared_type.DeclaredType.{DeclaredType}
@@ -11,18 +11,18 @@ use Rattle.bound_project.specs.declared.node.NodeKind.TheVariants as node
 use Rattle.bound_project.specs.declared.node.Node.{Node}
 use Rattle.bound_project.specs.View.{declared_view}
 use Rattle.bound_project.specs.Project.{nowhere}
-use Rattle.bound_project.specs.Expressions.{expr, load, active_sheet, host_member, marked, no_exprs, also}
+use Rattle.bound_project.specs.Expressions.{expr, load, active_sheet, host_member, marked, no_exprs, also, load_made, Lvalue}
 use Rattle.bound_project.specs.Expressions as bound
-use Rattle.bound_project.specs.Pieces.{Piece, Tables, a_member, an_expr, exprs_off, name_in, of_member_found, of_place, of_value, expr_of, put, put_kind}
+use Rattle.bound_project.specs.Pieces.{Piece, Tables, a_member, an_expr, exprs_off, name_in, of_member_found, of_place, of_value, expr_of, put, put_kind, a_place}
 use Rattle.bound_project.proofs.Lists.{member_put}
 use Rattle.bound_project.specs.Drafts.{Drafted, NodeNamed}
 use Rattle.bound_declarations.specs.binder.specs.Options.{or_else}
 use Rattle.bound_declarations.specs.binder.specs.Types.{is_object}
 use Rattle.bound_declarations.specs.binder.specs.Declarations.{Written}
 use Rattle.bound_declarations.specs.binder.specs.Scopes.{Space}
-use Rattle.bound_forms.specs.Terms.{Env, a_host_member, a_routine, bound_arguments, broken_rule, expression_of, no_term, typed_value, value_with}
+use Rattle.bound_forms.specs.Terms.{Env, a_host_member, bound_arguments, broken_rule, expression_of, no_term, typed_value, routine_term, read_of, value_in}
 use Rattle.bound_forms.specs.Terms as plain
-use Rattle.bound_forms.specs.ExpressionsBound.{bare_call, call_value, if_there, plain_operand, without_arguments, value_of, reference_of, default_value, operand_of}
+use Rattle.bound_forms.specs.ExpressionsBound.{lacking_call, bare_call, call_value, if_there, plain_operand, without_arguments, value_of, reference_of, default_value, operand_of}
 use Rattle.bound_declarations.specs.binder.specs.Signatures.{parameters_in, reader}
 use Rattle.bound_declarations.specs.declared_names.specs.View.{space_view, written_view}
 use Rattle.bound_calls.specs.declared.term.Ending.{Ending}
@@ -30,8 +30,8 @@ use Rattle.bound_calls.specs.declared.term.HostMember.{HostMember}
 use Rattle.bound_calls.specs.declared.term.Routine.{Routine}
 use Rattle.bound_calls.specs.declared.term.Term.{Term}
 use Rattle.bound_calls.specs.declared.term.Term.TheVariants as term
-use Rattle.bound_calls.specs.Standing.{TermStands, EndingIs, EndingStands, EndingNamed, member_is}
-use Rattle.bound_calls.specs.Taking.{Loads, CallsBare, broken_ending, PushesSheet, ReadsMember, TakesValue, Pushes, sheet_expression}
+use Rattle.bound_calls.specs.Standing.{TermStands, EndingIs, EndingStands, EndingNamed, member_is, ValueEnds}
+use Rattle.bound_calls.specs.Taking.{Loads, CallsBare, broken_ending, PushesSheet, ReadsMember, TakesValue, Pushes, sheet_expression, read_kind}
 use Rattle.bound_calls.proofs.Growing.{grown_same, grown_pieces, grown_twice}
 
 -- a node of a type that it has as an operand too
@@ -45,18 +45,32 @@ no_object made place of h = ap (λ b. if b then None else Some (expression_of ma
 an_object : (made : bound.Node) (place : Place) (of : DeclaredType) → is_object (declared_view of) ≡ true → typed_value made place (declared_view of) ≡ None
 an_object made place of h = ap (λ b. if b then None else Some (expression_of made place (declared_view of))) h
 
-pub loads_none : (kind : NodeKind) (of : DeclaredType) (d : Drafted) → is_object (declared_view of) ≡ true → Loads kind of d d None
-loads_none kind of d h = record { grown = grown_same d; named = tt; stands = λ place x below k. an_object (load x) place of h }
+-- the node that reads a place
+pub read_named : (t : Tables) (makes : Bool) → NodeNamed t (read_kind makes)
+read_named t true = tt
+read_named t false = tt
 
-pub loads_some : (kind : NodeKind) (of : DeclaredType) (place : Place) (d e : Drafted) → is_object (declared_view of) ≡ false
-    → e ≡ record d { pieces = put d.tables (node_of kind place of) d.pieces } → Loads kind of d e (Some (record { kind = node.Load; of = of }))
-loads_some kind of place d e h eq =
-    let P : Drafted → Type 0 = λ x. Loads kind of d x (Some (record { kind = node.Load; of = of })) in
-    subst P (sym eq) (record {
+pub read_ends : (makes : Bool) (t : Tables) (x : Lvalue) (ps below : List Piece) → ps ≡ a_place x ∷ below → ValueEnds t (read_kind makes) (read_of makes x) ps below
+read_ends true t x ps below h = λ n. ap (λ st. of_place (λ y. expr_of n (load_made y)) st) h
+read_ends false t x ps below h = λ n. ap (λ st. of_place (λ y. expr_of n (load y)) st) h
+
+pub loads_none : (kind : NodeKind) (of : DeclaredType) (makes : Bool) (d : Drafted) → is_object (declared_view of) ≡ true → Loads kind of makes d d None
+loads_none kind of makes d h = record { grown = grown_same d; named = tt; stands = λ place x below k. an_object (read_of makes x) place of h }
+
+pub loads_some : (kind : NodeKind) (of : DeclaredType) (makes : Bool) (place : Place) (d e : Drafted) (read : NodeKind) → read ≡ read_kind makes → is_object (declared_view of) ≡ false
+    → e ≡ record d { pieces = put d.tables (node_of kind place of) d.pieces } → Loads kind of makes d e (Some (record { kind = read; of = of }))
+loads_some kind of makes place d e read reads h eq =
+    let P : Drafted → Type 0 = λ x. Loads kind of makes d x (Some (record { kind = read_kind makes; of = of })) in
+    let Q : NodeKind → Type 0 = λ k. Loads kind of makes d e (Some (record { kind = k; of = of })) in
+    subst Q (sym reads) (subst P (sym eq) (record {
       grown = grown_pieces d (put d.tables (node_of kind place of) d.pieces);
-      named = tt;
-      stands = λ p x below k. record { made = load x; is = no_object (load x) p of h; ends = λ n. ap (λ st. of_place (λ y. expr_of n (load y)) st) (k (node_of kind place of)) };
-    })
+      named = read_named d.tables makes;
+      stands = λ p x below k. record {
+        made = read_of makes x;
+        is = no_object (read_of makes x) p of h;
+        ends = read_ends makes d.tables x (put d.tables (node_of kind place of) d.pieces) below (k (node_of kind place of));
+      };
+    }))
 
 -- ---- values
 
@@ -64,17 +78,17 @@ or_none : {A : Type 0} (o : Option A) → or_else o None ≡ o
 or_none None = refl
 or_none (Some x) = refl
 
-place_value : (kind : NodeKind) (of : DeclaredType) (bounded lends : Bool) (place : Place) (d e : Drafted) (ending : Option Ending) → Loads kind of d e ending
-    → (env : Env) (y : plain.Term) (below : List Piece) → TermStands env d.tables (term.Place kind of bounded lends) y d.pieces below
+place_value : (kind : NodeKind) (of : DeclaredType) (bounded lends makes : Bool) (place : Place) (d e : Drafted) (ending : Option Ending) → Loads kind of makes d e ending
+    → (env : Env) (y : plain.Term) (below : List Piece) → TermStands env d.tables (term.Place kind of bounded lends makes) y d.pieces below
     → EndingStands e.tables ending place (value_of env y place) e.pieces below
-place_value kind of bounded lends place d e ending h env y below k =
+place_value kind of bounded lends makes place d e ending h env y below k =
     let O : Option bound.Expr → Type 0 = λ o. EndingStands e.tables ending place o e.pieces below in
     let P : plain.Term → Type 0 = λ z. EndingStands e.tables ending place (value_of env z place) e.pieces below in
-    subst P (sym k.is) (subst O (sym (or_none (typed_value (load k.at) place (declared_view of)))) (h.stands place k.at below k.ends))
+    subst P (sym k.is) (subst O (sym (or_none (typed_value (read_of makes k.at) place (declared_view of)))) (h.stands place k.at below k.ends))
 
-pub takes_place : (kind : NodeKind) (of : DeclaredType) (bounded lends : Bool) (place : Place) (d e : Drafted) (ending : Option Ending) → Loads kind of d e ending
-    → TakesValue (term.Place kind of bounded lends) place d e ending
-takes_place kind of bounded lends place d e ending h = record { grown = h.grown; named = h.named; stands = place_value kind of bounded lends place d e ending h }
+pub takes_place : (kind : NodeKind) (of : DeclaredType) (bounded lends makes : Bool) (place : Place) (d e : Drafted) (ending : Option Ending) → Loads kind of makes d e ending
+    → TakesValue (term.Place kind of bounded lends makes) place d e ending
+takes_place kind of bounded lends makes place d e ending h = record { grown = h.grown; named = h.named; stands = place_value kind of bounded lends makes place d e ending h }
 
 abbrev plain_ending : Bool → Ending → Option Ending
 plain_ending b e = if b then None else Some e
@@ -173,17 +187,29 @@ takes_sheet m place d s e v p h = record {
 pub takes_routine : (r : Routine) (place : Place) (d e : Drafted) (ending : Option Ending) → CallsBare r place d e ending → TakesValue (term.Routine r) place d e ending
 takes_routine r place d e ending h = record { grown = h.grown; named = h.named; stands = h.stands }
 
+-- a procedure is called, of an object or of none
+pub value_called : (env : Env) (base : Option bound.Expr) (space : Space) (number : ℕ) (written : Written) (place : Place)
+    → value_of env (routine_term base space number written) place ≡ or_else (value_in typed_value (bare_call env base space number written) place) (lacking_call env base space number written place)
+value_called env None space number written place = refl
+value_called env (Some b) space number written place = refl
+
+pub lacking_called : (env : Env) (base : Option bound.Expr) (space : Space) (number : ℕ) (written : Written) (place : Place)
+    → without_arguments env (routine_term base space number written) place ≡ lacking_call env base space number written place
+lacking_called env None space number written place = refl
+lacking_called env (Some b) space number written place = refl
+
 -- a property without a Get gives no value
-no_unread : (env : Env) (space : Space) (number : ℕ) (written : Written) → reader env.scope space number written ≡ None → (place : Place) → value_of env (a_routine space number written) place ≡ None
-no_unread env space number written unread place =
-    let found : Option (ℕ × Written) → plain.Term = λ o. if_there (option_map (λ f. call_value env space f.0 f.1 (bound_arguments (λ of t place. None) (parameters_in env.scope space f.1) [])) o) in
-    let bare : bare_call env space number written ≡ no_term = ap found unread in
-    let lacks : without_arguments env (a_routine space number written) place ≡ None = rw unread refl in
-    ap (λ z. or_else (value_with (λ a b c. z) (a_routine space number written) place) (without_arguments env (a_routine space number written) place)) bare ∙ lacks
+no_unread : (env : Env) (base : Option bound.Expr) (space : Space) (number : ℕ) (written : Written) → reader env.scope space number written ≡ None → (place : Place)
+    → value_of env (routine_term base space number written) place ≡ None
+no_unread env base space number written unread place =
+    let found : Option (ℕ × Written) → plain.Term = λ o. if_there (option_map (λ f. call_value env base space f.0 f.1 (bound_arguments (λ of t place. None) (parameters_in env.scope space f.1) [])) o) in
+    let bare : bare_call env base space number written ≡ no_term = ap found unread in
+    let lacks : lacking_call env base space number written place ≡ None = rw unread refl in
+    value_called env base space number written place ∙ ap (λ z. or_else (value_in typed_value z place) (lacking_call env base space number written place)) bare ∙ lacks
 
 -- what is no value
 pub none_of : (x : Term) → Type 0
-none_of (term.Place kind of bounded lends) = ⊥
+none_of (term.Place kind of bounded lends makes) = ⊥
 none_of (term.Value e) = ⊥
 none_of (term.Routine r) = ⊥
 none_of (term.HostMember m) = ⊥
@@ -192,12 +218,12 @@ none_of x = Unit {0}
 
 no_value : (t : Tables) (x : Term) → none_of x → (env : Env) (y : plain.Term) (ps below : List Piece) → TermStands env t x y ps below → (place : Place) → value_of env y place ≡ None
 unfolding none_of
-no_value t (term.Place kind of bounded lends) n env y ps below h place = absurd n
+no_value t (term.Place kind of bounded lends makes) n env y ps below h place = absurd n
 no_value t (term.Value e) n env y ps below h place = absurd n
 no_value t (term.Routine r) n env y ps below h place = absurd n
 no_value t (term.HostMember m) n env y ps below h place = absurd n
 no_value t (term.SheetMember m) n env y ps below h place = absurd n
-no_value t (term.Property p) n env y ps below h place = ap (λ z. value_of env z place) h.property.is ∙ no_unread env (space_view p.space.now) h.property.number (written_view p.written) h.unread place
+no_value t (term.Property p) n env y ps below h place = ap (λ z. value_of env z place) h.property.is ∙ no_unread env h.property.base (space_view p.space.now) h.property.number (written_view p.written) h.unread place
 no_value t (term.Function f) n env y ps below h place = ap (λ z. value_of env z place) h.0.is
 no_value t term.Err n env y ps below h place = ap (λ z. value_of env z place) h.0
 no_value t term.ErrRaise n env y ps below h place = ap (λ z. value_of env z place) h.0
@@ -216,15 +242,22 @@ not_err term.Err = ⊥
 not_err x = Unit {0}
 
 Splits : Env → Place → plain.Term → Type 0
-Splits env place z = operand_of env z place ≡ or_else (option_map plain_operand (value_of env z place)) (option_map (default_value place) (reference_of env z place))
+Splits env place z = operand_of env z place ≡ or_else (option_map plain_operand (value_of env z place)) (option_and_then (default_value place) (reference_of env z place))
+
+split_routine : (env : Env) (base : Option bound.Expr) (space : Space) (number : ℕ) (written : Written) (place : Place) → Splits env place (routine_term base space number written)
+unfolding Splits
+split_routine env None space number written place = refl
+split_routine env (Some b) space number written place = refl
 
 pub operand_split : (env : Env) (t : Tables) (x : Term) → not_err x → (y : plain.Term) (ps below : List Piece) → TermStands env t x y ps below → (place : Place)
-    → operand_of env y place ≡ or_else (option_map plain_operand (value_of env y place)) (option_map (default_value place) (reference_of env y place))
+    → operand_of env y place ≡ or_else (option_map plain_operand (value_of env y place)) (option_and_then (default_value place) (reference_of env y place))
 unfolding not_err Splits
-operand_split env t (term.Place kind of bounded lends) n y ps below h place = subst (Splits env place) (sym h.is) refl
+operand_split env t (term.Place kind of bounded lends makes) n y ps below h place = subst (Splits env place) (sym h.is) refl
 operand_split env t (term.Value e) n y ps below h place = subst (Splits env place) (sym h.is) refl
-operand_split env t (term.Routine r) n y ps below h place = subst (Splits env place) (sym h.is) refl
-operand_split env t (term.Property p) n y ps below h place = subst (Splits env place) (sym h.property.is) refl
+operand_split env t (term.Routine r) n y ps below h place =
+    subst (Splits env place) (sym h.routine.is) (split_routine env h.routine.base h.routine.space h.routine.number h.routine.written place)
+operand_split env t (term.Property p) n y ps below h place =
+    subst (Splits env place) (sym h.property.is) (split_routine env h.property.base (space_view p.space.now) h.property.number (written_view p.written) place)
 operand_split env t (term.Function f) n y ps below h place = subst (Splits env place) (sym h.0.is) refl
 operand_split env t (term.HostMember m) n y ps below h place = subst (Splits env place) (sym h.is) refl
 operand_split env t (term.SheetMember m) n y ps below h place = subst (Splits env place) (sym h.0) refl
@@ -241,7 +274,7 @@ same_ending t (Some ending) place found other ps below e h = record { made = h.m
 
 pub no_err : (x : Term) → ((x ≡ term.Err) → ⊥) → not_err x
 unfolding not_err
-no_err (term.Place kind of bounded lends) n = tt
+no_err (term.Place kind of bounded lends makes) n = tt
 no_err (term.Value v) n = tt
 no_err (term.Routine r) n = tt
 no_err (term.Property p) n = tt

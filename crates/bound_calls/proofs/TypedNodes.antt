@@ -10,10 +10,10 @@ use Rattle.bound_project.specs.Expressions.{expr, not_given, constant, load, loa
 use Rattle.bound_project.specs.Expressions as bound
 use Rattle.bound_project.specs.Pieces.{Piece, an_expr, Tables, arguments_off, as_operand, expr_of, exprs_off, by_name_in, name_in, order_in, put_kind}
 use Rattle.bound_project.specs.View.{base_view, declared_view}
-use Rattle.bound_forms.specs.ExpressionsBound.{host_kind, kind_by_type, kind_of_object, default_rule}
+use Rattle.bound_forms.specs.ExpressionsBound.{has_default, host_kind, kind_by_type, kind_of_object, default_rule}
 use Rattle.bound_calls.specs.declared.term.Ending.{Ending}
 use Rattle.bound_calls.specs.References.{DefaultBreaks, is_typed_kind}
-use Rattle.bound_calls.proofs.LastNodes.{any_node, value_passes, place_passes, both_pass, found_passes, value_found_passes, member_found_passes, named_found_passes}
+use Rattle.bound_calls.proofs.LastNodes.{any_node, value_passes, place_passes, both_pass, found_passes, value_found_passes, member_found_passes, named_found_passes, object_found_passes}
 
 no_host_on_top : List Piece → Bool
 no_host_on_top (an_expr (expr (host_object reference) place of operand) ∷ st) = false
@@ -56,12 +56,16 @@ kind_typed : (t : Tables) (n : Node) (k : NodeKind) (st : List Piece) → is_typ
 unfolding no_host_on_top
 kind_typed t n (node.Constant i) st h = refl
 kind_typed t n node.Load st h = place_passes no_host_on_top refl (λ x. expr_of n (load x)) (λ x rest. refl) st
+kind_typed t n node.LoadMade st h = place_passes no_host_on_top refl (λ x. expr_of n (load_made x)) (λ x rest. refl) st
 kind_typed t n (node.ElementValue count) st h = value_found_passes no_host_on_top refl (λ e es. expr_of n (element_value e es)) (λ e es rest. refl) (exprs_off count st no_exprs)
 kind_typed t n (node.FieldValue i) st h = value_passes no_host_on_top refl (λ e. expr_of n (field_value e i)) (λ e rest. refl) st
 kind_typed t n (node.Unary o of) st h = value_passes no_host_on_top refl (λ a. expr_of n (unary o (as_operand of a))) (λ e rest. refl) st
 kind_typed t n (node.Binary o compare left right) st h = both_pass no_host_on_top refl (λ a b. expr_of n (binary o compare (as_operand left a) (as_operand right b))) (λ a b rest. refl) st
 kind_typed t n (node.Call p count) st h = found_passes no_host_on_top refl (λ args. expr_of n (call p args)) (λ args rest. refl) (arguments_off count st no_args)
 kind_typed t n (node.CallInOrder p count order) st h = found_passes no_host_on_top refl (λ args. expr_of n (call p (in_order (order_in t order) args))) (λ args rest. refl) (arguments_off count st no_args)
+kind_typed t n (node.Method p count) st h = object_found_passes no_host_on_top refl (λ e args. expr_of n (method e p args)) (λ e args rest. refl) (arguments_off count st no_args)
+kind_typed t n (node.MethodInOrder p count order) st h =
+    object_found_passes no_host_on_top refl (λ e args. expr_of n (method e p (in_order (order_in t order) args))) (λ e args rest. refl) (arguments_off count st no_args)
 kind_typed t n (node.ErrValue _) st h = refl
 kind_typed t n (node.Library f text_form count compare one) st h =
     found_passes no_host_on_top refl (λ es. expr_of n (library f text_form es compare (base_view one))) (λ es rest. refl) (exprs_off count st no_exprs)
@@ -79,6 +83,12 @@ kind_typed t n (node.Item x count) st h = let e : false ≡ true = h in absurd c
 kind_typed t n (node.Element count) st h = let e : false ≡ true = h in absurd cc
 kind_typed t n (node.Field i of bounded) st h = let e : false ≡ true = h in absurd cc
 kind_typed t n (node.KeptPlace header) st h = let e : false ≡ true = h in absurd cc
+kind_typed t n (node.ObjectField i of bounded) st h = let e : false ≡ true = h in absurd cc
+kind_typed t n (node.NewVariable x c) st h = let e : false ≡ true = h in absurd cc
+kind_typed t n (node.AsNew c) st h = let e : false ≡ true = h in absurd cc
+kind_typed t n node.This st h = refl
+kind_typed t n (node.NewObject c) st h = refl
+kind_typed t n node.ObjectThere st h = let e : false ≡ true = h in absurd cc
 kind_typed t n (node.BoundOf upper z) st h = let e : false ≡ true = h in absurd cc
 kind_typed t n node.DefaultOf st h = let e : false ≡ true = h in absurd cc
 kind_typed t n node.DefaultIfAny st h = let e : false ≡ true = h in absurd cc
@@ -106,10 +116,16 @@ typed_made t n k made ps below h e = kind_of n made (put_kind t n k ps) below (k
 pub object_made : (n : Node) (made : bound.Node) (r : HostRef) (ps below : List Piece) → expr_of n (host_object r) ∷ ps ≡ expr_of n made ∷ below → made ≡ host_object r
 object_made n made r ps below h = let e : host_object r ≡ made = cc in sym e
 
-pub host_breaks : (e : Ending) (r : HostRef) (rule : Option ℕ) → e.kind ≡ node.HostObject r → rule ≡ default_rule (kind_of_object r) → DefaultBreaks e rule
-host_breaks e r rule is h = λ t made ps below ends.
-    let P : NodeKind → Type 0 = λ (x : NodeKind). put_kind t any_node x ps ≡ expr_of any_node made ∷ below in
-    ap (λ (z : bound.Node). default_rule (host_kind z (declared_view e.of))) (object_made any_node made r ps below (subst P is (ends any_node))) ∙ sym h
+pub host_breaks : (e : Ending) (r : HostRef) (rule : Option ℕ) → has_default (declared_view e.of) ≡ true → e.kind ≡ node.HostObject r → rule ≡ default_rule (kind_of_object r) → DefaultBreaks e rule
+host_breaks e r rule b is h = record {
+  built = b;
+  breaks = λ t made ps below ends.
+      let P : NodeKind → Type 0 = λ (x : NodeKind). put_kind t any_node x ps ≡ expr_of any_node made ∷ below in
+      ap (λ (z : bound.Node). default_rule (host_kind z (declared_view e.of))) (object_made any_node made r ps below (subst P is (ends any_node))) ∙ sym h;
+}
 
-pub typed_breaks : (e : Ending) (rule : Option ℕ) → is_typed_kind e.kind ≡ true → rule ≡ default_rule (kind_by_type (declared_view e.of)) → DefaultBreaks e rule
-typed_breaks e rule is h = λ t made ps below ends. ap default_rule (typed_made t any_node e.kind made ps below is (ends any_node) (declared_view e.of)) ∙ sym h
+pub typed_breaks : (e : Ending) (rule : Option ℕ) → has_default (declared_view e.of) ≡ true → is_typed_kind e.kind ≡ true → rule ≡ default_rule (kind_by_type (declared_view e.of)) → DefaultBreaks e rule
+typed_breaks e rule b is h = record {
+  built = b;
+  breaks = λ t made ps below ends. ap default_rule (typed_made t any_node e.kind made ps below is (ends any_node) (declared_view e.of)) ∙ sym h;
+}

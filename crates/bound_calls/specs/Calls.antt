@@ -1,5 +1,5 @@
 -- Serves the code: how arguments and calls are pushed.
-use Rattle.std.specs.Prelude.{◌≡◌, ◌+◌, length, Bool, true, false, ◌&&◌, ◌||◌, List, ◌∷◌, map, Option, Some, None, option_map}
+use Rattle.std.specs.Prelude.{◌≡◌, ◌+◌, length, Bool, true, false, ◌&&◌, ◌||◌, List, ◌∷◌, map, Option, Some, None, option_map, ℕ}
 use Rattle.vba_base.specs.declared.place.Place.{Place}
 use Rattle.vba_values.specs.Types.{Declared}
 use Rattle.vba_lexer.specs.declared.token.Token.{Token}
@@ -30,7 +30,9 @@ use Rattle.bound_calls.specs.declared.term.Passed.{Passed}
 use Rattle.bound_calls.specs.declared.term.Item.{Item}
 use Rattle.bound_calls.specs.declared.term.Item.TheVariants as item
 use Rattle.bound_calls.specs.Passing.{Taken, NotGiven, AllLeft}
-use Rattle.bound_calls.specs.Standing.{PlaceEnds, PushedIs, TreeStands, PassedStands, Grown, plain_given}
+use Rattle.bound_calls.specs.Standing.{PlaceEnds, PushedIs, TreeStands, PassedStands, Grown, plain_given, IsReceiver, ReceiverStands, ReceiverThere}
+use Rattle.bound_calls.specs.declared.term.Receiver.{Receiver}
+use Rattle.bound_calls.specs.declared.term.Receiver.TheVariants as receiver
 
 -- ---- one argument
 
@@ -56,7 +58,7 @@ pub record MarksOther (lent : Ending) (parameter : DeclaredType) (place : Place)
 
 -- the place that a term lends, and its type
 abbrev pub lent_in : Term → Option Ending
-lent_in (term.Place kind of bounded true) = Some (record { kind = kind; of = of })
+lent_in (term.Place kind of bounded true makes) = Some (record { kind = kind; of = of })
 lent_in x = None
 
 -- a place that isn't lent is copied, where it is one of another object type, or an element of a Variant variable
@@ -147,10 +149,20 @@ with_passed x passed = x
 
 -- ---- the ends of calls
 
+-- the node of a call of a procedure: of a standard module, or of an object
+abbrev pub call_kind : Receiver → (procedure arguments : ℕ) → NodeKind
+call_kind receiver.Module procedure arguments = node.Call procedure arguments
+call_kind r procedure arguments = node.Method procedure arguments
+
+-- what a procedure is called of stands before its arguments
+pub record PushesReceiver (r : Receiver) (d e : Drafted) : Type 0 where
+  pub grown : Grown d e
+  pub there : (base : Option bound.Expr) (below : List Piece) → IsReceiver r base → ReceiverStands r base d.pieces below → ReceiverThere base e.pieces below
+
 -- all but the node of a call is pushed
 pub record EndsCall (r : Routine) (x : Passed) (d e : Drafted) (ending : Ending) : Type 0 where
   pub grown : Grown d e
   pub made : List Argument
   pub left : AllLeft (map parameter_view x.left.now) made
   pub on_top : e.pieces ≡ above (map an_argument made) d.pieces
-  pub ending_is : ending ≡ record { kind = node.Call r.procedure (x.count + length made); of = r.of }
+  pub ending_is : ending ≡ record { kind = call_kind r.receiver r.procedure (x.count + length made); of = r.of }

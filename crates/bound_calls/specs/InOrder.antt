@@ -21,6 +21,9 @@ use Rattle.bound_calls.specs.declared.term.Item.TheVariants as item
 use Rattle.bound_calls.specs.Passing.{AllLeft}
 use Rattle.bound_calls.specs.Standing.{Grown}
 use Rattle.bound_calls.specs.Calls.{PassesNone}
+use Rattle.bound_project.specs.declared.node.NodeKind.{NodeKind}
+use Rattle.bound_calls.specs.declared.term.Receiver.{Receiver}
+use Rattle.bound_calls.specs.declared.term.Receiver.TheVariants as receiver
 
 -- ---- numbers of parameters
 
@@ -145,8 +148,13 @@ pub record EndsInOrder (ps : List ParameterHere) (x : Passed) (named : List ℕ)
   pub order_is : order_in e.tables o.order ≡ places_from 0 (length ps) (numbers_pushed (length ps) (numbers_given x.count named))
   pub arguments_is : o.arguments ≡ x.count + length named + length made
 
+-- the node of a call with names
+abbrev pub named_kind : Receiver → (procedure arguments order : ℕ) → NodeKind
+named_kind receiver.Module procedure arguments order = node.CallInOrder procedure arguments order
+named_kind r procedure arguments order = node.MethodInOrder procedure arguments order
+
 -- all but the node of a call with names is pushed
 pub record EndsNamed (r : Routine) (x : Passed) (named : List ℕ) (d e : Drafted) (ending : Ending) : Type 0 where
   pub ordered : Ordered
   pub ends : EndsInOrder r.parameters.now x named d e ordered
-  pub ending_is : ending ≡ record { kind = node.CallInOrder r.procedure ordered.arguments ordered.order; of = r.of }
+  pub ending_is : ending ≡ record { kind = named_kind r.receiver r.procedure ordered.arguments ordered.order; of = r.of }

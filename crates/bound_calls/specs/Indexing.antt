@@ -23,6 +23,7 @@ use Rattle.bound_calls.specs.declared.term.Indexed.{Indexed}
 use Rattle.bound_calls.specs.declared.term.Item.{Item}
 use Rattle.bound_calls.specs.declared.term.Item.TheVariants as item
 use Rattle.bound_calls.specs.Standing.{PlaceEnds, TermStands, TermNamed, TreeStands, IndexedStands, Stands, ItemNamed, AllNamed, Grown, Base}
+use Rattle.bound_declarations.specs.binder.specs.Classes.{has_class}
 
 -- nodes that are part of another place
 abbrev pub is_part : NodeKind → Bool
@@ -30,6 +31,7 @@ is_part (kinds.Item x count) = true
 is_part (kinds.Element count) = true
 is_part (kinds.Field i of bounded) = true
 is_part (kinds.KeptPlace header) = true
+is_part (kinds.ObjectField i of bounded) = true
 is_part k = false
 
 -- a place that is indexed: a plain variable, or one that was pushed
@@ -56,12 +58,12 @@ pub record OpensTerm (env : Env) (x : Tree) (y : Term) (d e : Drafted) (i : Item
   pub stands : (tree : Expr) (items : List Item) (is : List nodes.Item) (below : List Piece) (base : Base) → x.place ≡ place_told tree → TermStands env d.tables y (callee env tree (term_of env tree)) d.pieces below
       → Stands env e.tables items is below base → Stands env e.tables (i ∷ items) (nodes.arguments no_args ∷ nodes.tree tree ∷ is) e.pieces base
 
--- the expression on top is one more argument
-pub record AddsArgument (i : Item) (x : Tree) (d e : Drafted) (j : Item) : Type 0 where
+-- the expression on top is one more argument, in a project with a class or without
+pub record AddsArgument (has : Bool) (i : Item) (x : Tree) (d e : Drafted) (j : Item) : Type 0 where
   pub grown : Grown d e
   pub named : ItemNamed e.tables j
-  pub stands : (env : Env) (comma : Option Token) (items : List Item) (is : List nodes.Item) (base : Base) → AllNamed d.tables items → Stands env d.tables (item.Tree x ∷ i ∷ items) is d.pieces base
-      → Stands env e.tables (j ∷ items) (behind_node (node.PlainArgument comma) is) e.pieces base
+  pub stands : (env : Env) → has_class env.scope.spaces ≡ has → (comma : Option Token) (items : List Item) (is : List nodes.Item) (base : Base) → AllNamed d.tables items
+      → Stands env d.tables (item.Tree x ∷ i ∷ items) is d.pieces base → Stands env e.tables (j ∷ items) (behind_node (node.PlainArgument comma) is) e.pieces base
 
 -- an argument that isn't written
 pub record AddsMissing (i : Item) (d e : Drafted) (j : Item) : Type 0 where
@@ -81,4 +83,4 @@ pub record Closes (i : Item) (d e : Drafted) (y : Tree) : Type 0 where
 pub record EndsIndexed (x : Indexed) (y : Term) : Type 0 where
   pub named : (t : Tables) → TermNamed t y
   pub stands : (env : Env) (t : Tables) (e : Expr) (args : Args) (ps below : List Piece) → IndexedStands env x e args ps below
-      → TermStands env t y (indexed env (place_told e) (item_of (place_told e) (callee env e (term_of env e))) (givens env args)) ps below
+      → TermStands env t y (indexed env (place_told e) (item_of env (place_told e) (callee env e (term_of env e))) (givens env args)) ps below

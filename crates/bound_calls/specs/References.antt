@@ -1,5 +1,5 @@
 -- Serves the code: terms that are taken as references to objects.
-use Rattle.std.specs.Prelude.{◌≡◌, ℕ, ◌==◌, Bool, true, false, ◌||◌, ◌&&◌, List, ◌∷◌, map, Option, Some, None, option_map}
+use Rattle.std.specs.Prelude.{◌≡◌, ℕ, ◌==◌, Bool, true, false, ◌||◌, ◌&&◌, List, ◌∷◌, map, Option, Some, None, option_map, not}
 use Rattle.std.specs.List.{list_all}
 use Rattle.vba_base.specs.declared.place.Place.{Place}
 use Rattle.vba_expression.specs.Tree.{Expr}
@@ -13,17 +13,20 @@ use Rattle.bound_project.specs.Drafts.{Drafted, NodeNamed}
 use Rattle.bound_declarations.specs.binder.specs.Constants.{is_variant}
 use Rattle.bound_forms.specs.Terms.{Env, expression_of, may_lack}
 use Rattle.bound_forms.specs.Terms as plain
-use Rattle.bound_forms.specs.ExpressionsBound.{is_host_type, may_give_object, has_object, if_any, host_kind, default_rule, reference_of, given_as, term_of, place_told}
+use Rattle.bound_forms.specs.ExpressionsBound.{may_give_object, has_object, if_any, host_kind, default_rule, reference_of, given_as, term_of, place_told, has_default, is_reference_type, may_be_instance}
 use Rattle.bound_calls.specs.declared.term.Ending.{Ending}
 use Rattle.bound_calls.specs.declared.term.Routine.{Routine}
 use Rattle.bound_calls.specs.declared.term.Term.{Term}
 use Rattle.bound_calls.specs.declared.term.Term.TheVariants as term
 use Rattle.bound_calls.specs.declared.term.Tree.{Tree}
 use Rattle.bound_calls.specs.Standing.{ValueEnds, TermStands, TreeStands, EndingIs, PushedIs, Grown}
+use Rattle.bound_project.specs.declared.declared_type.DeclaredType.TheVariants.{Plain}
+use Rattle.bound_project.specs.declared.declared_type.ElementType.TheVariants as element
+use Rattle.bound_declarations.specs.binder.specs.Classes.{has_class}
 
 -- a type of what is taken as a reference, or of what may be an object
 abbrev pub is_referring : DeclaredType → Bool
-is_referring of = is_host_type (declared_view of) || is_variant (declared_view of)
+is_referring of = is_reference_type (declared_view of) || is_variant (declared_view of)
 
 -- a term that is taken as a reference, and is no value: what lacks arguments that it needs is none; one that may be taken as
 -- a reference; and one that gives way to its default member's value as an operand
@@ -31,16 +34,16 @@ abbrev pub takes_none : Routine → Bool
 takes_none r = list_all may_lack (map parameter_view r.parameters.now)
 
 abbrev pub refers : Term → Bool
-refers (term.Place kind of bounded lends) = is_host_type (declared_view of)
-refers (term.Value e) = is_host_type (declared_view e.of)
-refers (term.Routine r) = is_host_type (declared_view r.of) && takes_none r
-refers (term.HostMember m) = is_host_type (declared_view m.of) && (m.least == 0)
-refers (term.SheetMember m) = is_host_type (declared_view m.of) && (m.least == 0)
+refers (term.Place kind of bounded lends makes) = is_reference_type (declared_view of)
+refers (term.Value e) = is_reference_type (declared_view e.of)
+refers (term.Routine r) = is_reference_type (declared_view r.of) && takes_none r
+refers (term.HostMember m) = is_reference_type (declared_view m.of) && (m.least == 0)
+refers (term.SheetMember m) = is_reference_type (declared_view m.of) && (m.least == 0)
 refers term.Err = true
 refers x = false
 
 abbrev pub may_refer : Term → Bool
-may_refer (term.Place kind of bounded lends) = is_referring of
+may_refer (term.Place kind of bounded lends makes) = is_referring of
 may_refer (term.Value e) = is_referring e.of
 may_refer (term.Routine r) = is_referring r.of
 may_refer (term.HostMember m) = is_referring m.of
@@ -57,6 +60,9 @@ gives_way x = refers x
 -- whether a Variant may be an object, by the last node of what gives it
 abbrev pub kind_gives : NodeKind → Option Bool
 kind_gives node.Load = Some true
+kind_gives node.LoadMade = Some true
+kind_gives (node.Method p count) = Some true
+kind_gives (node.MethodInOrder p count order) = Some true
 kind_gives (node.ElementValue count) = Some true
 kind_gives (node.FieldValue i) = Some true
 kind_gives (node.Call p count) = Some true
@@ -78,16 +84,49 @@ kind_gives kind = None
 abbrev pub EndingGives : Ending → Bool → Type 0
 EndingGives e gives = (t : Tables) (made : bound.Node) (ps below : List Piece) → ValueEnds t e.kind made ps below → has_object made (declared_view e.of) ≡ gives
 
+-- what a node gives is an object of the host, or Nothing, or breaks a rule
+abbrev pub is_of_host_kind : NodeKind → Bool
+is_of_host_kind (node.Constant i) = true
+is_of_host_kind (node.HostObject reference) = true
+is_of_host_kind (node.HostMember i count) = true
+is_of_host_kind (node.NamedMember i by count) = true
+is_of_host_kind (node.Marked broken count) = true
+is_of_host_kind kind = false
+
+-- whether a value may be an object of a class, by its last node and its type; where that isn't known it may
+abbrev pub unknown_may : Option Bool → Bool
+unknown_may None = true
+unknown_may (Some gives) = gives
+
+abbrev pub instance_at : NodeKind → DeclaredType → Bool
+instance_at kind (Plain element.Object) = true
+instance_at kind (Plain (element.Class number)) = true
+instance_at kind (Plain element.Variant) = unknown_may (kind_gives kind)
+instance_at kind of = false
+
+abbrev pub may_be_instance_by : (has : Bool) → Ending → Bool
+may_be_instance_by has e = has && (instance_at e.kind e.of && not (is_of_host_kind e.kind))
+
+-- no value whose last node isn't pushed is an object of a class, in a project with a class or without
+abbrev pub NoInstance : (has : Bool) → Ending → Type 0
+NoInstance has e = (env : Env) (t : Tables) (made : bound.Node) (place : Place) (ps below : List Piece) → has_class env.scope.spaces ≡ has → ValueEnds t e.kind made ps below
+    → may_be_instance env (expression_of made place (declared_view e.of)) ≡ false
+
 -- the last nodes of values, but for those of the objects that are always there
 abbrev pub is_typed_kind : NodeKind → Bool
 is_typed_kind (node.Constant i) = true
 is_typed_kind node.Load = true
+is_typed_kind node.LoadMade = true
+is_typed_kind node.This = true
+is_typed_kind (node.NewObject c) = true
 is_typed_kind (node.ElementValue count) = true
 is_typed_kind (node.FieldValue i) = true
 is_typed_kind (node.Unary o of) = true
 is_typed_kind (node.Binary o compare left right) = true
 is_typed_kind (node.Call p count) = true
 is_typed_kind (node.CallInOrder p count order) = true
+is_typed_kind (node.Method p count) = true
+is_typed_kind (node.MethodInOrder p count order) = true
 is_typed_kind (node.ErrValue _) = true
 is_typed_kind (node.Library f text_form count compare one) = true
 is_typed_kind (node.Marked broken count) = true
@@ -98,10 +137,11 @@ is_typed_kind (node.HostMember i count) = true
 is_typed_kind (node.NamedMember i by count) = true
 is_typed_kind k = false
 
--- the rule that an object breaks where it gives way to the value of its default member: of one that is always there by
--- which it is, and else by its type
-abbrev pub DefaultBreaks : Ending → Option ℕ → Type 0
-DefaultBreaks e rule = (t : Tables) (made : bound.Node) (ps below : List Piece) → ValueEnds t e.kind made ps below → default_rule (host_kind made (declared_view e.of)) ≡ rule
+-- the rule that an object breaks where it gives way to the value of its default member, which isn't that of a class: of one
+-- that is always there by which it is, and else by its type
+pub record DefaultBreaks (e : Ending) (rule : Option ℕ) : Type 0 where
+  pub built : has_default (declared_view e.of) ≡ true
+  pub breaks : (t : Tables) (made : bound.Node) (ps below : List Piece) → ValueEnds t e.kind made ps below → default_rule (host_kind made (declared_view e.of)) ≡ rule
 
 -- the node with which an object gives way, or is marked
 abbrev pub default_node : Option ℕ → Place → NodeKind

@@ -16,10 +16,10 @@ use Rattle.bound_project.specs.declared.node.Node.{Node}
 use Rattle.bound_project.specs.declared.node.ArgumentNames.{ArgumentNames}
 use Rattle.bound_project.specs.declared.variable.Variable.{Variable}
 use Rattle.bound_project.specs.View.{declared_view, parameter_view, variable_view}
-use Rattle.bound_project.specs.Expressions.{expr, element_value, not_given, active_sheet, Exprs, also, given_count, Lvalue, operand_type}
+use Rattle.bound_project.specs.Expressions.{expr, element_value, not_given, active_sheet, Exprs, also, given_count, Lvalue, operand_type, this}
 use Rattle.bound_project.specs.Expressions as bound
 use Rattle.bound_project.specs.Lists.{above, exprs_of}
-use Rattle.bound_project.specs.Pieces.{Argument, Piece, Tables, a_member, a_named_member, an_argument, an_expr, expr_of, put_kind, with_argument}
+use Rattle.bound_project.specs.Pieces.{Argument, Piece, Tables, a_member, a_named_member, an_argument, an_expr, expr_of, put_kind, with_argument, an_object}
 use Rattle.bound_project.specs.Pieces as piece
 use Rattle.bound_project.specs.Project.{Parameter, nowhere}
 use Rattle.bound_project.specs.Drafts.{Drafted, NamesNamed, NodeNamed}
@@ -30,10 +30,10 @@ use Rattle.bound_declarations.specs.binder.specs.Options.{from_two}
 use Rattle.bound_declarations.specs.binder.specs.Scopes.{Space, qualifier_of}
 use Rattle.bound_declarations.specs.binder.specs.Constants.{compare_in}
 use Rattle.bound_declarations.specs.binder.specs.Storage.{procedure_number}
-use Rattle.bound_forms.specs.Terms.{Env, Given, a_place, a_value, a_routine, a_function, a_host_member, err_object, err_raise, err_clear, error_word, no_term, expression_of, listed_values, parameter_named, taken_by, takes}
+use Rattle.bound_forms.specs.Terms.{Env, Given, routine_term, a_place, a_value, a_function, a_host_member, err_object, err_raise, err_clear, error_word, no_term, expression_of, listed_values, parameter_named, taken_by, takes, read_of}
 use Rattle.bound_forms.specs.Terms as plain
 use Rattle.bound_declarations.specs.binder.specs.Signatures.{reader, parameters_in, call_type}
-use Rattle.bound_forms.specs.ExpressionsBound.{callee, item_of, element_place, element_type, argument_of, arguments_rule, may_index, member_takes, wrong_arguments, first_given, function_values, givens, indexed, is_wrong, numbers_of, term_of, operand_of, reference_of, place_told}
+use Rattle.bound_forms.specs.ExpressionsBound.{callee, item_of, element_place, argument_of, arguments_rule, may_index, member_takes, wrong_arguments, first_given, function_values, givens, indexed, is_wrong, numbers_of, term_of, operand_of, reference_of, place_told, indexed_type, host_given}
 use Rattle.bound_calls.specs.declared.term.Dotted.{Dotted}
 use Rattle.bound_calls.specs.declared.term.Ending.{Ending}
 use Rattle.bound_calls.specs.declared.term.Property.{Property}
@@ -60,6 +60,8 @@ use Rattle.bound_calls.specs.declared.term.Item.{Item}
 use Rattle.bound_calls.specs.declared.term.Item.TheVariants as item
 use Rattle.bound_calls.specs.Passing.{AllTaken}
 use Rattle.bound_calls.specs.Shapes.{IsShaped}
+use Rattle.bound_calls.specs.declared.term.Receiver.{Receiver}
+use Rattle.bound_calls.specs.declared.term.Receiver.TheVariants as receiver
 
 -- ---- pieces that a last node would make
 
@@ -70,9 +72,9 @@ PlaceEnds t kind x ps below = (n : Node) → put_kind t n kind ps ≡ piece.a_pl
 abbrev pub ValueEnds : Tables → NodeKind → bound.Node → (ps below : List Piece) → Type 0
 ValueEnds t kind made ps below = (n : Node) → put_kind t n kind ps ≡ expr_of n made ∷ below
 
-pub record PlaceStands (t : Tables) (kind : NodeKind) (of : DeclaredType) (bounded lends : Bool) (x : plain.Term) (ps below : List Piece) : Type 0 where
+pub record PlaceStands (t : Tables) (kind : NodeKind) (of : DeclaredType) (bounded lends makes : Bool) (x : plain.Term) (ps below : List Piece) : Type 0 where
   pub at : Lvalue
-  pub is : x ≡ a_place at (declared_view of) bounded lends
+  pub is : x ≡ a_place at (declared_view of) bounded lends makes
   pub ends : PlaceEnds t kind at ps below
 
 pub record ValueStands (t : Tables) (e : Ending) (x : plain.Term) (ps below : List Piece) : Type 0 where
@@ -80,13 +82,35 @@ pub record ValueStands (t : Tables) (e : Ending) (x : plain.Term) (ps below : Li
   pub is : x ≡ a_value made (declared_view e.of)
   pub ends : ValueEnds t e.kind made ps below
 
--- a procedure, by what a call of it needs; nothing is pushed for it
-pub record RoutineStands (env : Env) (r : Routine) (x : plain.Term) (ps below : List Piece) : Type 0 where
+-- the own object, which a type says
+abbrev pub own_expression : DeclaredType → bound.Expr
+own_expression of = expression_of this nowhere (declared_view of)
+
+-- what a procedure is called of: nothing; the own object, for which nothing is pushed; or an object that was pushed
+abbrev pub IsReceiver : Receiver → Option bound.Expr → Type 0
+IsReceiver receiver.Module None = Unit {0}
+IsReceiver (receiver.Own of) (Some base) = base ≡ own_expression of
+IsReceiver (receiver.Pushed of) (Some base) = Unit {0}
+IsReceiver r base = ⊥
+
+abbrev pub ReceiverStands : Receiver → Option bound.Expr → (ps below : List Piece) → Type 0
+ReceiverStands (receiver.Pushed of) (Some base) ps below = ps ≡ an_expr base ∷ below
+ReceiverStands r base ps below = ps ≡ below
+
+-- the same behind it where a call begins
+abbrev pub ReceiverThere : Option bound.Expr → (ps below : List Piece) → Type 0
+ReceiverThere None ps below = ps ≡ below
+ReceiverThere (Some base) ps below = ps ≡ an_object base ∷ below
+
+-- a procedure, by what a call of it needs
+pub record RoutineIs (env : Env) (r : Routine) (x : plain.Term) : Type 0 where
+  pub base : Option bound.Expr
   pub space : Space
   pub number : ℕ
   pub written : Written
   pub read : ℕ × Written
-  pub is : x ≡ a_routine space number written
+  pub is : x ≡ routine_term base space number written
+  pub received : IsReceiver r.receiver base
   pub reads : reader env.scope space number written ≡ Some read
   pub procedure_is : r.procedure ≡ procedure_number env.scope space read.0
   pub parameters_are : map parameter_view r.parameters.now ≡ parameters_in env.scope space read.1
@@ -94,14 +118,19 @@ pub record RoutineStands (env : Env) (r : Routine) (x : plain.Term) (ps below : 
   pub space_is : space ≡ space_view r.space.now
   pub written_is : written ≡ written_view r.written
   pub placed : slice_get env.scope.spaces space.number ≡ Some space
-  pub none_pushed : ps ≡ below
 
--- a property, by one of its procedures; nothing is pushed for it
+pub record RoutineStands (env : Env) (r : Routine) (x : plain.Term) (ps below : List Piece) : Type 0 where
+  pub routine : RoutineIs env r x
+  pub pushed : ReceiverStands r.receiver routine.base ps below
+
+-- a property, by one of its procedures
 pub record PropertyStands (env : Env) (p : Property) (x : plain.Term) (ps below : List Piece) : Type 0 where
+  pub base : Option bound.Expr
   pub number : ℕ
-  pub is : x ≡ a_routine (space_view p.space.now) number (written_view p.written)
+  pub is : x ≡ routine_term base (space_view p.space.now) number (written_view p.written)
+  pub received : IsReceiver p.receiver base
   pub placed : slice_get env.scope.spaces (space_view p.space.now).number ≡ Some (space_view p.space.now)
-  pub none_pushed : ps ≡ below
+  pub pushed : ReceiverStands p.receiver base ps below
 
 -- the same of one without a Get
 pub record UnreadStands (env : Env) (p : Property) (x : plain.Term) (ps below : List Piece) : Type 0 where
@@ -128,7 +157,7 @@ pub record HostMemberStands (t : Tables) (m : HostMember) (x : plain.Term) (ps b
 
 -- a term of the code is one of the binder; of what isn't bound no piece is told
 abbrev pub TermStands : Env → Tables → Term → plain.Term → (ps below : List Piece) → Type 0
-TermStands env t (term.Place kind of bounded lends) x ps below = PlaceStands t kind of bounded lends x ps below
+TermStands env t (term.Place kind of bounded lends makes) x ps below = PlaceStands t kind of bounded lends makes x ps below
 TermStands env t (term.Value e) x ps below = ValueStands t e x ps below
 TermStands env t (term.Routine r) x ps below = RoutineStands env r x ps below
 TermStands env t (term.Property p) x ps below = UnreadStands env p x ps below
@@ -203,11 +232,13 @@ pub record PassedStands (env : Env) (parameters : List Parameter) (x : Passed) (
   pub count_is : x.count ≡ length made
   pub on_top : ps ≡ above (map an_argument made) below
 
--- a procedure that is called, and the arguments that were pushed
+-- a procedure that is called, what it is called of, and the arguments that were pushed
 pub record CallStands (env : Env) (x : Call) (e : Expr) (args : Args) (ps below : List Piece) : Type 0 where
-  pub routine : RoutineStands env x.routine (callee env e (term_of env e)) below below
+  pub routine : RoutineIs env x.routine (callee env e (term_of env e))
+  pub between : List Piece
+  pub there : ReceiverThere routine.base between below
   pub place_is : x.place ≡ place_told e
-  pub passed : PassedStands env (map parameter_view x.routine.parameters.now) x.passed args ps below
+  pub passed : PassedStands env (map parameter_view x.routine.parameters.now) x.passed args ps between
 
 -- an expression that is given without a name, and an argument that isn't written
 abbrev pub plain_given : Env → Expr → Given
@@ -233,32 +264,34 @@ AllNumbers value (g ∷ gs) (e ∷ es) = NumberIs value g e × AllNumbers value 
 AllNumbers value gs es = ⊥
 
 -- a plain variable that is indexed, for which nothing is pushed
-pub record VariableIndexed (v : Variable) (of : DeclaredType) (lends : Bool) (x : plain.Term) (ps below : List Piece) : Type 0 where
+pub record VariableIndexed (env : Env) (v : Variable) (of : DeclaredType) (lends : Bool) (place : Place) (x : plain.Term) (ps below : List Piece) : Type 0 where
   pub whole : Declared
   pub bounded : Bool
-  pub is : x ≡ a_place (bound.variable (variable_view v)) whole bounded lends
-  pub element_is : element_type whole ≡ Some (declared_view of)
+  pub makes : Bool
+  pub is : x ≡ a_place (bound.variable (variable_view v)) whole bounded lends makes
+  pub element_is : indexed_type env (expression_of (read_of makes (bound.variable (variable_view v))) place whole) ≡ Some (declared_view of)
   pub none_pushed : ps ≡ below
 
 -- another place that is indexed, which was pushed
-pub record PlaceIndexed (of : DeclaredType) (lends : Bool) (x : plain.Term) (ps below : List Piece) : Type 0 where
+pub record PlaceIndexed (env : Env) (of : DeclaredType) (lends : Bool) (place : Place) (x : plain.Term) (ps below : List Piece) : Type 0 where
   pub at : Lvalue
   pub whole : Declared
   pub bounded : Bool
-  pub is : x ≡ a_place at whole bounded lends
-  pub element_is : element_type whole ≡ Some (declared_view of)
+  pub makes : Bool
+  pub is : x ≡ a_place at whole bounded lends makes
+  pub element_is : indexed_type env (expression_of (read_of makes at) place whole) ≡ Some (declared_view of)
   pub no_variable : (es : Exprs) → element_place at es ≡ bound.element at es
   pub on_top : ps ≡ piece.a_place at ∷ below
 
 -- a value that is indexed, which was pushed: what a term is, or what a property without parameters gives
 pub record ValueIndexed (env : Env) (of : DeclaredType) (place : Place) (x : plain.Term) (ps below : List Piece) : Type 0 where
   pub whole : bound.Expr
-  pub is : (gs : List Given) (es : Exprs) → numbers_of (operand_of env) gs ≡ Some es → indexed env place (item_of place x) gs ≡ a_value (element_value whole es) (declared_view of)
+  pub is : (gs : List Given) (es : Exprs) → numbers_of (operand_of env) gs ≡ Some es → indexed env place (item_of env place x) gs ≡ a_value (element_value whole es) (declared_view of)
   pub on_top : ps ≡ an_expr whole ∷ below
 
 abbrev pub TargetStands : Env → Target → DeclaredType → Bool → Place → plain.Term → (ps below : List Piece) → Type 0
-TargetStands env (target.Variable v) of lends place x ps below = VariableIndexed v of lends x ps below
-TargetStands env target.Place of lends place x ps below = PlaceIndexed of lends x ps below
+TargetStands env (target.Variable v) of lends place x ps below = VariableIndexed env v of lends place x ps below
+TargetStands env target.Place of lends place x ps below = PlaceIndexed env of lends place x ps below
 TargetStands env target.Value of lends place x ps below = ValueIndexed env of place x ps below
 
 -- what is indexed, and the numbers that were pushed
@@ -334,10 +367,10 @@ looked_for t name (Some by) given object = a_named_member object (piece.name_in 
 -- written
 pub record MemberStands (env : Env) (t : Tables) (x : MemberCall) (e : Expr) (args : Args) (ps below : List Piece) : Type 0 where
   pub object : bound.Expr
-  pub is : item_of (place_told e) (callee env e (term_of env e)) ≡ a_host_member object (member_is t x.member)
+  pub is : item_of env (place_told e) (callee env e (term_of env e)) ≡ a_host_member object (member_is t x.member)
   pub place_is : x.place ≡ place_told e
   pub made : List bound.Expr
-  pub values : AllGiven (argument_of env type.variant) (givens env args) made
+  pub values : AllGiven (host_given env) (givens env args) made
   pub names : NamesCame (names_told t x.names) x.named (givens env args)
   pub written_is : (more : List bound.Expr) → given_count (exprs_of (made ++ more)) ≡ x.written + given_count (exprs_of more)
   pub count_is : x.count ≡ length made
@@ -415,7 +448,7 @@ pub record UntakenStands (env : Env) (t : Tables) (x : Untaken) (e : Expr) (ps b
   pub before : List bound.Expr
   pub before_long : length before ≡ values_before x.refuser
   pub wrong : (gs : List Given) (rule : ℕ) → refused_rule t x.refuser gs ≡ Some rule
-      → indexed env (place_told e) (item_of (place_told e) (callee env e (term_of env e))) gs ≡ wrong_arguments env (place_told e) rule (behind_values before) gs
+      → indexed env (place_told e) (item_of env (place_told e) (callee env e (term_of env e))) gs ≡ wrong_arguments env (place_told e) rule (behind_values before) gs
   pub on_top : ps ≡ above (map an_expr before) below
 
 -- an argument of one, which was pushed as a Variant takes it
@@ -473,7 +506,7 @@ Stands env t items is ps base = ⊥
 -- ---- numbers of constants that are in the tables
 
 abbrev pub TermNamed : Tables → Term → Type 0
-TermNamed t (term.Place kind of bounded lends) = NodeNamed t kind
+TermNamed t (term.Place kind of bounded lends makes) = NodeNamed t kind
 TermNamed t (term.Value e) = NodeNamed t e.kind
 TermNamed t (term.HostMember m) = m.name < length t.constants
 TermNamed t (term.SheetMember m) = m.name < length t.constants

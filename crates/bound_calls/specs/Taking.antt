@@ -1,5 +1,5 @@
 -- Serves the code: how terms are taken as values.
-use Rattle.std.specs.Prelude.{◌≡◌, ℕ, List, [], ◌∷◌, Option, Some, None, if◌then◌else◌}
+use Rattle.std.specs.Prelude.{◌≡◌, ℕ, List, [], ◌∷◌, Option, Some, None, if◌then◌else◌, Bool, true, false}
 use Rattle.vba_base.specs.declared.place.Place.{Place}
 use Rattle.bound_project.specs.declared.declared_type.DeclaredType.{DeclaredType}
 use Rattle.bound_project.specs.declared.declared_type.DeclaredType.TheVariants.{Plain}
@@ -8,7 +8,7 @@ use Rattle.bound_project.specs.declared.node.NodeKind.{NodeKind}
 use Rattle.bound_project.specs.declared.node.NodeKind.TheVariants as node
 use Rattle.bound_project.specs.View.{declared_view}
 use Rattle.bound_project.specs.Expressions as bound
-use Rattle.bound_project.specs.Expressions.{load, active_sheet, host_member, no_exprs, Lvalue}
+use Rattle.bound_project.specs.Expressions.{active_sheet, host_member, no_exprs, Lvalue}
 use Rattle.bound_project.specs.Project.{nowhere}
 use Rattle.vba_values.specs.Types as type
 use Rattle.bound_project.specs.Pieces.{Piece, Tables, an_expr, name_in}
@@ -16,28 +16,36 @@ use Rattle.bound_project.specs.Drafts.{Drafted, NodeNamed}
 use Rattle.bound_declarations.specs.binder.specs.Declarations.{Written}
 use Rattle.bound_declarations.specs.binder.specs.Scopes.{Space}
 use Rattle.bound_declarations.specs.binder.specs.Types.{is_object}
-use Rattle.bound_forms.specs.Terms.{Env, a_routine, typed_value}
+use Rattle.bound_forms.specs.Terms.{Env, typed_value, routine_term, read_of}
 use Rattle.bound_forms.specs.Terms as plain
 use Rattle.bound_forms.specs.ExpressionsBound.{bare_call, indexed, value_of}
 use Rattle.bound_calls.specs.declared.term.Ending.{Ending}
 use Rattle.bound_calls.specs.declared.term.HostMember.{HostMember}
+use Rattle.bound_calls.specs.declared.term.Receiver.{Receiver}
+use Rattle.bound_calls.specs.declared.term.Receiver.TheVariants as receiver
 use Rattle.bound_calls.specs.declared.term.Routine.{Routine}
 use Rattle.bound_calls.specs.declared.term.Term.{Term}
 use Rattle.bound_calls.specs.Standing.{PlaceEnds, ValueEnds, ValueStands, RoutineStands, TermStands, EndingStands, EndingNamed, PushedStands, Grown}
 
+-- the node that reads a place, where an object is made there first or isn't
+abbrev pub read_kind : (makes : Bool) → NodeKind
+read_kind true = node.LoadMade
+read_kind false = node.Load
+
 -- a place gives way to the value there
-pub record Loads (kind : NodeKind) (of : DeclaredType) (d e : Drafted) (ending : Option Ending) : Type 0 where
+pub record Loads (kind : NodeKind) (of : DeclaredType) (makes : Bool) (d e : Drafted) (ending : Option Ending) : Type 0 where
   pub grown : Grown d e
   pub named : EndingNamed e.tables ending
-  pub stands : (place : Place) (x : Lvalue) (below : List Piece) → PlaceEnds d.tables kind x d.pieces below → EndingStands e.tables ending place (typed_value (load x) place (declared_view of)) e.pieces below
+  pub stands : (place : Place) (x : Lvalue) (below : List Piece) → PlaceEnds d.tables kind x d.pieces below → EndingStands e.tables ending place (typed_value (read_of makes x) place (declared_view of)) e.pieces below
 
 -- a procedure is called without arguments: all but the call's node is pushed
 pub record BareIs (env : Env) (t : Tables) (e : Ending) (y : plain.Term) (ps below : List Piece) : Type 0 where
+  pub base : Option bound.Expr
   pub space : Space
   pub number : ℕ
   pub written : Written
-  pub is : y ≡ a_routine space number written
-  pub called : ValueStands t e (bare_call env space number written) ps below
+  pub is : y ≡ routine_term base space number written
+  pub called : ValueStands t e (bare_call env base space number written) ps below
 
 pub record CallsRoutine (r : Routine) (d e : Drafted) (ending : Ending) : Type 0 where
   pub grown : Grown d e
@@ -97,3 +105,8 @@ broken_ending rule place values = record { kind = node.Marked (record { rule = r
 -- a value of a type that is no object's
 abbrev pub no_object : Ending → Option Ending
 no_object e = if is_object (declared_view e.of) then None else Some e
+
+-- a procedure of a standard module without the arguments that it needs
+pub record LacksArguments (r : Receiver) (place : Place) (ending : Ending) : Type 0 where
+  pub of_module : r ≡ receiver.Module
+  pub is : ending ≡ broken_ending 25 place 0

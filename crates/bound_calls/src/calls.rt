@@ -1,14 +1,14 @@
-ghost use Rattle.std.specs.Prelude.{◌≡◌, IfOk, length};
+ghost use Rattle.std.specs.Prelude.{◌≡◌, IfOk, length, OnOk};
 ghost use Rattle.bound_project.specs.DraftView.{draft_view};
-ghost use Rattle.bound_calls.specs.Calls.{EndsCall};
-ghost use Rattle.bound_calls.specs.Taking.{CallsAt, CallsBare, CallsRoutine};
+ghost use Rattle.bound_calls.specs.Calls.{EndsCall, PushesReceiver, call_kind};
+ghost use Rattle.bound_calls.specs.Taking.{CallsAt, CallsBare, CallsRoutine, LacksArguments};
 
-use crate::arguments::{pass_rest, sum};
+use crate::arguments::{nowhere, pass_rest, sum};
 use crate::shapes::{broken_ending, takes_none};
-use crate::take::no_object;
-use crate::term::{Ending, Passed, Routine};
+use crate::take::{no_object, push_node};
+use crate::term::{Ending, Passed, Receiver, Routine};
 use bound_declarations::NotYet;
-use bound_project::{Draft, NodeKind, Parameter};
+use bound_project::{DeclaredType, Draft, NodeKind, Parameter};
 use std::alloc::Global;
 use vba_base::{NoMemory, OrMemory, Place};
 
@@ -19,6 +19,48 @@ pub fn count_of(parameters: &[Parameter]) -> Result<u32, NoMemory>
     match u32::try_from(parameters.len()) {
         Ok(count) => Ok(count),
         Err(_) => Err(NoMemory),
+    }
+}
+
+/// Pushes the own object, of this type, and that it is one.
+fn push_own(draft: &mut Draft, of: DeclaredType) -> Result<(), NoMemory>
+    ensures { OnOk result (PushesReceiver (Receiver.Own of) (draft_view draft.old) (draft_view draft.new)) }
+{
+    push_node(draft, NodeKind::This, of, nowhere())?;
+    push_node(draft, NodeKind::ObjectThere, of, nowhere())
+}
+
+/// Pushes that an object is there, which was pushed.
+fn push_there(draft: &mut Draft, of: DeclaredType) -> Result<(), NoMemory>
+    ensures { OnOk result (PushesReceiver (Receiver.Pushed of) (draft_view draft.old) (draft_view draft.new)) }
+{
+    push_node(draft, NodeKind::ObjectThere, of, nowhere())
+}
+
+/// Pushes what stands before the arguments of a call: of a procedure of an object that object, and that it is one.
+pub fn push_receiver(draft: &mut Draft, receiver: Receiver) -> Result<(), NoMemory>
+    ensures { OnOk result (PushesReceiver receiver (draft_view draft.old) (draft_view draft.new)) }
+{
+    match receiver {
+        Receiver::Module => Ok(()),
+        Receiver::Own(of) => push_own(draft, of),
+        Receiver::Pushed(of) => push_there(draft, of),
+    }
+}
+
+/// The last node of a call of a procedure, of an object or of none, behind so many arguments.
+pub fn call_kind(receiver: Receiver, procedure: u32, arguments: u32) -> NodeKind
+    ensures { result ≡ call_kind receiver procedure arguments }
+{
+    match receiver {
+        Receiver::Module => NodeKind::Call {
+            procedure,
+            arguments,
+        },
+        Receiver::Own(_) | Receiver::Pushed(_) => NodeKind::Method {
+            procedure,
+            arguments,
+        },
     }
 }
 
@@ -35,10 +77,7 @@ pub fn call_ending<'a>(
     let arguments = sum(passed.count, left)?;
     pass_rest(alloc, draft, passed.left)?;
     Ok(Ending {
-        kind: NodeKind::Call {
-            procedure: routine.procedure,
-            arguments,
-        },
+        kind: call_kind(routine.receiver, routine.procedure, arguments),
         of: routine.of,
     })
 }
@@ -51,11 +90,22 @@ pub fn routine_ending<'a>(
 ) -> Result<Ending, OrMemory<NotYet>>
     ensures { IfOk result (λ ending. CallsRoutine routine.entry (draft_view draft.old) (draft_view draft.new) ending) }
 {
+    push_receiver(draft, routine.receiver)?;
     let passed = Passed {
         left: routine.parameters,
         count: 0,
     };
     call_ending(alloc, draft, routine, passed)
+}
+
+/// What a call of a procedure breaks without the arguments that it needs; of an object's that isn't built.
+fn lacking_ending(receiver: Receiver, place: Place) -> Result<Ending, OrMemory<NotYet>>
+    ensures { IfOk result (λ ending. LacksArguments receiver place ending) }
+{
+    match receiver {
+        Receiver::Module => Ok(broken_ending(25, place, 0)),
+        _ => Err(OrMemory::Fault(NotYet)),
+    }
 }
 
 /// What a call without arguments gives, a value or an object, but for its last node; where it needs some it breaks a static
@@ -69,7 +119,7 @@ pub fn called_ending<'a>(
     ensures { IfOk result (λ ending. CallsAt routine.entry place (draft_view draft.old) (draft_view draft.new) ending) }
 {
     if !takes_none(routine.parameters) {
-        return Ok(broken_ending(25, place, 0));
+        return lacking_ending(routine.receiver, place);
     }
     routine_ending(alloc, draft, routine)
 }

@@ -16,20 +16,25 @@ mod term;
 pub use arguments::{
     is_variant, nowhere, pass_missing, pass_plain, pass_rest, pass_tree, push_argument, sum,
 };
-pub use calls::{bare_call, call_ending, called_ending, count_of, routine_ending};
+pub use calls::{
+    bare_call, call_ending, call_kind, called_ending, count_of, push_receiver, routine_ending,
+};
 pub use constants::{constant_number, value_term};
 pub use given::{is_same_declared, is_user_type, mark_given};
 pub use orders::{named_ending, order_number, push_in_order, take_numbers};
 pub use references::{
-    given_ending, has_object, is_host_type, is_typed_kind, may_refer, push_given, push_if_any,
-    push_operand, push_reference, refers,
+    given_ending, has_object, is_host_type, is_reference_type, is_typed_kind, may_be_instance,
+    may_refer, push_given, push_if_any, push_operand, push_reference, refers,
 };
 pub use shapes::{broken_ending, has_names, push_broken, take_shapes, takes, takes_none};
 pub use stack::{put_item, settle, take_item};
-pub use take::{member_ending, no_object, push_ending, push_node, push_sheet, value_ending};
+pub use take::{
+    member_ending, no_object, push_ending, push_node, push_sheet, read_kind, value_ending,
+};
 pub use term::{
     Call, Dotted, Ending, Function, FunctionCall, HostMember, Indexed, Item, MemberCall, Named,
-    Operand, Ordered, Passed, Property, Refuser, Routine, Shape, Target, Term, Tree, Untaken,
+    Operand, Ordered, Passed, Property, Receiver, Refuser, Routine, Shape, Target, Term, Tree,
+    Untaken,
 };
 
 // What stands below, for the crates above.

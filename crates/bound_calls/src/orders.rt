@@ -1,13 +1,13 @@
 //! The order in which parameters take arguments that have names.
 
-ghost use Rattle.std.specs.Prelude.{◌≡◌, IfOk, OnOk, length, reverse};
+ghost use Rattle.std.specs.Prelude.{◌≡◌, IfOk, OnOk, reverse};
 ghost use Rattle.bound_project.specs.DraftView.{draft_view};
-ghost use Rattle.bound_calls.specs.InOrder.{AddsOrder, EndsInOrder, EndsNamed, Orders, OtherPassed, PassesApart, PassesOthers, all_apart, counted_from, is_there, numbers_given, place_in, places_from, with_named, with_number};
+ghost use Rattle.bound_calls.specs.InOrder.{AddsOrder, EndsInOrder, EndsNamed, named_kind, Orders, OtherPassed, PassesApart, PassesOthers, all_apart, counted_from, is_there, numbers_given, place_in, places_from, with_named, with_number};
 
 use crate::arguments::{pass_none, sum};
 use crate::calls::count_of;
 use crate::stack::{put_item, take_item};
-use crate::term::{Ending, Item, Ordered, Passed, Routine};
+use crate::term::{Ending, Item, Ordered, Passed, Receiver, Routine};
 use bound_declarations::NotYet;
 use bound_project::{Draft, NodeKind, Parameter};
 use std::alloc::Global;
@@ -211,6 +211,24 @@ pub fn push_in_order<'a>(
     Ok(ordered)
 }
 
+/// The last node of a call with names.
+fn named_kind(receiver: Receiver, procedure: u32, ordered: Ordered) -> NodeKind
+    ensures { result ≡ named_kind receiver procedure ordered.arguments ordered.order }
+{
+    match receiver {
+        Receiver::Module => NodeKind::CallInOrder {
+            procedure,
+            arguments: ordered.arguments,
+            order: ordered.order,
+        },
+        Receiver::Own(_) | Receiver::Pushed(_) => NodeKind::MethodInOrder {
+            procedure,
+            arguments: ordered.arguments,
+            order: ordered.order,
+        },
+    }
+}
+
 /// A call whose written arguments were pushed, the last ones with names, but for its last node.
 pub fn named_ending<'a>(
     alloc: Global,
@@ -223,11 +241,7 @@ pub fn named_ending<'a>(
 {
     let ordered = push_in_order(alloc, draft, routine.parameters, passed, named)?;
     Ok(Ending {
-        kind: NodeKind::CallInOrder {
-            procedure: routine.procedure,
-            arguments: ordered.arguments,
-            order: ordered.order,
-        },
+        kind: named_kind(routine.receiver, routine.procedure, ordered),
         of: routine.of,
     })
 }

@@ -6,15 +6,15 @@ ghost use Rattle.bound_project.specs.DraftView.{draft_view};
 ghost use Rattle.bound_project.specs.Drafts.{NodeNamed};
 ghost use Rattle.bound_project.specs.View.{declared_view};
 ghost use Rattle.bound_declarations.specs.binder.specs.Types.{is_object};
-ghost use Rattle.bound_forms.specs.ExpressionsBound.{default_rule, if_any, is_host_type, kind_by_type, kind_of_object, may_give_object, plain_operand};
-ghost use Rattle.bound_calls.specs.References.{DefaultBreaks, EndingGives, PushesAs, PushesGiven, PushesIfAny, PushesReference, TakesGiven, TakesReference, gives_way, default_node, is_referring, is_typed_kind, kind_gives, may_refer, refers};
+ghost use Rattle.bound_forms.specs.ExpressionsBound.{default_rule, if_any, is_host_type, kind_by_type, kind_of_object, may_give_object, plain_operand, has_default, is_reference_type};
+ghost use Rattle.bound_calls.specs.References.{DefaultBreaks, EndingGives, PushesAs, PushesGiven, PushesIfAny, PushesReference, TakesGiven, TakesReference, gives_way, default_node, is_referring, is_typed_kind, kind_gives, may_refer, refers, instance_at, is_of_host_kind, may_be_instance_by, unknown_may};
 ghost use Rattle.bound_calls.specs.Standing.{TermNamed};
 ghost use Rattle.bound_calls.specs.Steps.{PushesOperand};
 
 use crate::arguments::is_variant;
 use crate::calls::routine_ending;
 use crate::shapes::takes_none;
-use crate::take::{member_ending, push_node, push_sheet, value_ending};
+use crate::take::{member_ending, push_node, push_sheet, read_kind, value_ending};
 use crate::term::{Ending, Term, Tree};
 use bound_declarations::NotYet;
 use bound_declarations::declared_names::is_object;
@@ -36,11 +36,64 @@ pub fn is_host_type(of: DeclaredType) -> bool
     }
 }
 
+/// The same, or that of a class?
+pub fn is_reference_type(of: DeclaredType) -> bool
+    ensures { result ≡ is_reference_type (declared_view of) }
+{
+    match of {
+        DeclaredType::Plain(ElementType::Class(_)) => true,
+        _ => is_host_type(of),
+    }
+}
+
 /// The same, or a type whose values may be objects?
 fn is_referring(of: DeclaredType) -> bool
     ensures { result ≡ is_referring of }
 {
-    is_host_type(of) || is_variant(of)
+    is_reference_type(of) || is_variant(of)
+}
+
+/// Is what a node gives an object of the host, or Nothing, or does it break a rule?
+fn is_of_host(kind: NodeKind) -> bool
+    ensures { result ≡ is_of_host_kind kind }
+{
+    match kind {
+        NodeKind::Constant { .. } => true,
+        NodeKind::HostObject(_) => true,
+        NodeKind::HostMember { .. } => true,
+        NodeKind::NamedMember { .. } => true,
+        NodeKind::Marked { .. } => true,
+        _ => false,
+    }
+}
+
+/// May a Variant be an object, by the last node of what gives it? Where that isn't known it may.
+fn may_give(kind: NodeKind) -> bool
+    ensures { result ≡ unknown_may (kind_gives kind) }
+{
+    match kind_gives(kind) {
+        Some(gives) => gives,
+        None => true,
+    }
+}
+
+/// May a value be an object of a class, by its last node and its type?
+fn instance_at(kind: NodeKind, of: DeclaredType) -> bool
+    ensures { result ≡ instance_at kind of }
+{
+    match of {
+        DeclaredType::Plain(ElementType::Object) => true,
+        DeclaredType::Plain(ElementType::Class(_)) => true,
+        DeclaredType::Plain(ElementType::Variant) => may_give(kind),
+        _ => false,
+    }
+}
+
+/// May there be an object of a class in the run, in a project with classes or without?
+pub fn may_be_instance(has_class: bool, ending: Ending) -> bool
+    ensures { result ≡ may_be_instance_by has_class ending }
+{
+    has_class && (instance_at(ending.kind, ending.of) && !is_of_host(ending.kind))
 }
 
 /// Is a term taken as a reference, and no value? What lacks arguments that it needs is none.
@@ -48,11 +101,11 @@ pub fn refers<'a>(term: Term<'a>) -> bool
     ensures { result ≡ refers term.entry }
 {
     match term {
-        Term::Place { of, .. } => is_host_type(of),
-        Term::Value(ending) => is_host_type(ending.of),
-        Term::Routine(routine) => is_host_type(routine.of) && takes_none(routine.parameters),
-        Term::HostMember(member) => is_host_type(member.of) && member.least == 0,
-        Term::SheetMember(member) => is_host_type(member.of) && member.least == 0,
+        Term::Place { of, .. } => is_reference_type(of),
+        Term::Value(ending) => is_reference_type(ending.of),
+        Term::Routine(routine) => is_reference_type(routine.of) && takes_none(routine.parameters),
+        Term::HostMember(member) => is_reference_type(member.of) && member.least == 0,
+        Term::SheetMember(member) => is_reference_type(member.of) && member.least == 0,
         Term::Err => true,
         _ => false,
     }
@@ -105,6 +158,16 @@ fn type_rule(of: DeclaredType) -> Option<u8>
     }
 }
 
+/// Is the default member of an object of a type built? That of a class isn't.
+fn has_default(of: DeclaredType) -> bool
+    ensures { result ≡ has_default (declared_view of) }
+{
+    match of {
+        DeclaredType::Plain(ElementType::Class(_)) => false,
+        _ => true,
+    }
+}
+
 /// Is a node the last one of a value, and none of an object that is always there?
 pub fn is_typed_kind(kind: NodeKind) -> bool
     ensures { result ≡ is_typed_kind kind }
@@ -112,12 +175,17 @@ pub fn is_typed_kind(kind: NodeKind) -> bool
     match kind {
         NodeKind::Constant { .. } => true,
         NodeKind::Load => true,
+        NodeKind::LoadMade => true,
+        NodeKind::This => true,
+        NodeKind::NewObject { .. } => true,
         NodeKind::ElementValue { .. } => true,
         NodeKind::FieldValue { .. } => true,
         NodeKind::Unary { .. } => true,
         NodeKind::Binary { .. } => true,
         NodeKind::Call { .. } => true,
         NodeKind::CallInOrder { .. } => true,
+        NodeKind::Method { .. } => true,
+        NodeKind::MethodInOrder { .. } => true,
         NodeKind::ErrValue(_) => true,
         NodeKind::Library { .. } => true,
         NodeKind::Marked { .. } => true,
@@ -134,6 +202,9 @@ pub fn is_typed_kind(kind: NodeKind) -> bool
 fn default_rule(ending: Ending) -> Result<Option<u8>, OrMemory<NotYet>>
     ensures { IfOk result (λ rule. DefaultBreaks ending rule) }
 {
+    if !has_default(ending.of) {
+        return Err(OrMemory::Fault(NotYet));
+    }
     if is_typed_kind(ending.kind) {
         return Ok(type_rule(ending.of));
     }
@@ -173,6 +244,9 @@ fn kind_gives(kind: NodeKind) -> Option<bool>
 {
     match kind {
         NodeKind::Load => Some(true),
+        NodeKind::LoadMade => Some(true),
+        NodeKind::Method { .. } => Some(true),
+        NodeKind::MethodInOrder { .. } => Some(true),
         NodeKind::ElementValue { .. } => Some(true),
         NodeKind::FieldValue { .. } => Some(true),
         NodeKind::Call { .. } => Some(true),
@@ -214,10 +288,15 @@ fn reference_ending<'a>(
     ensures { IfOk result (λ ending. TakesReference term.entry (draft_view draft.old) (draft_view draft.new) ending) }
 {
     match term {
-        Term::Place { kind, of, .. } => {
+        Term::Place {
+            kind,
+            of,
+            makes,
+            ..
+        } => {
             push_node(draft, kind, of, place)?;
             Ok(Ending {
-                kind: NodeKind::Load,
+                kind: read_kind(makes),
                 of,
             })
         }

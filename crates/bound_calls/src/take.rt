@@ -4,7 +4,7 @@ ghost use Rattle.bound_project.specs.Drafts.{NodeNamed};
 ghost use Rattle.bound_project.specs.Pieces.{put};
 ghost use Rattle.bound_calls.specs.Calls.{node_of};
 ghost use Rattle.bound_calls.specs.Standing.{EndingNamed, TermNamed};
-ghost use Rattle.bound_calls.specs.Taking.{Loads, Pushes, PushesSheet, ReadsMember, TakesValue, no_object};
+ghost use Rattle.bound_calls.specs.Taking.{Loads, Pushes, PushesSheet, ReadsMember, TakesValue, no_object, read_kind};
 
 use crate::arguments::nowhere;
 use crate::calls::bare_call;
@@ -34,15 +34,27 @@ pub fn push_node(
     })
 }
 
+/// What reads a place, where an object is made there first or isn't.
+pub fn read_kind(makes: bool) -> NodeKind
+    ensures { result ≡ read_kind makes }
+{
+    if makes {
+        NodeKind::LoadMade
+    } else {
+        NodeKind::Load
+    }
+}
+
 /// The value at a place.
 fn load(
     draft: &mut Draft,
     kind: NodeKind,
     of: DeclaredType,
+    makes: bool,
     place: Place,
 ) -> Result<Option<Ending>, NoMemory>
     requires { TermNamed (draft_view draft.old).tables (Term.Value (record { kind = kind; of = of })) }
-    ensures { IfOk result (λ ending. Loads kind of (draft_view draft.old) (draft_view draft.new) ending) }
+    ensures { IfOk result (λ ending. Loads kind of makes (draft_view draft.old) (draft_view draft.new) ending) }
 {
     if is_object(of) {
         return Ok(None);
@@ -54,7 +66,7 @@ fn load(
         operand: of,
     })?;
     Ok(Some(Ending {
-        kind: NodeKind::Load,
+        kind: read_kind(makes),
         of,
     }))
 }
@@ -148,8 +160,13 @@ pub fn value_ending<'a>(
     ensures { IfOk result (λ ending. TakesValue term.entry place (draft_view draft.old) (draft_view draft.new) ending) }
 {
     match term {
-        Term::Place { kind, of, .. } => {
-            let ending = load(draft, kind, of, place)?;
+        Term::Place {
+            kind,
+            of,
+            makes,
+            ..
+        } => {
+            let ending = load(draft, kind, of, makes, place)?;
             Ok(ending)
         }
         Term::Value(ending) => Ok(no_object(ending)),

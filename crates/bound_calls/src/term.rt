@@ -12,10 +12,20 @@ pub struct Ending {
     pub of: DeclaredType,
 }
 
-/// A procedure or a property, by its module and how that writes it; of what is called where its value is wanted, which
-/// is a property's Get: the number in the project, the parameters, and the type of what it gives.
+/// What a procedure is called of: none, as one of a standard module; the own object, for which nothing is pushed; or an
+/// object that was pushed; by the type of that.
+#[derive(Clone, Copy)]
+pub enum Receiver {
+    Module,
+    Own(DeclaredType),
+    Pushed(DeclaredType),
+}
+
+/// A procedure or a property, by its module and how that writes it, and what it is called of; of what is called where its
+/// value is wanted, which is a property's Get: the number in the project, the parameters, and the type of what it gives.
 #[derive(Clone, Copy)]
 pub struct Routine<'a> {
+    pub receiver: Receiver,
     pub space: &'a Space<'a>,
     pub written: Written<'a>,
     pub procedure: u32,
@@ -23,9 +33,10 @@ pub struct Routine<'a> {
     pub of: DeclaredType,
 }
 
-/// A property by one of its procedures: its module, and how that writes the procedure.
+/// A property by one of its procedures: what it is called of, its module, and how that writes the procedure.
 #[derive(Clone, Copy)]
 pub struct Property<'a> {
+    pub receiver: Receiver,
     pub space: &'a Space<'a>,
     pub written: Written<'a>,
 }
@@ -54,12 +65,14 @@ pub struct HostMember {
 /// in the source.
 #[derive(Clone, Copy)]
 pub enum Term<'a> {
-    /// A place, its type, whether it is an array with declared bounds, and whether it is lent to a ByRef parameter.
+    /// A place, its type, whether it is an array with declared bounds, whether it is lent to a ByRef parameter, and whether
+    /// an object is made there where it is read, as of a variable declared As New.
     Place {
         kind: NodeKind,
         of: DeclaredType,
         is_bounded: bool,
         lends: bool,
+        makes: bool,
     },
     Value(Ending),
     Routine(Routine<'a>),

@@ -54,6 +54,16 @@ pub fn is_by_val(passing: Option<PassingWord>) -> bool
     }
 }
 
+/// Is it a Property Set?
+pub fn is_set(words: ProcedureWords) -> bool
+    ensures { result ≡ signatures.is_set words }
+{
+    match words {
+        ProcedureWords::PropertySet { .. } => true,
+        _ => false,
+    }
+}
+
 /// Is it a property?
 pub fn is_property(words: ProcedureWords) -> bool
     ensures { result ≡ signatures.is_property words }

@@ -6,6 +6,7 @@ mod declared;
 mod kept;
 mod kinds;
 mod lists;
+mod made;
 mod not_yet;
 mod numbers;
 mod parameters;
@@ -18,12 +19,13 @@ pub use declared::{
     declared_result, declared_variable, is_bounded, own_declaration, variable_type,
 };
 pub use kept::{Kept, count_before, count_kept, first_locals, is_kept, sum};
-pub use kinds::{gives_value, is_by_val, is_property, kind_of, takes_value};
+pub use kinds::{gives_value, is_by_val, is_property, is_set, kind_of, takes_value};
 pub use lists::{kept_declarations, module_variables};
+pub use made::{class_in, made_by, made_through};
 pub use not_yet::NotYet;
 pub use numbers::procedure_number;
 pub use parameters::parameters_of;
-pub use procedures::{bound_module, bound_procedure};
+pub use procedures::{bound_module, bound_procedure, copy_name};
 pub use storage::own_storage;
 pub use types::{arrayed, parameter_type, result_type};
 pub use user_types::module_types;

@@ -69,7 +69,7 @@ pub fn bound_procedure(
 }
 
 /// A copy of a name.
-fn copy_name(alloc: Global, name: &Spelled) -> Result<Spelled, NoMemory>
+pub fn copy_name(alloc: Global, name: &Spelled) -> Result<Spelled, NoMemory>
     ensures { IfOk result (λ copy. spelled_view copy ≡ spelled_view name.now) }
 {
     Ok(Spelled {

@@ -1,6 +1,6 @@
 //! The types of declarations ([MS-VBAL] 5.2.3.1).
 
-ghost use Rattle.std.specs.Prelude.{◌≡◌, IfOk, is_some, option_map};
+ghost use Rattle.std.specs.Prelude.{◌≡◌, IfOk, option_map};
 ghost use Rattle.binder.specs.Constants.{known_length};
 ghost use Rattle.binder.specs.Storage as storage;
 ghost use Rattle.binder.specs.Types as types;
@@ -44,7 +44,6 @@ pub(crate) fn new_clause_type(
 {
     match clause {
         None => Ok(suffix_type(suffix)),
-        Some(clause) if clause.new_word.is_some() => Err(OrMemory::Fault(NotYet)),
         Some(clause) => Ok(written_type(alloc, constants, &clause.declared_type)?),
     }
 }

@@ -23,7 +23,7 @@ abbrev statements_in : List Body → List (List Statement)
 statements_in [] = []
 statements_in (b ∷ bs) = bare_statements b.statements ∷ statements_in bs
 
-abbrev statements_of : Answer → List (List Statement)
+abbrev pub statements_of : Answer → List (List Statement)
 statements_of (bound_as pr) = statements_in pr.bodies
 statements_of answer = []
 
@@ -81,14 +81,15 @@ by_reference : bound_to (codes "Dim g As Long\nSub Main()\nDebug.Print F(g, (g))
 unfolding bound_to folded caseless digits
 by_reference = refl
 
--- where binding stops: a variable of an object type, and a class
+-- where binding stops: a variable of an object type
 left_variable : ran_all (of_one (codes "Sub Main()\nDebug.Print 1\nDim o As Collection\nEnd Sub")) ≡ left_at 1 3 1
 unfolding ran_all folded caseless digits
 left_variable = refl
 
-left_class : ran_all ((false, codes "Sub Main()\nEnd Sub") ∷ (true, codes "\nDim x") ∷ []) ≡ left_at 2 2 1
+-- a class is bound
+class_bound : ran_all ((false, codes "Sub Main()\nEnd Sub") ∷ (true, codes "\nDim x") ∷ []) ≡ ends []
 unfolding ran_all folded caseless digits
-left_class = refl
+class_bound = refl
 
 -- functions of the library; behind VBA an Array counts from 0
 library_called : ran_all (of_one (codes "Sub Main()\nDebug.Print Left$(\"abc\", 2); Left(\"xyz\", 1)\nEnd Sub")) ≡ ends (Printed (codes "abx") true ∷ [])

@@ -8,3 +8,4 @@ mod MemberRows
 mod TargetRows
 mod ProgramRows
 mod HostRows
+mod ClassRows

@@ -1,13 +1,13 @@
 -- The bound project of modules, or why there is none: a rule that is broken, or a part that the bound project can't say
 -- yet.
-use Rattle.std.specs.Prelude.{ℕ, Bool, true, false, ◌&&◌, ◌||◌, not, List, [], ◌∷◌, Option, Some, None, is_some, is_none, option_map, if◌then◌else◌, unwrap_or, length}
+use Rattle.std.specs.Prelude.{ℕ, Bool, true, false, ◌&&◌, not, List, [], ◌∷◌, Option, Some, None, is_some, is_none, option_map, unwrap_or, length}
 use Rattle.std.specs.List.{list_all}
 use Rattle.vba_base.specs.declared.place.Place.{Place}
 use Rattle.vba_base.specs.declared.place.Refusal.{Refusal}
 use Rattle.vba_lexer.specs.declared.number.TypeSuffix.{TypeSuffix}
 use Rattle.vba_values.specs.Types.{Declared}
 use Rattle.vba_values.specs.Types as type
-use Rattle.vba_tree.specs.Tree.{DeclaredType, named, fixed_text, TypeClause, NewTypeClause, Variable, Parameter, ResultType, variables, simple, type_member, procedure_header}
+use Rattle.vba_tree.specs.Tree.{DeclaredType, named, fixed_text, TypeClause, NewTypeClause, Variable, Parameter, ResultType, variables, simple, type_member, procedure_header, event_line}
 use Rattle.vba_module.specs.Parts.{Part, statement, whole_line, place_of}
 use Rattle.vba_module.specs.Headers.{all_of, parameters_of}
 use Rattle.bound_project.specs.Statements.{Statement}
@@ -18,8 +18,7 @@ use Rattle.binder.specs.Options.{or_else, from_two}
 use Rattle.binder.specs.Declarations.{Written}
 use Rattle.binder.specs.Scopes.{Outside, Space, Scope, spaces_from}
 use Rattle.binder.specs.Names.{scope_of, scope_in}
-use Rattle.binder.specs.Types.{TypeMeant, known, of_host, type_meant, is_object}
-use Rattle.bound_forms.specs.ExpressionsBound.{is_host_type}
+use Rattle.binder.specs.Types.{TypeMeant, known, of_host, type_meant}
 use Rattle.binder.specs.Constants.{home}
 use Rattle.binder.specs.Numbering.{Standing, standings_in, body_count}
 use Rattle.binder.specs.Storage.{first_static}
@@ -27,6 +26,7 @@ use Rattle.bound_forms.specs.StatementsBound.{Around, part_statements, all_state
 use Rattle.binder.specs.Blocks.{blocks_in}
 use Rattle.binder.specs.Projects.{numbered, declarations_of, Startup, startup_number, no_space, broken_rule}
 use Rattle.vba_lexer.specs.declared.number.TypeSuffix.TheVariants as suffix
+use Rattle.binder.specs.ClassTables.{is_minus_four, marked_name}
 
 -- ---- procedures
 
@@ -43,11 +43,12 @@ body_with parts statements = record { statements = statements; blocks = blocks_i
 abbrev pub bound_body : Scope → ℕ × Written → Option Body
 bound_body s p = let a = around_of s p in option_map (body_with a.parts) (all_statements a a.parts)
 
--- ---- what isn't built: classes, Collections, and types that the profile hasn't
+-- ---- what isn't built: Collections, events, enumerators, arrays declared As New, and types that the profile hasn't
 
 abbrev pub is_built_type : Declared → Bool
 is_built_type (type.array_of of) = is_built_type of
-is_built_type of = not (is_object of) || is_host_type of
+is_built_type type.collection = false
+is_built_type of = true
 
 abbrev pub is_built_meant : Option TypeMeant → Bool
 is_built_meant (Some (known of)) = is_built_type of
@@ -67,12 +68,12 @@ abbrev pub is_built_clause : Scope → Option TypeSuffix → Option TypeClause �
 is_built_clause s x None = is_built_suffix x
 is_built_clause s x (Some c) = is_built_suffix x && is_built_written s c.declared_type
 
-abbrev pub is_built_new : Scope → Option TypeSuffix → Option NewTypeClause → Bool
-is_built_new s x None = is_built_suffix x
-is_built_new s x (Some c) = is_built_suffix x && (is_none c.new_word && is_built_written s c.declared_type)
+abbrev pub is_built_new : Scope → (is_array : Bool) → Option TypeSuffix → Option NewTypeClause → Bool
+is_built_new s is_array x None = is_built_suffix x
+is_built_new s is_array x (Some c) = is_built_suffix x && (not (is_array && is_some c.new_word) && is_built_written s c.declared_type)
 
 abbrev pub is_built_variable : Scope → Variable → Bool
-is_built_variable s v = is_built_new s v.name.suffix v.type_clause
+is_built_variable s v = is_none v.with_events_word && is_built_new s (is_some v.dims) v.name.suffix v.type_clause
 
 abbrev pub is_built_parameter : Scope → Parameter → Bool
 is_built_parameter s p = is_built_clause s p.name.suffix p.type_clause
@@ -87,7 +88,8 @@ is_built_part s (statement (simple (variables word token vs))) = list_all (is_bu
 is_built_part s (whole_line (type_member x dims clause)) = is_built_written s clause.declared_type
 is_built_part s (whole_line (procedure_header access static_word kind x ps result)) =
     is_built_suffix x.suffix && (is_built_result s result && list_all (is_built_parameter s) (parameters_of ps))
-is_built_part s part = true
+is_built_part s (whole_line (event_line access_word event_word x ps)) = false
+is_built_part s part = not (is_some (marked_name is_minus_four part) && s.here.source.is_class)
 
 abbrev pub place_unless : Bool → Place → Option Place
 place_unless true place = None
@@ -106,13 +108,8 @@ left_in_parts s (p ∷ ps) (whole_line (procedure_header access static_word kind
     or_else (place_unless (is_built_part s part) (place_of part)) (or_else (left_in_body (around_of s p) (around_of s p).parts) (left_in_parts s ps parts))
 left_in_parts s ps (part ∷ parts) = or_else (place_unless (is_built_part s part) (place_of part)) (left_in_parts s ps parts)
 
-abbrev pub first_part : List Part → Option Place
-first_part [] = None
-first_part (part ∷ parts) = Some (place_of part)
-
--- of a class its first part
 abbrev pub left_in_space : Scope → Option Place
-left_in_space s = if s.here.source.is_class then first_part s.here.source.parts else left_in_parts s (numbered 0 s.here.entries) s.here.source.parts
+left_in_space s = left_in_parts s (numbered 0 s.here.entries) s.here.source.parts
 
 abbrev pub left_in_spaces : Outside → List Space → List Space → Option Place
 left_in_spaces o all [] = None

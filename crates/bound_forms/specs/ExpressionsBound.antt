@@ -13,22 +13,24 @@ use Rattle.vba_lib.specs.declared.function.LibraryFunction.{LibraryFunction}
 use Rattle.vba_lib.specs.Library.{arity_of, declared_of}
 use Rattle.vba_lib.specs.Names.{function_named}
 use Rattle.vba_meaning.specs.ByName.{parameters_given}
-use Rattle.bound_project.specs.Expressions.{Storage, err_number, err_source, err_description, Node, constant, load, element_value, field_value, err_value, default_of, host_object, active_sheet, host_member, named_member, marked, ByName, Lvalue, variable, item, element, field, kept_place, Exprs, no_exprs, also}
+use Rattle.bound_project.specs.Expressions.{Storage, err_number, err_source, err_description, Node, constant, load, element_value, field_value, err_value, default_of, host_object, active_sheet, host_member, named_member, marked, ByName, Lvalue, variable, item, element, field, kept_place, Exprs, no_exprs, also, load_made, this, new_object, method, object_field, as_new}
 use Rattle.bound_project.specs.Expressions as bound
 use Rattle.vba_values.specs.declared.object.HostRef.{HostRef}
 use Rattle.bound_project.specs.Project.{Declaration, UserType, no_name, nowhere}
 use Rattle.binder.specs.Options.{or_else, from_two, from_three}
 use Rattle.binder.specs.Sources.{base_of}
-use Rattle.binder.specs.Declarations.{Written, What, a_variable, a_constant, a_member, a_procedure, Entry, Own, the_result, a_parameter, a_local_constant, Local}
-use Rattle.binder.specs.Scopes.{Space, plainly, called, Meant, of_procedure, of_module, of_host, of_library, Qualifier, declares, behind, qualifier_of, first_at, has_dollar}
+use Rattle.binder.specs.Declarations.{Written, What, a_variable, a_constant, a_member, a_procedure, Entry, Own, the_result, a_parameter, a_local_constant, Local, a_local}
+use Rattle.binder.specs.Scopes.{Scope, Space, plainly, called, Meant, of_procedure, of_module, of_host, of_library, Qualifier, declares, behind, qualifier_of, first_at, has_dollar}
 use Rattle.binder.specs.Types.{is_object, type_meant, meant_type}
 use Rattle.binder.specs.Constants.{is_variant, literal_meant, value_type, operator_kind, unary_kind, compare_in, meant_by, names_in, home}
 use Rattle.binder.specs.Storage.{parameter_type, result_type, own_declaration, declared_variable, user_types, module_storage, own_storage, procedure_number, has_bounds}
-use Rattle.bound_forms.specs.Terms.{Within, Env, HostMember, Term, a_place, a_value, a_routine, a_function, a_host_member, err_object, err_raise, err_clear, error_word, no_term, expression_of, broken_rule, broken_value, given_to, value_with, Given, listed_values, bound_arguments, has_names, takes, given_by_name}
+use Rattle.bound_forms.specs.Terms.{Within, Env, HostMember, Term, a_place, a_value, a_routine, a_function, a_host_member, err_object, err_raise, err_clear, error_word, no_term, expression_of, broken_rule, broken_value, given_to, value_with, Given, listed_values, bound_arguments, has_names, takes, given_by_name, a_method, read_of, value_in}
 use Rattle.binder.specs.Signatures.{is_get, reader, parameters_in, call_type}
 use Rattle.vba_expression.specs.declared.operator.BinaryOperator.TheVariants as operator
 use Rattle.vba_lib.specs.declared.function.LibraryFunction.TheVariants as function
 use Rattle.vba_values.specs.declared.object.HostRef.TheVariants as host
+use Rattle.vba_tree.specs.Tree as written
+use Rattle.binder.specs.Classes.{has_class, class_space, own_class, member_entry, field_number, made_class, may_be_made}
 
 -- ---- places
 
@@ -46,13 +48,57 @@ place_told (type_of type_of_word e is_word t) = type_of_word.place
 place_told (unary operator token e) = token.place
 place_told (binary l operator token r) = token.place
 
+-- ---- objects of classes
+
+-- whether a function of the library may give an object: one of its arguments
+abbrev pub may_give_object : LibraryFunction → Bool
+may_give_object function.IIf = true
+may_give_object function.CVar = true
+may_give_object f = false
+
+-- whether a Variant may be an object: what variables, elements and calls give; and what breaks a rule
+abbrev pub may_be_object : Node → Bool
+may_be_object (load x) = true
+may_be_object (load_made x) = true
+may_be_object (element_value e es) = true
+may_be_object (field_value e i) = true
+may_be_object (bound.call procedure args) = true
+may_be_object (method e procedure args) = true
+may_be_object (host_member e member_name es) = true
+may_be_object (named_member e member_name by es) = true
+may_be_object (bound.library f text_form es compare base) = may_give_object f
+may_be_object (marked broken es) = true
+may_be_object node = false
+
+-- what the host gives is no object of a class, and neither is Nothing, nor what breaks a rule
+abbrev pub is_of_host : Node → Bool
+is_of_host (constant v) = true
+is_of_host (host_object reference) = true
+is_of_host (host_member e member_name es) = true
+is_of_host (named_member e member_name by es) = true
+is_of_host (marked broken es) = true
+is_of_host node = false
+
+abbrev pub is_instance_type : Node → Declared → Bool
+is_instance_type node type.object = true
+is_instance_type node (type.class number) = true
+is_instance_type node type.variant = may_be_object node
+is_instance_type node other = false
+
+-- whether there may be an object of a class in the run, so that the run says what members there are
+abbrev pub may_be_instance : Env → bound.Expr → Bool
+may_be_instance env (bound.expr node place of operand) = has_class env.scope.spaces && (is_instance_type node of && not (is_of_host node))
+
 -- ---- elements and fields ([MS-VBAL] 5.6.12, 5.6.13)
 
--- the type of what an index gives, where something can be indexed
+-- the type of what an index gives, where something can be indexed before the run
 abbrev pub element_type : Declared → Option Declared
 element_type (type.array_of of) = Some of
 element_type type.variant = Some type.variant
 element_type other = None
+
+abbrev pub indexed_type : Env → bound.Expr → Option Declared
+indexed_type env (bound.expr node place of operand) = if may_be_instance env (bound.expr node place of operand) then None else element_type of
 
 -- numbers of a place: none is missing and none is named
 abbrev pub are_numbers : List Given → Bool
@@ -78,12 +124,18 @@ abbrev pub with_type : Option Declared → Option Exprs → (Declared → Exprs 
 with_type of es term = if_there (from_two term of es)
 
 -- the value of a call whose arguments index what it gives, and of one that takes them
-abbrev pub indexed_value : Place → Node → Declared → Option Exprs → Term
-indexed_value place node of es = with_type (element_type of) es (λ u xs. a_value (element_value (expression_of node place of) xs) u)
+abbrev pub indexed_value : Env → Place → Node → Declared → Option Exprs → Term
+indexed_value env place node of es =
+    with_type (indexed_type env (expression_of node place of)) es (λ u xs. a_value (element_value (expression_of node place of) xs) u)
 
-abbrev pub call_value : Env → Space → ℕ → Written → Option bound.Args → Term
-call_value env space number p args =
-    if_there (option_map (λ xs. a_value (bound.call (procedure_number env.scope space number) xs) (call_type env.scope space p)) args)
+-- a procedure of a standard module, and of an object
+abbrev pub call_node : Option bound.Expr → (procedure : ℕ) → bound.Args → Node
+call_node None q args = bound.call q args
+call_node (Some base) q args = method base q args
+
+abbrev pub call_value : Env → Option bound.Expr → Space → ℕ → Written → Option bound.Args → Term
+call_value env base space number p args =
+    if_there (option_map (λ xs. a_value (call_node base (procedure_number env.scope space number) xs) (call_type env.scope space p)) args)
 
 -- arguments behind a property without parameters index its value
 abbrev pub indexes_value : Written → List Given → Bool
@@ -94,25 +146,34 @@ abbrev pub node_or : Term → (Node → Declared → Term) → Term
 node_or (a_value node of) term = term node of
 node_or other term = no_term
 
-abbrev pub call_with : (value : Declared → Term → Place → Option bound.Expr) → (number : Term → Place → Option bound.Expr) → Env → Place → List Given → Space → ℕ → Written → Term
-call_with value number_of env place gs space number p = if_there (option_map called_as (reader env.scope space number p))
+abbrev pub call_with : (value : Declared → Term → Place → Option bound.Expr) → (number : Term → Place → Option bound.Expr) → Env → Place → List Given → Option bound.Expr → Space → ℕ → Written → Term
+call_with value number_of env place gs base space number p = if_there (option_map called_as (reader env.scope space number p))
   where
     called_as : ℕ × Written → Term
     called_as f =
         if indexes_value f.1 gs
-        then node_or (call_value env space f.0 f.1 (Some bound.no_args)) (λ node of. indexed_value place node of (numbers_of number_of gs))
-        else call_value env space f.0 f.1 (bound_arguments value (parameters_in env.scope space f.1) gs)
+        then node_or (call_value env base space f.0 f.1 (Some bound.no_args)) (λ node of. indexed_value env place node of (numbers_of number_of gs))
+        else call_value env base space f.0 f.1 (bound_arguments value (parameters_in env.scope space f.1) gs)
 
 -- a call without arguments
-abbrev pub bare_call : Env → Space → ℕ → Written → Term
-bare_call env space number p = call_with (λ of t place. None) (λ t place. None) env p.place [] space number p
+abbrev pub bare_call : Env → Option bound.Expr → Space → ℕ → Written → Term
+bare_call env base space number p = call_with (λ of t place. None) (λ t place. None) env p.place [] base space number p
+
+-- the object whose procedure is called stands before its arguments
+abbrev pub behind_base : Option bound.Expr → Exprs → Exprs
+behind_base None es = es
+behind_base (Some base) es = also base es
 
 -- S25: a procedure and a member without the arguments that they need
-abbrev pub without_arguments : Env → Term → Place → Option bound.Expr
-without_arguments env (a_routine space number p) place = option_and_then lacking (reader env.scope space number p)
+abbrev pub lacking_call : Env → Option bound.Expr → Space → ℕ → Written → Place → Option bound.Expr
+lacking_call env base space number p place = option_and_then lacking (reader env.scope space number p)
   where
     lacking : ℕ × Written → Option bound.Expr
-    lacking f = if takes (parameters_in env.scope space f.1) [] then None else Some (broken_rule 25 place no_exprs)
+    lacking f = if takes (parameters_in env.scope space f.1) [] then None else Some (broken_rule 25 place (behind_base base no_exprs))
+
+abbrev pub without_arguments : Env → Term → Place → Option bound.Expr
+without_arguments env (a_routine space number p) place = lacking_call env None space number p place
+without_arguments env (a_method base space number p) place = lacking_call env (Some base) space number p place
 without_arguments env (a_host_member e m) place = if m.least == 0 then None else Some (broken_rule 25 place (also e no_exprs))
 without_arguments env t place = None
 
@@ -128,20 +189,22 @@ is_host_type type.worksheet = true
 is_host_type type.range = true
 is_host_type other = false
 
+-- the same, and those of classes
+abbrev pub is_reference_type : Declared → Bool
+is_reference_type (type.class number) = true
+is_reference_type of = is_host_type of
+
 -- a Variant may have an object: whether it has one the run decides
 abbrev pub typed_reference : Node → Place → Declared → Option bound.Expr
-typed_reference node place of = if is_host_type of || is_variant of then Some (expression_of node place of) else None
+typed_reference node place of = if is_reference_type of || is_variant of then Some (expression_of node place of) else None
 
 -- a term as a reference to an object, or as what may be one
 abbrev pub reference_of : Env → Term → Place → Option bound.Expr
-reference_of env (a_place x of bounded lends) place = typed_reference (load x) place of
+reference_of env (a_place x of bounded lends makes) place = typed_reference (read_of makes x) place of
 reference_of env (a_value node of) place = typed_reference node place of
 reference_of env (a_host_member e m) place = if m.least == 0 then typed_reference (host_member e m.name no_exprs) place m.of else None
-reference_of env (a_routine space number p) place = of_call (bare_call env space number p)
-  where
-    of_call : Term → Option bound.Expr
-    of_call (a_value node of) = typed_reference node place of
-    of_call other = None
+reference_of env (a_routine space number p) place = value_in typed_reference (bare_call env None space number p) place
+reference_of env (a_method base space number p) place = value_in typed_reference (bare_call env (Some base) space number p) place
 reference_of env err_object place = Some (expression_of (host_object host.ErrObject) place type.object)
 reference_of env other place = None
 
@@ -189,26 +252,14 @@ abbrev pub given_way : Option ℕ → Place → bound.Expr → bound.Expr
 given_way None place e = expression_of (default_of e) place type.variant
 given_way (Some rule) place e = broken_rule rule place (also e no_exprs)
 
-abbrev pub default_value : Place → bound.Expr → bound.Expr
-default_value place (bound.expr node at of operand) = given_way (default_rule (host_kind node of)) place (bound.expr node at of operand)
+-- that of a class isn't built
+abbrev pub has_default : Declared → Bool
+has_default (type.class number) = false
+has_default other = true
 
--- whether a function of the library may give an object: one of its arguments
-abbrev pub may_give_object : LibraryFunction → Bool
-may_give_object function.IIf = true
-may_give_object function.CVar = true
-may_give_object f = false
-
--- whether a Variant may be an object: what variables, elements and calls give; and what breaks a rule
-abbrev pub may_be_object : Node → Bool
-may_be_object (load x) = true
-may_be_object (element_value e es) = true
-may_be_object (field_value e i) = true
-may_be_object (bound.call procedure args) = true
-may_be_object (host_member e member_name es) = true
-may_be_object (named_member e member_name by es) = true
-may_be_object (bound.library f text_form es compare base) = may_give_object f
-may_be_object (marked broken es) = true
-may_be_object node = false
+abbrev pub default_value : Place → bound.Expr → Option bound.Expr
+default_value place (bound.expr node at of operand) =
+    if has_default of then Some (given_way (default_rule (host_kind node of)) place (bound.expr node at of operand)) else None
 
 -- an expression of a Variant's type that may be an object
 abbrev pub has_object : Node → Declared → Bool
@@ -222,7 +273,7 @@ plain_operand (bound.expr node at of operand) =
 -- a term as an operand: Err is its number, and another object gives way to the value of its default member
 abbrev pub operand_of : Env → Term → Place → Option bound.Expr
 operand_of env err_object place = Some (expression_of (err_value err_number) place type.long)
-operand_of env t place = or_else (option_map plain_operand (value_of env t place)) (option_map (default_value place) (reference_of env t place))
+operand_of env t place = or_else (option_map plain_operand (value_of env t place)) (option_and_then (default_value place) (reference_of env t place))
 
 -- a term as an argument for a parameter: a Variant and a variable of an object type take an object as it is
 abbrev pub taken_for : Env → Declared → Term → Place → Option bound.Expr
@@ -291,11 +342,16 @@ abbrev pub object_member : (place dot : Place) → Node → Declared → List �
 object_member place dot node of fold =
     unwrap_or (option_map (λ kind. member_of_kind kind dot (expression_of node place of) fold) (host_kind node of)) (member_of_other dot (expression_of node place of))
 
+-- the same where no object of a class may be there
+abbrev pub host_behind : Env → (place dot : Place) → Node → Declared → List ℕ → Term
+host_behind env place dot node of fold = if may_be_instance env (expression_of node place of) then no_term else object_member place dot node of fold
+
 -- what brackets behind an object take: its default member with arguments is Item, or else S34 at its first token
-abbrev pub item_of : Place → Term → Term
-item_of place (a_place x of bounded lends) = if is_host_type of then object_member place place (load x) of (codes "item") else a_place x of bounded lends
-item_of place (a_value node of) = if is_host_type of then object_member place place node of (codes "item") else a_value node of
-item_of place t = t
+abbrev pub item_of : Env → Place → Term → Term
+item_of env place (a_place x of bounded lends makes) =
+    if is_host_type of then host_behind env place place (read_of makes x) of (codes "item") else a_place x of bounded lends makes
+item_of env place (a_value node of) = if is_host_type of then host_behind env place place node of (codes "item") else a_value node of
+item_of env place t = t
 
 abbrev pub no_type : UserType
 no_type = record { name = no_name; fields = [] }
@@ -316,29 +372,62 @@ err_member dot fold =
     else if bytes_eq fold (codes "clear") then err_clear
     else broken_value 34 dot no_exprs
 
-abbrev pub field_of_place : Env → (place dot : Place) → Lvalue → Declared → Bool → Identifier → Term
-field_of_place env place dot x (type.udt number) lends f =
-    with_field (field_named env number f) (λ i d. a_place (field x i d.of (has_bounds d)) d.of (has_bounds d) lends) dot (expression_of (load x) place (type.udt number))
-field_of_place env place dot x of lends f = object_member place dot (load x) of f.name
+-- a place; of a variable that is declared As New, by the class of which an object is made where it is read
+abbrev pub made_place : Option ℕ → Lvalue → Declared → (bounded lends : Bool) → Term
+made_place None x of bounded lends = a_place x of bounded lends false
+made_place (Some number) x of bounded lends = a_place (as_new number x) of bounded lends true
+
+-- a variable as it is declared, which is kept there
+abbrev pub declared_at : Scope → written.Variable → Lvalue → (lends : Bool) → Term
+declared_at s v x lends = let d = declared_variable s v in made_place (made_class s v) x d.of (has_bounds d) lends
+
+-- a variable of an object, and a procedure of it, by the entry of its class
+abbrev pub object_term : Env → bound.Expr → Space → ℕ → Entry → Term
+object_term env base space number e = at e.what
+  where
+    at : What → Term
+    at (a_variable v) =
+        let d = declared_variable (home env.scope space) v in
+        declared_at (home env.scope space) v (object_field base (field_number space number) d.of (has_bounds d)) false
+    at (a_procedure p) = a_method base space number p
+    at what = no_term
+
+-- what stands behind a dot behind an object of a class, or else S34
+abbrev pub class_member : Env → (dot : Place) → bound.Expr → ℕ → Identifier → Term
+class_member env dot base number f = unwrap_or (option_and_then in_class (class_space env.scope.spaces number)) (unknown_member dot base)
+  where
+    in_class : Space → Option Term
+    in_class space = option_map (λ m. object_term env base space m.0 m.1) (member_entry env.scope space f)
+
+-- the same behind any value that is of no Type
+abbrev pub object_behind : Env → (place dot : Place) → Node → Declared → Identifier → Term
+object_behind env place dot node (type.class number) f = class_member env dot (expression_of node place (type.class number)) number f
+object_behind env place dot node of f = host_behind env place dot node of f.name
+
+abbrev pub field_of_place : Env → (place dot : Place) → Lvalue → Declared → (lends makes : Bool) → Identifier → Term
+field_of_place env place dot x (type.udt number) lends makes f =
+    with_field (field_named env number f) (λ i d. a_place (field x i d.of (has_bounds d)) d.of (has_bounds d) lends false) dot (expression_of (read_of makes x) place (type.udt number))
+field_of_place env place dot x of lends makes f = object_behind env place dot (read_of makes x) of f
 
 abbrev pub field_of_value : Env → (place dot : Place) → Node → Declared → Identifier → Term
 field_of_value env place dot node (type.udt number) f =
     let e = expression_of node place (type.udt number) in
     with_field (field_named env number f) (λ i d. a_value (field_value e i) d.of) dot e
-field_of_value env place dot node of f = object_member place dot node of f.name
+field_of_value env place dot node of f = object_behind env place dot node of f
 
 -- what stands behind a dot
 abbrev pub member_of : Env → (place dot : Place) → Term → Identifier → Term
-member_of env place dot (a_place x of bounded lends) f = field_of_place env place dot x of lends f
+member_of env place dot (a_place x of bounded lends makes) f = field_of_place env place dot x of lends makes f
 member_of env place dot (a_value node of) f = field_of_value env place dot node of f
-member_of env place dot (a_routine space number p) f = node_or (bare_call env space number p) (λ node of. field_of_value env place dot node of f)
+member_of env place dot (a_routine space number p) f = node_or (bare_call env None space number p) (λ node of. field_of_value env place dot node of f)
+member_of env place dot (a_method base space number p) f = node_or (bare_call env (Some base) space number p) (λ node of. field_of_value env place dot node of f)
 member_of env place dot (a_host_member e m) f = if m.least == 0 then object_member place dot (host_member e m.name no_exprs) m.of f.name else no_term
 member_of env place dot err_object f = err_member dot f.name
 member_of env place dot other f = no_term
 
 -- what stands behind a dot that begins a place
 abbrev pub kept_member : Env → Place → Option Within → Identifier → Term
-kept_member env place within f = if_there (option_map (λ w. field_of_place env place place (kept_place w.header) w.of w.lends f) within)
+kept_member env place within f = if_there (option_map (λ w. field_of_place env place place (kept_place w.header) w.of w.lends false f) within)
 
 -- ---- functions of the library ([MS-VBAL] 6.1.2)
 
@@ -431,9 +520,16 @@ function_value env place f text_form base false es = broken_value 25 place es
 abbrev pub function_called : Env → Place → LibraryFunction → (text_form : Bool) → (base : ℕ) → List Given → Term
 function_called env place f text_form base gs = if_there (option_map (function_value env place f text_form base (function_takes f gs)) (function_values env f 0 gs))
 
--- the arguments of a member: one that isn't written is Missing
+-- arguments, each as a Variant takes it: one that isn't written is Missing
+abbrev pub variant_arguments : Env → List Given → Option Exprs
+variant_arguments env gs = listed_values (argument_of env type.variant) gs
+
+-- the arguments of a member, which are no objects of classes
+abbrev pub host_given : Env → Term → Place → Option bound.Expr
+host_given env t place = option_and_then (λ e. if may_be_instance env e then None else Some e) (argument_of env type.variant t place)
+
 abbrev pub host_arguments : Env → List Given → Option Exprs
-host_arguments env gs = listed_values (argument_of env type.variant) gs
+host_arguments env gs = listed_values (host_given env) gs
 
 -- whether a member takes so many arguments: Cells both numbers or none; behind one that takes none they index what it
 -- gives
@@ -480,10 +576,11 @@ host_called env e m gs = if takes_arguments m (length gs) then if_there (option_
 
 -- what arguments in brackets make of a term, where it takes them
 abbrev pub taken_by_term : Env → Place → Term → List Given → Term
-taken_by_term env place (a_place x of bounded lends) gs =
-    with_type (element_type of) (numbers_of (operand_of env) gs) (λ u es. a_place (element_place x es) u false lends)
-taken_by_term env place (a_value node of) gs = indexed_value place node of (numbers_of (operand_of env) gs)
-taken_by_term env place (a_routine space number p) gs = call_with (argument_of env) (operand_of env) env place gs space number p
+taken_by_term env place (a_place x of bounded lends makes) gs =
+    with_type (indexed_type env (expression_of (read_of makes x) place of)) (numbers_of (operand_of env) gs) (λ u es. a_place (element_place x es) u false lends false)
+taken_by_term env place (a_value node of) gs = indexed_value env place node of (numbers_of (operand_of env) gs)
+taken_by_term env place (a_routine space number p) gs = call_with (argument_of env) (operand_of env) env place gs None space number p
+taken_by_term env place (a_method base space number p) gs = call_with (argument_of env) (operand_of env) env place gs (Some base) space number p
 taken_by_term env place (a_function f text_form base) gs = function_called env place f text_form base gs
 taken_by_term env place (a_host_member e m) gs = host_called env e m gs
 taken_by_term env place other gs = no_term
@@ -492,7 +589,7 @@ taken_by_term env place other gs = no_term
 
 -- what is marked: what stands before the arguments, and each argument as a Variant takes it
 abbrev pub wrong_arguments : Env → Place → (rule : ℕ) → (Exprs → Exprs) → List Given → Term
-wrong_arguments env place rule before gs = if_there (option_map (λ es. broken_value rule place (before es)) (host_arguments env gs))
+wrong_arguments env place rule before gs = if_there (option_map (λ es. broken_value rule place (before es)) (variant_arguments env gs))
 
 -- only an array, what may have one, and an object are indexed; an array only by numbers
 abbrev pub may_index : Declared → List Given → Bool
@@ -504,14 +601,14 @@ abbrev pub wrong_index : Env → Place → Node → Declared → List Given → 
 wrong_index env place node of gs = if may_index of gs then no_term else wrong_arguments env place 25 (also (expression_of node place of)) gs
 
 -- a procedure, or the value of a property that takes none
-abbrev pub wrong_call : Env → Place → Space → ℕ → Written → List Given → Term
-wrong_call env place space number p gs = if_there (option_map called_as (reader env.scope space number p))
+abbrev pub wrong_call : Env → Place → Option bound.Expr → Space → ℕ → Written → List Given → Term
+wrong_call env place base space number p gs = if_there (option_map called_as (reader env.scope space number p))
   where
     called_as : ℕ × Written → Term
     called_as f =
-        if indexes_value f.1 gs then node_or (call_value env space f.0 f.1 (Some bound.no_args)) (λ node of. wrong_index env place node of gs)
+        if indexes_value f.1 gs then node_or (call_value env base space f.0 f.1 (Some bound.no_args)) (λ node of. wrong_index env place node of gs)
         else if takes (parameters_in env.scope space f.1) gs then no_term
-        else wrong_arguments env place 25 (λ es. es) gs
+        else wrong_arguments env place 25 (behind_base base) gs
 
 -- a member that is known before the run
 abbrev pub member_takes : HostMember → List Given → Bool
@@ -547,9 +644,10 @@ wrong_some env place [] = no_term
 wrong_some env place gs = wrong_arguments env place 25 (λ es. es) gs
 
 abbrev pub wrong_term : Env → Place → Term → List Given → Term
-wrong_term env place (a_place x of bounded lends) gs = wrong_index env place (load x) of gs
+wrong_term env place (a_place x of bounded lends makes) gs = wrong_index env place (read_of makes x) of gs
 wrong_term env place (a_value node of) gs = wrong_index env place node of gs
-wrong_term env place (a_routine space number p) gs = wrong_call env place space number p gs
+wrong_term env place (a_routine space number p) gs = wrong_call env place None space number p gs
+wrong_term env place (a_method base space number p) gs = wrong_call env place (Some base) space number p gs
 wrong_term env place (a_host_member e m) gs = wrong_member env place e m gs
 wrong_term env place err_object gs = wrong_some env place gs
 wrong_term env place err_clear gs = wrong_some env place gs
@@ -566,13 +664,21 @@ indexed env place t gs = term_or (taken_by_term env place t gs) (wrong_term env 
 -- ---- names
 
 abbrev pub place_term : Storage → Declared → Bool → Term
-place_term storage of bounded = a_place (variable (record { storage = storage; of = of; bounded = bounded })) of bounded true
+place_term storage of bounded = a_place (variable (record { storage = storage; of = of; bounded = bounded })) of bounded true false
 
 abbrev pub declared_place : Storage → Option Declaration → Term
 declared_place storage found = if_there (option_map (λ d. place_term storage d.of (has_bounds d)) found)
 
 abbrev pub constant_term : Env → Identifier → Option Meant → Term
 constant_term env x meant = if_there (option_map (λ k. a_value (constant k.value) k.of) (meant_by (names_in env.scope) env.scope x meant))
+
+-- a variable by its declaration, and a parameter
+abbrev pub variable_term : Scope → Storage → written.Variable → Term
+variable_term s storage v = let d = declared_variable s v in declared_at s v (variable (record { storage = storage; of = d.of; bounded = has_bounds d })) true
+
+abbrev pub parameter_term : Scope → Storage → written.Parameter → Term
+parameter_term s storage p =
+    let of = parameter_type s p in a_place (variable (record { storage = storage; of = of; bounded = false })) of false true (may_be_made s p)
 
 abbrev pub own_term : Env → Identifier → ℕ → Local → Term
 own_term env x number l = at l.own
@@ -582,21 +688,28 @@ own_term env x number l = at l.own
 
     at : Own → Term
     at (the_result p) = place_term storage (result_type env.scope p) false
-    at (a_parameter p) = place_term storage (parameter_type env.scope p) false
+    at (a_parameter p) = parameter_term env.scope storage p
+    at (a_local v static) = variable_term env.scope storage v
     at (a_local_constant c) = constant_term env x (Some (of_procedure number l))
     at own = declared_place storage (own_declaration env.scope l)
 
--- the variables and procedures of classes aren't built
+-- the object whose procedure this is
+abbrev pub own_object : Env → bound.Expr
+own_object env = expression_of this nowhere (own_class env.scope)
+
+-- the variables and procedures of a class are those of the own object
 abbrev pub entry_term : Env → Identifier → Space → ℕ → Entry → Term
 entry_term env x space number e = if space.source.is_class then of_class e.what else at e.what
   where
     of_class : What → Term
+    of_class (a_variable v) = variable_term (home env.scope space) (bound.own (field_number space number)) v
     of_class (a_constant c) = constant_term env x (Some (of_module space number e))
     of_class (a_member value steps) = constant_term env x (Some (of_module space number e))
+    of_class (a_procedure p) = a_method (own_object env) space number p
     of_class what = no_term
 
     at : What → Term
-    at (a_variable v) = declared_place (module_storage env.scope space number) (Some (declared_variable (home env.scope space) v))
+    at (a_variable v) = variable_term (home env.scope space) (module_storage env.scope space number) v
     at (a_constant c) = constant_term env x (Some (of_module space number e))
     at (a_member value steps) = constant_term env x (Some (of_module space number e))
     at (a_procedure p) = a_routine space number p
@@ -677,20 +790,25 @@ value_term (bound.expr node place of operand) = a_value node of
 abbrev pub as_value : Env → Term → Place → Term
 as_value env t place = if_there (option_map value_term (given_as env t place))
 
+-- a new object of a class; a Collection isn't built
+abbrev pub new_term : Declared → Term
+new_term (type.class number) = a_value (new_object number) (type.class number)
+new_term other = no_term
+
 abbrev pub literal_term : Val → Term
 literal_term v = a_value (constant v) (value_type v)
 
 abbrev mutual
   pub term_of : Env → Expr → Term
   term_of env (literal l) = literal_term (literal_meant l.value)
-  term_of env (me token) = no_term
+  term_of env (me token) = a_value this (own_class env.scope)
   term_of env (name x) = meant_term env x (declares plainly env.scope x)
   term_of env (with_member dot x) = kept_member env dot.place env.within x
   term_of env (member base dot x) = behind_term env (qualifier_of env.scope base) x (member_of env (place_told base) dot.place (term_of env base) x)
   term_of env (index base left args right) =
-      indexed env (place_told base) (item_of (place_told base) (callee env base (term_of env base))) (givens env args)
+      indexed env (place_told base) (item_of env (place_told base) (callee env base (term_of env base))) (givens env args)
   term_of env (parenthesised left e right) = as_value env (term_of env e) (place_told e)
-  term_of env (new new_word t) = no_term
+  term_of env (new new_word t) = new_term (meant_type (type_meant env.scope t))
   term_of env (type_of type_of_word e is_word t) = typed_term (given_as env (term_of env e) (place_told e)) (meant_type (type_meant env.scope t))
   term_of env (unary o token e) = unary_term (unary_kind o) (operand_of env (term_of env e) (place_told e))
   term_of env (binary l operator.Is token r) =

@@ -21,7 +21,7 @@ use Rattle.vba_module.specs.Parts.{Part, statement, place_of}
 use Rattle.vba_module.specs.Blocks.{for_loop, do_loop, same_kind}
 use Rattle.vba_module.specs.Headers.{all_of}
 use Rattle.vba_module.specs.Misplaced.{statement_place}
-use Rattle.bound_project.specs.Expressions.{Variable, Node, constant, load, element_value, err_value, marked, Lvalue, variable, Exprs, no_exprs, also, Prints, no_prints, shown, zone}
+use Rattle.bound_project.specs.Expressions.{Variable, Node, constant, load, element_value, err_value, marked, Lvalue, variable, Exprs, no_exprs, also, Prints, no_prints, shown, zone, method, item, element, field, kept_place, object_field, as_new, element_along, late_field, value_place}
 use Rattle.bound_project.specs.Expressions as bound
 use Rattle.bound_project.specs.Statements.{Statement, Action, Tests, no_tests, test_is, test_range, passed_on, skipped, handled_at, Resizes, no_resizes, resize, Arrays, no_arrays, an_array}
 use Rattle.bound_project.specs.Statements as to
@@ -34,9 +34,9 @@ use Rattle.binder.specs.Constants.{is_variant, operator_kind, compare_in, place_
 use Rattle.binder.specs.Storage.{procedure_number, gives_value}
 use Rattle.binder.specs.Types.{written_type, is_object}
 use Rattle.binder.specs.Numbering.{count, count_list, simple_count, here, an_arm, behind_block, behind_kind, Opened, Standing, sought_behind}
-use Rattle.bound_forms.specs.Terms.{Within, Env, HostMember, Term, a_place, a_value, a_routine, a_host_member, err_object, err_raise, err_clear, error_word, no_term, expression_of, broken_rule, is_user_type, given_to, Given, bound_arguments, has_names, takes}
-use Rattle.binder.specs.Signatures.{is_property, writer, parameters_in}
-use Rattle.bound_forms.specs.ExpressionsBound.{bare_call, HostKind, sheets, host_kind, default_rule, member_takes, arguments_rule, given_as, argument_of, has_object, mark_members, item_of, host_arguments, named_called, takes_arguments, indexed, callee, term_of, givens, bound_as_given, bound_operand, place_told}
+use Rattle.bound_forms.specs.Terms.{Within, Env, HostMember, Term, a_place, a_value, a_routine, a_host_member, err_object, err_raise, err_clear, error_word, no_term, expression_of, broken_rule, is_user_type, given_to, Given, bound_arguments, has_names, takes, a_method, read_of, routine_term}
+use Rattle.binder.specs.Signatures.{is_property, writer, parameters_in, setter}
+use Rattle.bound_forms.specs.ExpressionsBound.{bare_call, HostKind, sheets, host_kind, default_rule, member_takes, arguments_rule, given_as, argument_of, has_object, mark_members, item_of, host_arguments, named_called, takes_arguments, indexed, callee, term_of, givens, bound_as_given, bound_operand, place_told, may_be_instance, behind_base, variant_arguments}
 use Rattle.binder.specs.Blocks.{label_number, next_number, header_of}
 use Rattle.vba_values.specs.declared.types.OpKind.TheVariants as op
 use Rattle.vba_values.specs.declared.types.WholeKind.TheVariants as kind
@@ -59,12 +59,13 @@ pub record Around : Type 0 where
 
 -- a procedure that stands alone is called
 abbrev pub settled : Env → Term → Term
-settled env (a_routine space number p) = bare_call env space number p
+settled env (a_routine space number p) = bare_call env None space number p
+settled env (a_method base space number p) = bare_call env (Some base) space number p
 settled env t = t
 
 -- what the With block with this header keeps
 abbrev pub keeps : ℕ → Term → Option Within
-keeps header (a_place x of bounded lends) = Some (record { header = header; of = of; lends = lends })
+keeps header (a_place x of bounded lends makes) = Some (record { header = header; of = of; lends = lends })
 keeps header (a_value node of) = Some (record { header = header; of = of; lends = false })
 keeps header (a_host_member e m) = Some (record { header = header; of = m.of; lends = false })
 keeps header other = None
@@ -91,7 +92,7 @@ env_at a s = record a.env { within = within a.env s.around }
 
 -- S25: arguments that parameters don't take, each as a Variant takes it
 abbrev pub untaken : Env → List Parameter → List Given → Option Exprs
-untaken env ps gs = if takes ps gs then None else host_arguments env gs
+untaken env ps gs = if takes ps gs then None else variant_arguments env gs
 
 -- what is called with arguments
 abbrev pub raise_parameter : List ℕ → Declared → Option Val → Parameter
@@ -116,8 +117,9 @@ called_term env place err_raise gs = raised env place gs
 called_term env place err_clear [] = Some to.clear_err
 called_term env place error_word gs = if is_one gs then raised env place gs else None
 called_term env place (a_routine space number p) gs = option_map to.evaluate (given_as env (indexed env place (a_routine space number p) gs) place)
+called_term env place (a_method base space number p) gs = option_map to.evaluate (given_as env (indexed env place (a_method base space number p) gs) place)
 called_term env place t [] = option_map to.evaluate (given_as env t place)
-called_term env place t gs = option_map to.evaluate (given_as env (indexed env place (item_of place t) gs) place)
+called_term env place t gs = option_map to.evaluate (given_as env (indexed env place (item_of env place t) gs) place)
 
 abbrev pub called_with : Env → Expr → List Given → Option Action
 called_with env e gs = called_term env (place_told e) (callee env e (term_of env e)) gs
@@ -133,8 +135,16 @@ called_place env e = called_with env e []
 abbrev pub broken_target : (rule : ℕ) → Place → (value : bound.Expr) → Exprs → Action
 broken_target rule place v es = to.evaluate (broken_rule rule place (also v es))
 
-abbrev pub let_to : Env → Place → Space → List Given → bound.Expr → ℕ × Written → Option Action
-let_to env place space gs v f = at (parameters_in env.scope space f.1)
+-- a property of a standard module, or of an object, is given a value, or an object itself
+abbrev pub property_given : (itself : Bool) → Option bound.Expr → (procedure : ℕ) → bound.Args → bound.Expr → Declared → Action
+property_given false None q args v of = to.let_property q args v of
+property_given true None q args v of = to.set_property q args v of
+property_given false (Some base) q args v of = to.let_method base q args v of
+property_given true (Some base) q args v of = to.set_method base q args v of
+
+-- a property by the procedure that takes the value behind the other arguments
+abbrev pub given_behind : (itself : Declared → Bool) → Env → Option bound.Expr → Place → Space → List Given → bound.Expr → ℕ × Written → Option Action
+given_behind itself env base place space gs v f = at (parameters_in env.scope space f.1)
   where
     but_last : List Parameter → List Parameter
     but_last [] = []
@@ -146,14 +156,15 @@ let_to env place space gs v f = at (parameters_in env.scope space f.1)
     value_type (p ∷ []) = p.of
     value_type (p ∷ ps) = value_type ps
 
-    -- a value parameter of an object type is given the object itself
-    with_value_of : Declared → ℕ → bound.Args → Action
-    with_value_of of number args = if is_object of then to.set_property number args v of else to.let_property number args v of
-
     at : List Parameter → Option Action
     at ps =
-        or_else (option_map (λ args. with_value_of (value_type ps) (procedure_number env.scope space f.0) args) (bound_arguments (argument_of env) (but_last ps) gs))
-        (option_map (broken_target 25 place v) (untaken env (but_last ps) gs))
+        or_else
+        (option_map (λ args. property_given (itself (value_type ps)) base (procedure_number env.scope space f.0) args v (value_type ps)) (bound_arguments (argument_of env) (but_last ps) gs))
+        (option_map (λ es. broken_target 25 place v (behind_base base es)) (untaken env (but_last ps) gs))
+
+-- a value parameter of an object type is given the object itself
+abbrev pub let_to : Env → Option bound.Expr → Place → Space → List Given → bound.Expr → ℕ × Written → Option Action
+let_to env base place space gs v f = given_behind is_object env base place space gs v f
 
 -- the default member of an object is written: that of a range is Value, a sheet has none, and of a Variant the run decides
 abbrev pub has_written_default : Declared → Bool
@@ -168,12 +179,13 @@ abbrev pub write_rule : Option HostKind → Option ℕ
 write_rule (Some sheets) = Some 27
 write_rule kind = default_rule kind
 
-abbrev pub written_or_broken : Option ℕ → Place → (target : bound.Expr) → Declared → bound.Expr → Option Action
-written_or_broken (Some rule) place target of v = Some (broken_target rule place v (also target no_exprs))
-written_or_broken None place target of v = if has_written_default of then Some (to.assign_default target v) else None
+-- that of an object of a class isn't built
+abbrev pub written_or_broken : Env → Option ℕ → Place → (target : bound.Expr) → Declared → bound.Expr → Option Action
+written_or_broken env (Some rule) place target of v = Some (broken_target rule place v (also target no_exprs))
+written_or_broken env None place target of v = if has_written_default of && not (may_be_instance env target) then Some (to.assign_default target v) else None
 
-abbrev pub default_written : Place → Node → Declared → bound.Expr → Option Action
-default_written place node of v = written_or_broken (write_rule (host_kind node of)) place (expression_of node place of) of v
+abbrev pub default_written : Env → Place → Node → Declared → bound.Expr → Option Action
+default_written env place node of v = written_or_broken env (write_rule (host_kind node of)) place (expression_of node place of) of v
 
 -- a member of an object is written: one that can be, or the default member of the object that it gives; of an object of an
 -- unknown kind the run decides
@@ -209,11 +221,12 @@ written_rule m gs =
     if not (member_takes m gs) then arguments_rule m else if is_written_member m && has_written_default m.of then None else unwritten_rule m.of
 
 abbrev pub wrong_written : Env → Place → bound.Expr → (rule : Option ℕ) → List Given → bound.Expr → Option Action
-wrong_written env place e rule gs v = from_two (λ r es. broken_target r place v (also e es)) rule (host_arguments env gs)
+wrong_written env place e rule gs v = from_two (λ r es. broken_target r place v (also e es)) rule (variant_arguments env gs)
 
 abbrev pub member_written : Env → Place → bound.Expr → HostMember → List Given → bound.Expr → Option Action
 member_written env place e m gs v =
-    or_else (if is_written_member m && fits_written m gs then arguments_written env place e m gs v else None) (wrong_written env place e (written_rule m gs) gs v)
+    or_else (if is_written_member m && (fits_written m gs && not (may_be_instance env v)) then arguments_written env place e m gs v else None)
+    (wrong_written env place e (written_rule m gs) gs v)
 
 -- S27: a constant, what Err tells, a use of a function of the library, and what a Function gives that is no object
 abbrev pub is_unassignable : Node → Bool
@@ -221,6 +234,7 @@ is_unassignable (constant v) = true
 is_unassignable (err_value m) = true
 is_unassignable (bound.library f text_form es compare base) = true
 is_unassignable (bound.call procedure args) = true
+is_unassignable (method e procedure args) = true
 is_unassignable node = false
 
 abbrev pub not_assignable : Place → bound.Expr → Node → Declared → Action
@@ -228,41 +242,47 @@ not_assignable place v node of = broken_target 27 place v (also (expression_of n
 
 -- an item of a value that no variable has: of an array of objects the default member of the element is written, and else
 -- the run decides whether there is an array or an object; of another value the default member is written
-abbrev pub value_written : Place → bound.Expr → Node → Declared → Option Action
-value_written place v (element_value e es) of = if is_object of then default_written place (element_value e es) of v else Some (to.assign_item e es v)
-value_written place v (bound.library f text_form es compare base) of = Some (not_assignable place v (bound.library f text_form es compare base) of)
-value_written place v node of =
-    if is_object of || has_object node of then default_written place node of v
+abbrev pub value_written : Env → Place → bound.Expr → Node → Declared → Option Action
+value_written env place v (element_value e es) of = if is_object of then default_written env place (element_value e es) of v else Some (to.assign_item e es v)
+value_written env place v (bound.library f text_form es compare base) of = Some (not_assignable place v (bound.library f text_form es compare base) of)
+value_written env place v node of =
+    if is_object of || has_object node of then default_written env place node of v
     else if is_unassignable node then Some (not_assignable place v node of)
     else None
 
--- a value is assigned to what a term means
-abbrev pub assigned : Env → Place → bound.Expr → List Given → Term → Option Action
-assigned env place v gs (a_place x of bounded lends) = if is_object of then default_written place (load x) of v else Some (to.assign x v)
-assigned env place v gs (a_routine space number p) = at (writer env.scope space p)
+-- a procedure is assigned to: a property by its Let; without a Let the default member of what a Function or a Get gives is
+-- written; a Sub gives nothing
+abbrev pub property_assigned : Env → Option bound.Expr → Place → Space → List Given → bound.Expr → ℕ → Written → Option Action
+property_assigned env base place space gs v number p = at (writer env.scope space p)
   where
-    -- without a Let the default member of what a Function or a Get gives is written; a Sub gives nothing
     value_of_call : Term → Option Action
-    value_of_call (a_value node of) = value_written place v node of
+    value_of_call (a_value node of) = value_written env place v node of
     value_of_call t = None
 
     at : Option (ℕ × Written) → Option Action
-    at (Some f) = let_to env place space gs v f
-    at None = if gives_value p.kind then value_of_call (indexed env place (a_routine space number p) []) else None
+    at (Some f) = let_to env base place space gs v f
+    at None = if gives_value p.kind then value_of_call (indexed env place (routine_term base space number p) []) else None
+
+-- a value is assigned to what a term means
+abbrev pub assigned : Env → Place → bound.Expr → List Given → Term → Option Action
+assigned env place v gs (a_place x of bounded lends makes) = if is_object of then default_written env place (read_of makes x) of v else Some (to.assign x v)
+assigned env place v gs (a_routine space number p) = property_assigned env None place space gs v number p
+assigned env place v gs (a_method base space number p) = property_assigned env (Some base) place space gs v number p
 assigned env place v gs (a_host_member e m) = member_written env place e m gs v
-assigned env place v gs (a_value node of) = value_written place v node of
+assigned env place v gs (a_value node of) = value_written env place v node of
 assigned env place v gs err_object = Some (broken_target 27 place v no_exprs)
 assigned env place v gs other = None
 
 -- a property, and a member of an object of the host, take their arguments with the value
 abbrev pub takes_value : Env → Term → Bool
 takes_value env (a_routine space number p) = is_some (writer env.scope space p)
+takes_value env (a_method base space number p) = is_some (writer env.scope space p)
 takes_value env (a_host_member e m) = true
 takes_value env t = false
 
 -- what an assignment with brackets at the end of its target is to, before their arguments
 abbrev pub target_before : Env → Expr → Term
-target_before env base = item_of (place_told base) (callee env base (term_of env base))
+target_before env base = item_of env (place_told base) (callee env base (term_of env base))
 
 -- S27: a Sub, and a ParamArray by its name
 abbrev pub is_sub : Term → Bool
@@ -311,13 +331,13 @@ target_term env e = term_of env e
 
 -- S27 and S30: a value of a Type, and an array, that the target doesn't take
 abbrev pub given_to_term : Term → Place → bound.Expr → bound.Expr
-given_to_term (a_place x of bounded lends) place v = given_to of bounded place v
+given_to_term (a_place x of bounded lends makes) place v = given_to of bounded place v
 given_to_term (a_host_member e m) place v = given_to type.variant false place v
 given_to_term t place v = v
 
 -- a Variant of which numbers mean an item
 abbrev pub is_variant_place : Term → Bool
-is_variant_place (a_place x of bounded lends) = is_variant of
+is_variant_place (a_place x of bounded lends makes) = is_variant of
 is_variant_place (a_value node of) = is_variant of
 is_variant_place t = false
 
@@ -351,33 +371,47 @@ set_value set_word place node of v =
 -- Set: a variable of an object type, or a Variant, is given a reference; of a member that is found in the run the run
 -- decides ([MS-VBAL] 5.4.3.9)
 abbrev pub set_to : (set_word place : Place) → Term → bound.Expr → Option Action
-set_to set_word place (a_place x of bounded lends) v =
+set_to set_word place (a_place x of bounded lends makes) v =
     if may_refer of then Some (to.set x v) else Some (no_reference set_word (also v (also (expression_of (load x) set_word of) no_exprs)))
 set_to set_word place (a_host_member e m) v = if is_some m.greatest then None else Some (to.set_member e v)
 set_to set_word place (a_value node of) v = set_value set_word place node of v
 set_to set_word place other v = None
 
--- the target of a Set: of a member with arguments the member itself, since none that takes Set is found. Of a property its
--- Set isn't built
+-- the target of a Set that is no Set of a property: of a member with arguments the member itself, since none that takes Set
+-- is found
 abbrev pub set_target : Env → Expr → Term
 set_target env (index base left args right) = at (target_before env base)
   where
     at : Term → Term
     at (a_host_member e m) = if is_some m.greatest then indexed env (place_told base) (a_host_member e m) (givens env args) else a_host_member e m
     at (a_routine space number p) = if is_property p.kind then no_term else indexed env (place_told base) (a_routine space number p) (givens env args)
+    at (a_method object space number p) = if is_property p.kind then no_term else indexed env (place_told base) (a_method object space number p) (givens env args)
     at t = indexed env (place_told base) t (givens env args)
 set_target env e = at (term_of env e)
   where
     at : Term → Term
     at (a_routine space number p) = if is_property p.kind then no_term else indexed env (place_told e) (a_routine space number p) []
+    at (a_method object space number p) = if is_property p.kind then no_term else indexed env (place_told e) (a_method object space number p) []
     at t = t
+
+-- a property is given the object by its Set
+abbrev pub set_by : Env → Place → List Given → Term → bound.Expr → Option Action
+set_by env place gs (a_routine space number p) v = option_and_then (given_behind (λ of. true) env None place space gs v) (setter env.scope space p)
+set_by env place gs (a_method object space number p) v = option_and_then (given_behind (λ of. true) env (Some object) place space gs v) (setter env.scope space p)
+set_by env place gs t v = None
+
+abbrev pub object_set : Env → (set_word : Place) → Expr → bound.Expr → Option Action
+object_set env set_word (index base left args right) v =
+    or_else (set_by env (place_told base) (givens env args) (target_before env base) v)
+    (set_to set_word (place_told base) (set_target env (index base left args right)) v)
+object_set env set_word e v = or_else (set_by env (place_told e) [] (term_of env e) v) (set_to set_word (place_told e) (set_target env e) v)
 
 -- a value that can't be an object breaks S28, whatever its target is
 abbrev pub set_given : Env → (set_word : Place) → Expr → bound.Expr → Option Action
 set_given env set_word x v =
     if not (may_refer (bound.operand_type v)) then Some (no_reference set_word (also v no_exprs))
     else if is_sub (target_of_call env x) then Some (broken_target 27 (place_told x) v no_exprs)
-    else set_to set_word (place_told x) (set_target env x) v
+    else object_set env set_word x v
 
 -- ReDim: the base of the module where no low bound is written
 abbrev pub integer : Place → ℕ → bound.Expr
@@ -394,14 +428,14 @@ redim_type env None = None
 redim_type env (Some c) = Some (written_type (known_length env.scope) env.scope c.declared_type)
 
 abbrev pub place_in : Term → Option Lvalue
-place_in (a_place x of bounded lends) = Some x
+place_in (a_place x of bounded lends makes) = Some x
 place_in other = None
 
 -- S27: only an array of the elements that are written, and a Variant, gets others
 abbrev pub may_resize : Term → Option Declared → Bool
-may_resize (a_place x (type.array_of of) bounded lends) None = true
-may_resize (a_place x (type.array_of of) bounded lends) (Some written) = is_same_type written of
-may_resize (a_place x type.variant bounded lends) written = true
+may_resize (a_place x (type.array_of of) bounded lends makes) None = true
+may_resize (a_place x (type.array_of of) bounded lends makes) (Some written) = is_same_type written of
+may_resize (a_place x type.variant bounded lends makes) written = true
 may_resize t written = false
 
 -- the last bound stands for what breaks a rule
@@ -474,7 +508,7 @@ exit_action a s kind = to.exit_to a.end
 -- ---- lines of blocks ([MS-VBAL] 5.4.2)
 
 abbrev pub plain_variable : Term → Option Variable
-plain_variable (a_place (variable x) of bounded lends) = Some x
+plain_variable (a_place (variable x) of bounded lends makes) = Some x
 plain_variable other = None
 
 -- the variable of a loop, by its line
@@ -586,9 +620,23 @@ selected a (o ∷ os) = option_and_then at (line_of o.line)
     at (select_case select_word case_word e) = bound_operand env e
     at line = None
 
+-- a variable of another object, or a part of one
+abbrev pub is_of_object : Lvalue → Bool
+is_of_object (variable x) = false
+is_of_object (item x es) = false
+is_of_object (element x es) = is_of_object x
+is_of_object (element_along x es) = is_of_object x
+is_of_object (field x i of bounded) = is_of_object x
+is_of_object (kept_place i) = false
+is_of_object (object_field e i of bounded) = true
+is_of_object (as_new number x) = is_of_object x
+is_of_object (late_field e x) = true
+is_of_object (value_place e) = true
+
+-- an object is kept as a value, and so is what another object has; any other place as one
 abbrev pub with_action : Term → Env → Place → Option Action
-with_action (a_place x of bounded lends) env place =
-    if is_object of || is_variant of then option_map to.with_value (given_as env (a_place x of bounded lends) place) else Some (to.with_place x)
+with_action (a_place x of bounded lends makes) env place =
+    if is_object of || (is_variant of || is_of_object x) then option_map to.with_value (given_as env (a_place x of bounded lends makes) place) else Some (to.with_place x)
 with_action t env place = option_map to.with_value (given_as env t place)
 
 abbrev pub block_action : Around → Standing → BlockLine → Option Action

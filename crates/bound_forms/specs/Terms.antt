@@ -7,7 +7,7 @@ use Rattle.vba_values.specs.Coerce.{is_same_type}
 use Rattle.vba_values.specs.Types.{Declared}
 use Rattle.vba_values.specs.Types as type
 use Rattle.vba_lib.specs.declared.function.LibraryFunction.{LibraryFunction}
-use Rattle.bound_project.specs.Expressions.{Node, not_given, load, host_member, marked, ByName, Lvalue, item, Exprs, no_exprs, also}
+use Rattle.bound_project.specs.Expressions.{Node, not_given, load, host_member, marked, ByName, Lvalue, item, Exprs, no_exprs, also, load_made}
 use Rattle.bound_project.specs.Expressions as bound
 use Rattle.bound_project.specs.Project.{Parameter}
 use Rattle.binder.specs.Options.{from_two}
@@ -37,11 +37,14 @@ pub record HostMember : Type 0 where
   pub greatest : Option ℕ
 
 pub data Term : Type 0 where
-  -- a place, whether it is an array that is declared with bounds, and whether it is lent to a ByRef parameter
-  a_place : Lvalue → Declared → (bounded lends : Bool) → Term
+  -- a place, whether it is an array that is declared with bounds, whether it is lent to a ByRef parameter, and whether an
+  -- object is made there where it is read, as of a variable that is declared As New
+  a_place : Lvalue → Declared → (bounded lends makes : Bool) → Term
   a_value : Node → Declared → Term
   -- a procedure or a property of a module, by an entry of it
   a_routine : Space → ℕ → Written → Term
+  -- a procedure or a property of an object, by an entry of its class
+  a_method : bound.Expr → Space → ℕ → Written → Term
   -- a function of the library: whether $ stands behind its name, and from where the array counts that Array makes
   a_function : LibraryFunction → (text_form : Bool) → (base : ℕ) → Term
   -- a member of an object of the host, which is neither read nor called yet
@@ -52,6 +55,11 @@ pub data Term : Type 0 where
   -- Error, which raises an error
   error_word : Term
   no_term : Term
+
+-- a procedure of a standard module, or of an object
+abbrev pub routine_term : Option bound.Expr → Space → ℕ → Written → Term
+routine_term None space number written = a_routine space number written
+routine_term (Some base) space number written = a_method base space number written
 
 -- ---- terms as values
 
@@ -69,16 +77,22 @@ broken_value rule place es = a_value (marked (record { rule = rule; place = plac
 abbrev pub typed_value : Node → Place → Declared → Option bound.Expr
 typed_value node place of = if is_object of then None else Some (expression_of node place of)
 
--- a value, where an argument that isn't written is Missing
-abbrev pub value_with : (call_of : Space → ℕ → Written → Term) → Term → Place → Option bound.Expr
-value_with call_of (a_place x of bounded lends) place = typed_value (load x) place of
+-- what a place has
+abbrev pub read_of : (makes : Bool) → Lvalue → Node
+read_of makes x = if makes then load_made x else load x
+
+-- a term that is a value, as one
+abbrev pub value_in : (Node → Place → Declared → Option bound.Expr) → Term → Place → Option bound.Expr
+value_in typed (a_value node of) place = typed node place of
+value_in typed other place = None
+
+-- a value, where an argument that isn't written is Missing; a procedure is called, of an object where there is one
+abbrev pub value_with : (call_of : Option bound.Expr → Space → ℕ → Written → Term) → Term → Place → Option bound.Expr
+value_with call_of (a_place x of bounded lends makes) place = typed_value (read_of makes x) place of
 value_with call_of (a_value node of) place = typed_value node place of
 value_with call_of (a_host_member e m) place = if m.least == 0 then typed_value (host_member e m.name no_exprs) place m.of else None
-value_with call_of (a_routine space number p) place = of_call (call_of space number p)
-  where
-    of_call : Term → Option bound.Expr
-    of_call (a_value node of) = typed_value node place of
-    of_call other = None
+value_with call_of (a_routine space number p) place = value_in typed_value (call_of None space number p) place
+value_with call_of (a_method base space number p) place = value_in typed_value (call_of (Some base) space number p) place
 value_with call_of other place = None
 
 -- ---- arguments ([MS-VBAL] 5.6.13.1)
@@ -146,9 +160,9 @@ abbrev pub of_other_type : Lvalue → (of parameter : Declared) → Place → bo
 of_other_type x of parameter place = broken_rule (other_rule parameter) place (also (expression_of (load x) place of) no_exprs)
 
 abbrev pub by_reference : (Declared → Term → Place → Option bound.Expr) → Parameter → Term → Place → bound.Args → Option bound.Args
-by_reference value p (a_place x of bounded true) place rest =
+by_reference value p (a_place x of bounded true makes) place rest =
     if is_lent_to of p.of then Some (bound.by_place x rest)
-    else if is_copied_to x of p.of then by_copy value p (a_place x of bounded true) place rest
+    else if is_copied_to x of p.of then by_copy value p (a_place x of bounded true makes) place rest
     else Some (bound.by_copy (of_other_type x of p.of place) p.of rest)
 by_reference value p t place rest = by_copy value p t place rest
 

@@ -1,6 +1,6 @@
 //! Expressions that stand for places: what ReDim and Erase name, and what With keeps.
 
-ghost use Rattle.std.specs.Prelude.{◌≡◌, [], IfOk, OnOk, option_map};
+ghost use Rattle.std.specs.Prelude.{◌≡◌, ◌&&◌, ◌||◌, [], not, IfOk, OnOk, option_map};
 ghost use Rattle.vba_expression.specs.View.{view as expression_view};
 ghost use Rattle.bound_project.specs.DraftView.{draft_view};
 ghost use Rattle.bound_project.specs.View.{declared_view};
@@ -9,11 +9,13 @@ ghost use Rattle.bound_terms.specs.bound_forms.specs.StatementsBound as plain;
 ghost use Rattle.statement_nodes.specs.Pushed.{ActionStands, PlacePushed};
 ghost use Rattle.statement_nodes.specs.Resizing.{ArrayTold};
 ghost use Rattle.bound_lines.specs.Kept.{Keeps};
+ghost use Rattle.statement_terms.specs.Kept.{is_of_object, lends};
+ghost use Rattle.statement_terms.specs.Terms.{may_be_object};
 ghost use Rattle.bound_terms.specs.bound_names.specs.View.{EnvStands, env_view, within_view};
 
 use crate::values::Told;
-use bound_project::{ActionKind, DeclaredType, Draft};
-use bound_terms::bound_calls::{Routine, Term, push_given, push_node, routine_ending};
+use bound_project::{ActionKind, DeclaredType, Draft, NodeKind};
+use bound_terms::bound_calls::{Ending, Routine, Term, push_given, push_node, routine_ending};
 use bound_terms::bound_declarations::NotYet;
 use bound_terms::bound_names::{Env, Within};
 use bound_terms::tree_of;
@@ -58,7 +60,41 @@ pub fn bind_place<'a>(
     Ok(())
 }
 
-/// `With expression`
+/// Is a term lent to a ByRef parameter?
+fn lends<'a>(term: Term<'a>) -> bool
+    ensures { result ≡ lends term.entry }
+{
+    match term {
+        Term::Place { lends, .. } => lends,
+        _ => false,
+    }
+}
+
+/// Is a place a variable of another object?
+fn is_of_object(kind: NodeKind) -> bool
+    ensures { result ≡ is_of_object kind }
+{
+    match kind {
+        NodeKind::ObjectField { .. } => true,
+        _ => false,
+    }
+}
+
+/// Is a place kept as a value: one of an object or of what may be one, and a variable of another object?
+fn is_kept_as_value(at: Ending) -> bool
+    ensures { result ≡ (may_be_object at.of || is_of_object at.kind) }
+{
+    may_be_object(at.of) || is_of_object(at.kind)
+}
+
+/// May another place be a part of what an object has? None that is lent is.
+fn may_be_part<'a>(term: Term<'a>, has_class: bool) -> bool
+    ensures { result ≡ (has_class && not (lends term.entry)) }
+{
+    has_class && !lends(term)
+}
+
+/// `With expression`. A part of what an object has isn't kept.
 pub fn bind_with<'a>(
     alloc: Global,
     draft: &mut Draft,
@@ -74,9 +110,12 @@ pub fn bind_with<'a>(
     let tree = tree_of(alloc, draft, env, expression)?;
     match place_ending(tree.term) {
         Some(at) => {
-            if may_be_object(at.of) {
+            if is_kept_as_value(at) {
                 push_given(alloc, draft, tree)?;
                 return Ok(Some(ActionKind::WithValue));
+            }
+            if may_be_part(tree.term, env.has_class) {
+                return Err(OrMemory::Fault(NotYet));
             }
             with_place(draft, at.kind, at.of, tree.place)?;
             Ok(Some(ActionKind::WithPlace))

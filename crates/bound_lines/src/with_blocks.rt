@@ -29,6 +29,7 @@ fn env_with<'a>(env: Env<'a>, within: Option<Within>) -> Env<'a>
         within,
         first: env.first,
         compare: env.compare,
+        has_class: env.has_class,
     }
 }
 

@@ -9,7 +9,7 @@ use Rattle.bound_project.specs.Expressions.{expr, not_given, constant, load, loa
 use Rattle.bound_project.specs.Expressions as bound
 use Rattle.bound_project.specs.Pieces.{Piece, an_expr, Tables, arguments_off, as_operand, expr_of, exprs_off, by_name_in, name_in, order_in, put_kind}
 use Rattle.bound_project.specs.View.{base_view, declared_view}
-use Rattle.bound_calls.proofs.LastNodes.{value_passes, place_passes, both_pass, found_passes, value_found_passes, member_found_passes, named_found_passes}
+use Rattle.bound_calls.proofs.LastNodes.{value_passes, place_passes, both_pass, found_passes, value_found_passes, member_found_passes, named_found_passes, object_found_passes}
 use Rattle.bound_members.specs.MemberCalls.{is_value_kind}
 
 -- ---- values that count as given
@@ -22,6 +22,12 @@ kind_given : (t : Tables) (n : Node) (k : NodeKind) (st : List Piece) → is_val
 unfolding given_on_top
 kind_given t n (node.Constant i) st h = refl
 kind_given t n node.Load st h = place_passes given_on_top refl (λ x. expr_of n (load x)) (λ x rest. refl) st
+kind_given t n node.LoadMade st h = place_passes given_on_top refl (λ x. expr_of n (load_made x)) (λ x rest. refl) st
+kind_given t n node.This st h = refl
+kind_given t n (node.NewObject c) st h = refl
+kind_given t n (node.Method p count) st h = object_found_passes given_on_top refl (λ e args. expr_of n (method e p args)) (λ e args rest. refl) (arguments_off count st no_args)
+kind_given t n (node.MethodInOrder p count order) st h =
+    object_found_passes given_on_top refl (λ e args. expr_of n (method e p (in_order (order_in t order) args))) (λ e args rest. refl) (arguments_off count st no_args)
 kind_given t n (node.ElementValue count) st h = value_found_passes given_on_top refl (λ e es. expr_of n (element_value e es)) (λ e es rest. refl) (exprs_off count st no_exprs)
 kind_given t n (node.FieldValue i) st h = value_passes given_on_top refl (λ e. expr_of n (field_value e i)) (λ e rest. refl) st
 kind_given t n (node.Unary o of) st h = value_passes given_on_top refl (λ a. expr_of n (unary o (as_operand of a))) (λ e rest. refl) st
@@ -45,6 +51,10 @@ kind_given t n (node.Item x count) st h = let e : false ≡ true = h in absurd c
 kind_given t n (node.Element count) st h = let e : false ≡ true = h in absurd cc
 kind_given t n (node.Field i of bounded) st h = let e : false ≡ true = h in absurd cc
 kind_given t n (node.KeptPlace header) st h = let e : false ≡ true = h in absurd cc
+kind_given t n (node.ObjectField i of bounded) st h = let e : false ≡ true = h in absurd cc
+kind_given t n (node.NewVariable x c) st h = let e : false ≡ true = h in absurd cc
+kind_given t n (node.AsNew c) st h = let e : false ≡ true = h in absurd cc
+kind_given t n node.ObjectThere st h = let e : false ≡ true = h in absurd cc
 kind_given t n (node.BoundOf upper z) st h = let e : false ≡ true = h in absurd cc
 kind_given t n node.DefaultOf st h = let e : false ≡ true = h in absurd cc
 kind_given t n node.DefaultIfAny st h = let e : false ≡ true = h in absurd cc

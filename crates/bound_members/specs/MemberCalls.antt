@@ -1,7 +1,6 @@
 -- Serves the code: calls of members.
 use Rattle.std.specs.Prelude.{◌≡◌, ◌≢◌, ℕ, suc, ◌+◌, length, Bool, true, List, [], ◌∷◌, ◌++◌, Option, Some, None}
 use Rattle.vba_base.specs.declared.place.Place.{Place}
-use Rattle.vba_values.specs.Types as type
 use Rattle.vba_expression.specs.Tree.{Expr, Args, no_args}
 use Rattle.vba_expression.specs.Nodes as nodes
 use Rattle.vba_expression.specs.Nodes.{behind_node}
@@ -17,7 +16,7 @@ use Rattle.bound_project.specs.Pieces.{Piece, Tables, an_expr, by_name_in, order
 use Rattle.bound_project.specs.Drafts.{Drafted, NodeNamed}
 use Rattle.bound_calls.specs.bound_forms.specs.Terms.{Env, Given}
 use Rattle.bound_calls.specs.bound_forms.specs.Terms as plain
-use Rattle.bound_calls.specs.bound_forms.specs.ExpressionsBound.{argument_of, callee, givens, indexed, item_of, member_called, takes_names, term_of, place_told}
+use Rattle.bound_calls.specs.bound_forms.specs.ExpressionsBound.{callee, givens, host_given, indexed, item_of, member_called, takes_names, term_of, place_told}
 use Rattle.bound_calls.specs.declared.term.HostMember.{HostMember}
 use Rattle.bound_calls.specs.declared.term.Item.{Item}
 use Rattle.bound_calls.specs.declared.term.Item.TheVariants as item
@@ -27,6 +26,7 @@ use Rattle.bound_calls.specs.declared.term.Term.TheVariants as term
 use Rattle.bound_calls.specs.declared.term.Tree.{Tree}
 use Rattle.bound_calls.specs.References.{is_typed_kind}
 use Rattle.bound_calls.specs.Standing.{AllNamed, ItemNamed, MemberNamed, MemberStands, NamesCame, Stands, TermNamed, TermStands, TreeStands, ValueEnds, Base, Grown, member_is, names_told}
+use Rattle.bound_calls.specs.binder.specs.Classes.{has_class}
 
 -- the node that looks for a member
 abbrev pub there_kind : (name : ℕ) → Option ArgumentNames → (given : ℕ) → NodeKind
@@ -38,7 +38,7 @@ pub record OpensMember (place : Place) (m : HostMember) (d e : Drafted) (c : Mem
   pub grown : Grown d e
   pub named : ItemNamed e.tables (item.Member c)
   pub stands : (env : Env) (tree : Expr) (items : List Item) (is : List nodes.Item) (below : List Piece) (base : Base) → place ≡ place_told tree
-      → TermStands env d.tables (term.HostMember m) (item_of (place_told tree) (callee env tree (term_of env tree))) d.pieces below → Stands env e.tables items is below base
+      → TermStands env d.tables (term.HostMember m) (item_of env (place_told tree) (callee env tree (term_of env tree))) d.pieces below → Stands env e.tables items is below base
       → Stands env e.tables (item.Member c ∷ items) (nodes.arguments no_args ∷ nodes.tree tree ∷ is) e.pieces base
 
 -- what an argument is given, with a name or without one
@@ -52,22 +52,24 @@ pub record WrittenIs (found : Option bound.Expr) (ps below : List Piece) : Type 
   pub counts : (rest : Exprs) → given_count (also made rest) ≡ suc (given_count rest)
   pub on_top : ps ≡ an_expr made ∷ below
 
-pub record PushesWritten (y : Tree) (d e : Drafted) : Type 0 where
+-- an expression, no object of a class, in a project with a class or without
+pub record PushesWritten (has : Bool) (y : Tree) (d e : Drafted) : Type 0 where
   pub grown : Grown d e
-  pub stands : (env : Env) (tree : Expr) (below : List Piece) → TreeStands env d.tables y tree d.pieces below → WrittenIs (argument_of env type.variant (term_of env tree) (place_told tree)) e.pieces below
+  pub stands : (env : Env) → has_class env.scope.spaces ≡ has → (tree : Expr) (below : List Piece) → TreeStands env d.tables y tree d.pieces below
+      → WrittenIs (host_given env (term_of env tree) (place_told tree)) e.pieces below
 
--- the expression on top was pushed as one more value, so that so many of the values have names
-pub record AddsValue (x : MemberCall) (y : Tree) (named : ℕ) (d e : Drafted) (z : MemberCall) : Type 0 where
+-- the expression on top, no object of a class, was pushed as one more value, so that so many of the values have names
+pub record AddsValue (has : Bool) (x : MemberCall) (y : Tree) (named : ℕ) (d e : Drafted) (z : MemberCall) : Type 0 where
   pub grown : Grown d e
   pub is_named : MemberNamed e.tables z
-  pub stands : (env : Env) (a b : Expr) (name : Option (List ℕ)) (args more : Args) (ps below : List Piece) → TreeStands env d.tables y a d.pieces ps → MemberStands env d.tables x b args ps below
+  pub stands : (env : Env) → has_class env.scope.spaces ≡ has → (a b : Expr) (name : Option (List ℕ)) (args more : Args) (ps below : List Piece) → TreeStands env d.tables y a d.pieces ps → MemberStands env d.tables x b args ps below
       → givens env more ≡ givens env args ++ given_as_named env name a ∷ [] → NamesCame (names_told e.tables x.names) named (givens env more) → MemberStands env e.tables z b more e.pieces below
 
 -- the expression on top is one more argument, with a name
-pub record AddsNamed (x : MemberCall) (y : Tree) (name : Identifier) (d e : Drafted) (z : MemberCall) : Type 0 where
+pub record AddsNamed (has : Bool) (x : MemberCall) (y : Tree) (name : Identifier) (d e : Drafted) (z : MemberCall) : Type 0 where
   pub grown : Grown d e
   pub named : ItemNamed e.tables (item.Member z)
-  pub stands : (env : Env) (comma : Option Token) (mark : Token) (items : List Item) (is : List nodes.Item) (base : Base) → AllNamed d.tables items → Stands env d.tables (item.Tree y ∷ item.Member x ∷ items) is d.pieces base
+  pub stands : (env : Env) → has_class env.scope.spaces ≡ has → (comma : Option Token) (mark : Token) (items : List Item) (is : List nodes.Item) (base : Base) → AllNamed d.tables items → Stands env d.tables (item.Tree y ∷ item.Member x ∷ items) is d.pieces base
       → Stands env e.tables (item.Member z ∷ items) (behind_node (node_of.NamedArgument comma name mark) is) e.pieces base
 
 -- arguments are named as was told: as many stand before the names, all of these came, and the member has such parameters
@@ -92,7 +94,7 @@ pub record EndsCall (t : Tables) (x : MemberCall) (kind : NodeKind) : Type 0 whe
 pub record EndsMember (t : Tables) (x : MemberCall) (y : Term) : Type 0 where
   pub named : ItemNamed t (item.Member x) → TermNamed t y
   pub stands : (env : Env) (e : Expr) (args : Args) (ps below : List Piece) → MemberStands env t x e args ps below
-      → TermStands env t y (indexed env (place_told e) (item_of (place_told e) (callee env e (term_of env e))) (givens env args)) ps below
+      → TermStands env t y (indexed env (place_told e) (item_of env (place_told e) (callee env e (term_of env e))) (givens env args)) ps below
 
 -- nodes of values that count as given
 abbrev pub is_value_kind : NodeKind → Bool

@@ -13,7 +13,7 @@ use crate::names::{is_next, names_ahead, takes_names};
 use bound_calls::bound_declarations::NotYet;
 use bound_calls::{
     Ending, HostMember, MemberCall, Shape, Term, Tree, given_ending, is_typed_kind, mark_given,
-    nowhere, push_node, sum,
+    may_be_instance, nowhere, push_node, sum,
 };
 use bound_project::{ArgumentNames, DeclaredType, Draft, ElementType, NodeKind};
 use std::alloc::Global;
@@ -66,17 +66,22 @@ fn is_value_kind(kind: NodeKind) -> bool
     }
 }
 
-/// Pushes an expression as an argument of a member: as it is, and marked where a Variant doesn't take it.
+/// Pushes an expression as an argument of a member: as it is, no object of a class, and marked where a Variant doesn't take
+/// it.
 fn push_written<'a>(
     alloc: Global,
     draft: &mut Draft,
     tree: Tree<'a>,
+    has_class: bool,
 ) -> Result<(), OrMemory<NotYet>>
     requires { TermNamed (draft_view draft.old).tables tree.term }
-    ensures { OnOk result (PushesWritten tree.entry (draft_view draft.old) (draft_view draft.new)) }
+    ensures { OnOk result (PushesWritten has_class tree.entry (draft_view draft.old) (draft_view draft.new)) }
 {
     let ending = given_ending(alloc, draft, tree)?;
     if !is_value_kind(ending.kind) {
+        return Err(OrMemory::Fault(NotYet));
+    }
+    if may_be_instance(has_class, ending) {
         return Err(OrMemory::Fault(NotYet));
     }
     push_node(draft, ending.kind, ending.of, tree.place)?;
@@ -92,14 +97,15 @@ fn add_value<'a>(
     call: MemberCall,
     tree: Tree<'a>,
     named: u32,
+    has_class: bool,
 ) -> Result<MemberCall, OrMemory<NotYet>>
     requires tree { TermNamed (draft_view draft.old).tables tree.term }
     requires member { MemberNamed (draft_view draft.old).tables call }
-    ensures { IfOk result (λ more. AddsValue call tree.entry named (draft_view draft.old) (draft_view draft.new) more) }
+    ensures { IfOk result (λ more. AddsValue has_class call tree.entry named (draft_view draft.old) (draft_view draft.new) more) }
 {
     let count = sum(call.count, 1)?;
     let written = sum(call.written, 1)?;
-    push_written(alloc, draft, tree)?;
+    push_written(alloc, draft, tree, has_class)?;
     Ok(MemberCall {
         count,
         written,
@@ -114,15 +120,16 @@ pub fn add_given<'a>(
     draft: &mut Draft,
     call: MemberCall,
     tree: Tree<'a>,
+    has_class: bool,
 ) -> Result<MemberCall, OrMemory<NotYet>>
     requires named { TermNamed (draft_view draft.old).tables tree.term }
     requires member { MemberNamed (draft_view draft.old).tables call }
-    ensures { IfOk result (λ more. AddsArgument (item.Member call) tree.entry (draft_view draft.old) (draft_view draft.new) (item.Member more)) }
+    ensures { IfOk result (λ more. AddsArgument has_class (item.Member call) tree.entry (draft_view draft.old) (draft_view draft.new) (item.Member more)) }
 {
     if call.named != 0 {
         return Err(OrMemory::Fault(NotYet));
     }
-    add_value(alloc, draft, call, tree, 0)
+    add_value(alloc, draft, call, tree, 0, has_class)
 }
 
 /// One more argument, with a name, which is the next one of those that were told.
@@ -132,10 +139,11 @@ pub fn add_named<'a>(
     call: MemberCall,
     tree: Tree<'a>,
     name: &Identifier,
+    has_class: bool,
 ) -> Result<MemberCall, OrMemory<NotYet>>
     requires named { TermNamed (draft_view draft.old).tables tree.term }
     requires member { MemberNamed (draft_view draft.old).tables call }
-    ensures { IfOk result (λ more. AddsNamed call tree.entry name.now (draft_view draft.old) (draft_view draft.new) more) }
+    ensures { IfOk result (λ more. AddsNamed has_class call tree.entry name.now (draft_view draft.old) (draft_view draft.new) more) }
 {
     let Some(names) = call.names else {
         return Err(OrMemory::Fault(NotYet));
@@ -144,7 +152,7 @@ pub fn add_named<'a>(
         return Err(OrMemory::Fault(NotYet));
     }
     let named = sum(call.named, 1)?;
-    add_value(alloc, draft, call, tree, named)
+    add_value(alloc, draft, call, tree, named, has_class)
 }
 
 /// One more argument, which isn't written: Missing.

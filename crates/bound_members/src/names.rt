@@ -10,11 +10,10 @@ ghost use Rattle.bound_members.specs.Names.{AddsName, TellsNames, is_next};
 
 use crate::ahead::before_names;
 use crate::members::is_word;
-use bound_calls::bound_declarations::NotYet;
 use bound_calls::{HostMember, Shape, constant_number, order_number};
 use bound_project::{ArgumentNames, Draft};
 use std::alloc::Global;
-use vba_base::{NoMemory, OrMemory, Units};
+use vba_base::{NoMemory, Units};
 use vba_values::Value;
 use vba_words::Identifier;
 

@@ -1,12 +1,9 @@
 pub mod Lookups
 pub mod NamedTerms
-pub mod Dotted
+pub mod Objects
 pub mod Library
-pub mod Tested
-pub mod ItemTerms
-pub mod Lacking
 pub mod HostNames
 pub mod Sharing
-pub mod Fielding
 pub mod Callees
 pub mod RoutineTerms
+pub mod UnknownTerms

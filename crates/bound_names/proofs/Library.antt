@@ -1,18 +1,21 @@
 -- Functions of the library: what their names are, and calls of them.
-use Rattle.std.proofs.Common.{◌≡◌, ℕ, ◌==◌, Bool, true, false, List, [], Some, None, if◌then◌else◌, refl, sym, ap, subst, ◌∙◌}
+use Rattle.std.proofs.Common.{◌≡◌, ℕ, ◌==◌, Bool, true, false, List, [], Option, Some, None, if◌then◌else◌, refl, sym, ap, subst, ◌∙◌}
 use Rattle.std.specs.Prelude.{bytes_eq, codes}
 use Rattle.vba_words.specs.declared.identifier.Identifier.{Identifier}
 use Rattle.vba_lib.specs.declared.function.LibraryFunction.{LibraryFunction}
 use Rattle.vba_lib.specs.declared.function.LibraryFunction.TheVariants as function
 use Rattle.vba_lib.specs.Names.{function_named}
+use Rattle.bound_project.specs.Expressions as bound
 use Rattle.bound_project.specs.Pieces.{Piece, Tables}
 use Rattle.bound_project.specs.Drafts.{Drafted}
-use Rattle.bound_members.specs.binder.specs.Scopes.{has_dollar, of_library}
+use Rattle.bound_members.specs.binder.specs.Declarations.{Written}
+use Rattle.bound_members.specs.binder.specs.Scopes.{Space, has_dollar, of_library}
 use Rattle.bound_members.specs.binder.specs.Sources.{Source, base_of, has_choice, is_base_one}
 use Rattle.bound_members.specs.binder.specs.Constants.{compare_in}
-use Rattle.bound_members.specs.bound_forms.specs.Terms.{Env, a_function, error_word}
+use Rattle.bound_members.specs.bound_forms.specs.Terms.{Env, a_function, error_word, routine_term}
 use Rattle.bound_members.specs.bound_forms.specs.Terms as terms
 use Rattle.bound_members.specs.bound_forms.specs.ExpressionsBound.{array_base, constant_term, from_zero, library_term}
+use Rattle.bound_members.specs.declared_names.specs.View.{space_view, written_view}
 use Rattle.bound_members.specs.bound_calls.specs.declared.term.Function.{Function}
 use Rattle.bound_members.specs.bound_calls.specs.declared.term.Term.{Term}
 use Rattle.bound_members.specs.bound_calls.specs.declared.term.Term.TheVariants as term
@@ -40,12 +43,18 @@ word_is text x b found t f is = ap (λ (u : List ℕ). bytes_eq u (codes "error"
 pub error_leaf : (env : Env) (d : Drafted) (x : Identifier) → bytes_eq x.name (codes "error") ≡ true → MakesLeaf env d d term.ErrorWord (library_term env x)
 error_leaf env d x h = record { grown = grown_same d; pieces = refl; named = tt; stands = λ ps. (library_error env x h, refl) }
 
+routine_zero : (base : Option bound.Expr) (space : Space) (number : ℕ) (written : Written) → from_zero (routine_term base space number written) ≡ routine_term base space number written
+routine_zero None space number written = refl
+routine_zero (Some b) space number written = refl
+
 -- behind VBA nothing changes but the base of a function
 zero_same : (env : Env) (t : Tables) (x : Term) → ((f : Function) → (x ≡ term.Function f) → ⊥) → (y : terms.Term) (ps below : List Piece) → TermStands env t x y ps below → from_zero y ≡ y
-zero_same env t (term.Place kind of bounded lends) n y ps below h = let P : terms.Term → Type 0 = λ (z : terms.Term). from_zero z ≡ z in subst P (sym h.is) refl
+zero_same env t (term.Place kind of bounded lends makes) n y ps below h = let P : terms.Term → Type 0 = λ (z : terms.Term). from_zero z ≡ z in subst P (sym h.is) refl
 zero_same env t (term.Value e) n y ps below h = let P : terms.Term → Type 0 = λ (z : terms.Term). from_zero z ≡ z in subst P (sym h.is) refl
-zero_same env t (term.Routine r) n y ps below h = let P : terms.Term → Type 0 = λ (z : terms.Term). from_zero z ≡ z in subst P (sym h.is) refl
-zero_same env t (term.Property p) n y ps below h = let P : terms.Term → Type 0 = λ (z : terms.Term). from_zero z ≡ z in subst P (sym h.property.is) refl
+zero_same env t (term.Routine r) n y ps below h =
+    let P : terms.Term → Type 0 = λ (z : terms.Term). from_zero z ≡ z in subst P (sym h.routine.is) (routine_zero h.routine.base h.routine.space h.routine.number h.routine.written)
+zero_same env t (term.Property p) n y ps below h =
+    let P : terms.Term → Type 0 = λ (z : terms.Term). from_zero z ≡ z in subst P (sym h.property.is) (routine_zero h.property.base (space_view p.space.now) h.property.number (written_view p.written))
 zero_same env t (term.Function f) n y ps below h = absurd (n f refl)
 zero_same env t (term.HostMember m) n y ps below h = let P : terms.Term → Type 0 = λ (z : terms.Term). from_zero z ≡ z in subst P (sym h.is) refl
 zero_same env t (term.SheetMember m) n y ps below h = let P : terms.Term → Type 0 = λ (z : terms.Term). from_zero z ≡ z in subst P (sym h.0) refl

@@ -3,17 +3,18 @@ use Rattle.std.proofs.Common.{◌≡◌, ℕ, suc, ◌+◌, Bool, true, false, �
 use Rattle.std.specs.Prelude.{option_and_then, slice_get}
 use Rattle.vba_words.specs.declared.identifier.Identifier.{Identifier}
 use Rattle.vba_tree.specs.declared.procedure.ProcedureWords.{ProcedureWords}
-use Rattle.vba_tree.specs.declared.procedure.ProcedureWords.TheVariants as words
 use Rattle.vba_tree.specs.Tree.{Parameter, Variable, Constant}
 use Rattle.vba_expression.specs.Tree.{Expr}
 use Rattle.bound_members.specs.binder.specs.Declarations.{Written, What, a_variable, a_constant, an_enum, a_member, a_type, an_event, a_procedure, Entry, FieldWritten}
-use Rattle.bound_members.specs.binder.specs.Scopes.{Space, Scope, is_named, first_at, seen_from}
-use Rattle.bound_members.specs.binder.specs.Signatures.{is_get, is_let, procedure_of}
+use Rattle.bound_members.specs.binder.specs.Scopes.{Space, Scope, is_named, first_at}
+use Rattle.bound_members.specs.binder.specs.Signatures.{procedure_of}
 use Rattle.bound_members.specs.declared_names.specs.declared.entry.What.{What as EntryWhat}
 use Rattle.bound_members.specs.declared_names.specs.declared.entry.What.TheVariants as what
 use Rattle.bound_members.specs.declared_names.specs.declared.entry.Written.{Written as EntryWritten}
 use Rattle.bound_members.specs.declared_names.specs.View.{what_view}
-use Rattle.bound_names.specs.Properties.{is_wanted, wants, first_wanted, property_with, IsEntry}
+use Rattle.bound_names.specs.Properties.{wants, first_wanted, property_with, IsEntry, test_of}
+use Rattle.bound_members.specs.binder.specs.Classes.{reaches}
+use Rattle.bound_names.specs.declared.properties.Part.{Part}
 
 abbrev entry_of : Identifier → Bool → What → Entry
 entry_of name public what = record { name = name; is_public = public; what = what }
@@ -39,20 +40,6 @@ first_each F G h1 h2 h3 h4 h5 h6 h7 n es = first_same F G (λ e. at e.name e.is_
     at x b (an_event ps) = h6 x b ps
     at x b (a_procedure p) = h7 x b p
 
-pub get_same : (w : ProcedureWords) → is_wanted true w ≡ is_get w
-get_same (words.Sub token) = refl
-get_same (words.Function token) = refl
-get_same (words.PropertyGet a b) = refl
-get_same (words.PropertyLet a b) = refl
-get_same (words.PropertySet a b) = refl
-
-let_same : (w : ProcedureWords) → is_wanted false w ≡ is_let w
-let_same (words.Sub token) = refl
-let_same (words.Function token) = refl
-let_same (words.PropertyGet a b) = refl
-let_same (words.PropertyLet a b) = refl
-let_same (words.PropertySet a b) = refl
-
 abbrev pub with_entry : Option (ℕ × Entry) → Option (ℕ × Written)
 with_entry o = option_and_then (λ f. option_map (λ p. (f.0, p)) (procedure_of f.1.what)) o
 
@@ -61,22 +48,16 @@ abbrev passing : (ProcedureWords → Bool) → What → Bool
 passing test (a_procedure p) = test p.kind
 passing test what = false
 
-pub property_found : (gets : Bool) (s : Scope) (space : Space) (x : Identifier) → option_and_then (λ f. option_map (λ p. (f.0, p)) (procedure_of f.1.what)) (first_wanted gets s space x) ≡ property_with gets s space x
-property_found true s space x =
-    let F : Entry → Bool = λ (e : Entry). is_named x.name e.name && (seen_from s space e && wants true e.what) in
-    let G : Entry → Bool = λ (e : Entry). is_named x.name e.name && (seen_from s space e && passing is_get e.what) in
-    ap with_entry (first_each F G (λ y b v. refl) (λ y b c. refl) (λ y b. refl) (λ y b v n. refl) (λ y b fs. refl) (λ y b ps. refl)
-    (λ y b p. ap (λ (c : Bool). is_named x.name y && (seen_from s space (entry_of y b (a_procedure p)) && c)) (get_same p.kind)) 0 space.entries)
-property_found false s space x =
-    let F : Entry → Bool = λ (e : Entry). is_named x.name e.name && (seen_from s space e && wants false e.what) in
-    let G : Entry → Bool = λ (e : Entry). is_named x.name e.name && (seen_from s space e && passing is_let e.what) in
-    ap with_entry (first_each F G (λ y b v. refl) (λ y b c. refl) (λ y b. refl) (λ y b v n. refl) (λ y b fs. refl) (λ y b ps. refl)
-    (λ y b p. ap (λ (c : Bool). is_named x.name y && (seen_from s space (entry_of y b (a_procedure p)) && c)) (let_same p.kind)) 0 space.entries)
+pub property_found : (p : Part) (s : Scope) (space : Space) (x : Identifier) → option_and_then (λ f. option_map (λ w. (f.0, w)) (procedure_of f.1.what)) (first_wanted p s space x) ≡ property_with p s space x
+property_found p s space x =
+    let F : Entry → Bool = λ (e : Entry). is_named x.name e.name && (reaches s space e && wants p e.what) in
+    let G : Entry → Bool = λ (e : Entry). is_named x.name e.name && (reaches s space e && passing (test_of p) e.what) in
+    ap with_entry (first_each F G (λ y b v. refl) (λ y b c. refl) (λ y b. refl) (λ y b v n. refl) (λ y b fs. refl) (λ y b ps. refl) (λ y b w. refl) 0 space.entries)
 
 -- of the entry that was found
-pub property_is : (gets : Bool) (s : Scope) (space : Space) (x : Identifier) (number : ℕ) (e : Entry) (w : Written) → first_wanted gets s space x ≡ Some (number, e) → e.what ≡ a_procedure w → Some (number, w) ≡ property_with gets s space x
-property_is gets s space x number e w h is =
-    sym (ap (λ (k : What). option_map (λ (p : Written). (number, p)) (procedure_of k)) is) ∙ sym (ap with_entry h) ∙ property_found gets s space x
+pub property_is : (p : Part) (s : Scope) (space : Space) (x : Identifier) (number : ℕ) (e : Entry) (w : Written) → first_wanted p s space x ≡ Some (number, e) → e.what ≡ a_procedure w → Some (number, w) ≡ property_with p s space x
+property_is p s space x number e w h is =
+    sym (ap (λ (k : What). option_map (λ (p : Written). (number, p)) (procedure_of k)) is) ∙ sym (ap with_entry h) ∙ property_found p s space x
 
 -- what is no procedure
 pub no_procedure : (k : EntryWhat) → ((w : EntryWritten) → (k ≡ what.Procedure w) → ⊥) → procedure_of (what_view k) ≡ None
@@ -89,9 +70,9 @@ no_procedure (what.Event e) n = refl
 no_procedure (what.Procedure w) n = absurd (n w refl)
 
 -- none of an entry that is no procedure
-pub property_none : (gets : Bool) (s : Scope) (space : Space) (x : Identifier) (number : ℕ) (e : Entry) → first_wanted gets s space x ≡ Some (number, e) → procedure_of e.what ≡ None → None ≡ property_with gets s space x
-property_none gets s space x number e h k =
-    sym (ap (λ (o : Option Written). option_map (λ (p : Written). (number, p)) o) k) ∙ sym (ap with_entry h) ∙ property_found gets s space x
+pub property_none : (p : Part) (s : Scope) (space : Space) (x : Identifier) (number : ℕ) (e : Entry) → first_wanted p s space x ≡ Some (number, e) → procedure_of e.what ≡ None → None ≡ property_with p s space x
+property_none p s space x number e h k =
+    sym (ap (λ (o : Option Written). option_map (λ (p : Written). (number, p)) o) k) ∙ sym (ap with_entry h) ∙ property_found p s space x
 
 -- what was found stands at its number
 abbrev FoundAt : {A : Type 0} → ℕ → List A → Option (ℕ × A) → Type 0
@@ -107,9 +88,9 @@ found_at {A} test from (x ∷ xs) = at (test x) (first_at test (suc from) xs) (f
     at false None h = tt
     at false (Some f) h = (suc h.0, (omega (arith, h.1.0), h.1.1))
 
-pub entry_found : (gets : Bool) (s : Scope) (space : Space) (x : Identifier) (number : ℕ) (e : Entry) (w : Written) → first_wanted gets s space x ≡ Some (number, e) → e.what ≡ a_procedure w → IsEntry space number w
-entry_found gets s space x number e w h k =
+pub entry_found : (p : Part) (s : Scope) (space : Space) (x : Identifier) (number : ℕ) (e : Entry) (w : Written) → first_wanted p s space x ≡ Some (number, e) → e.what ≡ a_procedure w → IsEntry space number w
+entry_found p s space x number e w h k =
     let A : Option (ℕ × Entry) → Type 0 = λ o. FoundAt 0 space.entries o in
-    let f = subst A h (found_at (λ (e : Entry). is_named x.name e.name && (seen_from s space e && wants gets e.what)) 0 space.entries) in
+    let f = subst A h (found_at (λ (e : Entry). is_named x.name e.name && (reaches s space e && wants p e.what)) 0 space.entries) in
     let same : f.0 ≡ number = omega (arith, f.1.0) in
     record { entry = e; at = subst (λ (n : ℕ). slice_get space.entries n ≡ Some e) same f.1.1; what = k }

@@ -1,20 +1,18 @@
 -- A variable of a module is the declaration with its number among those that the project shares.
-use Rattle.std.proofs.Common.{◌≡◌, ℕ, zero, suc, ◌+◌, Bool, false, List, [], ◌∷◌, ◌++◌, map, take, length, Some, None, if◌then◌else◌, refl, sym, ap, subst, ◌∙◌, arith, length-append}
-use Rattle.std.specs.Prelude.{slice_get}
+use Rattle.std.proofs.Common.{◌≡◌, ℕ, zero, suc, ◌+◌, Bool, false, List, [], ◌∷◌, ◌++◌, map, take, length, Some, None, if◌then◌else◌, refl, sym, ap, subst, ◌∙◌, arith, length-append, true}
+use Rattle.std.specs.Prelude.{slice_get, flat_map}
 use Rattle.vba_words.specs.declared.identifier.Identifier.{Identifier}
 use Rattle.vba_tree.specs.Tree.{Variable}
 use Rattle.bound_project.specs.declared.declarations.Declarations.{Declarations}
 use Rattle.bound_project.specs.Expressions.{Storage, shared}
-use Rattle.bound_project.specs.Project.{Declaration}
+use Rattle.bound_project.specs.Project.{Declaration, Class}
 use Rattle.bound_project.specs.Project as project
-use Rattle.bound_project.specs.View.{declaration_view, declarations_view, declared_view}
-use Rattle.bound_members.specs.binder.specs.Projects.{declarations_of}
+use Rattle.bound_project.specs.View.{declaration_view, declarations_view}
+use Rattle.bound_members.specs.binder.specs.Projects.{declarations_of, class_of}
 use Rattle.bound_members.specs.binder.specs.Constants.{home}
 use Rattle.bound_members.specs.binder.specs.Declarations.{What, a_variable, a_constant, an_enum, a_member, a_type, an_event, a_procedure, Entry}
-use Rattle.bound_members.specs.bound_forms.specs.ExpressionsBound.{declared_place, place_term}
-use Rattle.bound_members.specs.binder.specs.Storage.{has_bounds}
+use Rattle.bound_members.specs.binder.specs.Storage.{has_bounds, declared_variable, is_variable, module_declarations, module_storage, shared_before, shared_from, shared_of, static_declarations}
 use Rattle.bound_members.specs.binder.specs.Scopes.{Scope, Space}
-use Rattle.bound_members.specs.binder.specs.Storage.{declared_variable, is_variable, module_declarations, module_storage, shared_before, shared_from, shared_of, static_declarations}
 use Rattle.bound_members.specs.binder.specs.Types.{counted}
 use Rattle.bound_members.specs.constant_values.specs.Rounds.{AreNumbered}
 use Rattle.bound_members.specs.declared_names.specs.Outside.{the_outside}
@@ -23,8 +21,8 @@ use Rattle.bound_members.specs.declared_names.specs.declared.scope.Scope.{Scope 
 use Rattle.project_tables.specs.Signed.{whole_scope}
 use Rattle.project_tables.proofs.Counts.{before_counted}
 use Rattle.bound_names.specs.declared.names.Shape.{Shape}
-use Rattle.bound_names.specs.Owned.{SharedShape}
-use Rattle.bound_names.proofs.NamedTerms.{shaped}
+use Rattle.bound_names.specs.Owned.{SharedShape, IsShape}
+use Rattle.bound_members.specs.binder.specs.ClassTables.{class_table}
 
 -- ---- lists
 
@@ -62,7 +60,7 @@ later_variable s x public (a_type fields) es before n d h e = h n (omega (arith,
 later_variable s x public (an_event ps) es before n d h e = h n (omega (arith, e))
 later_variable s x public (a_procedure p) es before n d h e = h n (omega (arith, e))
 
-variable_at : (s : Scope) (es : List Entry) (number n : ℕ) (e : Entry) (v : Variable) → slice_get es number ≡ Some e → e.what ≡ a_variable v → n ≡ counted is_variable (take number es)
+pub variable_at : (s : Scope) (es : List Entry) (number n : ℕ) (e : Entry) (v : Variable) → slice_get es number ≡ Some e → e.what ≡ a_variable v → n ≡ counted is_variable (take number es)
     → slice_get (module_declarations s es) n ≡ Some (declared_variable s v)
 variable_at s [] number n e v at is c = let z : None ≡ Some e = at in absurd cc
 variable_at s (x ∷ es) zero n e v at is c =
@@ -103,7 +101,7 @@ same_shared scope (space ∷ spaces) = ap (λ (ds : List Declaration). shared_of
 pub shared_is : (scope : ScopeHere) (declared : Declarations) (space : Space) (number : ℕ) (e : Entry) (v : Variable) (kept : Storage) (x : Shape) → AreNumbered (scope_view scope).spaces
     → declarations_view declared ≡ declarations_of the_outside (whole_scope (scope_view scope).spaces) (scope_view scope).spaces → slice_get (scope_view scope).spaces space.number ≡ Some space
     → slice_get space.entries number ≡ Some e → space.source.is_class ≡ false → e.what ≡ a_variable v → kept ≡ module_storage (scope_view scope) space number → SharedShape (map declaration_view declared.shared.items) kept x
-    → place_term kept (declared_view x.of) x.is_bounded ≡ declared_place (module_storage (scope_view scope) space number) (Some (declared_variable (home (scope_view scope) space) v))
+    → IsShape (declared_variable (home (scope_view scope) space) v).of (has_bounds (declared_variable (home (scope_view scope) space) v)) x
 shared_is scope declared space number e v kept x numbered is there at class what kept_is h =
     let s : Scope = scope_view scope in
     let k : ℕ = counted is_variable (take number space.entries) in
@@ -115,4 +113,40 @@ shared_is scope declared space number e v kept x numbered is there at class what
     let number_is : h.number ≡ n = (let z : shared h.number ≡ shared n = sym h.kept_is ∙ kept_is in cc) in
     let found : Some h.declaration ≡ Some d = sym h.at ∙ ap (λ (l : List Declaration). slice_get l h.number) list ∙ ap (λ (m : ℕ). slice_get (shared_from s s.spaces) m) number_is ∙ law in
     let same : h.declaration ≡ d = cc in
-    sym (shaped kept h.declaration.of (has_bounds h.declaration) x h.shape) ∙ ap (λ (z : Declaration). place_term kept z.of (has_bounds z)) same ∙ ap (λ (z : Storage). place_term z d.of (has_bounds d)) kept_is
+    subst (λ (z : Declaration). IsShape z.of (has_bounds z) x) same h.shape
+
+-- ---- the variables of a class
+
+class_at_first : (s : Scope) (x : Space) (xs : List Space) (b : Bool) → x.source.is_class ≡ b
+    → flat_map (λ o. class_of (home s o)) (x ∷ xs) ≡ (if b then class_table (home s x) ∷ flat_map (λ o. class_of (home s o)) xs else flat_map (λ o. class_of (home s o)) xs)
+class_at_first s x xs true h = ap (λ (b : Bool). (if b then class_table (home s x) ∷ [] else []) ++ flat_map (λ o. class_of (home s o)) xs) h
+class_at_first s x xs false h = ap (λ (b : Bool). (if b then class_table (home s x) ∷ [] else []) ++ flat_map (λ o. class_of (home s o)) xs) h
+
+-- how many classes there are before a module
+abbrev pub classes_before : List Space → ℕ
+classes_before spaces = counted (λ (o : Space). o.source.is_class) spaces
+
+pub class_there : (s : Scope) (spaces : List Space) (i n : ℕ) (space : Space) → slice_get spaces i ≡ Some space → space.source.is_class ≡ true → n ≡ classes_before (take i spaces)
+    → slice_get (flat_map (λ o. class_of (home s o)) spaces) n ≡ Some (class_table (home s space))
+class_there s [] i n space at class c = let z : None ≡ Some space = at in absurd cc
+class_there s (x ∷ xs) zero n space at class c =
+    let same : x ≡ space = cc in
+    let e : n ≡ 0 = c in
+    ap (λ (l : List Class). slice_get l n) (class_at_first s x xs true (ap (λ (y : Space). y.source.is_class) same ∙ class))
+    ∙ ap (λ (m : ℕ). slice_get (class_table (home s x) ∷ flat_map (λ o. class_of (home s o)) xs) m) e ∙ ap (λ (y : Space). Some (class_table (home s y))) same
+class_there s (x ∷ xs) (suc i) n space at class c = on x.source.is_class refl (λ m k. class_there s xs i m space at class k)
+  where
+    rest : List Class
+    rest = flat_map (λ o. class_of (home s o)) xs
+
+    on : (b : Bool) → x.source.is_class ≡ b → ((m : ℕ) → m ≡ classes_before (take i xs) → slice_get rest m ≡ Some (class_table (home s space))) → slice_get (flat_map (λ o. class_of (home s o)) (x ∷ xs)) n ≡ Some (class_table (home s space))
+    on true h later =
+        let m : ℕ = classes_before (take i xs) in
+        let z : n ≡ 1 + m = c ∙ ap (λ (b : Bool). (if b then 1 else 0) + m) h in
+        let e : n ≡ suc m = omega (arith, z) in
+        ap (λ (l : List Class). slice_get l n) (class_at_first s x xs true h) ∙ ap (λ (k : ℕ). slice_get (class_table (home s x) ∷ rest) k) e ∙ later m refl
+    on false h later =
+        let m : ℕ = classes_before (take i xs) in
+        let z : n ≡ 0 + m = c ∙ ap (λ (b : Bool). (if b then 1 else 0) + m) h in
+        let e : n ≡ m = omega (arith, z) in
+        ap (λ (l : List Class). slice_get l n) (class_at_first s x xs false h) ∙ later n e

@@ -8,8 +8,7 @@ pub use Rattle.bound_members.specs.constant_values
 pub use Rattle.bound_members.specs.declared_names
 pub mod View
 pub mod Owned
-pub mod Fields
 pub mod Properties
 pub mod PropertyView
 pub mod Callee
-pub mod Items
+pub mod ClassMembers

@@ -1,29 +1,30 @@
 -- Serves the code: properties of a module, by their names.
-use Rattle.std.specs.Prelude.{◌≡◌, ℕ, Bool, true, false, ◌&&◌, not, Option, Some, slice_get}
+use Rattle.std.specs.Prelude.{◌≡◌, ℕ, Bool, false, ◌&&◌, Option, Some, slice_get}
 use Rattle.vba_words.specs.declared.identifier.Identifier.{Identifier}
 use Rattle.vba_tree.specs.declared.procedure.ProcedureWords.{ProcedureWords}
-use Rattle.vba_tree.specs.declared.procedure.ProcedureWords.TheVariants as words
 use Rattle.bound_members.specs.binder.specs.Declarations.{Written, What, a_procedure, Entry}
-use Rattle.bound_members.specs.binder.specs.Scopes.{Space, Scope, is_named, first_at, seen_from}
-use Rattle.bound_members.specs.binder.specs.Signatures.{is_get, is_let, procedure_with}
+use Rattle.bound_members.specs.binder.specs.Scopes.{Space, Scope, is_named, first_at}
+use Rattle.bound_members.specs.binder.specs.Signatures.{is_get, is_let, procedure_with, is_set}
+use Rattle.bound_members.specs.binder.specs.Classes.{reaches}
+use Rattle.bound_names.specs.declared.properties.Part.{Part}
+use Rattle.bound_names.specs.declared.properties.Part.TheVariants as part
 
--- a Get, or else a Let
-abbrev pub is_wanted : Bool → ProcedureWords → Bool
-is_wanted gets (words.PropertyGet property_word get_word) = gets
-is_wanted gets (words.PropertyLet property_word let_word) = not gets
-is_wanted gets w = false
+-- which procedure of a property it is
+abbrev pub test_of : Part → ProcedureWords → Bool
+test_of part.Get = is_get
+test_of part.Let = is_let
+test_of part.Set = is_set
 
-abbrev pub wants : Bool → What → Bool
-wants gets (a_procedure p) = is_wanted gets p.kind
-wants gets what = false
+abbrev pub wants : Part → What → Bool
+wants p (a_procedure w) = test_of p w.kind
+wants p what = false
 
-abbrev pub first_wanted : Bool → Scope → Space → Identifier → Option (ℕ × Entry)
-first_wanted gets s space x = first_at (λ (e : Entry). is_named x.name e.name && (seen_from s space e && wants gets e.what)) 0 space.entries
+abbrev pub first_wanted : Part → Scope → Space → Identifier → Option (ℕ × Entry)
+first_wanted p s space x = first_at (λ (e : Entry). is_named x.name e.name && (reaches s space e && wants p e.what)) 0 space.entries
 
--- the Get, or else the Let, of a property
-abbrev pub property_with : Bool → Scope → Space → Identifier → Option (ℕ × Written)
-property_with true s space x = procedure_with s is_get space x
-property_with false s space x = procedure_with s is_let space x
+-- the Get, the Let or the Set of a property
+abbrev pub property_with : Part → Scope → Space → Identifier → Option (ℕ × Written)
+property_with p s space x = procedure_with s (test_of p) space x
 
 -- an entry is this procedure
 pub record IsEntry (space : Space) (number : ℕ) (w : Written) : Type 0 where

@@ -1,6 +1,7 @@
 ghost use Rattle.std.specs.Prelude.{◌≡◌};
 ghost use Rattle.bound_members.specs.declared_names.specs.View.{scope_view};
 ghost use Rattle.bound_members.specs.binder.specs.Constants.{compare_in};
+ghost use Rattle.bound_members.specs.binder.specs.Classes as classes;
 
 use bound_members::constant_values::Constants;
 use bound_project::{Declarations, DeclaredType};
@@ -26,5 +27,8 @@ pub struct Env<'a> {
     pub within: Option<Within>,
     pub first: u32,
     pub compare: Compare,
+    /// Has the project a class?
+    pub has_class: bool,
     ghost compare_is: { compare ≡ compare_in (scope_view constants.scope) },
+    ghost has_class_is: { has_class ≡ classes.has_class (scope_view constants.scope).spaces },
 }

@@ -1,23 +1,22 @@
-//! Names in expressions, and members behind dots, which are replaced by what they stand for where an expression stands.
+//! Names in expressions: what they mean, what is called by them, and the members of objects of classes.
 #![tactic(auto)]
 
 mod callee;
+mod classes;
 mod env;
-mod fields;
 mod functions;
-mod items;
-mod members;
 mod names;
 mod properties;
 mod routines;
+mod unknown;
 
 pub use callee::callee_term;
+pub use classes::class_member;
 pub use env::{Env, Within};
-pub use fields::step_with_member;
-pub use items::{item_member, item_term, lacks_item, takes_item};
-pub use members::step_member;
-pub use names::{meant_term, meant_variable};
-pub use properties::{Writer, writer_of};
+pub use functions::from_zero;
+pub use names::{folded, is_either, meant_term, meant_variable, sheets_value};
+pub use properties::{Part, Writer, setter_of, writer_of};
+pub use unknown::unknown_term;
 
 // What stands below, for the crates above.
 pub use bound_members;

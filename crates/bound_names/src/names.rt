@@ -11,7 +11,6 @@ ghost use Rattle.bound_project.specs.View.{declaration_view, declared_view, stor
 ghost use Rattle.bound_members.specs.binder.specs.Constants as constants;
 ghost use Rattle.bound_members.specs.binder.specs.Declarations.{a_variable};
 ghost use Rattle.bound_members.specs.bound_forms.specs.ExpressionsBound as bound;
-ghost use Rattle.bound_members.specs.bound_forms.specs.ExpressionsBound.{declared_place, place_term};
 ghost use Rattle.bound_members.specs.binder.specs.Scopes.{of_module, of_procedure};
 ghost use Rattle.bound_members.specs.binder.specs.Storage as storage;
 ghost use Rattle.bound_members.specs.binder.specs.Storage.{declared_variable, module_storage};
@@ -21,16 +20,18 @@ ghost use Rattle.bound_members.specs.constant_values.specs.Tables.{AreConstants}
 ghost use Rattle.bound_members.specs.declared_names.specs.View.{entry_view, local_view, meant_view, scope_view, space_view, what_view, written_view};
 ghost use Rattle.vba_tree.specs.View.{parameter_view, type_clause_view, variable_view};
 ghost use Rattle.vba_words.specs.declared.identifier.Identifier as identifier;
-ghost use Rattle.bound_names.specs.Owned.{IsShape, OwnShaped, SharedShape, host_rest};
+ghost use Rattle.bound_names.specs.Owned.{IsShape, OwnShaped, SharedShape, host_rest, made_term, making_of, making_through};
 ghost use Rattle.bound_members.specs.bound_calls.specs.Steps.{MakesLeaf};
 ghost use Rattle.bound_names.specs.View.{EnvStands, env_view};
 
+use crate::classes::own_member;
 use crate::env::Env;
 use crate::functions::function_term;
 use crate::routines::procedure_term;
-use bound_members::bound_calls::{Ending, Term, value_term};
+use bound_members::bound_calls::{Ending, Receiver, Term, value_term};
 use bound_members::bound_declarations::{
-    NotYet, arrayed, is_bounded, own_storage, parameter_type, result_type, variable_type,
+    NotYet, arrayed, is_bounded, made_by, made_through, own_storage, parameter_type, result_type,
+    variable_type,
 };
 use bound_members::constant_values::{Constants, clause_type, meant_value};
 use bound_members::declared_names::{Entry, Local, Meant, Own, Scope, Space, What, Written};
@@ -182,6 +183,15 @@ fn library_term<'a>(
     }
 }
 
+/// Whether an object is made where a variable is read: never; where what a parameter leads to is declared As New; or, of
+/// one that is declared so, an object of this class.
+#[derive(Clone, Copy)]
+pub enum Making {
+    Never,
+    Through,
+    New(u32),
+}
+
 /// The type of a variable, and whether it is an array that is declared with bounds.
 #[derive(Clone, Copy)]
 pub struct Shape {
@@ -189,20 +199,48 @@ pub struct Shape {
     pub is_bounded: bool,
 }
 
+/// How a variable declared As New is made, by its class.
+pub fn making_of(made: Option<u32>) -> Making
+    ensures { result ≡ making_of made }
+{
+    match made {
+        None => Making::Never,
+        Some(class) => Making::New(class),
+    }
+}
+
+/// The same of a parameter.
+fn making_through(through: bool) -> Making
+    ensures { result ≡ making_through through }
+{
+    if through {
+        Making::Through
+    } else {
+        Making::Never
+    }
+}
+
 /// A variable, as a place.
-fn variable_term<'a>(storage: Storage, shape: Shape) -> Term<'a>
-    ensures { (env : plain.Env) (d : Drafted) → MakesLeaf env d d result (place_term (storage_view storage) (declared_view shape.of) shape.is_bounded) }
+pub fn variable_term<'a>(storage: Storage, shape: Shape, making: Making) -> Term<'a>
+    ensures { (env : plain.Env) (d : Drafted) → MakesLeaf env d d result (made_term making (storage_view storage) (declared_view shape.of) shape.is_bounded) }
 {
     let Shape { of, is_bounded } = shape;
+    let variable = Variable {
+        storage,
+        of,
+        is_bounded,
+    };
+    let (kind, makes) = match making {
+        Making::Never => (NodeKind::Variable(variable), false),
+        Making::Through => (NodeKind::Variable(variable), true),
+        Making::New(class) => (NodeKind::NewVariable { variable, class }, true),
+    };
     Term::Place {
-        kind: NodeKind::Variable(Variable {
-            storage,
-            of,
-            is_bounded,
-        }),
+        kind,
         of,
         is_bounded,
         lends: true,
+        makes,
     }
 }
 
@@ -259,20 +297,39 @@ fn array_shape<'a>(
     Ok(unbounded(arrayed(true, of)?))
 }
 
-/// A name of a procedure that is a variable.
-fn own_shape<'a>(alloc: Global, env: Env<'a>, local: Local<'a>) -> Result<Shape, OrMemory<NotYet>>
+/// A name of a procedure that is a variable, and how that is made.
+fn own_shape<'a>(
+    alloc: Global,
+    env: Env<'a>,
+    local: Local<'a>,
+) -> Result<(Shape, Making), OrMemory<NotYet>>
     requires { EnvStands env }
-    ensures { IfOk result (λ shape. OwnShaped (scope_view env.entry.constants.scope) (local_view local.entry) (declared_view shape.of) shape.is_bounded) }
+    ensures { IfOk result (λ found. OwnShaped (scope_view env.entry.constants.scope) (local_view local.entry) (declared_view found.0.of) found.0.is_bounded found.1) }
 {
     let scope = env.constants.scope;
     match local.own {
-        Own::Result(written) => result_shape(scope, written),
-        Own::Parameter(parameter) => parameter_shape(scope, parameter),
-        Own::Variable { variable, .. } => variable_shape(alloc, env.constants, variable),
-        Own::Array { type_clause, .. } => {
-            array_shape(alloc, env.constants, local.name, type_clause)
+        Own::Result(written) => {
+            let shape = result_shape(scope, written)?;
+            Ok((shape, Making::Never))
         }
-        Own::Undeclared { .. } => Ok(unbounded(DeclaredType::Plain(ElementType::Variant))),
+        Own::Parameter(parameter) => {
+            let shape = parameter_shape(scope, parameter)?;
+            let through = made_through(env.has_class, parameter, shape.of);
+            Ok((shape, making_through(through)))
+        }
+        Own::Variable { variable, .. } => {
+            let shape = variable_shape(alloc, env.constants, variable)?;
+            let made = made_by(&variable.type_clause, shape.of);
+            Ok((shape, making_of(made)))
+        }
+        Own::Array { type_clause, .. } => {
+            let shape = array_shape(alloc, env.constants, local.name, type_clause)?;
+            Ok((shape, Making::Never))
+        }
+        Own::Undeclared { .. } => {
+            let shape = unbounded(DeclaredType::Plain(ElementType::Variant));
+            Ok((shape, Making::Never))
+        }
         Own::Constant(_) => Err(OrMemory::Fault(NotYet)),
     }
 }
@@ -288,9 +345,9 @@ fn own_variable<'a>(
     ensures { IfOk result (λ term. (d : Drafted) (x : identifier.Identifier) → MakesLeaf (env_view env.entry) d d term (bound.own_term (env_view env.entry) x number (local_view local.entry))) }
 {
     let scope = env.constants.scope;
-    let shape = own_shape(alloc, env, local)?;
+    let (shape, making) = own_shape(alloc, env, local)?;
     let storage = own_storage(scope, env.first, number, local.own)?;
-    Ok(variable_term(storage, shape))
+    Ok(variable_term(storage, shape, making))
 }
 
 /// A name of a procedure.
@@ -319,14 +376,14 @@ fn own_term<'a>(
 }
 
 /// The declaration with a number.
-fn declaration_at(declared: &Vec<Declaration>, number: usize) -> Option<&Declaration>
+pub fn declaration_at(declared: &Vec<Declaration>, number: usize) -> Option<&Declaration>
     ensures { option_map (λ found. declaration_view found.now) result ≡ option_map declaration_view (slice_get declared.now.items number) }
 {
     declared.get(number)
 }
 
 /// What a declaration says of a variable.
-fn known_shape(declaration: &Declaration) -> Shape
+pub fn known_shape(declaration: &Declaration) -> Shape
     ensures { IsShape (declaration_view declaration.now).of (storage.has_bounds (declaration_view declaration.now)) result }
 {
     Shape {
@@ -361,14 +418,15 @@ fn module_variable<'a>(
     requires standard { (space_view space.now).source.is_class ≡ false }
     requires what { what_view entry.what ≡ a_variable (variable_view variable.now) }
     ensures { IfOk result (λ term. (d : Drafted) → MakesLeaf (env_view env.entry) d d term
-        (declared_place (module_storage (scope_view env.entry.constants.scope) (space_view space.now) number)
-        (Some (declared_variable (constants.home (scope_view env.entry.constants.scope) (space_view space.now)) (variable_view variable.now))))) }
+        (bound.variable_term (constants.home (scope_view env.entry.constants.scope) (space_view space.now))
+        (module_storage (scope_view env.entry.constants.scope) (space_view space.now) number) (variable_view variable.now))) }
 {
     let kept = env
         .signatures
         .module_storage(env.constants.scope, space, number)?;
     let shape = shared_shape(env.declared, kept)?;
-    Ok(variable_term(kept, shape))
+    let made = made_by(&variable.type_clause, shape.of);
+    Ok(variable_term(kept, shape, making_of(made)))
 }
 
 /// Is a module a class?
@@ -378,7 +436,7 @@ fn is_class(space: &Space) -> bool
     space.source.is_class
 }
 
-/// An entry of a standard module that is no constant. The variables and procedures of classes aren't bound.
+/// An entry of a module that is no constant: of a class what it is of the own object.
 fn standard_term<'a>(
     env: Env<'a>,
     space: &'a Space<'a>,
@@ -390,11 +448,13 @@ fn standard_term<'a>(
     ensures { IfOk result (λ term. (d : Drafted) (x : identifier.Identifier) → MakesLeaf (env_view env.entry) d d term (bound.entry_term (env_view env.entry) x (space_view space.now) number (entry_view entry.entry))) }
 {
     if is_class(space) {
-        return Err(OrMemory::Fault(NotYet));
+        return own_member(env, space, number, entry);
     }
     match entry.what {
         What::Variable(variable) => module_variable(env, space, number, entry, variable),
-        What::Procedure(written) => procedure_term(env, space, number, entry, written),
+        What::Procedure(written) => {
+            procedure_term(env, space, number, entry, written, Receiver::Module)
+        }
         _ => Err(OrMemory::Fault(NotYet)),
     }
 }

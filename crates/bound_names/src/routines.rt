@@ -1,21 +1,18 @@
 ghost use Rattle.std.specs.Prelude.{◌≡◌, IfOk, Some, slice_get};
-ghost use Rattle.bound_project.specs.Drafts.{Drafted};
 ghost use Rattle.bound_project.specs.View.{declared_view};
 ghost use Rattle.bound_members.specs.binder.specs.Constants as constants;
 ghost use Rattle.bound_members.specs.binder.specs.Declarations.{a_procedure};
 ghost use Rattle.bound_members.specs.binder.specs.Signatures as bound;
 ghost use Rattle.bound_members.specs.binder.specs.Scopes.{of_module};
-ghost use Rattle.bound_members.specs.bound_forms.specs.Terms.{a_routine};
 ghost use Rattle.bound_members.specs.constant_values.specs.Rounds.{IsThere};
 ghost use Rattle.bound_members.specs.declared_names.specs.View.{entry_view, scope_view, space_view, what_view, written_view};
-ghost use Rattle.bound_members.specs.bound_calls.specs.Steps.{MakesLeaf};
-ghost use Rattle.bound_names.specs.Callee.{IsProperty, Reading};
+ghost use Rattle.bound_names.specs.Callee.{IsProperty, Reading, MakesRoutine};
 ghost use Rattle.bound_names.specs.Properties.{IsEntry};
 ghost use Rattle.bound_names.specs.View.{EnvStands, env_view};
 
 use crate::env::Env;
-use crate::properties::property_with;
-use bound_members::bound_calls::{Property, Routine, Term};
+use crate::properties::{Part, property_with};
+use bound_members::bound_calls::{Property, Receiver, Routine, Term};
 use bound_members::bound_declarations::{
     NotYet, gives_value, is_property, procedure_number, result_type,
 };
@@ -56,17 +53,19 @@ fn routine_at<'a>(
     number: usize,
     read: Written<'a>,
     written: Written<'a>,
+    receiver: Receiver,
 ) -> Result<Routine<'a>, OrMemory<NotYet>>
     requires env { EnvStands env }
     requires placed { slice_get (scope_view env.constants.scope).spaces (space_view space.now).number ≡ Some (space_view space.now) }
     requires entry { IsEntry (space_view space.now) number (written_view read) }
-    ensures { IfOk result (λ routine. Reading (env_view env.entry) (space_view space.now) (written_view written.entry) (number, written_view read.entry) routine) }
+    ensures { IfOk result (λ routine. Reading (env_view env.entry) receiver (space_view space.now) (written_view written.entry) (number, written_view read.entry) routine) }
 {
     let scope = env.constants.scope;
     let procedure = procedure_number(scope, space, number)?;
     let of = call_type(scope, space, read)?;
     let parameters = env.signatures.parameters(scope, space, number)?;
     Ok(Routine {
+        receiver,
         space,
         written,
         procedure,
@@ -80,18 +79,23 @@ fn property_term<'a>(
     env: Env<'a>,
     space: &'a Space<'a>,
     written: Written<'a>,
+    receiver: Receiver,
 ) -> Result<Term<'a>, OrMemory<NotYet>>
     requires env { EnvStands env }
     requires placed { slice_get (scope_view env.constants.scope).spaces (space_view space.now).number ≡ Some (space_view space.now) }
-    ensures { IfOk result (λ term. IsProperty (env_view env.entry) (space_view space.now) (written_view written.entry) term) }
+    ensures { IfOk result (λ term. IsProperty (env_view env.entry) receiver (space_view space.now) (written_view written.entry) term) }
 {
     let name = &written.header.name;
-    match property_with(true, env.constants.scope, space, name) {
+    match property_with(Part::Get, env.constants.scope, space, name) {
         Some((number, read)) => {
-            let routine = routine_at(env, space, number, read, written)?;
+            let routine = routine_at(env, space, number, read, written, receiver)?;
             Ok(Term::Routine(routine))
         }
-        None => Ok(Term::Property(Property { space, written })),
+        None => Ok(Term::Property(Property {
+            receiver,
+            space,
+            written,
+        })),
     }
 }
 
@@ -102,15 +106,16 @@ pub fn procedure_term<'a>(
     number: usize,
     entry: Entry<'a>,
     written: Written<'a>,
+    receiver: Receiver,
 ) -> Result<Term<'a>, OrMemory<NotYet>>
     requires env { EnvStands env }
     requires there { IsThere (scope_view env.constants.scope) (Some (of_module (space_view space.now) number (entry_view entry))) }
     requires what { what_view entry.what ≡ a_procedure (written_view written) }
-    ensures { IfOk result (λ term. (d : Drafted) → MakesLeaf (env_view env.entry) d d term (a_routine (space_view space.now) number (written_view written.entry))) }
+    ensures { IfOk result (λ term. MakesRoutine (env_view env.entry) receiver (space_view space.now) number (written_view written.entry) term) }
 {
     if is_property(written.header.words) {
-        return property_term(env, space, written);
+        return property_term(env, space, written, receiver);
     }
-    let routine = routine_at(env, space, number, written, written)?;
+    let routine = routine_at(env, space, number, written, written, receiver)?;
     Ok(Term::Routine(routine))
 }

@@ -16,15 +16,15 @@ use Rattle.bound_project.specs.declared.node.NodeKind.{NodeKind}
 use Rattle.bound_project.specs.declared.node.NodeKind.TheVariants as kinds
 use Rattle.bound_project.specs.declared.node.Node.{Node}
 use Rattle.bound_project.specs.View.{declared_view, variable_view}
-use Rattle.bound_project.specs.Expressions.{Exprs, no_exprs, load, Lvalue, item, element, element_value, field, kept_place}
+use Rattle.bound_project.specs.Expressions.{Exprs, no_exprs, Lvalue, item, element, element_value, field, kept_place, object_field}
 use Rattle.bound_project.specs.Expressions as bound
 use Rattle.bound_project.specs.Lists.{above, exprs_of}
 use Rattle.bound_project.proofs.Lists.{above_push}
 use Rattle.bound_project.specs.Pieces.{Piece, Tables, an_expr, a_place, exprs_off, of_place, of_found, of_place_found, of_value, of_value_found, expr_of, put_kind, put, nothing}
 use Rattle.bound_project.specs.Drafts.{Drafted}
-use Rattle.bound_members.specs.bound_forms.specs.Terms.{Env, Given, a_value, expression_of, has_names, listed_values}
+use Rattle.bound_members.specs.bound_forms.specs.Terms.{Env, Given, a_value, expression_of, has_names, listed_values, read_of}
 use Rattle.bound_members.specs.bound_forms.specs.Terms as terms
-use Rattle.bound_members.specs.bound_forms.specs.ExpressionsBound.{are_numbers, numbers_of, element_place, element_type, with_type, indexed, is_host_type, item_of, object_member, callee, term_of, operand_of, givens, place_told, term_or, wrong_term}
+use Rattle.bound_members.specs.bound_forms.specs.ExpressionsBound.{are_numbers, numbers_of, element_place, element_type, with_type, indexed, is_host_type, item_of, callee, term_of, operand_of, givens, place_told, term_or, wrong_term, host_behind, indexed_type, may_be_instance}
 use Rattle.bound_members.specs.bound_calls.specs.declared.term.Ending.{Ending}
 use Rattle.bound_members.specs.bound_calls.specs.declared.term.Routine.{Routine}
 use Rattle.bound_members.specs.bound_calls.specs.declared.term.Term.{Term}
@@ -36,14 +36,17 @@ use Rattle.bound_members.specs.bound_calls.specs.declared.term.Indexed.{Indexed}
 use Rattle.bound_members.specs.bound_calls.specs.declared.term.Item.{Item}
 use Rattle.bound_members.specs.bound_calls.specs.declared.term.Item.TheVariants as items
 use Rattle.bound_members.specs.bound_calls.specs.declared.term.Passed.{Passed}
-use Rattle.bound_members.specs.bound_calls.specs.Calls.{PassesMissing, node_of, passed_in, with_passed}
-use Rattle.bound_members.specs.bound_calls.specs.Standing.{AllNumbers, Grown, ItemNamed, PlaceStands, RoutineStands, TargetStands, TermStands, Stands, AllNamed, Base}
+use Rattle.bound_members.specs.bound_calls.specs.Calls.{PassesMissing, node_of, passed_in, with_passed, PushesReceiver}
+use Rattle.bound_members.specs.bound_calls.specs.Standing.{AllNumbers, Grown, ItemNamed, PlaceStands, TargetStands, TermStands, Stands, AllNamed, Base}
 use Rattle.bound_members.specs.bound_calls.specs.Steps.{Goes, PushesOperand}
-use Rattle.bound_operands.specs.Indexing.{PushesWhole}
+use Rattle.bound_operands.specs.Indexing.{HasElements, PushesWhole}
 use Rattle.bound_members.specs.bound_calls.specs.Indexing.{TargetAt, PushesTarget, OpensTerm, AddsArgument, AddsMissing, Closes, EndsIndexed, is_part}
 use Rattle.bound_members.proofs.Listing.{all_listed, no_names, numbers_more, taken_off}
 use Rattle.bound_members.specs.bound_calls.proofs.Growing.{grown_same, grown_pieces, all_named, item_named, stands_grows}
 use Rattle.bound_members.specs.bound_calls.proofs.CallSteps.{goes_missing, tree_ended}
+use Rattle.bound_members.specs.binder.specs.Classes.{has_class}
+use Rattle.bound_members.specs.bound_calls.specs.Taking.{read_kind}
+use Rattle.bound_members.specs.bound_calls.proofs.Taking.{read_ends}
 
 -- ---- numbers
 
@@ -66,6 +69,10 @@ numbers_are value (g ∷ gs) (e ∷ es) h lt =
 made_of : (make : Lvalue → Lvalue) (st : List Piece) (at : Lvalue) (below : List Piece) → of_place (λ (x : Lvalue). a_place (make x)) st ≡ a_place at ∷ below → (x : Lvalue) × (make x ≡ at)
 made_of make (a_place x ∷ st) at below h = let e : a_place (make x) ∷ st ≡ a_place at ∷ below = h in (x, cc)
 made_of make st at below h = let e : nothing ∷ [] ≡ a_place at ∷ below = h in absurd cc
+
+made_of_value : (make : bound.Expr → Lvalue) (st : List Piece) (at : Lvalue) (below : List Piece) → of_value (λ (x : bound.Expr). a_place (make x)) st ≡ a_place at ∷ below → (x : bound.Expr) × (make x ≡ at)
+made_of_value make (an_expr x ∷ st) at below h = let e : a_place (make x) ∷ st ≡ a_place at ∷ below = h in (x, cc)
+made_of_value make st at below h = let e : nothing ∷ [] ≡ a_place at ∷ below = h in absurd cc
 
 item_at : (v : bound.Variable) (o : Option (Exprs × List Piece)) (at : Lvalue) (below : List Piece) → of_found (λ (es : Exprs). a_place (item v es)) o ≡ a_place at ∷ below → (es : Exprs) → element_place at es ≡ element at es
 item_at v None at below h es = let e : nothing ∷ [] ≡ a_place at ∷ below = h in absurd cc
@@ -90,6 +97,9 @@ part_at t n (kinds.KeptPlace header) ps at below p h es =
     let e : a_place (kept_place header) ∷ ps ≡ a_place at ∷ below = h in
     let same : kept_place header ≡ at = cc in
     let P : Lvalue → Type 0 = λ (z : Lvalue). element_place z es ≡ element z es in subst P same refl
+part_at t n (kinds.ObjectField i of bounded) ps at below p h es =
+    let m = made_of_value (λ (x : bound.Expr). object_field x i (declared_view of) bounded) ps at below h in
+    let P : Lvalue → Type 0 = λ (z : Lvalue). element_place z es ≡ element z es in subst P m.1 refl
 part_at t n k ps at below p h es = let e : false ≡ true = p in absurd cc
 
 pub pushes_part : (k : NodeKind) (of : DeclaredType) (place : Place) (d e : Drafted) → is_part k ≡ true → e ≡ record d { pieces = put d.tables (node_of k place of) d.pieces } → PushesTarget k d e target.Place
@@ -130,21 +140,30 @@ no_object type.object u h = let e : None ≡ Some u = h in absurd cc
 no_object type.worksheet u h = let e : None ≡ Some u = h in absurd cc
 no_object type.range u h = let e : None ≡ Some u = h in absurd cc
 
-same_place : (place : Place) (at : Lvalue) (whole u : Declared) (bounded lends : Bool) → element_type whole ≡ Some u → item_of place (terms.a_place at whole bounded lends) ≡ terms.a_place at whole bounded lends
-same_place place at whole u bounded lends h =
-    ap (λ (b : Bool). if b then object_member place place (load at) whole (codes "item") else terms.a_place at whole bounded lends) (no_object whole u h)
+-- what numbers index before the run
+element_of_type : (b : Bool) (o : Option Declared) (u : Declared) → (if b then None else o) ≡ Some u → o ≡ Some u
+element_of_type true o u h = let e : None ≡ Some u = h in absurd cc
+element_of_type false o u h = h
 
-same_value : (place : Place) (made : bound.Node) (whole u : Declared) → element_type whole ≡ Some u → item_of place (a_value made whole) ≡ a_value made whole
-same_value place made whole u h = ap (λ (b : Bool). if b then object_member place place made whole (codes "item") else a_value made whole) (no_object whole u h)
+pub indexed_by : (env : Env) (node : bound.Node) (place : Place) (of u : Declared) → may_be_instance env (expression_of node place of) ≡ false → element_type of ≡ Some u → indexed_type env (expression_of node place of) ≡ Some u
+indexed_by env node place of u none h = ap (λ (b : Bool). if b then None else element_type of) none ∙ h
 
-place_indexed : (env : Env) (place : Place) (at : Lvalue) (whole : Declared) (bounded lends : Bool) (gs : List Given) (of : Declared) (es : Exprs) → element_type whole ≡ Some of → numbers_of (operand_of env) gs ≡ Some es
-    → indexed env place (terms.a_place at whole bounded lends) gs ≡ terms.a_place (element_place at es) of false lends
-place_indexed env place at whole bounded lends gs of es h k =
-    let T : Declared → Exprs → terms.Term = λ (u : Declared) (xs : Exprs). terms.a_place (element_place at xs) u false lends in
-    let wrong = wrong_term env place (terms.a_place at whole bounded lends) gs in
+same_place : (env : Env) (place : Place) (at : Lvalue) (whole u : Declared) (bounded lends makes : Bool) → element_type whole ≡ Some u
+    → item_of env place (terms.a_place at whole bounded lends makes) ≡ terms.a_place at whole bounded lends makes
+same_place env place at whole u bounded lends makes h =
+    ap (λ (b : Bool). if b then host_behind env place place (read_of makes at) whole (codes "item") else terms.a_place at whole bounded lends makes) (no_object whole u h)
+
+same_value : (env : Env) (place : Place) (made : bound.Node) (whole u : Declared) → element_type whole ≡ Some u → item_of env place (a_value made whole) ≡ a_value made whole
+same_value env place made whole u h = ap (λ (b : Bool). if b then host_behind env place place made whole (codes "item") else a_value made whole) (no_object whole u h)
+
+place_indexed : (env : Env) (place : Place) (at : Lvalue) (whole : Declared) (bounded lends makes : Bool) (gs : List Given) (of : Declared) (es : Exprs) → indexed_type env (expression_of (read_of makes at) place whole) ≡ Some of
+    → numbers_of (operand_of env) gs ≡ Some es → indexed env place (terms.a_place at whole bounded lends makes) gs ≡ terms.a_place (element_place at es) of false lends false
+place_indexed env place at whole bounded lends makes gs of es h k =
+    let T : Declared → Exprs → terms.Term = λ (u : Declared) (xs : Exprs). terms.a_place (element_place at xs) u false lends false in
+    let wrong = wrong_term env place (terms.a_place at whole bounded lends makes) gs in
     ap (λ (o : Option Declared). term_or (with_type o (numbers_of (operand_of env) gs) T) wrong) h ∙ ap (λ (o : Option Exprs). term_or (with_type (Some of) o T) wrong) k
 
-pub value_indexed : (env : Env) (place : Place) (made : bound.Node) (whole : Declared) (gs : List Given) (of : Declared) (es : Exprs) → element_type whole ≡ Some of → numbers_of (operand_of env) gs ≡ Some es
+pub value_indexed : (env : Env) (place : Place) (made : bound.Node) (whole : Declared) (gs : List Given) (of : Declared) (es : Exprs) → indexed_type env (expression_of made place whole) ≡ Some of → numbers_of (operand_of env) gs ≡ Some es
     → indexed env place (a_value made whole) gs ≡ a_value (element_value (expression_of made place whole) es) of
 value_indexed env place made whole gs of es h k =
     let T : Declared → Exprs → terms.Term = λ (u : Declared) (xs : Exprs). a_value (element_value (expression_of made place whole) xs) u in
@@ -153,44 +172,54 @@ value_indexed env place made whole gs of es h k =
 
 -- ---- arguments begin
 
-target_stands : (env : Env) (x : Target) (of whole : DeclaredType) (bounded lends : Bool) (place : Place) (z : terms.Term) (at : Lvalue) (ps below : List Piece) → Some (declared_view of) ≡ element_type (declared_view whole)
-    → z ≡ terms.a_place at (declared_view whole) bounded lends → TargetAt x at ps below → TargetStands env x of lends place z ps below
-target_stands env (target.Variable v) of whole bounded lends place z at ps below e is q =
-    record { whole = declared_view whole; bounded = bounded; is = is ∙ ap (λ (y : Lvalue). terms.a_place y (declared_view whole) bounded lends) q.0; element_is = sym e; none_pushed = q.1 }
-target_stands env target.Place of whole bounded lends place z at ps below e is q =
-    record { at = at; whole = declared_view whole; bounded = bounded; is = is; element_is = sym e; no_variable = q.0; on_top = q.1 }
-target_stands env target.Value of whole bounded lends place z at ps below e is q = absurd q
+target_stands : (env : Env) (x : Target) (of whole : DeclaredType) (bounded lends makes : Bool) (place : Place) (z : terms.Term) (at : Lvalue) (ps below : List Piece)
+    → indexed_type env (expression_of (read_of makes at) place (declared_view whole)) ≡ Some (declared_view of) → z ≡ terms.a_place at (declared_view whole) bounded lends makes → TargetAt x at ps below → TargetStands env x of lends place z ps below
+target_stands env (target.Variable v) of whole bounded lends makes place z at ps below e is q = record {
+  whole = declared_view whole;
+  bounded = bounded;
+  makes = makes;
+  is = is ∙ ap (λ (y : Lvalue). terms.a_place y (declared_view whole) bounded lends makes) q.0;
+  element_is = ap (λ (y : Lvalue). indexed_type env (expression_of (read_of makes y) place (declared_view whole))) (sym q.0) ∙ e;
+  none_pushed = q.1;
+}
+target_stands env target.Place of whole bounded lends makes place z at ps below e is q =
+    record { at = at; whole = declared_view whole; bounded = bounded; makes = makes; is = is; element_is = e; no_variable = q.0; on_top = q.1 }
+target_stands env target.Value of whole bounded lends makes place z at ps below e is q = absurd q
 
 abbrev pub begun : Tree → Target → DeclaredType → Bool → Indexed
 begun x t of lends = record { place = x.place; target = t; of = of; lends = lends; count = 0 }
 
-pub opens_place : (env : Env) (x : Tree) (k : NodeKind) (of element_of : DeclaredType) (bounded lends : Bool) (d e : Drafted) (t : Target) → Some (declared_view element_of) ≡ element_type (declared_view of) → PushesTarget k d e t
-    → OpensTerm env x (term.Place k of bounded lends) d e (items.Indexed (begun x t element_of lends))
-opens_place env x k of element_of bounded lends d e t is p = record {
+pub opens_place : (env : Env) (has : Bool) (x : Tree) (k : NodeKind) (of element_of : DeclaredType) (bounded lends makes : Bool) (d e : Drafted) (t : Target) → has_class env.scope.spaces ≡ has
+    → HasElements has (record { kind = read_kind makes; of = of }) element_of → PushesTarget k d e t → OpensTerm env x (term.Place k of bounded lends makes) d e (items.Indexed (begun x t element_of lends))
+opens_place env has x k of element_of bounded lends makes d e t known elements p = record {
   grown = p.grown;
   named = tt;
-  stands = λ tree others is' below base at h s. (
-    below,
-    (
-      record {
-        between = e.pieces;
-        target_is = target_stands env t element_of of bounded lends (place_told tree) (callee env tree (term_of env tree)) h.at e.pieces below is h.is (p.stands h.at below h.ends);
-        place_is = at;
-        made = [];
-        numbers = tt;
-        count_is = refl;
-        on_top = refl;
-      },
-      s,
-    ),
-  );
+  stands = λ tree others is' below base at h s.
+      let place = place_told tree in
+      let n = node_of k place of in
+      let no = elements.none env d.tables (read_of makes h.at) place (put d.tables n d.pieces) below known (read_ends makes d.tables h.at (put d.tables n d.pieces) below (h.ends n)) in
+      let element_is = indexed_by env (read_of makes h.at) place (declared_view of) (declared_view element_of) no elements.element_is in (
+        below,
+        (
+          record {
+            between = e.pieces;
+            target_is = target_stands env t element_of of bounded lends makes place (callee env tree (term_of env tree)) h.at e.pieces below element_is h.is (p.stands h.at below h.ends);
+            place_is = at;
+            made = [];
+            numbers = tt;
+            count_is = refl;
+            on_top = refl;
+          },
+          s,
+        ),
+      );
 }
 
-pub pushes_whole : (ending : Ending) (element_of : DeclaredType) (place : Place) (d e : Drafted) → Some (declared_view element_of) ≡ element_type (declared_view ending.of)
-    → e ≡ record d { pieces = put d.tables (node_of ending.kind place ending.of) d.pieces } → PushesWhole ending place d e (record { place = place; target = target.Value; of = element_of; lends = false; count = 0 })
-pushes_whole ending element_of place d e is eq =
-    let P : Drafted → Type 0 = λ (z : Drafted). PushesWhole ending place d z (record { place = place; target = target.Value; of = element_of; lends = false; count = 0 }) in
-    subst P (sym eq) (record { grown = grown_pieces d (put d.tables (node_of ending.kind place ending.of) d.pieces); is = refl; element_is = sym is; stands = λ made below ends. ends (node_of ending.kind place ending.of) })
+pub pushes_whole : (has : Bool) (ending : Ending) (element_of : DeclaredType) (place : Place) (d e : Drafted) → HasElements has ending element_of
+    → e ≡ record d { pieces = put d.tables (node_of ending.kind place ending.of) d.pieces } → PushesWhole has ending place d e (record { place = place; target = target.Value; of = element_of; lends = false; count = 0 })
+pushes_whole has ending element_of place d e elements eq =
+    let P : Drafted → Type 0 = λ (z : Drafted). PushesWhole has ending place d z (record { place = place; target = target.Value; of = element_of; lends = false; count = 0 }) in
+    subst P (sym eq) (record { grown = grown_pieces d (put d.tables (node_of ending.kind place ending.of) d.pieces); is = refl; elements = elements; stands = λ made below ends. ends (node_of ending.kind place ending.of) })
 
 -- a value was pushed that numbers index, of what a term is
 pub opens_whole : (env : Env) (x : Tree) (y : Term) (i : Indexed) (d e : Drafted) → Grown d e → i ≡ begun x target.Value i.of false
@@ -204,27 +233,38 @@ opens_whole env x y i d e grown is make =
       stands = λ tree others is' below base at h s. (below, (record { between = e.pieces; target_is = make tree below at h; place_is = at; made = []; numbers = tt; count_is = refl; on_top = refl }, s));
     })
 
-pub opens_value : (env : Env) (x : Tree) (ending : Ending) (d e : Drafted) (i : Indexed) → PushesWhole ending x.place d e i → OpensTerm env x (term.Value ending) d e (items.Indexed i)
-opens_value env x ending d e i p =
+pub opens_value : (env : Env) (has : Bool) (x : Tree) (ending : Ending) (d e : Drafted) (i : Indexed) → has_class env.scope.spaces ≡ has → PushesWhole has ending x.place d e i → OpensTerm env x (term.Value ending) d e (items.Indexed i)
+opens_value env has x ending d e i known p =
     opens_whole env x (term.Value ending) i d e p.grown p.is (λ tree below at h.
     let place = place_told tree in
     let z = callee env tree (term_of env tree) in
+    let no = p.elements.none env d.tables h.made place d.pieces below known h.ends in
     record {
       whole = expression_of h.made place (declared_view ending.of);
-      is = λ gs es numbers. ap (λ (y : terms.Term). indexed env place (item_of place y) gs) h.is ∙ ap (λ (y : terms.Term). indexed env place y gs) (same_value place h.made (declared_view ending.of) (declared_view i.of) p.element_is)
-          ∙ value_indexed env place h.made (declared_view ending.of) gs (declared_view i.of) es p.element_is numbers;
+      is = λ gs es numbers. ap (λ (y : terms.Term). indexed env place (item_of env place y) gs) h.is
+          ∙ ap (λ (y : terms.Term). indexed env place y gs) (same_value env place h.made (declared_view ending.of) (declared_view i.of) p.elements.element_is)
+          ∙ value_indexed env place h.made (declared_view ending.of) gs (declared_view i.of) es (indexed_by env h.made place (declared_view ending.of) (declared_view i.of) no p.elements.element_is) numbers;
       on_top = p.stands h.made below h.ends ∙ ap (λ (q : Place). an_expr (expression_of h.made q (declared_view ending.of)) ∷ below) at;
     })
 
-pub opens_call : (env : Env) (x : Tree) (r : Routine) (d : Drafted) → OpensTerm env x (term.Routine r) d d (items.Call (record { place = x.place; routine = r; passed = record { left = r.parameters; count = 0 } }))
-opens_call env x r d = record {
-  grown = grown_same d;
+pub opens_call : (env : Env) (x : Tree) (r : Routine) (d e : Drafted) → PushesReceiver r.receiver d e
+    → OpensTerm env x (term.Routine r) d e (items.Call (record { place = x.place; routine = r; passed = record { left = r.parameters; count = 0 } }))
+opens_call env x r d e p = record {
+  grown = p.grown;
   named = tt;
-  stands = λ tree others is below base at h s.
-      let A : List Piece → Type 0 = λ (qs : List Piece). RoutineStands env r (callee env tree (term_of env tree)) qs below in (
-        below,
-        (record { routine = subst A h.none_pushed h; place_is = at; passed = record { made = []; taken = refl; count_is = refl; on_top = h.none_pushed } }, s),
-      );
+  stands = λ tree others is below base at h s. (
+    below,
+    (
+      record {
+        routine = h.routine;
+        between = e.pieces;
+        there = p.there h.routine.base below h.routine.received h.pushed;
+        place_is = at;
+        passed = record { made = []; taken = refl; count_is = refl; on_top = refl };
+      },
+      s,
+    ),
+  );
 }
 
 -- ---- one more number
@@ -259,12 +299,12 @@ numbered env x y of count comma xs d e c p k (nodes.tree v ∷ nodes.arguments a
       ),
     )
 
-pub adds_number : (x : Indexed) (y : Tree) (of : DeclaredType) (count : ℕ) (d e : Drafted) → count ≡ x.count + 1 → PushesOperand y d e (Some of) → AddsArgument (items.Indexed x) y d e (items.Indexed (record x { count = count }))
-adds_number x y of count d e c p = record { grown = p.grown; named = tt; stands = λ env comma xs is base k h. numbered env x y of count comma xs d e c p k is base h }
+pub adds_number : (has : Bool) (x : Indexed) (y : Tree) (of : DeclaredType) (count : ℕ) (d e : Drafted) → count ≡ x.count + 1 → PushesOperand y d e (Some of) → AddsArgument has (items.Indexed x) y d e (items.Indexed (record x { count = count }))
+adds_number has x y of count d e c p = record { grown = p.grown; named = tt; stands = λ env known comma xs is base k h. numbered env x y of count comma xs d e c p k is base h }
 
-pub goes_argument : (env : Env) (x : Tree) (i j : Item) (xs old between new : List Item) (comma : Option Token) (d e : Drafted) → old ≡ items.Tree x ∷ between → between ≡ i ∷ xs → new ≡ j ∷ xs → AllNamed d.tables old
-    → AddsArgument i x d e j → Goes env d old e new (behind_node (node.PlainArgument comma))
-goes_argument env x i j xs old between new comma d e o b n k m =
+pub goes_argument : (env : Env) (has : Bool) (x : Tree) (i j : Item) (xs old between new : List Item) (comma : Option Token) (d e : Drafted) → old ≡ items.Tree x ∷ between → between ≡ i ∷ xs → new ≡ j ∷ xs → AllNamed d.tables old → has_class env.scope.spaces ≡ has
+    → AddsArgument has i x d e j → Goes env d old e new (behind_node (node.PlainArgument comma))
+goes_argument env has x i j xs old between new comma d e o b n k known m =
     let g = behind_node (node.PlainArgument comma) in
     let both : old ≡ items.Tree x ∷ i ∷ xs = o ∙ ap (λ (l : List Item). items.Tree x ∷ l) b in
     let N : List Item → Type 0 = λ (l : List Item). AllNamed d.tables l in
@@ -274,7 +314,7 @@ goes_argument env x i j xs old between new comma d e o b n k m =
     subst A (sym both) (subst B (sym n) (record {
       grown = m.grown;
       named = (m.named, all_named d.tables e.tables m.grown.tables xs all.1.1);
-      stands = λ is base h. m.stands env comma xs is base all.1.1 h;
+      stands = λ is base h. m.stands env known comma xs is base all.1.1 h;
     }))
 
 -- ---- elements
@@ -282,7 +322,7 @@ goes_argument env x i j xs old between new comma d e o b n k m =
 there_are : (x : Indexed) (made : List bound.Expr) → 0 < x.count → x.count ≡ length made → 0 < length made
 there_are x made lt c = omega (arith, lt, c)
 
-pub ends_variable : (x : Indexed) (v : Variable) → x.target ≡ target.Variable v → 0 < x.count → EndsIndexed x (term.Place (kinds.Item v x.count) x.of false x.lends)
+pub ends_variable : (x : Indexed) (v : Variable) → x.target ≡ target.Variable v → 0 < x.count → EndsIndexed x (term.Place (kinds.Item v x.count) x.of false x.lends false)
 ends_variable x v is lt = record {
   named = λ t. tt;
   stands = λ env t e args ps below s.
@@ -292,16 +332,17 @@ ends_variable x v is lt = record {
       let q = subst T is s.target_is in
       let es = exprs_of s.made in
       let numbers = numbers_are (operand_of env) gs s.made s.numbers (there_are x s.made lt s.count_is) in
-      let A : terms.Term → Type 0 = λ (z : terms.Term). PlaceStands t (kinds.Item v x.count) x.of false x.lends (indexed env place (item_of place z) gs) ps below in
+      let A : terms.Term → Type 0 = λ (z : terms.Term). PlaceStands t (kinds.Item v x.count) x.of false x.lends false (indexed env place (item_of env place z) gs) ps below in
       subst A (sym q.is) (record {
         at = item (variable_view v) es;
-        is = ap (λ (z : terms.Term). indexed env place z gs) (same_place place (bound.variable (variable_view v)) q.whole (declared_view x.of) q.bounded x.lends q.element_is)
-            ∙ place_indexed env place (bound.variable (variable_view v)) q.whole q.bounded x.lends gs (declared_view x.of) es q.element_is numbers;
+        is = ap (λ (z : terms.Term). indexed env place z gs) (same_place env place (bound.variable (variable_view v)) q.whole (declared_view x.of) q.bounded x.lends q.makes
+            (element_of_type (may_be_instance env (expression_of (read_of q.makes (bound.variable (variable_view v))) place q.whole)) (element_type q.whole) (declared_view x.of) q.element_is))
+            ∙ place_indexed env place (bound.variable (variable_view v)) q.whole q.bounded x.lends q.makes gs (declared_view x.of) es q.element_is numbers;
         ends = λ n. ap (λ (o : Option (Exprs × List Piece)). of_found (λ (xs : Exprs). a_place (item (variable_view v) xs)) o) (taken_off x.count s.made ps s.between s.count_is s.on_top) ∙ ap (λ (st : List Piece). a_place (item (variable_view v) es) ∷ st) q.none_pushed;
       });
 }
 
-pub ends_place : (x : Indexed) → x.target ≡ target.Place → 0 < x.count → EndsIndexed x (term.Place (kinds.Element x.count) x.of false x.lends)
+pub ends_place : (x : Indexed) → x.target ≡ target.Place → 0 < x.count → EndsIndexed x (term.Place (kinds.Element x.count) x.of false x.lends false)
 ends_place x is lt = record {
   named = λ t. tt;
   stands = λ env t e args ps below s.
@@ -311,10 +352,12 @@ ends_place x is lt = record {
       let q = subst T is s.target_is in
       let es = exprs_of s.made in
       let numbers = numbers_are (operand_of env) gs s.made s.numbers (there_are x s.made lt s.count_is) in
-      let A : terms.Term → Type 0 = λ (z : terms.Term). PlaceStands t (kinds.Element x.count) x.of false x.lends (indexed env place (item_of place z) gs) ps below in
+      let A : terms.Term → Type 0 = λ (z : terms.Term). PlaceStands t (kinds.Element x.count) x.of false x.lends false (indexed env place (item_of env place z) gs) ps below in
       subst A (sym q.is) (record {
         at = element q.at es;
-        is = ap (λ (z : terms.Term). indexed env place z gs) (same_place place q.at q.whole (declared_view x.of) q.bounded x.lends q.element_is) ∙ place_indexed env place q.at q.whole q.bounded x.lends gs (declared_view x.of) es q.element_is numbers ∙ ap (λ (y : Lvalue). terms.a_place y (declared_view x.of) false x.lends) (q.no_variable es);
+        is = ap (λ (z : terms.Term). indexed env place z gs) (same_place env place q.at q.whole (declared_view x.of) q.bounded x.lends q.makes
+            (element_of_type (may_be_instance env (expression_of (read_of q.makes q.at) place q.whole)) (element_type q.whole) (declared_view x.of) q.element_is))
+            ∙ place_indexed env place q.at q.whole q.bounded x.lends q.makes gs (declared_view x.of) es q.element_is numbers ∙ ap (λ (y : Lvalue). terms.a_place y (declared_view x.of) false x.lends false) (q.no_variable es);
         ends = λ n.
             ap (λ (o : Option (Exprs × List Piece)). of_place_found (λ (y : Lvalue) (xs : Exprs). a_place (element y xs)) o) (taken_off x.count s.made ps s.between s.count_is s.on_top)
             ∙ ap (λ (st : List Piece). of_place (λ (y : Lvalue). a_place (element y es)) st) q.on_top;

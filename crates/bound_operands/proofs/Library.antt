@@ -209,9 +209,9 @@ valued env x y how count comma xs d e c w p k (nodes.tree v ∷ nodes.arguments 
       ),
     )
 
-pub adds_value : (x : FunctionCall) (y : Tree) (how : Taking) (count : ℕ) (d e : Drafted) → count ≡ x.count + 1 → taking_view how ≡ taking x.function.function x.count
-    → PushesMarked how y d e → AddsArgument (items.Function x) y d e (items.Function (record x { count = count }))
-adds_value x y how count d e c w p = record { grown = p.grown; named = tt; stands = λ env comma xs is base k h. valued env x y how count comma xs d e c w p k is base h }
+pub adds_value : (has : Bool) (x : FunctionCall) (y : Tree) (how : Taking) (count : ℕ) (d e : Drafted) → count ≡ x.count + 1 → taking_view how ≡ taking x.function.function x.count
+    → PushesMarked how y d e → AddsArgument has (items.Function x) y d e (items.Function (record x { count = count }))
+adds_value has x y how count d e c w p = record { grown = p.grown; named = tt; stands = λ env known comma xs is base k h. valued env x y how count comma xs d e c w p k is base h }
 
 -- one more value, which has a name
 named_value : (env : Env) (x : FunctionCall) (y : Tree) (how : Taking) (count : ℕ) (comma : Option Token) (name : Identifier) (mark : Token) (xs : List Item) (d e : Drafted) → count ≡ x.count + 1
@@ -333,7 +333,7 @@ ends_function x of takes typed = record {
   stands = λ env t e args ps below s.
       let f = x.function in
       let gs = givens env args in
-      let A : terms.Term → Type 0 = λ (z : terms.Term). indexed env (place_told e) (item_of (place_told e) z) gs ≡ a_value (library f.function f.is_text_form (exprs_of s.made) f.compare (base_view f.is_base_one)) (declared_view of) in
+      let A : terms.Term → Type 0 = λ (z : terms.Term). indexed env (place_told e) (item_of env (place_told e) z) gs ≡ a_value (library f.function f.is_text_form (exprs_of s.made) f.compare (base_view f.is_base_one)) (declared_view of) in
       record {
         made = library f.function f.is_text_form (exprs_of s.made) f.compare (base_view f.is_base_one);
         is = subst A (sym s.function_is.is)
@@ -355,8 +355,8 @@ ends_untaken x takes = record {
       let gs = givens env args in
       let place = place_told e in
       let broken : Refusal = record { rule = 25; place = x.place } in
-      let A : terms.Term → Type 0 = λ (z : terms.Term). indexed env place (item_of place z) gs ≡ a_value (marked (record { rule = 25; place = place }) (exprs_of s.made)) type.variant in
-      let B : Place → Type 0 = λ (p : Place). indexed env place (item_of place (callee env e (term_of env e))) gs ≡ a_value (marked (record { rule = 25; place = p }) (exprs_of s.made)) type.variant in
+      let A : terms.Term → Type 0 = λ (z : terms.Term). indexed env place (item_of env place z) gs ≡ a_value (marked (record { rule = 25; place = place }) (exprs_of s.made)) type.variant in
+      let B : Place → Type 0 = λ (p : Place). indexed env place (item_of env place (callee env e (term_of env e))) gs ≡ a_value (marked (record { rule = 25; place = p }) (exprs_of s.made)) type.variant in
       record {
         made = marked broken (exprs_of s.made);
         is = subst B (sym s.place_is) (subst A (sym s.function_is.is)

@@ -20,20 +20,20 @@ use Rattle.bound_project.specs.declared.node.NodeKind.{NodeKind}
 use Rattle.bound_project.specs.declared.node.NodeKind.TheVariants as kind
 use Rattle.bound_project.specs.declared.node.Node.{Node}
 use Rattle.bound_project.specs.View.{declared_view, parameter_view}
-use Rattle.bound_project.specs.Expressions.{Exprs, call}
+use Rattle.bound_project.specs.Expressions.{Exprs}
 use Rattle.bound_project.specs.Expressions as bound
 use Rattle.bound_project.specs.Lists.{above, args_of, exprs_of}
 use Rattle.bound_project.proofs.Lists.{above_push, args_are, exprs_are}
-use Rattle.bound_project.specs.Pieces.{Argument, Piece, Tables, an_argument, an_expr, arguments_off, expr_of, exprs_off, of_found, put, put_kind, values_listed}
+use Rattle.bound_project.specs.Pieces.{Argument, Piece, Tables, an_argument, an_expr, arguments_off, exprs_off, of_found, put, put_kind, values_listed}
 use Rattle.bound_project.specs.Project as project
 use Rattle.bound_project.specs.Drafts.{Drafted, NodeNamed}
 use Rattle.bound_members.specs.binder.specs.Constants.{home}
 use Rattle.bound_members.specs.binder.specs.Names.{scope_in}
 use Rattle.bound_members.specs.binder.specs.Scopes.{Scope}
 use Rattle.bound_members.specs.binder.specs.Storage.{bound_parameters}
-use Rattle.bound_members.specs.bound_forms.specs.Terms.{Env, Given, Item as Taken_item, a_value, are_apart, bound_arguments, built, by_position, has_names, left_over, listed_values, taken_by}
+use Rattle.bound_members.specs.bound_forms.specs.Terms.{Env, Given, Item as Taken_item, are_apart, bound_arguments, built, by_position, has_names, left_over, listed_values, routine_term, taken_by}
 use Rattle.bound_members.specs.bound_forms.specs.Terms as terms
-use Rattle.bound_members.specs.bound_forms.specs.ExpressionsBound.{argument_of, callee, givens, indexed, operand_of, term_of, term_or, wrong_term, place_told}
+use Rattle.bound_members.specs.bound_forms.specs.ExpressionsBound.{argument_of, callee, givens, indexed, operand_of, term_of, term_or, wrong_term, place_told, call_node}
 use Rattle.bound_members.specs.bound_calls.specs.declared.term.Call.{Call}
 use Rattle.bound_members.specs.bound_calls.specs.declared.term.Ending.{Ending}
 use Rattle.bound_members.specs.bound_calls.specs.declared.term.Item.{Item}
@@ -44,9 +44,9 @@ use Rattle.bound_members.specs.bound_calls.specs.declared.term.Term.TheVariants 
 use Rattle.bound_members.specs.bound_calls.specs.declared.term.Tree.{Tree}
 use Rattle.bound_members.specs.bound_calls.specs.Calls.{ArgumentIs, PassesRest, PushesArgument, node_of, passed_in}
 use Rattle.bound_members.specs.bound_calls.specs.Passing.{AllLeft, AllTaken}
-use Rattle.bound_members.specs.bound_calls.specs.Standing.{AllListed, AllNamed, Base, GatheredAbove, GatheredStands, RoutineStands, Stands, ValueStands, gathered_below, is_gathering, missing_given, missing_value, plain_given}
+use Rattle.bound_members.specs.bound_calls.specs.Standing.{AllListed, AllNamed, Base, GatheredAbove, GatheredStands, Stands, ValueStands, gathered_below, is_gathering, missing_given, missing_value, plain_given, ReceiverThere, RoutineIs}
 use Rattle.bound_members.specs.bound_calls.specs.Steps.{Goes}
-use Rattle.bound_members.specs.bound_calls.proofs.CallSteps.{parameters_long, routine_item, tree_ended}
+use Rattle.bound_members.specs.bound_calls.proofs.CallSteps.{parameters_long, routine_item, tree_ended, call_named, call_taken, taken_routine}
 use Rattle.bound_members.specs.bound_calls.proofs.Arguing.{left_long}
 use Rattle.bound_members.specs.bound_calls.proofs.Growing.{all_named, grown_pieces, grown_twice, stands_grows}
 use Rattle.bound_members.specs.bound_calls.proofs.NamedSteps.{call_is}
@@ -362,12 +362,10 @@ passes_gathered x values first others d m e count arguments n kind_is left count
           r.on_top ∙ ap (λ st. above (map an_argument r.made) st) list;
     }
 
--- the code of a call takes all arguments
-call_ends : (t : Tables) (procedure count : ℕ) (all : List Argument) (ps below : List Piece) → count ≡ length all → ps ≡ above (map an_argument all) below
-    → (n : Node) → put_kind t n (kind.Call procedure count) ps ≡ expr_of n (call procedure (args_of all)) ∷ below
-call_ends t procedure count all ps below counted a n =
-    let A : Option (bound.Args × List Piece) → List Piece = λ o. of_found (λ args. expr_of n (call procedure args)) o in
-    ap (λ st. A (arguments_off count st bound.no_args)) a ∙ ap (λ m. A (arguments_off m (above (map an_argument all) below) bound.no_args)) counted ∙ ap A (args_are all below)
+-- all arguments off the stack
+all_taken : (count : ℕ) (all : List Argument) (ps below : List Piece) → count ≡ length all → ps ≡ above (map an_argument all) below → arguments_off count ps bound.no_args ≡ Some (args_of all, below)
+all_taken count all ps below counted a =
+    ap (λ st. arguments_off count st bound.no_args) a ∙ ap (λ m. arguments_off m (above (map an_argument all) below) bound.no_args) counted ∙ args_are all below
 
 some_there : (value : Declared → terms.Term → Place → Option bound.Expr) (s : Scope) (takes : Bool) (qs : List Written_parameter) (gs : List Given) (xs : List Argument) (p : project.Parameter) (left : List project.Parameter)
     → AllTaken value (bound_parameters s takes qs) gs xs (p ∷ left) → (length qs == 0) ≡ false
@@ -387,13 +385,14 @@ first_many : (first : Parameter) (others ps : List Parameter) → ps ≡ first �
 first_many first others ps e h = subst (λ l. is_gathering (map parameter_view l) ≡ true) e h
 
 -- the value of a call, behind what was pushed
-pub called_gathered : (env : Env) (r : Routine) (x : Passed) (values : ℕ) (d e : Drafted) (ending : Ending) (y : terms.Term) (place : Place) (gs : List Given) (xs : List Argument) (given : List Given) (es : List bound.Expr) (qs between below : List Piece)
-    → is_gathering (map parameter_view x.left.now) ≡ true → length es ≡ values → (values ≡ 0 → ⊥) → EndsGathered r x values d e ending → RoutineStands env r y qs qs
-    → AllTaken (argument_of env) (map parameter_view r.parameters.now) gs xs (map parameter_view x.left.now) → x.count ≡ length xs → AllListed (argument_of env type.variant) given es → d.pieces ≡ above (map an_expr es) between → between ≡ above (map an_argument xs) below
+pub called_gathered : (env : Env) (r : Routine) (x : Passed) (values : ℕ) (d e : Drafted) (ending : Ending) (y : terms.Term) (place : Place) (gs : List Given) (xs : List Argument) (given : List Given) (es : List bound.Expr) (between there below : List Piece)
+    → is_gathering (map parameter_view x.left.now) ≡ true → length es ≡ values → (values ≡ 0 → ⊥) → EndsGathered r x values d e ending → (s : RoutineIs env r y) → ReceiverThere s.base there below
+    → AllTaken (argument_of env) (map parameter_view r.parameters.now) gs xs (map parameter_view x.left.now) → x.count ≡ length xs → AllListed (argument_of env type.variant) given es → d.pieces ≡ above (map an_expr es) between
+    → between ≡ above (map an_argument xs) there
     → ValueStands e.tables ending (indexed env place y (gs ++ given)) e.pieces below
-called_gathered env r x values d e ending y place gs xs [] [] qs between below many long some h s taken counted v a b = absurd (some (sym long))
-called_gathered env r x values d e ending y place gs xs [] (z ∷ es) qs between below many long some h s taken counted v a b = absurd v
-called_gathered env r x values d e ending y place gs xs (g ∷ ns) es qs between below many long some h s taken counted v a b =
+called_gathered env r x values d e ending y place gs xs [] [] between there below many long some h s on taken counted v a b = absurd (some (sym long))
+called_gathered env r x values d e ending y place gs xs [] (z ∷ es) between there below many long some h s on taken counted v a b = absurd v
+called_gathered env r x values d e ending y place gs xs (g ∷ ns) es between there below many long some h s on taken counted v a b =
     let value = argument_of env in
     let ps = map parameter_view r.parameters.now in
     let q = h.passes in
@@ -405,20 +404,21 @@ called_gathered env r x values d e ending y place gs xs (g ∷ ns) es qs between
     let args = args_of all in
     let given : bound_arguments value ps (gs ++ g ∷ ns) ≡ Some args = gathered_bound value ps gs xs first others g ns es q.made t (first_many q.first q.others x.left.now q.left_is many) v q.left in
     let count : h.arguments ≡ length all = omega (arith, q.arguments_is, counted, two_long xs (values_listed (exprs_of es)) q.made) in
-    let on_top : e.pieces ≡ above (map an_argument all) below =
-    q.stands es between long a ∙ ap (λ st. above (map an_argument (values_listed (exprs_of es) ∷ q.made)) st) b ∙ above_two xs (values_listed (exprs_of es) ∷ q.made) below in
+    let on_top : e.pieces ≡ above (map an_argument all) there =
+    q.stands es between long a ∙ ap (λ st. above (map an_argument (values_listed (exprs_of es) ∷ q.made)) st) b ∙ above_two xs (values_listed (exprs_of es) ∷ q.made) there in
     let A : List project.Parameter → Type 0 = λ l. AllTaken value l gs xs (first ∷ others) in
-    let there : (length s.read.1.parameters == 0) ≡ false = some_there value (scope_in (home env.scope s.space) s.read.1) _ s.read.1.parameters gs xs first others (subst A s.parameters_are t) in
+    let some_left : (length s.read.1.parameters == 0) ≡ false = some_there value (scope_in (home env.scope s.space) s.read.1) _ s.read.1.parameters gs xs first others (subst A s.parameters_are t) in
     let P : Ending → Type 0 = λ z. ValueStands e.tables z (indexed env place y (gs ++ g ∷ ns)) e.pieces below in
-    let z = terms.a_routine s.space s.number s.written in
+    let z = routine_term s.base s.space s.number s.written in
     subst P (sym h.ending_is) (record {
-      made = call r.procedure args;
-      is = ap (λ w. indexed env place w (gs ++ g ∷ ns)) s.is ∙ ap (λ w. term_or w (wrong_term env place z (gs ++ g ∷ ns))) (call_is value (operand_of env) env place (gs ++ g ∷ ns) s.space s.number s.written s.read r.procedure (declared_view r.of) ps args s.reads s.procedure_is s.parameters_are s.of_is there given);
-      ends = call_ends e.tables r.procedure h.arguments all e.pieces below count on_top;
+      made = call_node s.base r.procedure args;
+      is = ap (λ w. indexed env place w (gs ++ g ∷ ns)) s.is ∙ ap (λ w. term_or w (wrong_term env place z (gs ++ g ∷ ns))) (taken_routine env place s.base s.space s.number s.written (gs ++ g ∷ ns)
+          ∙ call_is value (operand_of env) env place (gs ++ g ∷ ns) s.base s.space s.number s.written s.read r.procedure (declared_view r.of) ps args s.reads s.procedure_is s.parameters_are s.of_is some_left given);
+      ends = call_taken e.tables r.receiver s.base r.procedure h.arguments args e.pieces there below s.received on (all_taken h.arguments all e.pieces there count on_top);
     })
 
 pub ending_gathered : (r : Routine) (x : Passed) (values : ℕ) (d e : Drafted) (ending : Ending) → EndsGathered r x values d e ending → NodeNamed e.tables ending.kind
-ending_gathered r x values d e ending h = let P : Ending → Type 0 = λ z. NodeNamed e.tables z.kind in subst P (sym h.ending_is) tt
+ending_gathered r x values d e ending h = let P : Ending → Type 0 = λ z. NodeNamed e.tables z.kind in subst P (sym h.ending_is) (call_named e.tables r.receiver r.procedure h.arguments)
 
 -- arguments end
 index_stands : (env : Env) (x : Call) (n : ℕ) (ending : Ending) (left right : Token) (xs : List Item) (d e : Drafted) → AllNamed d.tables xs → EndsGathered x.routine x.passed (suc n) d e ending → (is : List nodes.Item) (base : Base)
@@ -442,8 +442,8 @@ index_stands env x n ending left right xs d e k c (nodes.arguments args ∷ node
       below,
       (
         tree_ended env e.tables (term.Value ending) x.place y args left right e.pieces below s.place_is
-            (subst T (sym (routine_item (place_told y) z s.routine.space s.routine.number s.routine.written s.routine.is)) (subst A (sym u.givens_are)
-            (called_gathered env x.routine x.passed (suc n) d e ending z (place_told y) (givens env u.before) p.made u.given u.made below u.between below many u.count_is (λ e0. absurd (omega (arith, e0))) c s.routine p.taken p.count_is u.values u.on_top p.on_top))),
+            (subst T (sym (routine_item env (place_told y) z s.routine.base s.routine.space s.routine.number s.routine.written s.routine.is)) (subst A (sym u.givens_are)
+            (called_gathered env x.routine x.passed (suc n) d e ending z (place_told y) (givens env u.before) p.made u.given u.made u.between s.between below many u.count_is (λ e0. absurd (omega (arith, e0))) c s.routine s.there p.taken p.count_is u.values u.on_top p.on_top))),
         stands_grows env d.tables e.tables c.passes.grown.tables xs k is below base u.stands.1.1,
       ),
     )

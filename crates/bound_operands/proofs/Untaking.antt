@@ -1,30 +1,26 @@
 -- What arguments that aren't taken do to the stack, and what they end.
-use Rattle.std.proofs.Common.{◌≡◌, ℕ, suc, ◌+◌, ◌==◌, Bool, true, false, ◌&&◌, ◌||◌, not, List, [], ◌∷◌, ◌++◌, map, length, is_some, Option, Some, None, option_map, if◌then◌else◌, refl, sym, ap, subst, ◌∙◌, arith, length-append, ne_eqb}
+use Rattle.std.proofs.Common.{◌≡◌, ℕ, ◌+◌, ◌==◌, Bool, true, false, ◌&&◌, ◌||◌, not, List, [], ◌∷◌, ◌++◌, map, length, is_some, Option, Some, None, option_map, refl, sym, ap, subst, ◌∙◌, arith, length-append, ne_eqb, Bor}
 use Rattle.std.proofs.lemmas.List.{length-reverse, map_push, reverse-append, reverse-reverse}
 use Rattle.std.specs.Prelude.{reverse}
 use Rattle.vba_base.specs.declared.place.Place.{Place}
 use Rattle.vba_lexer.specs.declared.token.Token.{Token}
 use Rattle.vba_words.specs.declared.identifier.Identifier.{Identifier}
-use Rattle.std.proofs.Common.{Bor}
 use Rattle.vba_expression.specs.declared.node.ExpressionNode.TheVariants as node
 use Rattle.vba_expression.specs.Tree.{Expr, Args, no_args, missing, plain}
 use Rattle.vba_expression.specs.Tree as tree
 use Rattle.vba_expression.specs.Nodes as nodes
 use Rattle.vba_expression.specs.Nodes.{behind_node}
 use Rattle.vba_values.specs.Types as type
-use Rattle.bound_project.specs.declared.node.Node.{Node}
 use Rattle.bound_project.specs.Expressions.{Exprs, also, marked, no_exprs}
 use Rattle.bound_project.specs.Expressions as bound
 use Rattle.bound_project.specs.Lists.{above, exprs_of}
 use Rattle.bound_project.proofs.Lists.{above_push, exprs_are}
-use Rattle.bound_project.specs.Pieces.{Piece, Tables, an_expr, expr_of, exprs_off, of_found, put_kind}
+use Rattle.bound_project.specs.Pieces.{Piece, Tables, an_expr, expr_of, exprs_off, of_found}
 use Rattle.bound_project.specs.Drafts.{Drafted}
 use Rattle.bound_members.specs.bound_forms.specs.Terms.{Env, Given, broken_value, has_names}
-use Rattle.bound_members.specs.bound_forms.specs.Terms as terms
 use Rattle.bound_members.specs.bound_forms.specs.ExpressionsBound.{are_numbers, are_places, argument_of, callee, givens, if_there, indexed, item_of, place_told, term_of}
 use Rattle.bound_members.specs.bound_calls.specs.declared.term.Item.{Item}
 use Rattle.bound_members.specs.bound_calls.specs.declared.term.Item.TheVariants as item
-use Rattle.bound_members.specs.bound_calls.specs.declared.term.Refuser.TheVariants as refuser
 use Rattle.bound_members.specs.bound_calls.specs.declared.term.Shape.{Shape}
 use Rattle.bound_members.specs.bound_calls.specs.declared.term.Term.TheVariants as term
 use Rattle.bound_members.specs.bound_calls.specs.declared.term.Tree.{Tree}
@@ -254,12 +250,12 @@ marked_ends t rule count place all ps below counted on_top n =
 -- what the arguments of an expression make
 refused_value : (env : Env) (t : Tables) (x : Untaken) (rule count : ℕ) (ss : List Shape) (b : Expr) (gs : List Given) (made : List bound.Expr) (ps between below : List Piece) → AreShaped ss gs → AllGiven (argument_of env type.variant) gs made
     → length made ≡ count → ps ≡ above (map an_expr made) between → UntakenStands env t x b between below → refused_rule t x.refuser (shapes_given ss) ≡ Some rule
-    → ValueStands t (broken_ending rule x.place (count + values_before x.refuser)) (indexed env (place_told b) (item_of (place_told b) (callee env b (term_of env b))) gs) ps below
+    → ValueStands t (broken_ending rule x.place (count + values_before x.refuser)) (indexed env (place_told b) (item_of env (place_told b) (callee env b (term_of env b))) gs) ps below
 refused_value env t x rule count ss b gs made ps between below shaped values counted on_top u breaks =
     let all = u.before ++ made in
     let place = place_told b in
     let found : refused_rule t x.refuser gs ≡ Some rule = sym (rule_shaped t x.refuser ss gs shaped) ∙ breaks in
-    let P : Place → Type 0 = λ p. ValueStands t (broken_ending rule p (count + values_before x.refuser)) (indexed env place (item_of place (callee env b (term_of env b))) gs) ps below in
+    let P : Place → Type 0 = λ p. ValueStands t (broken_ending rule p (count + values_before x.refuser)) (indexed env place (item_of env place (callee env b (term_of env b))) gs) ps below in
     subst P (sym u.place_is) (record {
       made = marked (record { rule = rule; place = place }) (exprs_of all);
       is = u.wrong gs rule found ∙ ap (λ o. if_there (option_map (λ es. broken_value rule place (behind_values u.before es)) o)) (given_listed (argument_of env type.variant) gs made values)

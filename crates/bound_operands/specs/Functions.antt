@@ -55,4 +55,4 @@ pub record AddsNamedValue (x : FunctionCall) (y : Tree) (d e : Drafted) (z : Fun
 pub record EndsFunction (x : FunctionCall) (y : Term) : Type 0 where
   pub named : (t : Tables) → TermNamed t y
   pub stands : (env : Env) (t : Tables) (e : Expr) (args : Args) (ps below : List Piece) → FunctionStands env x e args ps below
-      → TermStands env t y (indexed env (place_told e) (item_of (place_told e) (callee env e (term_of env e))) (givens env args)) ps below
+      → TermStands env t y (indexed env (place_told e) (item_of env (place_told e) (callee env e (term_of env e))) (givens env args)) ps below

@@ -1,7 +1,6 @@
 -- Serves the code: values that are pushed for a ParamArray, and the calls that they end.
 use Rattle.std.specs.Prelude.{◌≡◌, ℕ, zero, suc, ◌+◌, length, Bool, true, false, List, ◌∷◌, map}
 use Rattle.bound_project.specs.declared.declarations.Parameter.{Parameter}
-use Rattle.bound_project.specs.declared.node.NodeKind.TheVariants as node
 use Rattle.bound_project.specs.View.{parameter_view}
 use Rattle.bound_project.specs.Expressions as bound
 use Rattle.bound_project.specs.Lists.{above, exprs_of}
@@ -14,6 +13,7 @@ use Rattle.bound_members.specs.bound_calls.specs.declared.term.Passed.{Passed}
 use Rattle.bound_members.specs.bound_calls.specs.declared.term.Routine.{Routine}
 use Rattle.bound_members.specs.bound_calls.specs.Passing.{AllLeft}
 use Rattle.bound_members.specs.bound_calls.specs.Standing.{Grown, is_gathering}
+use Rattle.bound_members.specs.bound_calls.specs.Calls.{call_kind}
 
 -- whether an argument behind this item is a value for a ParamArray
 abbrev pub gathers : Item → Bool
@@ -46,4 +46,4 @@ pub record PassesGathered (x : Passed) (values : ℕ) (d e : Drafted) (arguments
 pub record EndsGathered (r : Routine) (x : Passed) (values : ℕ) (d e : Drafted) (ending : Ending) : Type 0 where
   pub arguments : ℕ
   pub passes : PassesGathered x values d e arguments
-  pub ending_is : ending ≡ record { kind = node.Call r.procedure arguments; of = r.of }
+  pub ending_is : ending ≡ record { kind = call_kind r.receiver r.procedure arguments; of = r.of }

@@ -1,5 +1,5 @@
 -- Serves the code: arguments that aren't taken.
-use Rattle.std.specs.Prelude.{◌≡◌, ℕ, ◌+◌, length, Bool, true, false, ◌&&◌, not, List, ◌∷◌, Option, Some, None, is_some}
+use Rattle.std.specs.Prelude.{◌≡◌, ℕ, ◌+◌, length, Bool, true, false, ◌&&◌, not, List, Option, Some, None, is_some}
 use Rattle.std.specs.List.{list_all}
 use Rattle.std.proofs.Common.{Bor}
 use Rattle.vba_lexer.specs.declared.token.Token.{Token}

@@ -12,8 +12,8 @@ ghost use Rattle.bound_members.specs.bound_calls.specs.Steps.{Goes};
 ghost use Rattle.bound_operands.specs.Gathering.{EndsGathered, PassesGathered, gathers, with_gathered, with_value};
 
 use bound_members::bound_calls::{
-    Ending, Item, Passed, Routine, Term, Tree, count_of, nowhere, pass_rest, push_argument,
-    push_node, put_item, sum, take_item,
+    Ending, Item, Passed, Routine, Term, Tree, call_kind, count_of, nowhere, pass_rest,
+    push_argument, push_node, put_item, sum, take_item,
 };
 use bound_members::bound_declarations::NotYet;
 use bound_project::{DeclaredType, Draft, ElementType, NodeKind, Parameter};
@@ -136,10 +136,7 @@ pub fn gathered_ending<'a>(
 {
     let arguments = push_gathered(alloc, draft, passed, values)?;
     Ok(Ending {
-        kind: NodeKind::Call {
-            procedure: routine.procedure,
-            arguments,
-        },
+        kind: call_kind(routine.receiver, routine.procedure, arguments),
         of: routine.of,
     })
 }

@@ -1,20 +1,22 @@
 //! What stands before brackets, and what the numbers in them make of it: elements of places and of values.
 
-ghost use Rattle.std.specs.Prelude.{◌≡◌, ◌<◌, Bool, IfOk, option_map};
+ghost use Rattle.std.specs.Prelude.{◌≡◌, ◌<◌, Bool, IfOk, IfSome, option_map};
 ghost use Rattle.bound_project.specs.DraftView.{draft_view};
 ghost use Rattle.bound_project.specs.Drafts.{Drafted, NodeNamed};
 ghost use Rattle.bound_project.specs.View.{declared_view};
 ghost use Rattle.bound_members.specs.bound_forms.specs.ExpressionsBound.{element_type};
 ghost use Rattle.bound_members.specs.bound_forms.specs.Terms as plain;
+ghost use Rattle.bound_members.specs.binder.specs.Classes as classes;
+ghost use Rattle.bound_members.specs.bound_calls.specs.Calls.{PushesReceiver};
 ghost use Rattle.bound_members.specs.bound_calls.specs.Indexing.{AddsArgument, AddsMissing, Closes, EndsIndexed, OpensTerm, PushesTarget, is_part};
 ghost use Rattle.bound_members.specs.bound_calls.specs.Standing.{ItemNamed, TermNamed};
-ghost use Rattle.bound_operands.specs.Indexing.{PushesWhole};
+ghost use Rattle.bound_operands.specs.Indexing.{HasElements, PushesWhole};
 
 use crate::call_steps::{passed_in, with_passed};
 use crate::functions::{add_missing_value, add_value, close_function};
 use bound_members::bound_calls::{
-    Call, Ending, Indexed, Item, Passed, Routine, Target, Term, Tree, call_ending, pass_missing,
-    pass_plain, push_node, push_operand, sum,
+    Call, Ending, Indexed, Item, Passed, Routine, Target, Term, Tree, call_ending, may_be_instance,
+    pass_missing, pass_plain, push_node, push_operand, read_kind, sum,
 };
 use bound_members::bound_declarations::NotYet;
 use bound_members::{add_given, add_missing, close_member};
@@ -35,6 +37,16 @@ fn element_type(of: DeclaredType) -> Option<DeclaredType>
     }
 }
 
+/// The same before the run, of a value whose last node isn't pushed: none where it may be an object of a class.
+fn indexed_type(has_class: bool, whole: Ending) -> Option<DeclaredType>
+    ensures { IfSome result (λ of. HasElements has_class whole of) }
+{
+    if may_be_instance(has_class, whole) {
+        return None;
+    }
+    element_type(whole.of)
+}
+
 /// Is a node part of another place?
 fn is_part(kind: NodeKind) -> bool
     ensures { result ≡ is_part kind }
@@ -44,6 +56,7 @@ fn is_part(kind: NodeKind) -> bool
         NodeKind::Element { .. } => true,
         NodeKind::Field { .. } => true,
         NodeKind::KeptPlace { .. } => true,
+        NodeKind::ObjectField { .. } => true,
         _ => false,
     }
 }
@@ -88,11 +101,17 @@ pub fn open_place<'a>(
     kind: NodeKind,
     of: DeclaredType,
     lends: bool,
+    makes: bool,
+    has_class: bool,
 ) -> Result<Indexed, OrMemory<NotYet>>
     requires { NodeNamed (draft_view draft.old).tables kind }
-    ensures { IfOk result (λ indexed. (env : plain.Env) (bounded : Bool) → OpensTerm env tree.entry (Term.Place kind of bounded lends) (draft_view draft.old) (draft_view draft.new) (Item.Indexed indexed)) }
+    ensures { IfOk result (λ indexed. (env : plain.Env) → classes.has_class env.scope.spaces ≡ has_class → (bounded : Bool) → OpensTerm env tree.entry (Term.Place kind of bounded lends makes) (draft_view draft.old) (draft_view draft.new) (Item.Indexed indexed)) }
 {
-    let Some(element) = element_type(of) else {
+    let read = Ending {
+        kind: read_kind(makes),
+        of,
+    };
+    let Some(element) = indexed_type(has_class, read) else {
         return Err(OrMemory::Fault(NotYet));
     };
     let target = push_target(draft, kind, of, tree.place)?;
@@ -110,11 +129,12 @@ pub fn push_whole(
     draft: &mut Draft,
     ending: Ending,
     place: Place,
+    has_class: bool,
 ) -> Result<Indexed, OrMemory<NotYet>>
     requires { NodeNamed (draft_view draft.old).tables ending.kind }
-    ensures { IfOk result (λ indexed. PushesWhole ending place (draft_view draft.old) (draft_view draft.new) indexed) }
+    ensures { IfOk result (λ indexed. PushesWhole has_class ending place (draft_view draft.old) (draft_view draft.new) indexed) }
 {
-    let Some(element) = element_type(ending.of) else {
+    let Some(element) = indexed_type(has_class, ending) else {
         return Err(OrMemory::Fault(NotYet));
     };
     push_node(draft, ending.kind, ending.of, place)?;
@@ -132,16 +152,17 @@ pub fn open_value<'a>(
     draft: &mut Draft,
     tree: Tree<'a>,
     ending: Ending,
+    has_class: bool,
 ) -> Result<Indexed, OrMemory<NotYet>>
     requires { NodeNamed (draft_view draft.old).tables ending.kind }
-    ensures { IfOk result (λ indexed. (env : plain.Env) → OpensTerm env tree.entry (Term.Value ending) (draft_view draft.old) (draft_view draft.new) (Item.Indexed indexed)) }
+    ensures { IfOk result (λ indexed. (env : plain.Env) → classes.has_class env.scope.spaces ≡ has_class → OpensTerm env tree.entry (Term.Value ending) (draft_view draft.old) (draft_view draft.new) (Item.Indexed indexed)) }
 {
-    push_whole(draft, ending, tree.place)
+    push_whole(draft, ending, tree.place, has_class)
 }
 
 /// A call whose arguments are read from now on.
 pub fn open_call<'a>(tree: Tree<'a>, routine: Routine<'a>) -> Call<'a>
-    ensures { (env : plain.Env) (d : Drafted) → OpensTerm env tree.entry (Term.Routine routine.entry) d d (Item.Call result) }
+    ensures { (env : plain.Env) (d e : Drafted) → PushesReceiver routine.entry.receiver d e → OpensTerm env tree.entry (Term.Routine routine.entry) d e (Item.Call result) }
 {
     Call {
         place: tree.place,
@@ -161,7 +182,7 @@ fn add_number<'a>(
     tree: Tree<'a>,
 ) -> Result<Indexed, OrMemory<NotYet>>
     requires { TermNamed (draft_view draft.old).tables tree.term }
-    ensures { IfOk result (λ more. AddsArgument (Item.Indexed indexed) tree.entry (draft_view draft.old) (draft_view draft.new) (Item.Indexed more)) }
+    ensures { IfOk result (λ more. (has : Bool) → AddsArgument has (Item.Indexed indexed) tree.entry (draft_view draft.old) (draft_view draft.new) (Item.Indexed more)) }
 {
     let count = sum(indexed.count, 1)?;
     let Some(_found) = push_operand(alloc, draft, tree)? else {
@@ -178,7 +199,7 @@ fn add_passed<'a>(
     tree: Tree<'a>,
 ) -> Result<Item<'a>, OrMemory<NotYet>>
     requires { TermNamed (draft_view draft.old).tables tree.term }
-    ensures { IfOk result (λ more. AddsArgument item.entry tree.entry (draft_view draft.old) (draft_view draft.new) more) }
+    ensures { IfOk result (λ more. (has : Bool) → AddsArgument has item.entry tree.entry (draft_view draft.old) (draft_view draft.new) more) }
 {
     let Some(passed) = passed_in(item) else {
         return Err(OrMemory::NoMemory);
@@ -193,14 +214,15 @@ pub fn add_argument<'a>(
     draft: &mut Draft,
     item: Item<'a>,
     tree: Tree<'a>,
+    has_class: bool,
 ) -> Result<Item<'a>, OrMemory<NotYet>>
     requires named { TermNamed (draft_view draft.old).tables tree.term }
     requires item { ItemNamed (draft_view draft.old).tables item }
-    ensures { IfOk result (λ more. AddsArgument item.entry tree.entry (draft_view draft.old) (draft_view draft.new) more) }
+    ensures { IfOk result (λ more. AddsArgument has_class item.entry tree.entry (draft_view draft.old) (draft_view draft.new) more) }
 {
     match item {
         Item::Member(call) => {
-            let more = add_given(alloc, draft, call, tree)?;
+            let more = add_given(alloc, draft, call, tree, has_class)?;
             Ok(Item::Member(more))
         }
         Item::Indexed(indexed) => {
@@ -266,12 +288,14 @@ fn element<'a>(indexed: Indexed) -> Term<'a>
             of,
             is_bounded: false,
             lends: indexed.lends,
+            makes: false,
         },
         Target::Place => Term::Place {
             kind: NodeKind::Element { numbers },
             of,
             is_bounded: false,
             lends: indexed.lends,
+            makes: false,
         },
         Target::Value => Term::Value(Ending {
             kind: NodeKind::ElementValue { numbers },

@@ -9,7 +9,7 @@ ghost use Rattle.bound_project.specs.DraftView.{draft_view};
 ghost use Rattle.bound_project.specs.View.{declared_view};
 ghost use Rattle.bound_members.specs.bound_forms.specs.ExpressionsBound as bound;
 ghost use Rattle.bound_members.specs.bound_forms.specs.Terms as plain;
-ghost use Rattle.bound_members.specs.bound_calls.specs.Shapes.{shapes_given, with_shapes};
+ghost use Rattle.bound_members.specs.bound_calls.specs.Shapes.{shapes_given};
 ghost use Rattle.bound_members.specs.bound_calls.specs.Standing.{AllNamed, refused_rule, values_before};
 ghost use Rattle.bound_members.specs.bound_calls.specs.Steps.{Goes};
 ghost use Rattle.bound_operands.specs.Untaken.{ClosesUntaken, EachArgument, EndsRefused, all_plain, is_plain, is_refused};

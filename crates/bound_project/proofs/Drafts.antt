@@ -16,11 +16,11 @@ use Rattle.bound_project.specs.declared.statement.ActionKind.TheVariants as kind
 use Rattle.bound_project.specs.declared.statement.StatementNode.{StatementNode}
 use Rattle.bound_project.specs.declared.project.Body.{Body}
 use Rattle.bound_project.specs.View.{declared_view}
-use Rattle.bound_project.specs.Expressions.{constant, call, host_member, named_member, ByName, no_args, in_order, no_exprs}
+use Rattle.bound_project.specs.Expressions.{constant, call, host_member, method, named_member, ByName, no_args, in_order, no_exprs}
 use Rattle.bound_project.specs.Statements as plain
-use Rattle.bound_project.specs.Statements.{Action, let_property, raise, set_property}
-use Rattle.bound_project.specs.Pieces.{Piece, an_argument, default_taken, a_member, a_named_member, Tables, constant_in, name_of, name_in, order_in, by_name_in, exprs_off, arguments_off, of_value, of_found, of_member_found, of_named_found, expr_of, put_kind, put, read, pieces}
-use Rattle.bound_project.specs.Bodies.{behind_value, member_found, whole, action_of, action_or, part, statement_view, StatementFits, AllFit, BodiesFit, body_view}
+use Rattle.bound_project.specs.Statements.{Action, let_method, let_property, raise, set_method, set_property}
+use Rattle.bound_project.specs.Pieces.{Piece, an_argument, default_taken, a_member, a_named_member, Tables, constant_in, name_of, name_in, order_in, by_name_in, exprs_off, arguments_off, of_value, of_found, of_member_found, of_object_found, of_named_found, expr_of, put_kind, put, read, pieces}
+use Rattle.bound_project.specs.Bodies.{behind_object, behind_value, member_found, whole, action_of, action_or, part, statement_view, StatementFits, AllFit, BodiesFit, body_view}
 use Rattle.bound_project.specs.Drafts.{Drafted, AllBelow, NamesNamed, NodeNamed, ActionNamed, AllNamed, ActionsNamed, BodyKept, BodiesKept, Kept, with_constant, with_order, tables_in, drafted, statement_of}
 
 -- ---- tables that grow
@@ -70,6 +70,7 @@ node_named : (t u : Tables) → Extends t u → (k : NodeKind) → NodeNamed t k
 node_named t u e (node.Constant i) h = omega (arith, e.constants_more)
 node_named t u e (node.ByDefault i) h = omega (arith, e.constants_more)
 node_named t u e (node.CallInOrder p count order) h = omega (arith, e.orders_more)
+node_named t u e (node.MethodInOrder p count order) h = omega (arith, e.orders_more)
 node_named t u e (node.MemberThere i given) h = omega (arith, e.constants_more)
 node_named t u e (node.HostMember i count) h = omega (arith, e.constants_more)
 node_named t u e (node.NamedThere i by given) h = (omega (arith, h.0, e.constants_more), names_named t u e by h.1)
@@ -80,6 +81,8 @@ action_named : (t u : Tables) → Extends t u → (k : ActionKind) → ActionNam
 action_named t u e (kind.AssignMember i count) h = omega (arith, e.constants_more)
 action_named t u e (kind.LetPropertyInOrder q count order of) h = omega (arith, e.orders_more)
 action_named t u e (kind.SetPropertyInOrder q count order of) h = omega (arith, e.orders_more)
+action_named t u e (kind.LetMethodInOrder q count order of) h = omega (arith, e.orders_more)
+action_named t u e (kind.SetMethodInOrder q count order of) h = omega (arith, e.orders_more)
 action_named t u e (kind.RaiseInOrder count order) h = omega (arith, e.orders_more)
 action_named t u e k h = tt
 
@@ -95,6 +98,8 @@ put_same : (t u : Tables) → Extends t u → (n : Node) (k : NodeKind) → Node
 put_same t u e n (node.Constant i) h st = ap (λ v. expr_of n (constant v) ∷ st) (e.constant_is i h)
 put_same t u e n (node.ByDefault i) h st = ap (λ v. an_argument (default_taken v) ∷ st) (e.constant_is i h)
 put_same t u e n (node.CallInOrder p count order) h st = ap (λ o. of_found (λ args. expr_of n (call p (in_order o args))) (arguments_off count st no_args)) (e.order_is order h)
+put_same t u e n (node.MethodInOrder p count order) h st =
+    ap (λ o. of_object_found (λ x args. expr_of n (method x p (in_order o args))) (arguments_off count st no_args)) (e.order_is order h)
 put_same t u e n (node.MemberThere i given) h st = ap (λ v. of_value (λ x. a_member x (name_of v) given) st) (e.constant_is i h)
 put_same t u e n (node.HostMember i count) h st =
     ap (λ v. of_member_found (name_of v) (λ x es. expr_of n (host_member x (name_of v) es)) (exprs_off count st no_exprs)) (e.constant_is i h)
@@ -117,6 +122,10 @@ action_same t u e (kind.LetPropertyInOrder q count order of) h st =
     ap (λ o. behind_value (arguments_off count st no_args) (λ args v. let_property q (in_order o args) v (declared_view of))) (e.order_is order h)
 action_same t u e (kind.SetPropertyInOrder q count order of) h st =
     ap (λ o. behind_value (arguments_off count st no_args) (λ args v. set_property q (in_order o args) v (declared_view of))) (e.order_is order h)
+action_same t u e (kind.LetMethodInOrder q count order of) h st =
+    ap (λ o. behind_object (arguments_off count st no_args) (λ base args v. let_method base q (in_order o args) v (declared_view of))) (e.order_is order h)
+action_same t u e (kind.SetMethodInOrder q count order of) h st =
+    ap (λ o. behind_object (arguments_off count st no_args) (λ base args v. set_method base q (in_order o args) v (declared_view of))) (e.order_is order h)
 action_same t u e (kind.RaiseInOrder count order) h st = ap (λ o. whole (arguments_off count st no_args) (λ args. raise (in_order o args))) (e.order_is order h)
 action_same t u e k h st = refl
 

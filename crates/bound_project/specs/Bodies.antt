@@ -11,11 +11,11 @@ use Rattle.bound_project.specs.declared.project.Block.{Block}
 use Rattle.bound_project.specs.declared.project.Body.{Body}
 use Rattle.bound_project.specs.declared.project.Project.{Project}
 use Rattle.bound_project.specs.Expressions.{Expr, Lvalue, Args, no_args, in_order, Exprs, no_exprs, no_prints}
-use Rattle.bound_project.specs.Statements.{no_tests, no_resizes, no_arrays, Action, assign, assign_item, set, assign_default, assign_member, set_member, evaluate, let_property, set_property, print, raise, test, go_to, for_to, next, for_each, next_each, exit_each, select, case_of, redim, erase, with_place, with_value, end_with, go_sub, return_sub, exit_to, on_error, end_handler, clear_err, resume_again, resume_next, resume_at, stop, end_run}
+use Rattle.bound_project.specs.Statements.{no_tests, no_resizes, no_arrays, Action, assign, assign_item, set, assign_default, assign_member, set_member, evaluate, let_property, set_property, let_method, set_method, print, raise, test, go_to, for_to, next, for_each, next_each, exit_each, select, case_of, redim, erase, with_place, with_value, end_with, go_sub, return_sub, exit_to, on_error, end_handler, clear_err, resume_again, resume_next, resume_at, stop, end_run}
 use Rattle.bound_project.specs.Statements as plain
 use Rattle.bound_project.specs.Project as project
 use Rattle.bound_project.specs.View.{declared_view, variable_view, declarations_view}
-use Rattle.bound_project.specs.Pieces.{Piece, an_expr, a_place, a_member, is_member, Tables, name_in, order_in, exprs_off, arguments_off, prints_off, tests_off, resizes_off, arrays_off, as_operand, pieces}
+use Rattle.bound_project.specs.Pieces.{Piece, an_expr, a_place, a_member, an_object, is_member, Tables, name_in, order_in, exprs_off, arguments_off, prints_off, tests_off, resizes_off, arrays_off, as_operand, pieces}
 
 abbrev pub handling_view : Handling → plain.Handling
 handling_view PassedOn = plain.passed_on
@@ -41,6 +41,12 @@ one_place st go = None
 abbrev pub behind_value : Option (Args × List Piece) → (Args → Expr → Action) → Option Action
 behind_value None go = None
 behind_value (Some (args, st)) go = one_value st (go args)
+
+-- arguments of a procedure of an object, behind a value
+abbrev pub behind_object : Option (Args × List Piece) → (Expr → Args → Expr → Action) → Option Action
+behind_object None go = None
+behind_object (Some (args, an_object base ∷ st)) go = one_value st (go base args)
+behind_object (Some (args, st)) go = None
 
 -- arguments behind a member that was looked for, behind a value
 abbrev pub behind_member : (name : List ℕ) → Exprs → List Piece → Option Action
@@ -84,6 +90,12 @@ action_of t (kind.LetPropertyInOrder p count order of) st =
 action_of t (kind.SetProperty p count of) st = behind_value (arguments_off count st no_args) (λ args e. set_property p args e (declared_view of))
 action_of t (kind.SetPropertyInOrder p count order of) st =
     behind_value (arguments_off count st no_args) (λ args e. set_property p (in_order (order_in t order) args) e (declared_view of))
+action_of t (kind.LetMethod p count of) st = behind_object (arguments_off count st no_args) (λ base args e. let_method base p args e (declared_view of))
+action_of t (kind.LetMethodInOrder p count order of) st =
+    behind_object (arguments_off count st no_args) (λ base args e. let_method base p (in_order (order_in t order) args) e (declared_view of))
+action_of t (kind.SetMethod p count of) st = behind_object (arguments_off count st no_args) (λ base args e. set_method base p args e (declared_view of))
+action_of t (kind.SetMethodInOrder p count order of) st =
+    behind_object (arguments_off count st no_args) (λ base args e. set_method base p (in_order (order_in t order) args) e (declared_view of))
 action_of t (kind.Print count ends) st = whole (prints_off count st no_prints) (λ ps. print ps ends)
 action_of t (kind.Raise count) st = whole (arguments_off count st no_args) (λ args. raise args)
 action_of t (kind.RaiseInOrder count order) st = whole (arguments_off count st no_args) (λ args. raise (in_order (order_in t order) args))

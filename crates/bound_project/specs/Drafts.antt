@@ -49,6 +49,7 @@ abbrev pub NodeNamed : Tables → NodeKind → Type 0
 NodeNamed t (node.Constant i) = i < length t.constants
 NodeNamed t (node.ByDefault i) = i < length t.constants
 NodeNamed t (node.CallInOrder p count order) = order < length t.orders
+NodeNamed t (node.MethodInOrder p count order) = order < length t.orders
 NodeNamed t (node.MemberThere i given) = i < length t.constants
 NodeNamed t (node.HostMember i count) = i < length t.constants
 NodeNamed t (node.NamedThere i by given) = (i < length t.constants) × NamesNamed t by
@@ -59,6 +60,8 @@ abbrev pub ActionNamed : Tables → ActionKind → Type 0
 ActionNamed t (kind.AssignMember i count) = i < length t.constants
 ActionNamed t (kind.LetPropertyInOrder q count order of) = order < length t.orders
 ActionNamed t (kind.SetPropertyInOrder q count order of) = order < length t.orders
+ActionNamed t (kind.LetMethodInOrder q count order of) = order < length t.orders
+ActionNamed t (kind.SetMethodInOrder q count order of) = order < length t.orders
 ActionNamed t (kind.RaiseInOrder count order) = order < length t.orders
 ActionNamed t k = Unit {0}
 
@@ -104,6 +107,7 @@ node_named_prop : (t : Tables) (k : NodeKind) → IsProp (NodeNamed t k)
 node_named_prop t (node.Constant i) = le_prop
 node_named_prop t (node.ByDefault i) = le_prop
 node_named_prop t (node.CallInOrder p count order) = le_prop
+node_named_prop t (node.MethodInOrder p count order) = le_prop
 node_named_prop t (node.MemberThere i given) = le_prop
 node_named_prop t (node.HostMember i count) = le_prop
 node_named_prop t (node.NamedThere i by given) = ×_prop le_prop (names_named_prop t by)
@@ -114,6 +118,8 @@ action_named_prop : (t : Tables) (k : ActionKind) → IsProp (ActionNamed t k)
 action_named_prop t (kind.AssignMember i count) = le_prop
 action_named_prop t (kind.LetPropertyInOrder q count order of) = le_prop
 action_named_prop t (kind.SetPropertyInOrder q count order of) = le_prop
+action_named_prop t (kind.LetMethodInOrder q count order of) = le_prop
+action_named_prop t (kind.SetMethodInOrder q count order of) = le_prop
 action_named_prop t (kind.RaiseInOrder count order) = le_prop
 action_named_prop t k = Unit-prop
 

@@ -10,7 +10,7 @@ use Rattle.bound_project.specs.declared.node.NodeKind.{NodeKind}
 use Rattle.bound_project.specs.declared.node.NodeKind.TheVariants as node
 use Rattle.bound_project.specs.declared.node.Node.{Node}
 use Rattle.bound_project.specs.declared.node.ArgumentNames.{ArgumentNames}
-use Rattle.bound_project.specs.Expressions.{Expr, expr, not_given, constant, load, element_value, field_value, unary, binary, call, err_value, default_of, default_if_any, same, is_type, library, bound_of, host_object, active_sheet, host_member, named_member, ByName, Lvalue, variable, item, element, field, kept_place, Args, no_args, by_place, by_copy, by_default, by_list, in_order, Exprs, no_exprs, also, given_count, Prints, shown, zone, marked}
+use Rattle.bound_project.specs.Expressions.{Expr, expr, not_given, constant, load, element_value, field_value, unary, binary, call, err_value, default_of, default_if_any, same, is_type, library, bound_of, host_object, active_sheet, host_member, load_made, this, new_object, method, named_member, ByName, Lvalue, variable, item, element, field, kept_place, object_field, as_new, Args, no_args, by_place, by_copy, by_default, by_list, in_order, Exprs, no_exprs, also, given_count, Prints, shown, zone, marked}
 use Rattle.bound_project.specs.Expressions as plain
 use Rattle.bound_project.specs.Statements.{Tests, test_is, test_range, Resizes, resize, Arrays, an_array}
 use Rattle.bound_project.specs.View.{declared_view, variable_view, member_view, base_view}
@@ -32,6 +32,8 @@ pub data Piece : Type 0 where
   a_member : Expr → (name : List ℕ) → (given : ℕ) → Piece
   -- the same with how arguments are named
   a_named_member : Expr → (name : List ℕ) → ByName → (given : ℕ) → Piece
+  -- an object whose procedure is called
+  an_object : Expr → Piece
   a_value_shown : Expr → Piece
   a_zone : Piece
   a_test_begun : Piece
@@ -181,6 +183,15 @@ abbrev pub of_named_found : (name : List ℕ) → ByName → (Expr → Exprs →
 of_named_found name by make None = misfit
 of_named_found name by make (Some found) = of_named name by make found.0 found.1
 
+-- the arguments of a procedure of an object
+abbrev pub of_object : (Expr → Args → Piece) → Args → List Piece → List Piece
+of_object make args (an_object e ∷ st) = make e args ∷ st
+of_object make args st = misfit
+
+abbrev pub of_object_found : (Expr → Args → Piece) → Option (Args × List Piece) → List Piece
+of_object_found make None = misfit
+of_object_found make (Some found) = of_object make found.0 found.1
+
 -- ---- what a node makes of the pieces before it
 
 -- the expression that a node is
@@ -199,13 +210,22 @@ put_kind t n (node.Item x count) st = of_found (λ es. a_place (item (variable_v
 put_kind t n (node.Element count) st = of_place_found (λ x es. a_place (element x es)) (exprs_off count st no_exprs)
 put_kind t n (node.Field i of bounded) st = of_place (λ x. a_place (field x i (declared_view of) bounded)) st
 put_kind t n (node.KeptPlace header) st = a_place (kept_place header) ∷ st
+put_kind t n (node.ObjectField i of bounded) st = of_value (λ e. a_place (object_field e i (declared_view of) bounded)) st
+put_kind t n (node.NewVariable x c) st = a_place (as_new c (variable (variable_view x))) ∷ st
+put_kind t n (node.AsNew c) st = of_place (λ x. a_place (as_new c x)) st
 put_kind t n node.Load st = of_place (λ x. expr_of n (load x)) st
+put_kind t n node.LoadMade st = of_place (λ x. expr_of n (load_made x)) st
 put_kind t n (node.ElementValue count) st = of_value_found (λ e es. expr_of n (element_value e es)) (exprs_off count st no_exprs)
 put_kind t n (node.FieldValue i) st = of_value (λ e. expr_of n (field_value e i)) st
 put_kind t n (node.Unary o of) st = of_value (λ a. expr_of n (unary o (as_operand of a))) st
 put_kind t n (node.Binary o compare left right) st = of_both (λ a b. expr_of n (binary o compare (as_operand left a) (as_operand right b))) st
 put_kind t n (node.Call p count) st = of_found (λ args. expr_of n (call p args)) (arguments_off count st no_args)
 put_kind t n (node.CallInOrder p count order) st = of_found (λ args. expr_of n (call p (in_order (order_in t order) args))) (arguments_off count st no_args)
+put_kind t n node.This st = expr_of n this ∷ st
+put_kind t n (node.NewObject c) st = expr_of n (new_object c) ∷ st
+put_kind t n node.ObjectThere st = of_value (λ e. an_object e) st
+put_kind t n (node.Method p count) st = of_object_found (λ e args. expr_of n (method e p args)) (arguments_off count st no_args)
+put_kind t n (node.MethodInOrder p count order) st = of_object_found (λ e args. expr_of n (method e p (in_order (order_in t order) args))) (arguments_off count st no_args)
 put_kind t n (node.ErrValue member) st = expr_of n (err_value (member_view member)) ∷ st
 put_kind t n (node.Marked broken count) st = of_found (λ es. expr_of n (marked broken es)) (exprs_off count st no_exprs)
 put_kind t n (node.Library f text_form count compare one) st = of_found (λ es. expr_of n (library f text_form es compare (base_view one))) (exprs_off count st no_exprs)

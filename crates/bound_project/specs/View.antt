@@ -8,7 +8,7 @@ use Rattle.bound_project.specs.declared.declared_type.ElementType.TheVariants as
 use Rattle.bound_project.specs.declared.declared_type.DeclaredType.{DeclaredType}
 use Rattle.bound_project.specs.declared.declared_type.DeclaredType.TheVariants.{Plain, ArrayOf}
 use Rattle.bound_project.specs.declared.variable.Storage.{Storage}
-use Rattle.bound_project.specs.declared.variable.Storage.TheVariants.{Local, Shared}
+use Rattle.bound_project.specs.declared.variable.Storage.TheVariants.{Local, Shared, Own}
 use Rattle.bound_project.specs.declared.variable.Variable.{Variable}
 use Rattle.bound_project.specs.declared.variable.ErrMember.{ErrMember}
 use Rattle.bound_project.specs.declared.variable.ErrMember.TheVariants.{Number, Source, Description}
@@ -20,6 +20,9 @@ use Rattle.bound_project.specs.declared.declarations.ProcedureKind.TheVariants.{
 use Rattle.bound_project.specs.declared.declarations.Procedure.{Procedure}
 use Rattle.bound_project.specs.declared.declarations.Module.{Module}
 use Rattle.bound_project.specs.declared.declarations.UserType.{UserType}
+use Rattle.bound_project.specs.declared.declarations.Member.{Member}
+use Rattle.bound_project.specs.declared.declarations.Member.TheVariants as member
+use Rattle.bound_project.specs.declared.declarations.NamedMember.{NamedMember}
 use Rattle.bound_project.specs.declared.declarations.Class.{Class}
 use Rattle.bound_project.specs.declared.declarations.Declarations.{Declarations}
 use Rattle.bound_project.specs.Expressions as plain
@@ -49,6 +52,7 @@ declared_view (ArrayOf of) = type.array_of (element_view of)
 abbrev pub storage_view : Storage → plain.Storage
 storage_view (Local number) = plain.local number
 storage_view (Shared number) = plain.shared number
+storage_view (Own number) = plain.own number
 
 abbrev pub variable_view : Variable → plain.Variable
 variable_view x = record { storage = storage_view x.storage; of = declared_view x.of; bounded = x.is_bounded }
@@ -104,14 +108,22 @@ module_view m = record { name = spelled_view m.name; compare = m.compare; base =
 abbrev pub user_type_view : UserType → project.UserType
 user_type_view t = record { name = spelled_view t.name; fields = map declaration_view t.fields.items }
 
+abbrev pub class_member_view : Member → project.Member
+class_member_view (member.Variable field makes) = project.is_variable field makes
+class_member_view (member.Procedure procedure) = project.is_procedure procedure
+class_member_view (member.Property reads lets sets) = project.is_property reads lets sets
+
+abbrev pub named_view : NamedMember → project.Named
+named_view x = record { fold = x.fold; member = class_member_view x.member }
+
 abbrev pub class_view : Class → project.Class
 class_view c = record {
   name = spelled_view c.name;
   fields = map declaration_view c.fields.items;
-  initialize = None;
+  initialize = c.initialize;
   terminate = c.terminate;
-  members = [];
-  default = None;
+  members = map named_view c.members.items;
+  default = option_map class_member_view c.default;
   enumerator = None;
   events = [];
   with_events = [];

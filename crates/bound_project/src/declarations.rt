@@ -66,12 +66,39 @@ pub struct UserType {
     pub fields: Vec<Declaration>,
 }
 
-/// A class module: its variables, and its Class_Terminate where that is written.
+/// A member of a class: a variable of its objects, with the class of which an object is made where it is declared As New;
+/// a Sub or Function; a property, by its Get, its Let and its Set where they are written.
+#[derive(Clone, Copy)]
+pub enum Member {
+    Variable {
+        field: u32,
+        makes: Option<u32>,
+    },
+    Procedure(u32),
+    Property {
+        reads: Option<u32>,
+        lets: Option<u32>,
+        sets: Option<u32>,
+    },
+}
+
+/// A public member, by its folded name.
+#[derive(Drop)]
+pub struct NamedMember {
+    pub fold: Name,
+    pub member: Member,
+}
+
+/// A class module: its variables, its Class_Initialize and Class_Terminate where they are written, its public members, and
+/// its default member where it has one.
 #[derive(Drop)]
 pub struct Class {
     pub name: Spelled,
     pub fields: Vec<Declaration>,
+    pub initialize: Option<u32>,
     pub terminate: Option<u32>,
+    pub members: Vec<NamedMember>,
+    pub default: Option<Member>,
 }
 
 /// All that a project declares. Classes count from 1, all else from 0.

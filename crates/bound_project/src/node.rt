@@ -42,8 +42,25 @@ pub enum NodeKind {
     KeptPlace {
         header: u32,
     },
+    /// The place of a variable of the object before it, its declared type, and whether it is an array with declared
+    /// bounds.
+    ObjectField {
+        field: u32,
+        of: DeclaredType,
+        is_bounded: bool,
+    },
+    /// The place of a variable, and the place before it, that is declared As New, with the class of its objects.
+    NewVariable {
+        variable: Variable,
+        class: u32,
+    },
+    AsNew {
+        class: u32,
+    },
     /// The value at the place before it.
     Load,
+    /// The same where the place may be that of a variable declared As New, which gets a new object when it is read.
+    LoadMade,
     /// An element of the value before so many numbers.
     ElementValue {
         numbers: u32,
@@ -70,6 +87,24 @@ pub enum NodeKind {
     },
     /// A procedure, behind so many arguments, which are its parameters' by this order.
     CallInOrder {
+        procedure: u32,
+        arguments: u32,
+        order: u32,
+    },
+    /// The object whose procedure runs, and a new object of a class.
+    This,
+    NewObject {
+        class: u32,
+    },
+    /// There is an object before it, whose procedure is called.
+    ObjectThere,
+    /// That procedure, behind so many arguments.
+    Method {
+        procedure: u32,
+        arguments: u32,
+    },
+    /// That procedure, behind so many arguments, which are its parameters' by this order.
+    MethodInOrder {
         procedure: u32,
         arguments: u32,
         order: u32,

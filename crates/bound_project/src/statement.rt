@@ -62,6 +62,29 @@ pub enum ActionKind {
         order: u32,
         of: DeclaredType,
     },
+    /// The same of an object: behind the value, the object, its `ObjectThere` and so many other arguments.
+    LetMethod {
+        procedure: u32,
+        arguments: u32,
+        of: DeclaredType,
+    },
+    LetMethodInOrder {
+        procedure: u32,
+        arguments: u32,
+        order: u32,
+        of: DeclaredType,
+    },
+    SetMethod {
+        procedure: u32,
+        arguments: u32,
+        of: DeclaredType,
+    },
+    SetMethodInOrder {
+        procedure: u32,
+        arguments: u32,
+        order: u32,
+        of: DeclaredType,
+    },
     Print {
         items: u32,
         ends: bool,

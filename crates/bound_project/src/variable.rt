@@ -1,11 +1,12 @@
 use crate::declared_type::DeclaredType;
 
 /// Where a variable is kept: in its procedure's frame (the result first, then its own variables, then its parameters),
-/// or among the module variables and statics of the project.
+/// among the module variables and statics of the project, or in the object whose procedure runs.
 #[derive(Clone, Copy)]
 pub enum Storage {
     Local(u32),
     Shared(u32),
+    Own(u32),
 }
 
 /// A variable, its declared type, and whether it is an array that is declared with bounds.

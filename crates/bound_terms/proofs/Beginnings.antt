@@ -18,7 +18,7 @@ use Rattle.bound_names.specs.bound_calls.specs.declared.term.Item.TheVariants as
 use Rattle.bound_names.specs.bound_calls.specs.Standing.{TermStands, Stands, AllNamed, Base}
 use Rattle.bound_names.specs.bound_calls.specs.Steps.{Goes}
 use Rattle.bound_names.specs.Callee.{CalleeIs}
-use Rattle.bound_names.specs.Items.{MakesItem}
+use Rattle.bound_accesses.specs.Items.{MakesItem}
 use Rattle.bound_names.specs.bound_calls.specs.Indexing.{Opens, OpensTerm}
 use Rattle.bound_terms.specs.Indexing.{OpensItem}
 use Rattle.bound_names.specs.bound_calls.proofs.Growing.{grown_twice, all_named, stands_grows}
@@ -33,14 +33,14 @@ opens env x y i d e f c o = record {
 }
 
 -- arguments of a member begin
-pub opens_item : (env : Env) (x : Tree) (y : Term) (m : HostMember) (j : Item) (d e f g : Drafted) → CalleeIs env x d e y → MakesItem x.place y e f (term.HostMember m) → OpensItem env x m f g j → Opens env x d g j
+pub opens_item : (env : Env) (x : Tree) (y : Term) (m : HostMember) (j : Item) (d e f g : Drafted) → CalleeIs env x d e y → MakesItem env x.place y e f (term.HostMember m) → OpensItem env x m f g j → Opens env x d g j
 opens_item env x y m j d e f g k i o = record {
   grown = grown_twice d f g (grown_twice d e f k.grown i.grown) o.grown;
   named = o.named;
   stands = λ tree xs is below base h s.
-      let P : Place → Type 0 = λ (place : Place). TermStands env f.tables (term.HostMember m) (item_of place (callee env tree (term_of env tree))) f.pieces below in
+      let P : Place → Type 0 = λ (place : Place). TermStands env f.tables (term.HostMember m) (item_of env place (callee env tree (term_of env tree))) f.pieces below in
       let A : List Piece → Type 0 = λ (ps : List Piece). TermStands env e.tables y (callee env tree (term_of env tree)) ps below in
-      o.stands tree xs is below base h.place_is (subst P h.place_is (i.stands env (callee env tree (term_of env tree)) below (subst A (sym k.pieces) (k.stands tree d.pieces below h)))) s;
+      o.stands tree xs is below base h.place_is (subst P h.place_is (i.stands (callee env tree (term_of env tree)) below (subst A (sym k.pieces) (k.stands tree d.pieces below h)))) s;
 }
 
 begin_stands : (env : Env) (x : Tree) (i : Item) (xs : List Item) (d e : Drafted) → AllNamed d.tables xs → Opens env x d e i → (is : List nodes.Item) (base : Base) → Stands env d.tables (items.Tree x ∷ xs) is d.pieces base

@@ -14,11 +14,11 @@ use Rattle.bound_project.specs.Drafts.{Drafted}
 use Rattle.bound_names.specs.binder.specs.Constants.{home}
 use Rattle.bound_names.specs.binder.specs.Declarations.{Written, What, a_variable, a_constant, an_enum, a_member, a_type, an_event, a_procedure, Entry}
 use Rattle.bound_names.specs.binder.specs.Names.{scope_in}
-use Rattle.bound_names.specs.binder.specs.Scopes.{Space, Scope, first_at, is_named, seen_from}
+use Rattle.bound_names.specs.binder.specs.Scopes.{Space, Scope, first_at, is_named}
 use Rattle.bound_names.specs.binder.specs.Storage.{bound_parameter, bound_parameters, takes_value}
-use Rattle.bound_names.specs.bound_forms.specs.Terms.{Env, Given, a_routine, a_value, bound_arguments, expression_of}
+use Rattle.bound_names.specs.bound_forms.specs.Terms.{Env, Given, a_routine, a_value, bound_arguments, expression_of, a_method, routine_term}
 use Rattle.bound_names.specs.bound_forms.specs.Terms as terms
-use Rattle.bound_names.specs.bound_forms.specs.ExpressionsBound.{argument_of, bare_call, call_value, callee, element_type, if_there, indexed, indexed_value, item_of, node_or, numbers_of, operand_of, taken_by_term, term_of, term_or, with_type, wrong_term, place_told}
+use Rattle.bound_names.specs.bound_forms.specs.ExpressionsBound.{argument_of, bare_call, call_value, call_with, callee, if_there, indexed, indexed_value, item_of, node_or, numbers_of, operand_of, taken_by_term, term_of, term_or, with_type, wrong_term, place_told, indexed_type}
 use Rattle.bound_names.specs.binder.specs.Signatures.{is_get, is_property, parameters_in, procedure_with, reader}
 use Rattle.bound_names.specs.declared_names.specs.View.{written_view}
 use Rattle.bound_names.specs.bound_calls.specs.declared.term.Ending.{Ending}
@@ -33,8 +33,11 @@ use Rattle.bound_names.specs.bound_calls.proofs.Growing.{grown_twice}
 use Rattle.bound_operands.specs.Indexing.{PushesWhole}
 use Rattle.bound_terms.specs.Indexing.{IndexesValue, NotIndexed}
 use Rattle.bound_names.specs.Properties.{first_wanted, wants}
-use Rattle.bound_operands.proofs.Elements.{opens_whole}
-use Rattle.bound_names.proofs.Lookups.{get_same, property_found, with_entry}
+use Rattle.bound_operands.proofs.Elements.{indexed_by, opens_whole}
+use Rattle.bound_names.proofs.Lookups.{property_found, with_entry}
+use Rattle.bound_names.specs.binder.specs.Classes.{has_class, reaches}
+use Rattle.bound_names.specs.bound_calls.proofs.CallSteps.{routine_item, taken_routine}
+use Rattle.bound_names.specs.declared.properties.Part.TheVariants as part
 
 -- ---- the Get of a property
 
@@ -56,11 +59,11 @@ last_holds true true c h = h
 last_holds true false c h = let e : false ≡ true = h in absurd cc
 last_holds false b c h = let e : false ≡ true = h in absurd cc
 
-wanted_get : (w : What) (n : ℕ) (x : Identifier) (public : Bool) (read : ℕ × Written) → wants true w ≡ true → with_entry (Some (n, record { name = x; is_public = public; what = w })) ≡ Some read → is_get read.1.kind ≡ true
+wanted_get : (w : What) (n : ℕ) (x : Identifier) (public : Bool) (read : ℕ × Written) → wants part.Get w ≡ true → with_entry (Some (n, record { name = x; is_public = public; what = w })) ≡ Some read → is_get read.1.kind ≡ true
 wanted_get (a_procedure p) n x public read h found =
     let e : Some (n, p) ≡ Some read = found in
     let same : (n, p) ≡ read = cc in
-    ap (λ (f : ℕ × Written). is_get f.1.kind) (sym same) ∙ sym (get_same p.kind) ∙ h
+    ap (λ (f : ℕ × Written). is_get f.1.kind) (sym same) ∙ h
 wanted_get (a_variable v) n x public read h found = let e : false ≡ true = h in absurd cc
 wanted_get (a_constant c) n x public read h found = let e : false ≡ true = h in absurd cc
 wanted_get an_enum n x public read h found = let e : false ≡ true = h in absurd cc
@@ -70,12 +73,12 @@ wanted_get (an_event ps) n x public read h found = let e : false ≡ true = h in
 
 found_get : (s : Scope) (space : Space) (x : Identifier) (read : ℕ × Written) → procedure_with s is_get space x ≡ Some read → is_get read.1.kind ≡ true
 found_get s space x read h =
-    let test : Entry → Bool = λ (e : Entry). is_named x.name e.name && (seen_from s space e && wants true e.what) in
-    at (first_wanted true s space x) (passes test 0 space.entries) (property_found true s space x ∙ h)
+    let test : Entry → Bool = λ (e : Entry). is_named x.name e.name && (reaches s space e && wants part.Get e.what) in
+    at (first_wanted part.Get s space x) (passes test 0 space.entries) (property_found part.Get s space x ∙ h)
   where
-    at : (o : Option (ℕ × Entry)) → Passes (λ (e : Entry). is_named x.name e.name && (seen_from s space e && wants true e.what)) o → with_entry o ≡ Some read → is_get read.1.kind ≡ true
+    at : (o : Option (ℕ × Entry)) → Passes (λ (e : Entry). is_named x.name e.name && (reaches s space e && wants part.Get e.what)) o → with_entry o ≡ Some read → is_get read.1.kind ≡ true
     at None p h = let e : None ≡ Some read = h in absurd cc
-    at (Some f) p h = wanted_get f.1.what f.0 f.1.name f.1.is_public read (last_holds (is_named x.name f.1.name) (seen_from s space f.1) (wants true f.1.what) p) h
+    at (Some f) p h = wanted_get f.1.what f.0 f.1.name f.1.is_public read (last_holds (is_named x.name f.1.name) (reaches s space f.1) (wants part.Get f.1.what) p) h
 
 -- what is read of a property is a Get
 pub read_get : (s : Scope) (space : Space) (number : ℕ) (w : Written) (read : ℕ × Written) → is_property w.kind ≡ true → reader s space number w ≡ Some read → is_get read.1.kind ≡ true
@@ -94,32 +97,34 @@ abbrev no_value : Declared → terms.Term → Place → Option bound.Expr
 no_value of t place = None
 
 -- the value of what has no parameters
-pub property_value : (env : Env) (space : Space) (number : ℕ) (w : Written) (read : ℕ × Written) (made : bound.Node) (of : Declared) → reader env.scope space number w ≡ Some read → parameters_in env.scope space read.1 ≡ []
-    → bare_call env space number w ≡ a_value made of → call_value env space read.0 read.1 (Some bound.no_args) ≡ a_value made of
-property_value env space number w read made of reads none call =
-    let bare : ℕ × Written → terms.Term = λ (f : ℕ × Written). call_value env space f.0 f.1 (bound_arguments no_value (parameters_in env.scope space f.1) []) in
-    let bare_is : bare_call env space number w ≡ bare read = ap (λ (o : Option (ℕ × Written)). if_there (option_map bare o)) reads in
-    ap (λ (ps : List project.Parameter). call_value env space read.0 read.1 (bound_arguments no_value ps [])) (sym none) ∙ sym bare_is ∙ call
+pub property_value : (env : Env) (base : Option bound.Expr) (space : Space) (number : ℕ) (w : Written) (read : ℕ × Written) (made : bound.Node) (of : Declared) → reader env.scope space number w ≡ Some read → parameters_in env.scope space read.1 ≡ []
+    → bare_call env base space number w ≡ a_value made of → call_value env base space read.0 read.1 (Some bound.no_args) ≡ a_value made of
+property_value env base space number w read made of reads none call =
+    let bare : ℕ × Written → terms.Term = λ (f : ℕ × Written). call_value env base space f.0 f.1 (bound_arguments no_value (parameters_in env.scope space f.1) []) in
+    let bare_is : bare_call env base space number w ≡ bare read = ap (λ (o : Option (ℕ × Written)). if_there (option_map bare o)) reads in
+    ap (λ (ps : List project.Parameter). call_value env base space read.0 read.1 (bound_arguments no_value ps [])) (sym none) ∙ sym bare_is ∙ call
 
-property_indexed : (env : Env) (place : Place) (z : terms.Term) (space : Space) (number : ℕ) (w : Written) (read : ℕ × Written) (made : bound.Node) (of u : Declared) (gs : List Given) (es : Exprs) → z ≡ a_routine space number w
-    → reader env.scope space number w ≡ Some read → is_get read.1.kind ≡ true → parameters_in env.scope space read.1 ≡ [] → bare_call env space number w ≡ a_value made of → element_type of ≡ Some u → numbers_of (operand_of env) gs ≡ Some es
-    → indexed env place (item_of place z) gs ≡ a_value (element_value (expression_of made place of) es) u
-property_indexed env place z space number w read made of u [] es is reads get none call element numbers = let e : None ≡ Some es = numbers in absurd cc
-property_indexed env place z space number w read made of u (g ∷ gs) es is reads get none call element numbers =
-    let index : bound.Node → Declared → terms.Term = λ (n : bound.Node) (v : Declared). indexed_value place n v (numbers_of (operand_of env) (g ∷ gs)) in
+property_indexed : (env : Env) (place : Place) (z : terms.Term) (base : Option bound.Expr) (space : Space) (number : ℕ) (w : Written) (read : ℕ × Written) (made : bound.Node) (of u : Declared) (gs : List Given) (es : Exprs)
+    → z ≡ routine_term base space number w → reader env.scope space number w ≡ Some read → is_get read.1.kind ≡ true → parameters_in env.scope space read.1 ≡ [] → bare_call env base space number w ≡ a_value made of
+    → indexed_type env (expression_of made place of) ≡ Some u → numbers_of (operand_of env) gs ≡ Some es → indexed env place (item_of env place z) gs ≡ a_value (element_value (expression_of made place of) es) u
+property_indexed env place z base space number w read made of u [] es is reads get none call element numbers = let e : None ≡ Some es = numbers in absurd cc
+property_indexed env place z base space number w read made of u (g ∷ gs) es is reads get none call element numbers =
+    let index : bound.Node → Declared → terms.Term = λ (n : bound.Node) (v : Declared). indexed_value env place n v (numbers_of (operand_of env) (g ∷ gs)) in
     let called_as : ℕ × Written → terms.Term = λ (f : ℕ × Written).
-    if is_get f.1.kind && length f.1.parameters == 0 then node_or (call_value env space f.0 f.1 (Some bound.no_args)) index
-    else call_value env space f.0 f.1 (bound_arguments (argument_of env) (parameters_in env.scope space f.1) (g ∷ gs)) in
-    let found : taken_by_term env place (a_routine space number w) (g ∷ gs) ≡ called_as read = ap (λ (o : Option (ℕ × Written)). if_there (option_map called_as o)) reads in
-    let value_is : call_value env space read.0 read.1 (Some bound.no_args) ≡ a_value made of = property_value env space number w read made of reads none call in
+    if is_get f.1.kind && length f.1.parameters == 0 then node_or (call_value env base space f.0 f.1 (Some bound.no_args)) index
+    else call_value env base space f.0 f.1 (bound_arguments (argument_of env) (parameters_in env.scope space f.1) (g ∷ gs)) in
+    let found : call_with (argument_of env) (operand_of env) env place (g ∷ gs) base space number w ≡ called_as read = ap (λ (o : Option (ℕ × Written)). if_there (option_map called_as o)) reads in
+    let value_is : call_value env base space read.0 read.1 (Some bound.no_args) ≡ a_value made of = property_value env base space number w read made of reads none call in
     let no_parameters : (length read.1.parameters == 0) ≡ true = none_written (scope_in (home env.scope space) read.1) (takes_value read.1.kind) read.1.parameters none in
     let T : Declared → Exprs → terms.Term = λ (v : Declared) (xs : Exprs). a_value (element_value (expression_of made place of) xs) v in
-    let rest : terms.Term = call_value env space read.0 read.1 (bound_arguments (argument_of env) (parameters_in env.scope space read.1) (g ∷ gs)) in
-    let taken : taken_by_term env place (a_routine space number w) (g ∷ gs) ≡ a_value (element_value (expression_of made place of) es) u =
-    found ∙ ap (λ (b : Bool). if b && length read.1.parameters == 0 then node_or (call_value env space read.0 read.1 (Some bound.no_args)) index else rest) get
-    ∙ ap (λ (b : Bool). if b then node_or (call_value env space read.0 read.1 (Some bound.no_args)) index else rest) no_parameters ∙ ap (λ (y : terms.Term). node_or y index) value_is
+    let rest : terms.Term = call_value env base space read.0 read.1 (bound_arguments (argument_of env) (parameters_in env.scope space read.1) (g ∷ gs)) in
+    let routine : terms.Term = routine_term base space number w in
+    let taken : taken_by_term env place routine (g ∷ gs) ≡ a_value (element_value (expression_of made place of) es) u =
+    taken_routine env place base space number w (g ∷ gs) ∙ found
+    ∙ ap (λ (b : Bool). if b && length read.1.parameters == 0 then node_or (call_value env base space read.0 read.1 (Some bound.no_args)) index else rest) get
+    ∙ ap (λ (b : Bool). if b then node_or (call_value env base space read.0 read.1 (Some bound.no_args)) index else rest) no_parameters ∙ ap (λ (y : terms.Term). node_or y index) value_is
     ∙ ap (λ (o : Option Declared). with_type o (numbers_of (operand_of env) (g ∷ gs)) T) element ∙ ap (λ (o : Option Exprs). with_type (Some u) o T) numbers in
-    ap (λ (y : terms.Term). indexed env place (item_of place y) (g ∷ gs)) is ∙ ap (λ (y : terms.Term). term_or y (wrong_term env place (a_routine space number w) (g ∷ gs))) taken
+    ap (λ (y : terms.Term). indexed env place y (g ∷ gs)) (routine_item env place z base space number w is ∙ is) ∙ ap (λ (y : terms.Term). term_or y (wrong_term env place routine (g ∷ gs))) taken
 
 -- ---- arguments begin
 
@@ -127,23 +132,42 @@ pub indexes : (r : Routine) (b : Bool) → b ≡ is_property (written_view r.wri
 indexes r true is none = record { property = sym is; none = none }
 indexes r false is none = λ v. let e : false ≡ true = is ∙ v.property in absurd cc
 
-pub opens_property : (env : Env) (x : Tree) (r : Routine) (ending : Ending) (d m e : Drafted) (i : Indexed) → IndexesValue r → CallsRoutine r d m ending → PushesWhole ending x.place m e i → OpensTerm env x (term.Routine r) d e (items.Indexed i)
-opens_property env x r ending d m e i v c p =
+-- a procedure is one term, so what it is called of is one, too
+pub same_routine : (one other : Option bound.Expr) (s t : Space) (m n : ℕ) (v w : Written) → routine_term one s m v ≡ routine_term other t n w → (env : Env) → bare_call env one s m v ≡ bare_call env other t n w
+same_routine None None s t m n v w h env =
+    let e : a_routine s m v ≡ a_routine t n w = h in
+    let space_is : s ≡ t = cc in
+    let number_is : m ≡ n = cc in
+    let written_is : v ≡ w = cc in
+    ap (λ (x : Space). bare_call env None x m v) space_is ∙ ap (λ (k : ℕ). bare_call env None t k v) number_is ∙ ap (λ (x : Written). bare_call env None t n x) written_is
+same_routine None (Some b) s t m n v w h env = let e : a_routine s m v ≡ a_method b t n w = h in absurd cc
+same_routine (Some a) None s t m n v w h env = let e : a_method a s m v ≡ a_routine t n w = h in absurd cc
+same_routine (Some a) (Some b) s t m n v w h env =
+    let e : a_method a s m v ≡ a_method b t n w = h in
+    let base_is : a ≡ b = cc in
+    let space_is : s ≡ t = cc in
+    let number_is : m ≡ n = cc in
+    let written_is : v ≡ w = cc in
+    ap (λ (x : bound.Expr). bare_call env (Some x) s m v) base_is ∙ ap (λ (x : Space). bare_call env (Some b) x m v) space_is ∙ ap (λ (k : ℕ). bare_call env (Some b) t k v) number_is
+    ∙ ap (λ (x : Written). bare_call env (Some b) t n x) written_is
+
+pub opens_property : (env : Env) (has : Bool) (x : Tree) (r : Routine) (ending : Ending) (d m e : Drafted) (i : Indexed) → has_class env.scope.spaces ≡ has → IndexesValue r → CallsRoutine r d m ending → PushesWhole has ending x.place m e i
+    → OpensTerm env x (term.Routine r) d e (items.Indexed i)
+opens_property env has x r ending d m e i known v c p =
     opens_whole env x (term.Routine r) i d e (grown_twice d m e c.grown p.grown) p.is (λ tree below at h.
     let place = place_told tree in
     let z = callee env tree (term_of env tree) in
+    let u = h.routine in
     let b = c.stands env z below h in
-    let same : a_routine h.space h.number h.written ≡ a_routine b.space b.number b.written = sym h.is ∙ b.is in
-    let space_is : h.space ≡ b.space = cc in
-    let number_is : h.number ≡ b.number = cc in
-    let written_is : h.written ≡ b.written = cc in
-    let call : bare_call env h.space h.number h.written ≡ a_value b.called.made (declared_view ending.of) =
-    ap (λ (s : Space). bare_call env s h.number h.written) space_is ∙ ap (λ (n : ℕ). bare_call env b.space n h.written) number_is ∙ ap (λ (w : Written). bare_call env b.space b.number w) written_is ∙ b.called.is in
-    let property : is_property h.written.kind ≡ true = ap (λ (w : Written). is_property w.kind) h.written_is ∙ v.property in
+    let same : routine_term u.base u.space u.number u.written ≡ routine_term b.base b.space b.number b.written = sym u.is ∙ b.is in
+    let call : bare_call env u.base u.space u.number u.written ≡ a_value b.called.made (declared_view ending.of) = same_routine u.base b.base u.space b.space u.number b.number u.written b.written same env ∙ b.called.is in
+    let property : is_property u.written.kind ≡ true = ap (λ (w : Written). is_property w.kind) u.written_is ∙ v.property in
+    let no = p.elements.none env m.tables b.called.made place m.pieces below known b.called.ends in
+    let element = indexed_by env b.called.made place (declared_view ending.of) (declared_view i.of) no p.elements.element_is in
     record {
       whole = expression_of b.called.made place (declared_view ending.of);
       is = λ gs es numbers.
-          property_indexed env place z h.space h.number h.written h.read b.called.made (declared_view ending.of) (declared_view i.of) gs es h.is h.reads (read_get env.scope h.space h.number h.written h.read property h.reads)
-          (sym h.parameters_are ∙ ap (λ l. map parameter_view l) v.none) call p.element_is numbers;
+          property_indexed env place z u.base u.space u.number u.written u.read b.called.made (declared_view ending.of) (declared_view i.of) gs es u.is u.reads (read_get env.scope u.space u.number u.written u.read property u.reads)
+          (sym u.parameters_are ∙ ap (λ l. map parameter_view l) v.none) call element numbers;
       on_top = p.stands b.called.made below b.called.ends ∙ ap (λ (q : Place). an_expr (expression_of b.called.made q (declared_view ending.of)) ∷ below) at;
     })

@@ -1,9 +1,10 @@
 -- Objects without a default member with arguments, before brackets.
-use Rattle.std.proofs.Common.{◌∷◌, ap, subst, ◌∙◌}
+use Rattle.std.proofs.Common.{◌≡◌, Bool, ◌∷◌, ap, subst, ◌∙◌}
 use Rattle.vba_base.specs.declared.place.Place.{Place}
 use Rattle.bound_project.specs.View.{declared_view}
 use Rattle.bound_project.specs.Pieces.{an_expr}
 use Rattle.bound_project.specs.Drafts.{Drafted}
+use Rattle.bound_names.specs.binder.specs.Classes.{has_class}
 use Rattle.bound_names.specs.bound_forms.specs.Terms.{Env, expression_of}
 use Rattle.bound_names.specs.bound_forms.specs.Terms as terms
 use Rattle.bound_names.specs.bound_forms.specs.ExpressionsBound.{callee, indexed, item_of, place_told, term_of}
@@ -16,20 +17,23 @@ use Rattle.bound_names.specs.bound_calls.specs.declared.term.Tree.{Tree}
 use Rattle.bound_names.specs.bound_calls.specs.Indexing.{OpensTerm}
 use Rattle.bound_names.specs.bound_calls.specs.Standing.{TermStands, ValueStands}
 use Rattle.bound_names.specs.bound_calls.proofs.Growing.{grown_twice}
-use Rattle.bound_names.specs.Items.{MakesItem}
+use Rattle.bound_accesses.specs.Items.{MakesItem}
 use Rattle.bound_operands.specs.Indexing.{PushesWhole}
-use Rattle.bound_operands.proofs.Elements.{opens_whole, value_indexed}
+use Rattle.bound_operands.proofs.Elements.{indexed_by, opens_whole, value_indexed}
 
 -- what is told of one is indexed
-pub opens_lacking : (env : Env) (x : Tree) (y : Term) (v : Ending) (i : Indexed) (d e f : Drafted) → MakesItem x.place y d e (term.Value v) → PushesWhole v x.place e f i → OpensTerm env x y d f (items.Indexed i)
-opens_lacking env x y v i d e f m p =
+pub opens_lacking : (env : Env) (has : Bool) (x : Tree) (y : Term) (v : Ending) (i : Indexed) (d e f : Drafted) → has_class env.scope.spaces ≡ has → MakesItem env x.place y d e (term.Value v) → PushesWhole has v x.place e f i
+    → OpensTerm env x y d f (items.Indexed i)
+opens_lacking env has x y v i d e f known m p =
     opens_whole env x y i d f (grown_twice d e f m.grown p.grown) p.is (λ tree below at h.
     let place = place_told tree in
     let z = callee env tree (term_of env tree) in
-    let A : Place → Type 0 = λ (q : Place). TermStands env e.tables (term.Value v) (item_of q z) e.pieces below in
-    let t : ValueStands e.tables v (item_of place z) e.pieces below = subst A at (m.stands env z below h) in
+    let A : Place → Type 0 = λ (q : Place). TermStands env e.tables (term.Value v) (item_of env q z) e.pieces below in
+    let t : ValueStands e.tables v (item_of env place z) e.pieces below = subst A at (m.stands z below h) in
+    let no = p.elements.none env e.tables t.made place e.pieces below known t.ends in
+    let element_is = indexed_by env t.made place (declared_view v.of) (declared_view i.of) no p.elements.element_is in
     record {
       whole = expression_of t.made place (declared_view v.of);
-      is = λ gs es numbers. ap (λ (w : terms.Term). indexed env place w gs) t.is ∙ value_indexed env place t.made (declared_view v.of) gs (declared_view i.of) es p.element_is numbers;
+      is = λ gs es numbers. ap (λ (w : terms.Term). indexed env place w gs) t.is ∙ value_indexed env place t.made (declared_view v.of) gs (declared_view i.of) es element_is numbers;
       on_top = p.stands t.made below t.ends ∙ ap (λ (q : Place). an_expr (expression_of t.made q (declared_view v.of)) ∷ below) at;
     })

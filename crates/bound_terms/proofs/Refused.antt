@@ -8,18 +8,16 @@ use Rattle.vba_values.specs.Types as type
 use Rattle.vba_tree.specs.Tree.{Parameter}
 use Rattle.vba_tree.specs.declared.procedure.ProcedureWords.{ProcedureWords}
 use Rattle.vba_tree.specs.declared.procedure.ProcedureWords.TheVariants as words
-use Rattle.vba_expression.specs.Tree.{Expr, no_args}
-use Rattle.bound_project.specs.declared.node.Node.{Node}
+use Rattle.vba_expression.specs.Tree.{Expr}
 use Rattle.bound_project.specs.declared.node.NodeKind.{NodeKind}
-use Rattle.bound_project.specs.declared.node.NodeKind.TheVariants as kinds
 use Rattle.bound_project.specs.declared.declared_type.DeclaredType.{DeclaredType}
 use Rattle.bound_project.specs.declared.declarations.Parameter.{Parameter as ParameterHere}
 use Rattle.bound_project.specs.View.{declared_view, parameter_view}
-use Rattle.bound_project.specs.Expressions.{Exprs, Lvalue, also, element_value, host_member, load, named_member}
+use Rattle.bound_project.specs.Expressions.{Exprs, Lvalue, also, element_value, host_member, named_member}
 use Rattle.bound_project.specs.Expressions as bound
 use Rattle.bound_project.specs.Project as project
 use Rattle.bound_project.specs.Lists.{above}
-use Rattle.bound_project.specs.Pieces.{Piece, Tables, an_expr, expr_of, of_place, put}
+use Rattle.bound_project.specs.Pieces.{Piece, Tables, an_expr, put}
 use Rattle.bound_project.specs.Drafts.{Drafted}
 use Rattle.bound_names.specs.binder.specs.Constants.{home}
 use Rattle.bound_names.specs.binder.specs.Declarations.{Written}
@@ -28,9 +26,9 @@ use Rattle.bound_names.specs.binder.specs.Names.{scope_in}
 use Rattle.bound_names.specs.binder.specs.Signatures.{is_get, is_property, parameters_in, procedure_with, reader}
 use Rattle.bound_names.specs.binder.specs.Options.{from_two}
 use Rattle.bound_names.specs.binder.specs.Storage.{bound_parameters, takes_value}
-use Rattle.bound_names.specs.bound_forms.specs.Terms.{Env, Given, HostMember, a_routine, a_value, bound_arguments, expression_of, has_names, no_term, takes}
+use Rattle.bound_names.specs.bound_forms.specs.Terms.{Env, Given, HostMember, a_value, bound_arguments, expression_of, has_names, no_term, read_of, routine_term, takes}
 use Rattle.bound_names.specs.bound_forms.specs.Terms as terms
-use Rattle.bound_names.specs.bound_forms.specs.ExpressionsBound.{argument_of, arguments_rule, bare_call, call_value, callee, element_place, element_type, host_arguments, host_called, if_there, indexed, indexed_value, indexes_value, is_host_type, item_of, may_index, member_called, member_takes, names_taken, node_or, numbers_of, object_member, operand_of, place_told, takes_arguments, term_of, term_or, with_type, wrong_arguments, wrong_index, wrong_term}
+use Rattle.bound_names.specs.bound_forms.specs.ExpressionsBound.{argument_of, arguments_rule, bare_call, behind_base, call_value, call_with, callee, element_place, element_type, host_arguments, host_behind, host_called, if_there, indexed, indexed_value, indexes_value, is_host_type, item_of, may_be_instance, may_index, member_called, member_takes, names_taken, node_or, numbers_of, operand_of, place_told, takes_arguments, term_of, term_or, with_type, wrong_arguments, wrong_call, wrong_index, wrong_term}
 use Rattle.bound_names.specs.bound_calls.specs.declared.term.Ending.{Ending}
 use Rattle.bound_names.specs.declared_names.specs.View.{written_view}
 use Rattle.bound_names.specs.bound_calls.specs.declared.term.HostMember.{HostMember as MemberHere}
@@ -38,19 +36,23 @@ use Rattle.bound_names.specs.bound_calls.specs.declared.term.Item.TheVariants as
 use Rattle.bound_names.specs.bound_calls.specs.declared.term.Refuser.{Refuser}
 use Rattle.bound_names.specs.bound_calls.specs.declared.term.Refuser.TheVariants as refuser
 use Rattle.bound_names.specs.bound_calls.specs.declared.term.MemberCall.{MemberCall}
+use Rattle.bound_names.specs.bound_calls.specs.declared.term.Receiver.TheVariants as receiver
 use Rattle.bound_names.specs.bound_calls.specs.declared.term.Routine.{Routine}
 use Rattle.bound_names.specs.bound_calls.specs.declared.term.Term.{Term}
 use Rattle.bound_names.specs.bound_calls.specs.declared.term.Term.TheVariants as term
 use Rattle.bound_names.specs.bound_calls.specs.declared.term.Tree.{Tree}
 use Rattle.bound_names.specs.bound_calls.specs.Calls.{node_of}
 use Rattle.bound_names.specs.bound_calls.specs.Indexing.{OpensTerm}
-use Rattle.bound_names.specs.bound_calls.specs.Taking.{CallsRoutine}
+use Rattle.bound_names.specs.bound_calls.specs.Taking.{CallsRoutine, read_kind}
 use Rattle.bound_names.specs.bound_members.specs.MemberCalls.{OpensMember}
 use Rattle.bound_terms.specs.Indexing.{IndexesValue, NotIndexed, OpensItem, untaken_at}
-use Rattle.bound_terms.proofs.IndexedProperties.{none_written, property_value, read_get}
-use Rattle.bound_names.specs.bound_calls.specs.Standing.{Grown, RefuserNamed, RoutineStands, TermStands, behind_values, member_is, refused_rule, values_before}
+use Rattle.bound_terms.proofs.IndexedProperties.{none_written, property_value, read_get, same_routine}
+use Rattle.bound_names.specs.bound_calls.specs.Standing.{Grown, RefuserNamed, RoutineIs, TermStands, behind_values, member_is, refused_rule, values_before}
 use Rattle.bound_names.specs.bound_calls.proofs.Growing.{grown_pieces, grown_same, grown_twice}
+use Rattle.bound_names.specs.bound_calls.proofs.CallSteps.{routine_item, taken_routine}
+use Rattle.bound_names.specs.bound_calls.proofs.Lacking.{module_base, module_pushed}
 use Rattle.bound_names.specs.bound_calls.proofs.Refusing.{refused}
+use Rattle.bound_names.specs.bound_calls.proofs.Taking.{read_ends}
 
 -- ---- what is refused, by its term
 
@@ -98,25 +100,30 @@ not_numbers value type.object gs T h = refl
 not_numbers value type.worksheet gs T h = refl
 not_numbers value type.range gs T h = refl
 
+not_numbers_of : (b : Bool) (value : terms.Term → Place → Option bound.Expr) (of : Declared) (gs : List Given) (T : Declared → Exprs → terms.Term) → may_index of gs ≡ false
+    → with_type (if b then None else element_type of) (numbers_of value gs) T ≡ no_term
+not_numbers_of true value of gs T h = refl
+not_numbers_of false value of gs T h = not_numbers value of gs T h
+
 value_refused : (env : Env) (place : Place) (made : bound.Node) (of : Declared) (gs : List Given) (rule : ℕ) → (if may_index of gs then None else Some 25) ≡ Some rule
-    → indexed env place (item_of place (a_value made of)) gs ≡ wrong_arguments env place rule (also (expression_of made place of)) gs
+    → indexed env place (item_of env place (a_value made of)) gs ≡ wrong_arguments env place rule (also (expression_of made place of)) gs
 value_refused env place made of gs rule h =
     let b = broken_by (may_index of gs) rule h in
     let T : Declared → Exprs → terms.Term = λ (u : Declared) (xs : Exprs). a_value (element_value (expression_of made place of) xs) u in
-    ap (λ (c : Bool). indexed env place (if c then object_member place place made of (codes "item") else a_value made of) gs) (not_host of gs b.0)
-    ∙ ap (λ (z : terms.Term). term_or z (wrong_term env place (a_value made of) gs)) (not_numbers (operand_of env) of gs T b.0)
+    ap (λ (c : Bool). indexed env place (if c then host_behind env place place made of (codes "item") else a_value made of) gs) (not_host of gs b.0)
+    ∙ ap (λ (z : terms.Term). term_or z (wrong_term env place (a_value made of) gs)) (not_numbers_of (may_be_instance env (expression_of made place of)) (operand_of env) of gs T b.0)
     ∙ ap (λ (c : Bool). if c then no_term else wrong_arguments env place 25 (also (expression_of made place of)) gs) b.0
     ∙ ap (λ (n : ℕ). wrong_arguments env place n (also (expression_of made place of)) gs) b.1
 
-place_refused : (env : Env) (place : Place) (at : Lvalue) (of : Declared) (bounded lends : Bool) (gs : List Given) (rule : ℕ) → (if may_index of gs then None else Some 25) ≡ Some rule
-    → indexed env place (item_of place (terms.a_place at of bounded lends)) gs ≡ wrong_arguments env place rule (also (expression_of (load at) place of)) gs
-place_refused env place at of bounded lends gs rule h =
+place_refused : (env : Env) (place : Place) (at : Lvalue) (of : Declared) (bounded lends makes : Bool) (gs : List Given) (rule : ℕ) → (if may_index of gs then None else Some 25) ≡ Some rule
+    → indexed env place (item_of env place (terms.a_place at of bounded lends makes)) gs ≡ wrong_arguments env place rule (also (expression_of (read_of makes at) place of)) gs
+place_refused env place at of bounded lends makes gs rule h =
     let b = broken_by (may_index of gs) rule h in
-    let T : Declared → Exprs → terms.Term = λ (u : Declared) (xs : Exprs). terms.a_place (element_place at xs) u false lends in
-    ap (λ (c : Bool). indexed env place (if c then object_member place place (load at) of (codes "item") else terms.a_place at of bounded lends) gs) (not_host of gs b.0)
-    ∙ ap (λ (z : terms.Term). term_or z (wrong_term env place (terms.a_place at of bounded lends) gs)) (not_numbers (operand_of env) of gs T b.0)
-    ∙ ap (λ (c : Bool). if c then no_term else wrong_arguments env place 25 (also (expression_of (load at) place of)) gs) b.0
-    ∙ ap (λ (n : ℕ). wrong_arguments env place n (also (expression_of (load at) place of)) gs) b.1
+    let T : Declared → Exprs → terms.Term = λ (u : Declared) (xs : Exprs). terms.a_place (element_place at xs) u false lends false in
+    ap (λ (c : Bool). indexed env place (if c then host_behind env place place (read_of makes at) of (codes "item") else terms.a_place at of bounded lends makes) gs) (not_host of gs b.0)
+    ∙ ap (λ (z : terms.Term). term_or z (wrong_term env place (terms.a_place at of bounded lends makes) gs)) (not_numbers_of (may_be_instance env (expression_of (read_of makes at) place of)) (operand_of env) of gs T b.0)
+    ∙ ap (λ (c : Bool). if c then no_term else wrong_arguments env place 25 (also (expression_of (read_of makes at) place of)) gs) b.0
+    ∙ ap (λ (n : ℕ). wrong_arguments env place n (also (expression_of (read_of makes at) place of)) gs) b.1
 
 -- what takes no arguments at all
 error_refused : (env : Env) (t : Tables) (place : Place) (gs : List Given) (rule : ℕ) → refused_rule t refuser.Bare gs ≡ Some rule → indexed env place terms.err_object gs ≡ wrong_arguments env place rule (λ es. es) gs
@@ -132,7 +139,7 @@ clear_refused env t place (g ∷ gs) rule h = ap (λ (n : ℕ). wrong_arguments 
 record Refuses (env : Env) (t : Tables) (r : Refuser) (place : Place) (z : terms.Term) (ps below : List Piece) : Type 0 where
   pub before : List bound.Expr
   pub before_long : length before ≡ values_before r
-  pub wrong : (gs : List Given) (rule : ℕ) → refused_rule t r gs ≡ Some rule → indexed env place (item_of place z) gs ≡ wrong_arguments env place rule (behind_values before) gs
+  pub wrong : (gs : List Given) (rule : ℕ) → refused_rule t r gs ≡ Some rule → indexed env place (item_of env place z) gs ≡ wrong_arguments env place rule (behind_values before) gs
   pub on_top : ps ≡ above (map an_expr before) below
 
 opens_refused : (env : Env) (x : Tree) (y : Term) (r : Refuser) (d e : Drafted) → Grown d e → RefuserNamed e.tables r
@@ -158,17 +165,17 @@ value_untaken env x v d e eq =
     record {
       before = expression_of h.made place of ∷ [];
       before_long = refl;
-      wrong = λ gs rule k. ap (λ (z : terms.Term). indexed env place (item_of place z) gs) h.is ∙ value_refused env place h.made of gs rule k;
+      wrong = λ gs rule k. ap (λ (z : terms.Term). indexed env place (item_of env place z) gs) h.is ∙ value_refused env place h.made of gs rule k;
       on_top = h.ends n ∙ ap (λ (p : Place). an_expr (expression_of h.made p of) ∷ below) at;
     }))
 
 -- a place, of which the value is pushed
-pub place_untaken : (env : Env) (x : Tree) (kind : NodeKind) (of : DeclaredType) (bounded lends : Bool) (d m e : Drafted) → m ≡ record d { pieces = put d.tables (node_of kind x.place of) d.pieces }
-    → e ≡ record m { pieces = put m.tables (node_of kinds.Load x.place of) m.pieces } → OpensTerm env x (term.Place kind of bounded lends) d e (untaken_at x.place (refuser.Value of))
-place_untaken env x kind of bounded lends d m e first second =
-    let y = term.Place kind of bounded lends in
+pub place_untaken : (env : Env) (x : Tree) (kind : NodeKind) (of : DeclaredType) (bounded lends makes : Bool) (d m e : Drafted) → m ≡ record d { pieces = put d.tables (node_of kind x.place of) d.pieces }
+    → e ≡ record m { pieces = put m.tables (node_of (read_kind makes) x.place of) m.pieces } → OpensTerm env x (term.Place kind of bounded lends makes) d e (untaken_at x.place (refuser.Value of))
+place_untaken env x kind of bounded lends makes d m e first second =
+    let y = term.Place kind of bounded lends makes in
     let n = node_of kind x.place of in
-    let l = node_of kinds.Load x.place of in
+    let l = node_of (read_kind makes) x.place of in
     let between : Drafted = record d { pieces = put d.tables n d.pieces } in
     let after : Drafted = record between { pieces = put between.tables l between.pieces } in
     let same : e ≡ after = second ∙ ap (λ (z : Drafted). record z { pieces = put z.tables l z.pieces }) first in
@@ -177,10 +184,10 @@ place_untaken env x kind of bounded lends d m e first second =
     let place = place_told tree in
     let u = declared_view of in
     record {
-      before = expression_of (load h.at) place u ∷ [];
+      before = expression_of (read_of makes h.at) place u ∷ [];
       before_long = refl;
-      wrong = λ gs rule k. ap (λ (z : terms.Term). indexed env place (item_of place z) gs) h.is ∙ place_refused env place h.at u bounded lends gs rule k;
-      on_top = ap (λ (ps : List Piece). of_place (λ (z : Lvalue). expr_of l (load z)) ps) (h.ends n) ∙ ap (λ (p : Place). an_expr (expression_of (load h.at) p u) ∷ below) at;
+      wrong = λ gs rule k. ap (λ (z : terms.Term). indexed env place (item_of env place z) gs) h.is ∙ place_refused env place h.at u bounded lends makes gs rule k;
+      on_top = read_ends makes d.tables h.at between.pieces below (h.ends n) l ∙ ap (λ (p : Place). an_expr (expression_of (read_of makes h.at) p u) ∷ below) at;
     }))
 
 -- the object Err, and its Clear
@@ -189,7 +196,7 @@ error_untaken env x d = opens_refused env x term.Err refuser.Bare d d (grown_sam
     record {
       before = [];
       before_long = refl;
-      wrong = λ gs rule k. ap (λ (z : terms.Term). indexed env (place_told tree) (item_of (place_told tree) z) gs) h.0 ∙ error_refused env d.tables (place_told tree) gs rule k;
+      wrong = λ gs rule k. ap (λ (z : terms.Term). indexed env (place_told tree) (item_of env (place_told tree) z) gs) h.0 ∙ error_refused env d.tables (place_told tree) gs rule k;
       on_top = h.1;
     })
 
@@ -198,7 +205,7 @@ clear_untaken env x d = opens_refused env x term.ErrClear refuser.Bare d d (grow
     record {
       before = [];
       before_long = refl;
-      wrong = λ gs rule k. ap (λ (z : terms.Term). indexed env (place_told tree) (item_of (place_told tree) z) gs) h.0 ∙ clear_refused env d.tables (place_told tree) gs rule k;
+      wrong = λ gs rule k. ap (λ (z : terms.Term). indexed env (place_told tree) (item_of env (place_told tree) z) gs) h.0 ∙ clear_refused env d.tables (place_told tree) gs rule k;
       on_top = h.1;
     })
 
@@ -238,7 +245,7 @@ none_mapped : (ps : List ParameterHere) → map parameter_view ps ≡ [] → ps 
 none_mapped [] h = refl
 none_mapped (p ∷ ps) h = let e : ◌≡◌ {A = List project.Parameter} (parameter_view p ∷ map parameter_view ps) [] = h in absurd cc
 
-not_indexed : (env : Env) (r : Routine) {z : terms.Term} {ps below : List Piece} (s : RoutineStands env r z ps below) → NotIndexed r → (gs : List Given) → indexes_value s.read.1 gs ≡ false
+not_indexed : (env : Env) (r : Routine) {z : terms.Term} (s : RoutineIs env r z) → NotIndexed r → (gs : List Given) → indexes_value s.read.1 gs ≡ false
 not_indexed env r s none [] = refl
 not_indexed env r s none (g ∷ gs) = at (is_get s.read.1.kind && length s.read.1.parameters == 0) refl
   where
@@ -250,59 +257,69 @@ not_indexed env r s none (g ∷ gs) = at (is_get s.read.1.kind && length s.read.
         let empty : map parameter_view r.parameters.now ≡ [] = s.parameters_are ∙ none_bound (scope_in (home env.scope s.space) s.read.1) (takes_value s.read.1.kind) s.read.1.parameters h.1 in
         absurd (none (record { property = property; none = none_mapped r.parameters.now empty }))
 
-procedure_refused : (env : Env) (t : Tables) (place : Place) (r : Routine) (z : terms.Term) {ps below : List Piece} (s : RoutineStands env r z ps below) → NotIndexed r → (gs : List Given) (rule : ℕ) → refused_rule t (refuser.Procedure r.parameters) gs ≡ Some rule
-    → indexed env place (item_of place z) gs ≡ wrong_arguments env place rule (λ es. es) gs
-procedure_refused env t place r z s none gs rule h =
+-- what is wrong of a call
+wrong_routine : (env : Env) (place : Place) (base : Option bound.Expr) (space : Space) (number : ℕ) (w : Written) (gs : List Given) → wrong_term env place (routine_term base space number w) gs ≡ wrong_call env place base space number w gs
+wrong_routine env place None space number w gs = refl
+wrong_routine env place (Some b) space number w gs = refl
+
+routine_indexed : (env : Env) (place : Place) (z : terms.Term) (base : Option bound.Expr) (space : Space) (number : ℕ) (w : Written) (gs : List Given) → z ≡ routine_term base space number w
+    → indexed env place (item_of env place z) gs ≡ term_or (call_with (argument_of env) (operand_of env) env place gs base space number w) (wrong_call env place base space number w gs)
+routine_indexed env place z base space number w gs is =
+    let routine : terms.Term = routine_term base space number w in
+    ap (λ (y : terms.Term). indexed env place y gs) (routine_item env place z base space number w is ∙ is) ∙ ap (λ (y : terms.Term). term_or y (wrong_term env place routine gs)) (taken_routine env place base space number w gs)
+    ∙ ap (λ (y : terms.Term). term_or (call_with (argument_of env) (operand_of env) env place gs base space number w) y) (wrong_routine env place base space number w gs)
+
+procedure_refused : (env : Env) (t : Tables) (place : Place) (r : Routine) (z : terms.Term) (s : RoutineIs env r z) → NotIndexed r → r.receiver ≡ receiver.Module → (gs : List Given) (rule : ℕ) → refused_rule t (refuser.Procedure r.parameters) gs ≡ Some rule
+    → indexed env place (item_of env place z) gs ≡ wrong_arguments env place rule (λ es. es) gs
+procedure_refused env t place r z s none own gs rule h =
     let ps = parameters_in env.scope s.space s.read.1 in
     let b = broken_by (takes (map parameter_view r.parameters.now) gs) rule h in
     let no_takes : takes ps gs ≡ false = ap (λ (l : List project.Parameter). takes l gs) (sym s.parameters_are) ∙ b.0 in
-    let index : bound.Node → Declared → terms.Term = λ (n : bound.Node) (v : Declared). indexed_value place n v (numbers_of (operand_of env) gs) in
+    let index : bound.Node → Declared → terms.Term = λ (n : bound.Node) (v : Declared). indexed_value env place n v (numbers_of (operand_of env) gs) in
     let wrong : bound.Node → Declared → terms.Term = λ (n : bound.Node) (v : Declared). wrong_index env place n v gs in
-    let taken_as : ℕ × Written → terms.Term = λ (f : ℕ × Written). if indexes_value f.1 gs then node_or (call_value env s.space f.0 f.1 (Some bound.no_args)) index else call_value env s.space f.0 f.1 (bound_arguments (argument_of env) (parameters_in env.scope s.space f.1) gs) in
+    let taken_as : ℕ × Written → terms.Term = λ (f : ℕ × Written).
+    if indexes_value f.1 gs then node_or (call_value env None s.space f.0 f.1 (Some bound.no_args)) index else call_value env None s.space f.0 f.1 (bound_arguments (argument_of env) (parameters_in env.scope s.space f.1) gs) in
     let wrong_as : ℕ × Written → terms.Term = λ (f : ℕ × Written).
-    if indexes_value f.1 gs then node_or (call_value env s.space f.0 f.1 (Some bound.no_args)) wrong else if takes (parameters_in env.scope s.space f.1) gs then no_term else wrong_arguments env place 25 (λ es. es) gs in
-    let value = call_value env s.space s.read.0 s.read.1 (Some bound.no_args) in
-    let call : Option bound.Args → terms.Term = λ (o : Option bound.Args). call_value env s.space s.read.0 s.read.1 o in
+    if indexes_value f.1 gs then node_or (call_value env None s.space f.0 f.1 (Some bound.no_args)) wrong else if takes (parameters_in env.scope s.space f.1) gs then no_term else wrong_arguments env place 25 (λ es. es) gs in
+    let value = call_value env None s.space s.read.0 s.read.1 (Some bound.no_args) in
+    let call : Option bound.Args → terms.Term = λ (o : Option bound.Args). call_value env None s.space s.read.0 s.read.1 o in
     let broken : terms.Term = if takes ps gs then no_term else wrong_arguments env place 25 (λ es. es) gs in
-    ap (λ (y : terms.Term). indexed env place (item_of place y) gs) s.is ∙ ap (λ (o : Option (ℕ × Written)). term_or (if_there (option_map taken_as o)) (if_there (option_map wrong_as o))) s.reads
+    let is : z ≡ routine_term None s.space s.number s.written = s.is ∙ ap (λ (o : Option bound.Expr). routine_term o s.space s.number s.written) (module_base r.receiver s.base own s.received) in
+    routine_indexed env place z None s.space s.number s.written gs is ∙ ap (λ (o : Option (ℕ × Written)). term_or (if_there (option_map taken_as o)) (if_there (option_map wrong_as o))) s.reads
     ∙ ap (λ (c : Bool). term_or (if c then node_or value index else call (bound_arguments (argument_of env) ps gs)) (if c then node_or value wrong else broken)) (not_indexed env r s none gs)
     ∙ ap (λ (o : Option bound.Args). term_or (call o) broken) (refused (argument_of env) ps gs no_takes) ∙ ap (λ (c : Bool). if c then no_term else wrong_arguments env place 25 (λ es. es) gs) no_takes
     ∙ ap (λ (n : ℕ). wrong_arguments env place n (λ es. es) gs) b.1
 
-pub procedure_untaken : (env : Env) (x : Tree) (r : Routine) (d : Drafted) → NotIndexed r → OpensTerm env x (term.Routine r) d d (untaken_at x.place (refuser.Procedure r.parameters))
-procedure_untaken env x r d none = opens_refused env x (term.Routine r) (refuser.Procedure r.parameters) d d (grown_same d) tt (λ tree below at h.
+pub procedure_untaken : (env : Env) (x : Tree) (r : Routine) (d : Drafted) → NotIndexed r → r.receiver ≡ receiver.Module → OpensTerm env x (term.Routine r) d d (untaken_at x.place (refuser.Procedure r.parameters))
+procedure_untaken env x r d none own = opens_refused env x (term.Routine r) (refuser.Procedure r.parameters) d d (grown_same d) tt (λ tree below at h.
     record {
       before = [];
       before_long = refl;
-      wrong = λ gs rule k. procedure_refused env d.tables (place_told tree) r (callee env tree (term_of env tree)) h none gs rule k;
-      on_top = h.none_pushed;
+      wrong = λ gs rule k. procedure_refused env d.tables (place_told tree) r (callee env tree (term_of env tree)) h.routine none own gs rule k;
+      on_top = module_pushed r.receiver h.routine.base d.pieces below own h.pushed;
     })
 
-abbrev bare_of : Env → terms.Term → terms.Term
-bare_of env (a_routine space number w) = bare_call env space number w
-bare_of env z = no_term
-
-called_refused : (env : Env) (t : Tables) (place : Place) (z : terms.Term) (space : Space) (number : ℕ) (w : Written) (read : ℕ × Written) (made : bound.Node) (u : DeclaredType) (gs : List Given) (rule : ℕ) → z ≡ a_routine space number w
-    → reader env.scope space number w ≡ Some read → is_get read.1.kind ≡ true → parameters_in env.scope space read.1 ≡ [] → bare_call env space number w ≡ a_value made (declared_view u) → refused_rule t (refuser.Called u) gs ≡ Some rule
-    → indexed env place (item_of place z) gs ≡ wrong_arguments env place rule (also (expression_of made place (declared_view u))) gs
-called_refused env t place z space number w read made u [] rule is reads get none call h = let e : ◌≡◌ {A = Option ℕ} None (Some rule) = h in absurd cc
-called_refused env t place z space number w read made u (g ∷ gs) rule is reads get none call h =
+called_refused : (env : Env) (t : Tables) (place : Place) (z : terms.Term) (base : Option bound.Expr) (space : Space) (number : ℕ) (w : Written) (read : ℕ × Written) (made : bound.Node) (u : DeclaredType) (gs : List Given) (rule : ℕ)
+    → z ≡ routine_term base space number w → reader env.scope space number w ≡ Some read → is_get read.1.kind ≡ true → parameters_in env.scope space read.1 ≡ [] → bare_call env base space number w ≡ a_value made (declared_view u)
+    → refused_rule t (refuser.Called u) gs ≡ Some rule → indexed env place (item_of env place z) gs ≡ wrong_arguments env place rule (also (expression_of made place (declared_view u))) gs
+called_refused env t place z base space number w read made u [] rule is reads get none call h = let e : ◌≡◌ {A = Option ℕ} None (Some rule) = h in absurd cc
+called_refused env t place z base space number w read made u (g ∷ gs) rule is reads get none call h =
     let of = declared_view u in
     let b = broken_by (may_index of (g ∷ gs)) rule h in
-    let index : bound.Node → Declared → terms.Term = λ (n : bound.Node) (v : Declared). indexed_value place n v (numbers_of (operand_of env) (g ∷ gs)) in
+    let index : bound.Node → Declared → terms.Term = λ (n : bound.Node) (v : Declared). indexed_value env place n v (numbers_of (operand_of env) (g ∷ gs)) in
     let wrong : bound.Node → Declared → terms.Term = λ (n : bound.Node) (v : Declared). wrong_index env place n v (g ∷ gs) in
     let test : ℕ × Written → Bool = λ (f : ℕ × Written). is_get f.1.kind && length f.1.parameters == 0 in
-    let call_as : ℕ × Written → terms.Term = λ (f : ℕ × Written). call_value env space f.0 f.1 (bound_arguments (argument_of env) (parameters_in env.scope space f.1) (g ∷ gs)) in
-    let broken_as : ℕ × Written → terms.Term = λ (f : ℕ × Written). if takes (parameters_in env.scope space f.1) (g ∷ gs) then no_term else wrong_arguments env place 25 (λ es. es) (g ∷ gs) in
-    let taken_as : ℕ × Written → terms.Term = λ (f : ℕ × Written). if test f then node_or (call_value env space f.0 f.1 (Some bound.no_args)) index else call_as f in
-    let wrong_as : ℕ × Written → terms.Term = λ (f : ℕ × Written). if test f then node_or (call_value env space f.0 f.1 (Some bound.no_args)) wrong else broken_as f in
-    let value_is : call_value env space read.0 read.1 (Some bound.no_args) ≡ a_value made of = property_value env space number w read made of reads none call in
+    let call_as : ℕ × Written → terms.Term = λ (f : ℕ × Written). call_value env base space f.0 f.1 (bound_arguments (argument_of env) (parameters_in env.scope space f.1) (g ∷ gs)) in
+    let broken_as : ℕ × Written → terms.Term = λ (f : ℕ × Written). if takes (parameters_in env.scope space f.1) (g ∷ gs) then no_term else wrong_arguments env place 25 (behind_base base) (g ∷ gs) in
+    let taken_as : ℕ × Written → terms.Term = λ (f : ℕ × Written). if test f then node_or (call_value env base space f.0 f.1 (Some bound.no_args)) index else call_as f in
+    let wrong_as : ℕ × Written → terms.Term = λ (f : ℕ × Written). if test f then node_or (call_value env base space f.0 f.1 (Some bound.no_args)) wrong else broken_as f in
+    let value_is : call_value env base space read.0 read.1 (Some bound.no_args) ≡ a_value made of = property_value env base space number w read made of reads none call in
     let one : test read ≡ true = ap (λ (c : Bool). c && length read.1.parameters == 0) get ∙ none_written (scope_in (home env.scope space) read.1) (takes_value read.1.kind) read.1.parameters none in
     let T : Declared → Exprs → terms.Term = λ (v : Declared) (xs : Exprs). a_value (element_value (expression_of made place of) xs) v in
-    let value = call_value env space read.0 read.1 (Some bound.no_args) in
-    ap (λ (y : terms.Term). indexed env place (item_of place y) (g ∷ gs)) is ∙ ap (λ (o : Option (ℕ × Written)). term_or (if_there (option_map taken_as o)) (if_there (option_map wrong_as o))) reads
+    let value = call_value env base space read.0 read.1 (Some bound.no_args) in
+    routine_indexed env place z base space number w (g ∷ gs) is ∙ ap (λ (o : Option (ℕ × Written)). term_or (if_there (option_map taken_as o)) (if_there (option_map wrong_as o))) reads
     ∙ ap (λ (c : Bool). term_or (if c then node_or value index else call_as read) (if c then node_or value wrong else broken_as read)) one ∙ ap (λ (y : terms.Term). term_or (node_or y index) (node_or y wrong)) value_is
-    ∙ ap (λ (y : terms.Term). term_or y (wrong_index env place made of (g ∷ gs))) (not_numbers (operand_of env) of (g ∷ gs) T b.0)
+    ∙ ap (λ (y : terms.Term). term_or y (wrong_index env place made of (g ∷ gs))) (not_numbers_of (may_be_instance env (expression_of made place of)) (operand_of env) of (g ∷ gs) T b.0)
     ∙ ap (λ (c : Bool). if c then no_term else wrong_arguments env place 25 (also (expression_of made place of)) (g ∷ gs)) b.0 ∙ ap (λ (n : ℕ). wrong_arguments env place n (also (expression_of made place of)) (g ∷ gs)) b.1
 
 pub property_untaken : (env : Env) (x : Tree) (r : Routine) (v : Ending) (d m e : Drafted) → IndexesValue r → CallsRoutine r d m v → e ≡ record m { pieces = put m.tables (node_of v.kind x.place v.of) m.pieces }
@@ -314,16 +331,17 @@ property_untaken env x r v d m e i c eq =
     subst P (sym eq) (opens_refused env x (term.Routine r) (refuser.Called v.of) d after (grown_twice d m after c.grown (grown_pieces m (put m.tables n m.pieces))) tt (λ tree below at h.
     let place = place_told tree in
     let z = callee env tree (term_of env tree) in
+    let u = h.routine in
     let b = c.stands env z below h in
     let of = declared_view v.of in
-    let same : a_routine h.space h.number h.written ≡ a_routine b.space b.number b.written = sym h.is ∙ b.is in
-    let call : bare_call env h.space h.number h.written ≡ a_value b.called.made of = ap (λ (y : terms.Term). bare_of env y) same ∙ b.called.is in
-    let property : is_property h.written.kind ≡ true = ap (λ (w : Written). is_property w.kind) h.written_is ∙ i.property in
+    let same : routine_term u.base u.space u.number u.written ≡ routine_term b.base b.space b.number b.written = sym u.is ∙ b.is in
+    let call : bare_call env u.base u.space u.number u.written ≡ a_value b.called.made of = same_routine u.base b.base u.space b.space u.number b.number u.written b.written same env ∙ b.called.is in
+    let property : is_property u.written.kind ≡ true = ap (λ (w : Written). is_property w.kind) u.written_is ∙ i.property in
     record {
       before = expression_of b.called.made place of ∷ [];
       before_long = refl;
-      wrong = λ gs rule k. called_refused env after.tables place z h.space h.number h.written h.read b.called.made v.of gs rule h.is h.reads (read_get env.scope h.space h.number h.written h.read property h.reads)
-          (sym h.parameters_are ∙ ap (λ l. map parameter_view l) i.none) call k;
+      wrong = λ gs rule k. called_refused env after.tables place z u.base u.space u.number u.written u.read b.called.made v.of gs rule u.is u.reads (read_get env.scope u.space u.number u.written u.read property u.reads)
+          (sym u.parameters_are ∙ ap (λ l. map parameter_view l) i.none) call k;
       on_top = b.called.ends n ∙ ap (λ (p : Place). an_expr (expression_of b.called.made p of) ∷ below) at;
     }))
 

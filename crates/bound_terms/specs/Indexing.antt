@@ -34,5 +34,5 @@ pub record OpensItem (env : Env) (x : Tree) (m : HostMember) (d e : Drafted) (i 
   pub grown : Grown d e
   pub named : ItemNamed e.tables i
   pub stands : (tree : Expr) (items : List Item) (is : List nodes.Item) (below : List Piece) (base : Base) → x.place ≡ place_told tree
-      → HostMemberStands d.tables m (item_of (place_told tree) (callee env tree (term_of env tree))) d.pieces below → Stands env e.tables items is below base
+      → HostMemberStands d.tables m (item_of env (place_told tree) (callee env tree (term_of env tree))) d.pieces below → Stands env e.tables items is below base
       → Stands env e.tables (i ∷ items) (nodes.arguments no_args ∷ nodes.tree tree ∷ is) e.pieces base

@@ -1,4 +1,5 @@
 pub use Rattle.bound_names
+pub use Rattle.bound_accesses
 pub use Rattle.bound_operands
 pub use Rattle.bound_names.specs.binder
 pub use Rattle.bound_names.specs.bound_forms

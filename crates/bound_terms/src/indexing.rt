@@ -2,22 +2,23 @@
 
 ghost use Rattle.std.specs.Prelude.{◌≡◌, ◌<◌, Bool, IfOk, MatchBool, length};
 ghost use Rattle.bound_project.specs.DraftView.{draft_view};
-ghost use Rattle.bound_project.specs.Drafts.{NodeNamed};
+ghost use Rattle.bound_project.specs.Drafts.{Drafted, NodeNamed};
 ghost use Rattle.bound_names.specs.bound_forms.specs.Terms as plain;
 ghost use Rattle.bound_names.specs.bound_calls.specs.Indexing.{Opens, OpensTerm};
 ghost use Rattle.bound_names.specs.bound_calls.specs.Standing.{TermNamed};
 ghost use Rattle.bound_terms.specs.Indexing.{IndexesValue, NotIndexed, OpensItem, untaken_at};
 ghost use Rattle.bound_names.specs.View.{EnvStands, env_view};
 
+use bound_accesses::{item_member, item_term, lacks_item, takes_item};
 use bound_names::bound_calls::{
-    Ending, HostMember, Indexed, Item, Refuser, Routine, Shape, Term, Tree, Untaken, push_node,
-    routine_ending,
+    Ending, HostMember, Indexed, Item, Receiver, Refuser, Routine, Shape, Term, Tree, Untaken,
+    push_node, push_receiver, read_kind, routine_ending,
 };
 use bound_names::bound_declarations::{NotYet, is_property};
 use bound_names::bound_members::open_member;
-use bound_names::{Env, callee_term, item_member, item_term, lacks_item, takes_item};
+use bound_names::{Env, callee_term};
 use bound_operands::{open_call, open_function, open_place, open_value, push_whole, refused_rule};
-use bound_project::{Draft, NodeKind};
+use bound_project::Draft;
 use std::alloc::Global;
 use vba_base::{NoMemory, OrMemory};
 
@@ -72,55 +73,78 @@ fn refuse_property<'a>(
 fn open_property<'a>(
     alloc: Global,
     draft: &mut Draft,
+    env: Env<'a>,
     tree: Tree<'a>,
     routine: Routine<'a>,
 ) -> Result<Indexed, OrMemory<NotYet>>
     requires { IndexesValue routine }
-    ensures { IfOk result (λ indexed. (env : plain.Env) → OpensTerm env tree.entry (Term.Routine routine.entry) (draft_view draft.old) (draft_view draft.new) (Item.Indexed indexed)) }
+    ensures { IfOk result (λ indexed. OpensTerm (env_view env.entry) tree.entry (Term.Routine routine.entry) (draft_view draft.old) (draft_view draft.new) (Item.Indexed indexed)) }
 {
     let ending = routine_ending(alloc, draft, routine)?;
-    push_whole(draft, ending, tree.place)
+    push_whole(draft, ending, tree.place, env.has_class)
+}
+
+/// A procedure that doesn't take the arguments that are read from now on.
+fn refuse_procedure<'a>(tree: Tree<'a>, routine: Routine<'a>) -> Result<Item<'a>, OrMemory<NotYet>>
+    requires { NotIndexed routine }
+    ensures { IfOk result (λ item. (env : plain.Env) (d : Drafted) → OpensTerm env tree.entry (Term.Routine routine.entry) d d item) }
+{
+    let Receiver::Module = routine.receiver else {
+        return Err(OrMemory::Fault(NotYet));
+    };
+    Ok(untaken(tree, Refuser::Procedure(routine.parameters)))
+}
+
+/// A call whose arguments are read from now on; its object is pushed.
+fn open_received<'a>(
+    draft: &mut Draft,
+    tree: Tree<'a>,
+    routine: Routine<'a>,
+) -> Result<Item<'a>, OrMemory<NotYet>>
+    ensures { IfOk result (λ item. (env : plain.Env) → OpensTerm env tree.entry (Term.Routine routine.entry) (draft_view draft.old) (draft_view draft.new) item) }
+{
+    push_receiver(draft, routine.receiver)?;
+    Ok(Item::Call(open_call(tree, routine)))
 }
 
 /// A procedure whose arguments, these, are read from now on.
 fn open_procedure<'a>(
-    alloc: Global,
-    draft: &Draft,
-    tree: Tree<'a>,
-    routine: Routine<'a>,
-    shapes: &[Shape<'a>],
-) -> Result<Item<'a>, NoMemory>
-    requires { NotIndexed routine }
-    ensures { IfOk result (λ item. (env : plain.Env) → OpensTerm env tree.entry (Term.Routine routine.entry) (draft_view draft.now) (draft_view draft.now) item) }
-{
-    let refuser = Refuser::Procedure(routine.parameters);
-    if is_refused(alloc, draft, refuser, shapes)? {
-        return Ok(untaken(tree, refuser));
-    }
-    Ok(Item::Call(open_call(tree, routine)))
-}
-
-/// A procedure whose arguments, these, are read from now on, or a property whose value they index.
-fn open_routine<'a>(
     alloc: Global,
     draft: &mut Draft,
     tree: Tree<'a>,
     routine: Routine<'a>,
     shapes: &[Shape<'a>],
 ) -> Result<Item<'a>, OrMemory<NotYet>>
+    requires { NotIndexed routine }
     ensures { IfOk result (λ item. (env : plain.Env) → OpensTerm env tree.entry (Term.Routine routine.entry) (draft_view draft.old) (draft_view draft.new) item) }
 {
+    if is_refused(alloc, draft, Refuser::Procedure(routine.parameters), shapes)? {
+        return refuse_procedure(tree, routine);
+    }
+    open_received(draft, tree, routine)
+}
+
+/// A procedure whose arguments, these, are read from now on, or a property whose value they index.
+fn open_routine<'a>(
+    alloc: Global,
+    draft: &mut Draft,
+    env: Env<'a>,
+    tree: Tree<'a>,
+    routine: Routine<'a>,
+    shapes: &[Shape<'a>],
+) -> Result<Item<'a>, OrMemory<NotYet>>
+    ensures { IfOk result (λ item. OpensTerm (env_view env.entry) tree.entry (Term.Routine routine.entry) (draft_view draft.old) (draft_view draft.new) item) }
+{
     if !indexes_value(routine) {
-        let item = open_procedure(alloc, draft, tree, routine, shapes)?;
-        return Ok(item);
+        return open_procedure(alloc, draft, tree, routine, shapes);
     }
     if shapes.is_empty() {
-        return Ok(Item::Call(open_call(tree, routine)));
+        return open_received(draft, tree, routine);
     }
     if is_refused(alloc, draft, Refuser::Called(routine.of), shapes)? {
         return refuse_property(alloc, draft, tree, routine);
     }
-    let indexed = open_property(alloc, draft, tree, routine)?;
+    let indexed = open_property(alloc, draft, env, tree, routine)?;
     Ok(Item::Indexed(indexed))
 }
 
@@ -128,20 +152,22 @@ fn open_routine<'a>(
 fn open_indexed<'a>(
     alloc: Global,
     draft: &mut Draft,
+    env: Env<'a>,
     tree: Tree<'a>,
     at: Ending,
     lends: bool,
+    makes: bool,
     shapes: &[Shape<'a>],
 ) -> Result<Item<'a>, OrMemory<NotYet>>
     requires { NodeNamed (draft_view draft.old).tables at.kind }
-    ensures { IfOk result (λ item. (env : plain.Env) (bounded : Bool) → OpensTerm env tree.entry (Term.Place at.kind at.of bounded lends) (draft_view draft.old) (draft_view draft.new) item) }
+    ensures { IfOk result (λ item. (bounded : Bool) → OpensTerm (env_view env.entry) tree.entry (Term.Place at.kind at.of bounded lends makes) (draft_view draft.old) (draft_view draft.new) item) }
 {
     if is_refused(alloc, draft, Refuser::Value(at.of), shapes)? {
         push_node(draft, at.kind, at.of, tree.place)?;
-        push_node(draft, NodeKind::Load, at.of, tree.place)?;
+        push_node(draft, read_kind(makes), at.of, tree.place)?;
         return Ok(untaken(tree, Refuser::Value(at.of)));
     }
-    let indexed = open_place(draft, tree, at.kind, at.of, lends)?;
+    let indexed = open_place(draft, tree, at.kind, at.of, lends, makes, env.has_class)?;
     Ok(Item::Indexed(indexed))
 }
 
@@ -149,18 +175,19 @@ fn open_indexed<'a>(
 fn open_whole<'a>(
     alloc: Global,
     draft: &mut Draft,
+    env: Env<'a>,
     tree: Tree<'a>,
     ending: Ending,
     shapes: &[Shape<'a>],
 ) -> Result<Item<'a>, OrMemory<NotYet>>
     requires { NodeNamed (draft_view draft.old).tables ending.kind }
-    ensures { IfOk result (λ item. (env : plain.Env) → OpensTerm env tree.entry (Term.Value ending) (draft_view draft.old) (draft_view draft.new) item) }
+    ensures { IfOk result (λ item. OpensTerm (env_view env.entry) tree.entry (Term.Value ending) (draft_view draft.old) (draft_view draft.new) item) }
 {
     if is_refused(alloc, draft, Refuser::Value(ending.of), shapes)? {
         push_node(draft, ending.kind, ending.of, tree.place)?;
         return Ok(untaken(tree, Refuser::Value(ending.of)));
     }
-    let indexed = open_value(draft, tree, ending)?;
+    let indexed = open_value(draft, tree, ending, env.has_class)?;
     Ok(Item::Indexed(indexed))
 }
 
@@ -179,17 +206,18 @@ fn open_none<'a>(tree: Tree<'a>, shapes: &[Shape<'a>]) -> Result<Item<'a>, OrMem
 fn open_lacking<'a>(
     alloc: Global,
     draft: &mut Draft,
+    env: Env<'a>,
     tree: Tree<'a>,
     term: Term<'a>,
 ) -> Result<Item<'a>, OrMemory<NotYet>>
     requires { TermNamed (draft_view draft.old).tables term }
-    ensures { IfOk result (λ item. (env : plain.Env) → OpensTerm env tree.entry term.entry (draft_view draft.old) (draft_view draft.new) item) }
+    ensures { IfOk result (λ item. OpensTerm (env_view env.entry) tree.entry term.entry (draft_view draft.old) (draft_view draft.new) item) }
 {
-    let item = item_term(alloc, draft, tree.place, term)?;
+    let item = item_term(alloc, draft, env, tree.place, term)?;
     let Term::Value(ending) = item else {
         return Err(OrMemory::Fault(NotYet));
     };
-    let indexed = push_whole(draft, ending, tree.place)?;
+    let indexed = push_whole(draft, ending, tree.place, env.has_class)?;
     Ok(Item::Indexed(indexed))
 }
 
@@ -197,25 +225,36 @@ fn open_lacking<'a>(
 fn open_term<'a>(
     alloc: Global,
     draft: &mut Draft,
+    env: Env<'a>,
     tree: Tree<'a>,
     term: Term<'a>,
     shapes: &[Shape<'a>],
 ) -> Result<Item<'a>, OrMemory<NotYet>>
     requires { TermNamed (draft_view draft.old).tables term }
-    ensures { IfOk result (λ item. (env : plain.Env) → OpensTerm env tree.entry term.entry (draft_view draft.old) (draft_view draft.new) item) }
+    ensures { IfOk result (λ item. OpensTerm (env_view env.entry) tree.entry term.entry (draft_view draft.old) (draft_view draft.new) item) }
 {
     if lacks_item(term) {
-        return open_lacking(alloc, draft, tree, term);
+        return open_lacking(alloc, draft, env, tree, term);
     }
     match term {
         Term::Place {
             kind,
             of,
             lends,
+            makes,
             ..
-        } => open_indexed(alloc, draft, tree, Ending { kind, of }, lends, shapes),
-        Term::Value(ending) => open_whole(alloc, draft, tree, ending, shapes),
-        Term::Routine(routine) => open_routine(alloc, draft, tree, routine, shapes),
+        } => open_indexed(
+            alloc,
+            draft,
+            env,
+            tree,
+            Ending { kind, of },
+            lends,
+            makes,
+            shapes,
+        ),
+        Term::Value(ending) => open_whole(alloc, draft, env, tree, ending, shapes),
+        Term::Routine(routine) => open_routine(alloc, draft, env, tree, routine, shapes),
         Term::Function(function) => Ok(Item::Function(open_function(tree, function))),
         Term::Err => open_none(tree, shapes),
         Term::ErrClear => open_none(tree, shapes),
@@ -256,8 +295,8 @@ pub fn begin_arguments<'a>(
 {
     let term = callee_term(alloc, draft, env, tree)?;
     if takes_item(term) {
-        let member = item_member(alloc, draft, tree.place, term)?;
+        let member = item_member(alloc, draft, env, tree.place, term)?;
         return open_item(alloc, draft, tree, member, shapes);
     }
-    open_term(alloc, draft, tree, term, shapes)
+    open_term(alloc, draft, env, tree, term, shapes)
 }

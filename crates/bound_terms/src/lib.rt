@@ -11,6 +11,7 @@ pub use indexing::indexes_value;
 pub use pass::{bind_given, bind_operand, bind_reference, bind_value, push_value, run, tree_of};
 
 // What stands below, for the crates above.
+pub use bound_accesses;
 pub use bound_names;
 pub use bound_names::{
     binder, bound_calls, bound_declarations, bound_forms, bound_members, constant_values,

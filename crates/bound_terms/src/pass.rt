@@ -1,5 +1,5 @@
-ghost use Rattle.std.specs.Prelude.{◌≡◌, OnOk, IfOk, Some, reverse};
-ghost use Rattle.vba_expression.specs.Nodes.{behind_node, behind_nodes, tree_in};
+ghost use Rattle.std.specs.Prelude.{OnOk, IfOk, Some, reverse};
+ghost use Rattle.vba_expression.specs.Nodes.{behind_node, behind_nodes};
 ghost use Rattle.vba_expression.specs.View.{view as expression_view};
 ghost use Rattle.bound_project.specs.DraftView.{draft_view};
 ghost use Rattle.bound_names.specs.bound_forms.specs.ExpressionsBound.{bound_as_given, bound_operand, bound_reference, bound_value};
@@ -8,14 +8,15 @@ ghost use Rattle.bound_names.specs.bound_calls.specs.Steps.{Binds, Goes, Leaves,
 ghost use Rattle.bound_names.specs.View.{EnvStands, env_view};
 
 use crate::call_steps::step_no_arguments;
-use crate::step::{step_name, step_type_of};
+use crate::step::{step_me, step_name, step_new, step_type_of};
+use bound_accesses::{step_member, step_with_member};
+use bound_names::Env;
 use bound_names::bound_calls::{
     Item, Shape, Tree, push_ending, push_given, push_operand, push_reference, take_item,
     value_ending,
 };
 use bound_names::bound_declarations::NotYet;
 use bound_names::bound_members::{links_of, shapes_at};
-use bound_names::{Env, step_member, step_with_member};
 use bound_operands::{
     step_binary, step_index, step_literal, step_missing_argument, step_named_argument,
     step_parenthesised, step_plain_argument, step_unary,
@@ -124,12 +125,17 @@ fn step<'a>(
         }
         ExpressionNode::NoArguments => step_no_arguments(alloc, draft, env, stack, shapes),
         ExpressionNode::MissingArgument { .. } => step_missing_argument(alloc, draft, stack),
-        ExpressionNode::PlainArgument { .. } => step_plain_argument(alloc, draft, stack),
+        ExpressionNode::PlainArgument { .. } => {
+            step_plain_argument(alloc, draft, stack, env.has_class)
+        }
         ExpressionNode::NamedArgument { name, .. } => {
-            step_named_argument(alloc, draft, stack, name)
+            step_named_argument(alloc, draft, stack, name, env.has_class)
         }
         ExpressionNode::Index { .. } => step_index(alloc, draft, stack),
-        _ => Err(OrMemory::Fault(NotYet)),
+        ExpressionNode::Me(token) => step_me(alloc, draft, env, stack, refers, *token),
+        ExpressionNode::New { new_word, class } => {
+            step_new(alloc, draft, env, stack, refers, *new_word, class)
+        }
     }
 }
 

@@ -8,8 +8,8 @@ ghost use Rattle.bound_names.specs.bound_calls.specs.Steps.{Goes};
 ghost use Rattle.bound_names.specs.View.{EnvStands, env_view};
 
 use bound_names::bound_calls::{Ending, Item, Term, Tree, push_given, put_item, settle, take_item};
-use bound_names::bound_declarations::NotYet;
-use bound_names::declared_names::{Use, declares, meant_type, plain_type};
+use bound_names::bound_declarations::{NotYet, class_in};
+use bound_names::declared_names::{Use, declares, meant_type, own_class, plain_type};
 use bound_names::{Env, meant_term};
 use bound_project::{DeclaredType, Draft, ElementType, NodeKind};
 use std::alloc::Global;
@@ -43,6 +43,69 @@ pub fn step_type_of<'a>(
             term: Term::Value(Ending {
                 kind: NodeKind::IsType(meant_type(meant)),
                 of: DeclaredType::Plain(ElementType::Boolean),
+            }),
+        }),
+    )?;
+    Ok(())
+}
+
+/// Me: the object whose procedure runs. A left operand before it is a reference where its operator is Is.
+pub fn step_me<'a>(
+    alloc: Global,
+    draft: &mut Draft,
+    env: Env<'a>,
+    stack: &mut Vec<Item<'a>>,
+    is_reference: bool,
+    token: Token,
+) -> Result<(), OrMemory<NotYet>>
+    requires { AllNamed (draft_view draft.old).tables (reverse stack.old.items) }
+    ensures { OnOk result (Goes (env_view env.entry) (draft_view draft.old) (reverse stack.old.items) (draft_view draft.new) (reverse stack.new.items) (behind_node (node.Me token))) }
+{
+    settle(alloc, draft, stack, is_reference)?;
+    let of = own_class(env.constants.scope)?;
+    put_item(
+        stack,
+        Item::Tree(Tree {
+            place: token.place,
+            name: None,
+            dotted: None,
+            term: Term::Value(Ending {
+                kind: NodeKind::This,
+                of,
+            }),
+        }),
+    )?;
+    Ok(())
+}
+
+/// New: a new object of a class. A left operand before it is a reference where its operator is Is.
+pub fn step_new<'a>(
+    alloc: Global,
+    draft: &mut Draft,
+    env: Env<'a>,
+    stack: &mut Vec<Item<'a>>,
+    is_reference: bool,
+    new_word: Token,
+    class: &Identifier,
+) -> Result<(), OrMemory<NotYet>>
+    requires { AllNamed (draft_view draft.old).tables (reverse stack.old.items) }
+    ensures { OnOk result (Goes (env_view env.entry) (draft_view draft.old) (reverse stack.old.items) (draft_view draft.new) (reverse stack.new.items) (behind_node (node.New new_word class.now))) }
+{
+    settle(alloc, draft, stack, is_reference)?;
+    let meant = plain_type(env.constants.scope, class)?;
+    let of = meant_type(meant);
+    let Some(number) = class_in(of) else {
+        return Err(OrMemory::Fault(NotYet));
+    };
+    put_item(
+        stack,
+        Item::Tree(Tree {
+            place: new_word.place,
+            name: None,
+            dotted: None,
+            term: Term::Value(Ending {
+                kind: NodeKind::NewObject { class: number },
+                of,
             }),
         }),
     )?;

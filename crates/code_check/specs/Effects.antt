@@ -1,9 +1,9 @@
 -- Serves the code: what instructions do to operands, by what they take and what they give.
 use Rattle.std.specs.Prelude.{ℕ, zero, suc, List, [], ◌∷◌, Option, Some, None}
 use Rattle.bound_project.specs.Pieces.{Tables, order_in}
-use Rattle.pcode.specs.WellFormed.{Kind, a_value, Way, no_way, brings, value_off, path_off, taken_off, brings_value, brings_path, statement_over, kinds_pushed, kinds_reordered}
+use Rattle.pcode.specs.WellFormed.{Kind, a_value, a_path, Way, no_way, brings, value_off, path_off, taken_off, brings_value, brings_path, statement_over, kinds_pushed, kinds_reordered}
 use Rattle.code_check.specs.declared.effects.Takes.{Takes}
-use Rattle.code_check.specs.declared.effects.Takes.TheVariants.{Values, PathAndValues, CountedAndValues, CountedAndPath, PathAndCounted}
+use Rattle.code_check.specs.declared.effects.Takes.TheVariants.{Values, PathAndValues, CountedAndValues, CountedAndPath, PathAndCounted, ValueAndPath}
 use Rattle.code_check.specs.declared.effects.Gives.{Gives}
 use Rattle.code_check.specs.declared.effects.Gives.TheVariants as gives
 use Rattle.code_check.specs.declared.effects.Effect.{Effect}
@@ -19,6 +19,7 @@ takes_off (Values n) ks go = values_off n ks go
 takes_off (PathAndValues n) ks go = path_off ks (λ js. values_off n js go)
 takes_off (CountedAndValues k n) ks go = taken_off k ks [] (λ xs js. values_off n js go)
 takes_off (CountedAndPath k) ks go = taken_off k ks [] (λ xs js. path_off js go)
+takes_off ValueAndPath ks go = value_off ks (λ js. path_off js go)
 takes_off (PathAndCounted k) ks go = path_off ks (λ js. taken_off k js [] (λ xs is. go is))
 
 abbrev pub given_by : Gives → List Kind → Option Way
@@ -26,6 +27,7 @@ given_by gives.Nothing ks = Some (brings ks)
 given_by gives.Value ks = brings_value ks
 given_by gives.Path ks = brings_path ks
 given_by gives.TwoValues ks = brings_value (a_value ∷ ks)
+given_by gives.PathAndTwoValues ks = Some (brings (a_value ∷ a_value ∷ a_path ∷ ks))
 given_by gives.End ks = statement_over ks
 
 -- the way behind an instruction with this effect, where no way leads to it from above; and where one brings operands

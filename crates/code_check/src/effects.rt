@@ -15,6 +15,7 @@ pub enum Takes {
     CountedAndValues(u32, u32),
     CountedAndPath(u32),
     PathAndCounted(u32),
+    ValueAndPath,
 }
 
 /// What it puts there; at a statement's end nothing may be left.
@@ -24,6 +25,7 @@ pub enum Gives {
     Value,
     Path,
     TwoValues,
+    PathAndTwoValues,
     End,
 }
 
@@ -52,6 +54,7 @@ pub fn effect_of(instr: Instr) -> Effect
         | Instr::PushHost(_)
         | Instr::LoadErr(_)
         | Instr::FirstSheet
+        | Instr::PushThis
         | Instr::NextRound { .. }
         | Instr::NextItem { .. }
         | Instr::Selected { .. } => Effect::Does(Takes::Values(0), Gives::Value),
@@ -60,10 +63,15 @@ pub fn effect_of(instr: Instr) -> Effect
         | Instr::OperateAlone { .. }
         | Instr::Plain
         | Instr::PlainIfAny
+        | Instr::ObjectThere
         | Instr::IsType(_)
         | Instr::Fit(_)
         | Instr::FitObject(_)
         | Instr::ShowText => Effect::Does(Takes::Values(1), Gives::Value),
+        Instr::New { .. } => Effect::Does(Takes::Values(0), Gives::TwoValues),
+        Instr::FieldIn { .. } => Effect::Does(Takes::Values(1), Gives::Path),
+        Instr::MakeThere => Effect::Does(Takes::PathAndValues(0), Gives::PathAndTwoValues),
+        Instr::StoreMade => Effect::Does(Takes::ValueAndPath, Gives::Path),
         Instr::MemberThere { .. } | Instr::NamedThere { .. } => Effect::Does(
             Takes::Values(1),
             Gives::TwoValues,
@@ -91,7 +99,10 @@ pub fn effect_of(instr: Instr) -> Effect
             Takes::PathAndValues(0),
             Gives::Value,
         ),
-        Instr::FieldOf { .. } | Instr::Lend => Effect::Does(Takes::PathAndValues(0), Gives::Path),
+        Instr::FieldOf { .. } | Instr::AsNew { .. } | Instr::Lend => Effect::Does(
+            Takes::PathAndValues(0),
+            Gives::Path,
+        ),
         Instr::EraseAt | Instr::KeepPath { .. } => Effect::Does(
             Takes::PathAndValues(0),
             Gives::Nothing,
@@ -107,6 +118,10 @@ pub fn effect_of(instr: Instr) -> Effect
             Gives::Value,
         ),
         Instr::Index { numbers } => Effect::Does(Takes::CountedAndValues(numbers, 1), Gives::Value),
+        Instr::CallOf { arguments, .. } => Effect::Does(
+            Takes::CountedAndValues(arguments, 1),
+            Gives::Value,
+        ),
         Instr::MemberOf { arguments, .. } | Instr::NamedOf { arguments, .. } => Effect::Does(
             Takes::CountedAndValues(arguments, 2),
             Gives::Value,

@@ -139,6 +139,7 @@ fn has_storage(code: &Code, procedure: usize, storage: Storage) -> bool
     match storage {
         Storage::Local(number) => has_local(code, procedure, number),
         Storage::Shared(number) => (number as usize) < code.declared.shared.len(),
+        Storage::Own(_) => true,
     }
 }
 
@@ -214,10 +215,17 @@ fn is_sound(code: &Code, procedure: usize, instr: Instr) -> bool
         | Instr::DropKept { block } => has_statement(code, procedure, block),
         Instr::Push { constant } => is_constant(code, constant),
         Instr::PathOf(variable) => has_variable(code, procedure, variable),
-        Instr::FieldOf { of, .. } | Instr::IsType(of) | Instr::Fit(of) | Instr::FitObject(of) =>
-            has_type(code, of),
+        Instr::FieldOf { of, .. }
+        | Instr::FieldIn { of, .. }
+        | Instr::IsType(of)
+        | Instr::Fit(of)
+        | Instr::FitObject(of) => has_type(code, of),
         Instr::Reorder { order, arguments } => are_below(code.order(order), arguments),
         Instr::Call {
+            procedure: called,
+            arguments,
+        }
+        | Instr::CallOf {
             procedure: called,
             arguments,
         } => has_procedure(code, called, arguments),
@@ -241,6 +249,12 @@ fn is_sound(code: &Code, procedure: usize, instr: Instr) -> bool
         } => resumes(code, procedure, own, statement),
         Instr::Leave => false,
         Instr::PushHost(_)
+        | Instr::PushThis
+        | Instr::New { .. }
+        | Instr::ObjectThere
+        | Instr::AsNew { .. }
+        | Instr::MakeThere
+        | Instr::StoreMade
         | Instr::LoadErr(_)
         | Instr::ReadThrough
         | Instr::ElementOf { .. }

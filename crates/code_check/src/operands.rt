@@ -103,6 +103,7 @@ impl Operands {
                 && self.take_values(values),
             Takes::CountedAndPath(count) => self.take_any(count) && self.take_path(),
             Takes::PathAndCounted(count) => self.take_path() && self.take_any(count),
+            Takes::ValueAndPath => self.take_value() && self.take_path(),
         }
     }
 

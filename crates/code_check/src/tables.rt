@@ -1,13 +1,14 @@
 // Whether the tables of a code say where its procedures and statements begin.
-ghost use Rattle.std.specs.Prelude.{◌≡◌, ◌↔◌, ◌<◌, IsTrue, Some, drop, length, slice_get, slice_index};
-ghost use Rattle.bound_project.specs.View.{class_view, declarations_view};
-ghost use Rattle.bound_project.specs.Whole.{All, WholeClass};
+ghost use Rattle.std.specs.Prelude.{◌≡◌, ◌↔◌, ◌<◌, ◌≤◌, ℕ, IsTrue, Some, drop, length, slice_get, slice_index};
+ghost use Rattle.bound_project.specs.Project.{Named};
+ghost use Rattle.bound_project.specs.View.{class_member_view, class_view, declarations_view};
+ghost use Rattle.bound_project.specs.Whole.{All, IfThere, WholeClass, WholeMember};
 ghost use Rattle.pcode.specs.Instructions.{Begin, Leave, entry_of, next_statement};
 ghost use Rattle.pcode.specs.View.{code_view};
 ghost use Rattle.pcode.specs.WellFormed.{BeginsAt, first_address, statement_count};
 ghost use Rattle.code_check.specs.Questions.{AreFrom, StartsAgree, TableBegins, TableGoesOn, TablesBegin, TablesGoOn};
 
-use bound_project::Class;
+use bound_project::{Class, Member};
 use pcode::{Code, Instr};
 
 /// The addresses of a procedure: from one on, before another.
@@ -221,13 +222,75 @@ pub fn tables_go_on(code: &Code) -> bool
     true
 }
 
-fn class_ends(code: &Code, class: &Class) -> bool
-    ensures { IsTrue result ↔ WholeClass (declarations_view code.now.declared) (class_view class.now) }
+// Whether a procedure is there, where one is named.
+fn has_procedure_if_any(code: &Code, procedure: Option<u32>) -> bool
+    ensures { IsTrue result ↔ IfThere (λ (p : ℕ). p < length (declarations_view code.now.declared).procedures) procedure }
 {
-    match class.terminate {
+    match procedure {
         Some(procedure) => (procedure as usize) < code.declared.procedures.len(),
         None => true,
     }
+}
+
+// Whether a class is there of which an object is made, where one is named.
+fn has_class_if_any(code: &Code, class: Option<u32>) -> bool
+    ensures { IsTrue result ↔ IfThere (λ (c : ℕ). c ≤ length (declarations_view code.now.declared).classes) class }
+{
+    match class {
+        Some(class) => class as usize <= code.declared.classes.len(),
+        None => true,
+    }
+}
+
+// Whether what a member is of a class with so many variables is there.
+fn is_whole_member(code: &Code, fields: usize, member: Member) -> bool
+    ensures { IsTrue result ↔ WholeMember (declarations_view code.now.declared) fields (class_member_view member) }
+{
+    match member {
+        Member::Variable { field, makes } => {
+            (field as usize) < fields && has_class_if_any(code, makes)
+        }
+        Member::Procedure(procedure) => has_procedure_if_any(code, Some(procedure)),
+        Member::Property { reads, lets, sets } => {
+            has_procedure_if_any(code, reads)
+                && (has_procedure_if_any(code, lets) && has_procedure_if_any(code, sets))
+        }
+    }
+}
+
+fn field_count(class: &Class) -> usize
+    ensures { result ≡ length (class_view class.now).fields }
+{
+    class.fields.len()
+}
+
+fn are_whole_members(code: &Code, class: &Class) -> bool
+    ensures { IsTrue result ↔ All (λ (x : Named). WholeMember (declarations_view code.now.declared) (length (class_view class.now).fields) x.member) (class_view class.now).members }
+{
+    let fields = field_count(class);
+    for named in &class.members {
+        if !is_whole_member(code, fields, named.member) {
+            return false;
+        }
+    }
+    true
+}
+
+fn is_whole_default(code: &Code, class: &Class) -> bool
+    ensures { IsTrue result ↔ IfThere (WholeMember (declarations_view code.now.declared) (length (class_view class.now).fields)) (class_view class.now).default }
+{
+    match class.default {
+        Some(member) => is_whole_member(code, field_count(class), member),
+        None => true,
+    }
+}
+
+fn class_ends(code: &Code, class: &Class) -> bool
+    ensures { IsTrue result ↔ WholeClass (declarations_view code.now.declared) (class_view class.now) }
+{
+    has_procedure_if_any(code, class.initialize)
+        && (has_procedure_if_any(code, class.terminate)
+            && (are_whole_members(code, class) && is_whole_default(code, class)))
 }
 
 /// Whether the procedures that classes end with are there.

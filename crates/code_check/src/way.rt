@@ -51,6 +51,12 @@ fn give(operands: &mut Operands, gives: Gives) -> Result<Step, NoMemory>
             operands.put(Kind::Value)?;
             Ok(Step::On)
         }
+        Gives::PathAndTwoValues => {
+            operands.put(Kind::Path)?;
+            operands.put(Kind::Value)?;
+            operands.put(Kind::Value)?;
+            Ok(Step::On)
+        }
         Gives::End => Ok(ended(operands)),
     }
 }

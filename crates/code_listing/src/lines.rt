@@ -204,7 +204,8 @@ fn block_line(code: &Code, instr: Instr) -> Line
     }
 }
 
-// The same of the kinds from 52 on: jumps, errors, ends, two assignments, and members whose last arguments have names.
+// The same of the kinds from 52 on; here up to 68: jumps, errors, ends, two assignments, and members whose last arguments
+// have names.
 fn control_line(code: &Code, instr: Instr) -> Line
     requires { 51 < kind_of (tables_of code.now) instr }
     ensures { line_view result ≡ lists.listed (instr_view (tables_of code.now) instr) }
@@ -227,14 +228,39 @@ fn control_line(code: &Code, instr: Instr) -> Line
         Instr::StopHere => listed_as(63, 0, 0),
         Instr::Leave => listed_as(64, 0, 0),
         Instr::StoreItem { numbers } => listed_as(65, number(numbers), 0),
+        Instr::SetMember => listed_as(66, 0, 0),
         Instr::NamedThere { name, given, .. } => name_line(67, code, name, given),
         Instr::NamedOf {
             name,
             arguments,
             ..
         } => name_line(68, code, name, arguments),
-        // Only SetMember is left.
-        _ => listed_as(66, 0, 0),
+        _ => object_line(code, instr),
+    }
+}
+
+// The same of the kinds from 69 on: objects of classes.
+fn object_line(code: &Code, instr: Instr) -> Line
+    requires { 68 < kind_of (tables_of code.now) instr }
+    ensures { line_view result ≡ lists.listed (instr_view (tables_of code.now) instr) }
+{
+    match instr {
+        Instr::PushThis => listed_as(69, 0, 0),
+        Instr::New { class } => listed_as(70, number(class), 0),
+        Instr::ObjectThere => listed_as(71, 0, 0),
+        Instr::FieldIn {
+            field,
+            is_bounded,
+            ..
+        } => listed_as(72, number(field), bit_of(is_bounded)),
+        Instr::CallOf {
+            procedure,
+            arguments,
+        } => listed_as(73, number(procedure), number(arguments)),
+        Instr::AsNew { class } => listed_as(74, number(class), 0),
+        Instr::MakeThere => listed_as(75, 0, 0),
+        // Only StoreMade is left.
+        _ => listed_as(76, 0, 0),
     }
 }
 

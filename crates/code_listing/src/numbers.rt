@@ -95,6 +95,7 @@ pub fn variable_number(variable: Variable) -> u64
     match variable.storage {
         Storage::Local(number) => u64::from(number),
         Storage::Shared(number) => u64::from(number),
+        Storage::Own(number) => u64::from(number),
     }
 }
 
@@ -105,6 +106,7 @@ pub fn storage_number(variable: Variable) -> u64
     match variable.storage {
         Storage::Local(_) => 0,
         Storage::Shared(_) => 1,
+        Storage::Own(_) => 2,
     }
 }
 

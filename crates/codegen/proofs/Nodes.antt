@@ -16,7 +16,7 @@ use Rattle.pcode.specs.View.{instr_view}
 use Rattle.codegen.specs.declared.node.Around.{Around}
 use Rattle.codegen.specs.declared.node.Added.{Added}
 use Rattle.codegen.specs.Emission.{constant_number, node_instrs, nodes_instrs}
-use Rattle.codegen.proofs.Pieces.{codes, Emits, append_none, value_emits, place_emits, both_emits, test_emits, range_emits, found_emits, args_emit, place_found_emits, value_found_emits, member_found_emits, named_found_emits}
+use Rattle.codegen.proofs.Pieces.{codes, Emits, append_none, value_emits, place_emits, both_emits, test_emits, range_emits, found_emits, args_emit, place_found_emits, value_found_emits, member_found_emits, object_found_emits, named_found_emits}
 
 -- the tables of the code are those of the project with two constants more
 pub record Grown (t u : Tables) (added : Added) : Type 0 where
@@ -64,6 +64,10 @@ node_emits t u added g around n (node.Item x count) st there = found_emits aroun
 node_emits t u added g around n (node.Element count) st there = place_found_emits around count st _ (λ c. map (instr_view u) (node_instrs added t.orders around (node.Element c))) (λ x es. refl) there
 node_emits t u added g around n (node.Field i of bounded) st there = place_emits around _ _ (λ x. refl) st there
 node_emits t u added g around n (node.KeptPlace header) st there = (refl, there.1)
+node_emits t u added g around n (node.ObjectField i of bounded) st there = value_emits around _ _ (λ e. refl) st there
+node_emits t u added g around n (node.NewVariable x c) st there = (refl, there.1)
+node_emits t u added g around n (node.AsNew c) st there = place_emits around _ _ (λ x. refl) st there
+node_emits t u added g around n node.LoadMade st there = place_emits around _ _ (λ x. refl) st there
 node_emits t u added g around n node.Load st there = place_emits around _ _ (λ x. refl) st there
 node_emits t u added g around n (node.ElementValue count) st there = value_found_emits around count st _ (λ c. map (instr_view u) (node_instrs added t.orders around (node.ElementValue c))) (λ x es. refl) there
 node_emits t u added g around n (node.FieldValue i) st there = value_emits around _ _ (λ e. refl) st there
@@ -73,6 +77,16 @@ node_emits t u added g around n (node.Call p count) st there = args_emit around 
 node_emits t u added g around n (node.CallInOrder p count order) st there =
     along around _ st _ _ (ap (λ o. plain.Reorder o count ∷ plain.Call p (length (order_in t order)) ∷ []) (sym (g.order order)))
     (args_emit around count st _ (λ c. plain.Reorder (order_in t order) c ∷ plain.Call p (length (order_in t order)) ∷ []) (λ args. append_assoc (args_code args) (plain.Reorder (order_in t order) (count_of args) ∷ []) (plain.Call p (length (order_in t order)) ∷ []))) there
+node_emits t u added g around n node.This st there = (refl, there.1)
+node_emits t u added g around n (node.NewObject c) st there = (refl, there.1)
+node_emits t u added g around n node.ObjectThere st there = value_emits around _ _ (λ e. refl) st there
+node_emits t u added g around n (node.Method p count) st there =
+    object_found_emits around count st _ (λ c. map (instr_view u) (node_instrs added t.orders around (node.Method p c))) (λ e args. refl) there
+node_emits t u added g around n (node.MethodInOrder p count order) st there =
+    let call = plain.CallOf p (length (order_in t order)) ∷ [] in
+    along around _ st _ _ (ap (λ o. plain.Reorder o count ∷ plain.CallOf p (length (order_in t order)) ∷ []) (sym (g.order order)))
+    (object_found_emits around count st _ (λ c. plain.Reorder (order_in t order) c ∷ call)
+    (λ e args. ap (λ c. expr_code e ++ plain.ObjectThere ∷ c) (append_assoc (args_code args) (plain.Reorder (order_in t order) (count_of args) ∷ []) call))) there
 node_emits t u added g around n (node.ErrValue told) st there = (refl, there.1)
 node_emits t u added g around n (node.Marked broken count) st there =
     found_emits around count st _ (λ c. map (instr_view u) (node_instrs added t.orders around (node.Marked broken c))) (λ es. refl) there

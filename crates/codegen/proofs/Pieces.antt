@@ -6,8 +6,8 @@ use Rattle.std.proofs.lemmas.Slice.Eq.{bytes_eq-Decides}
 use Rattle.vba_values.specs.Val.{empty}
 use Rattle.bound_project.specs.View.{declared_view}
 use Rattle.bound_project.specs.Expressions.{Expr, Exprs, no_exprs, also, given_count, ByName, Lvalue, Args, no_args, operand_type}
-use Rattle.bound_project.specs.Pieces.{Argument, place_lent, value_copied, default_taken, values_listed, Piece, nothing, an_expr, a_place, an_argument, a_member, a_named_member, a_value_shown, a_zone, a_test_begun, a_test_is, a_test_range, a_resize, an_erased, of_value, of_place, of_both, of_test, of_range, of_found, of_place_found, of_value_found, is_member, misfit, of_member, of_member_found, same_names, same_by_name, is_named_member, of_named, of_named_found, exprs_off, arguments_off, with_argument}
-use Rattle.pcode.specs.Instructions.{Instr, Push, Selected, Plain, Fit, Lend, Pack, MemberThere, NamedThere, ShowText, IfFits, IfBetween, Redim, EraseAt}
+use Rattle.bound_project.specs.Pieces.{Argument, place_lent, value_copied, default_taken, values_listed, Piece, nothing, an_expr, a_place, an_argument, a_member, an_object, a_named_member, a_value_shown, a_zone, a_test_begun, a_test_is, a_test_range, a_resize, an_erased, of_value, of_place, of_both, of_test, of_range, of_found, of_place_found, of_value_found, is_member, misfit, of_member, of_member_found, of_object, of_object_found, same_names, same_by_name, is_named_member, of_named, of_named_found, exprs_off, arguments_off, with_argument}
+use Rattle.pcode.specs.Instructions.{Instr, Push, Selected, Plain, Fit, Lend, Pack, MemberThere, ObjectThere, NamedThere, ShowText, IfFits, IfBetween, Redim, EraseAt}
 use Rattle.pcode.specs.Code.{count, list_count, expr_code, place_code, args_code, list_code}
 use Rattle.codegen.specs.declared.node.Around.{Around}
 
@@ -24,6 +24,7 @@ piece_code around (a_place x) = place_code x
 piece_code around (an_argument a) = argument_code a
 piece_code around (a_member e name given) = expr_code e ++ MemberThere name given ∷ []
 piece_code around (a_named_member e name by given) = expr_code e ++ NamedThere name by given ∷ []
+piece_code around (an_object e) = expr_code e ++ ObjectThere ∷ []
 piece_code around (a_value_shown e) = expr_code e ++ ShowText ∷ []
 piece_code around a_zone = Push empty ∷ []
 piece_code around a_test_begun = Selected around.header ∷ Plain ∷ []
@@ -294,3 +295,27 @@ pub named_found_emits : (around : Around) (n : ℕ) (st : List Piece) (name : Li
     → ((e : Expr) (es : Exprs) → piece_code around (make e es) ≡ expr_code e ++ NamedThere name by (given_count es) ∷ (list_code es ++ is (list_count es)))
     → Emits around (of_named_found name by make (exprs_off n st no_exprs)) st (is n)
 named_found_emits around n st name by make is h = named_off around n st name by make is h (exprs_off n st no_exprs) (exprs_are around n st no_exprs)
+
+-- ---- procedures of objects
+
+object_emits : (around : Around) (make : Expr → Args → Piece) (args : Args) (is : List Instr) → ((e : Expr) → piece_code around (make e args) ≡ expr_code e ++ ObjectThere ∷ is)
+    → (st : List Piece) → Emits around (of_object make args st) st is
+object_emits around make args is h (an_object e ∷ st) there =
+    let looked = ObjectThere ∷ [] in
+    let parted : expr_code e ++ (looked ++ is) ≡ (expr_code e ++ looked) ++ is = sym (append_assoc (expr_code e) looked is) in
+    (one (codes around st) (expr_code e ++ looked) is _ (h e ∙ parted), (tt, there.1))
+object_emits around make args is h st there = absurd there.0
+
+object_off : (around : Around) (n : ℕ) (st : List Piece) (make : Expr → Args → Piece) (is : ℕ → List Instr)
+    → ((e : Expr) (args : Args) → piece_code around (make e args) ≡ expr_code e ++ ObjectThere ∷ (args_code args ++ is (count args)))
+    → (o : Option (Args × List Piece)) → ArgsOff around n st no_args o → Emits around (of_object_found make o) st (is n)
+object_off around n st make is h None off there = absurd there.0
+object_off around n st make is h (Some (args, rest)) off there =
+    let k : count args ≡ n = omega (arith, off.1) in
+    let r = object_emits around make args (args_code args ++ is (count args)) (λ e. h e args) rest there in
+    (r.0 ∙ sym (append_assoc (codes around rest) (args_code args) (is (count args))) ∙ ap (λ c. c ++ is (count args)) (off.0 ∙ append_none (codes around st)) ∙ ap (λ m. codes around st ++ is m) k, off.2 r.1)
+
+pub object_found_emits : (around : Around) (n : ℕ) (st : List Piece) (make : Expr → Args → Piece) (is : ℕ → List Instr)
+    → ((e : Expr) (args : Args) → piece_code around (make e args) ≡ expr_code e ++ ObjectThere ∷ (args_code args ++ is (count args)))
+    → Emits around (of_object_found make (arguments_off n st no_args)) st (is n)
+object_found_emits around n st make is h = object_off around n st make is h (arguments_off n st no_args) (args_are around n st no_args)

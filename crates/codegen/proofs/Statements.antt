@@ -15,8 +15,8 @@ use Rattle.bound_project.specs.declared.node.Node.{Node}
 use Rattle.bound_project.specs.View.{declared_view, variable_view}
 use Rattle.bound_project.specs.Expressions.{Expr, Exprs, no_exprs, given_count, Lvalue, Args, no_args, Prints, no_prints, shown, zone, operand_type}
 use Rattle.bound_project.specs.Statements.{Tests, no_tests, test_is, test_range, Resizes, no_resizes, resize, Arrays, no_arrays, an_array, Action, assign_item, assign_member}
-use Rattle.bound_project.specs.Pieces.{Piece, an_expr, a_place, a_member, is_member, name_of, name_in, exprs_off, a_value_shown, a_zone, a_test_is, a_test_range, a_resize, an_erased, Tables, order_in, prints_off, tests_off, resizes_off, arrays_off, arguments_off, pieces}
-use Rattle.bound_project.specs.Bodies.{whole, one_value, one_place, behind_value, member_found, item_found, alone, action_of, action_or, part, statement_view, StatementFits, AllFit, BodiesFit, body_view}
+use Rattle.bound_project.specs.Pieces.{Piece, an_expr, a_place, a_member, an_object, is_member, name_of, name_in, exprs_off, a_value_shown, a_zone, a_test_is, a_test_range, a_resize, an_erased, Tables, order_in, prints_off, tests_off, resizes_off, arrays_off, arguments_off, pieces}
+use Rattle.bound_project.specs.Bodies.{whole, one_value, one_place, behind_value, behind_object, member_found, item_found, alone, action_of, action_or, part, statement_view, StatementFits, AllFit, BodiesFit, body_view}
 use Rattle.bound_project.specs.declared.project.Body.{Body}
 use Rattle.std.proofs.lemmas.Bool.{false≢true}
 use Rattle.std.proofs.lemmas.List.{length-map}
@@ -181,6 +181,24 @@ behind_made around code back go h n st (Some (args, an_expr e ∷ [])) off =
     (h args e ∙ all_there around st (expr_code e ++ args_code args) (back (count args)) off.0 ∙ ap (λ m. codes around st ++ back m) k, off.2 (tt, tt))
 behind_made around code back go h n st (Some (args, rest)) off = tt
 
+-- arguments of a procedure of an object, behind a value
+method_made : (around : Around) (code : Action → List plain.Instr) (back : ℕ → List plain.Instr) (go : Expr → Args → Expr → Action)
+    → ((base : Expr) (args : Args) (e : Expr) → code (go base args e) ≡ expr_code e ++ (expr_code base ++ plain.ObjectThere ∷ (args_code args ++ back (count args))))
+    → (n : ℕ) (st : List Piece) (found : Option (Args × List Piece)) → ArgsOff around n st no_args found → Made around code [] (back n) st (behind_object found go)
+method_made around code back go h n st None off = tt
+method_made around code back go h n st (Some (args, an_object base ∷ an_expr e ∷ [])) off =
+    let k : count args ≡ n = omega (arith, off.1) in
+    let looked = plain.ObjectThere ∷ [] in
+    let last = args_code args ++ back (count args) in
+    let front = expr_code e ++ (expr_code base ++ looked) in
+    let parted : expr_code e ++ (expr_code base ++ (looked ++ last)) ≡ front ++ last
+    = ap (λ c. expr_code e ++ c) (sym (append_assoc (expr_code base) looked last)) ∙ sym (append_assoc (expr_code e) (expr_code base ++ looked) last) in (
+      h base args e ∙ parted ∙ sym (append_assoc front (args_code args) (back (count args)))
+          ∙ all_there around st (front ++ args_code args) (back (count args)) off.0 ∙ ap (λ m. codes around st ++ back m) k,
+      off.2 (tt, (tt, tt)),
+    )
+method_made around code back go h n st (Some (args, rest)) off = tt
+
 -- an assignment to a member: arguments behind the member that was looked for, behind a value
 assigned_if : (around : Around) (code : Action → List plain.Instr) (back : List plain.Instr) (name other : List ℕ) (given : ℕ) (es : Exprs) (base e : Expr)
     → code (assign_member base name es e) ≡ expr_code e ++ (expr_code base ++ plain.MemberThere name (given_count es) ∷ (list_code es ++ back)) → (n : ℕ) (st : List Piece)
@@ -289,6 +307,26 @@ action_made t u added g row p i next (kind.SetPropertyInOrder q n order of) st =
     (behind_made (around_of row k) (action_code (entry row) p i next) (λ m. plain.Reorder o m ∷ after) _
     (λ args e. ap (λ c. expr_code e ++ c) (append_assoc (args_code args) (plain.Reorder o (count args) ∷ []) after) ∙ sym (append_assoc (expr_code e) (args_code args) (plain.Reorder o (count args) ∷ after)))
     n st (arguments_off n st no_args) (args_are (around_of row (kind.SetPropertyInOrder q n order of)) n st no_args))
+action_made t u added g row p i next (kind.LetMethod q count of) st =
+    method_made (around_of row (kind.LetMethod q count of)) (action_code (entry row) p i next) (λ n. back t u added row p i next (kind.LetMethod q n of)) _ (λ base args e. refl) count st (arguments_off count st no_args) (args_are (around_of row (kind.LetMethod q count of)) count st no_args)
+action_made t u added g row p i next (kind.LetMethodInOrder q n order of) st =
+    let k = kind.LetMethodInOrder q n order of in
+    let o = order_in t order in
+    let after = plain.Lift (suc (length o)) ∷ plain.Plain ∷ plain.Fit (declared_view of) ∷ plain.CallOf q (suc (length o)) ∷ plain.Drop ∷ plain.Finish (slice_index row next) ∷ [] in
+    subst (λ (l : List ℕ). Made (around_of row k) (action_code (entry row) p i next) [] (plain.Reorder l n ∷ after) st (action_of t k st)) (sym (g.order order))
+    (method_made (around_of row k) (action_code (entry row) p i next) (λ m. plain.Reorder o m ∷ after) _
+    (λ base args e. ap (λ c. expr_code e ++ (expr_code base ++ plain.ObjectThere ∷ c)) (append_assoc (args_code args) (plain.Reorder o (count args) ∷ []) after))
+    n st (arguments_off n st no_args) (args_are (around_of row k) n st no_args))
+action_made t u added g row p i next (kind.SetMethod q count of) st =
+    method_made (around_of row (kind.SetMethod q count of)) (action_code (entry row) p i next) (λ n. back t u added row p i next (kind.SetMethod q n of)) _ (λ base args e. refl) count st (arguments_off count st no_args) (args_are (around_of row (kind.SetMethod q count of)) count st no_args)
+action_made t u added g row p i next (kind.SetMethodInOrder q n order of) st =
+    let k = kind.SetMethodInOrder q n order of in
+    let o = order_in t order in
+    let after = plain.Lift (suc (length o)) ∷ plain.FitObject (declared_view of) ∷ plain.CallOf q (suc (length o)) ∷ plain.Drop ∷ plain.Finish (slice_index row next) ∷ [] in
+    subst (λ (l : List ℕ). Made (around_of row k) (action_code (entry row) p i next) [] (plain.Reorder l n ∷ after) st (action_of t k st)) (sym (g.order order))
+    (method_made (around_of row k) (action_code (entry row) p i next) (λ m. plain.Reorder o m ∷ after) _
+    (λ base args e. ap (λ c. expr_code e ++ (expr_code base ++ plain.ObjectThere ∷ c)) (append_assoc (args_code args) (plain.Reorder o (count args) ∷ []) after))
+    n st (arguments_off n st no_args) (args_are (around_of row k) n st no_args))
 action_made t u added g row p i next (kind.Print count ends) st =
     prints_made (around_of row (kind.Print count ends)) (action_code (entry row) p i next) (λ n. back t u added row p i next (kind.Print n ends)) _ (λ ps. refl) count st (prints_off count st no_prints) (prints_are (around_of row (kind.Print count ends)) count st no_prints)
 action_made t u added g row p i next (kind.Raise count) st =

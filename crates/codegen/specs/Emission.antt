@@ -46,6 +46,8 @@ value_instrs added (node.Constant i) = instr.Push (constant_number added i) ∷ 
 value_instrs added (node.ByDefault i) = instr.Push (constant_number added i) ∷ []
 value_instrs added (node.HostObject reference) = instr.PushHost reference ∷ []
 value_instrs added node.ActiveSheet = instr.FirstSheet ∷ []
+value_instrs added node.This = instr.PushThis ∷ []
+value_instrs added (node.NewObject c) = instr.New c ∷ instr.Drop ∷ []
 value_instrs added (node.ErrValue member) = instr.LoadErr member ∷ []
 value_instrs added k = []
 
@@ -56,7 +58,11 @@ place_instrs (node.Item x count) = instr.PathOf x ∷ instr.ElementOf count ∷ 
 place_instrs (node.Element count) = instr.ElementIn count ∷ []
 place_instrs (node.Field i of bounded) = instr.FieldOf i of bounded ∷ []
 place_instrs (node.KeptPlace header) = instr.Dot header ∷ []
+place_instrs (node.ObjectField i of bounded) = instr.FieldIn i of bounded ∷ []
+place_instrs (node.NewVariable x c) = instr.PathOf x ∷ instr.AsNew c ∷ []
+place_instrs (node.AsNew c) = instr.AsNew c ∷ []
 place_instrs node.Load = instr.ReadThrough ∷ []
+place_instrs node.LoadMade = instr.MakeThere ∷ instr.Drop ∷ instr.StoreMade ∷ instr.ReadThrough ∷ []
 place_instrs (node.ElementValue count) = instr.Index count ∷ []
 place_instrs (node.FieldValue i) = instr.PartOf i ∷ []
 place_instrs (node.BoundOf upper z) = instr.BoundAt upper z ∷ []
@@ -78,6 +84,9 @@ operator_instrs k = []
 abbrev pub call_instrs : Added → List (List ℕ) → NodeKind → List Instr
 call_instrs added orders (node.Call p count) = instr.Call p count ∷ []
 call_instrs added orders (node.CallInOrder p count order) = instr.Reorder order count ∷ instr.Call p (order_length orders order) ∷ []
+call_instrs added orders node.ObjectThere = instr.ObjectThere ∷ []
+call_instrs added orders (node.Method p count) = instr.CallOf p count ∷ []
+call_instrs added orders (node.MethodInOrder p count order) = instr.Reorder order count ∷ instr.CallOf p (order_length orders order) ∷ []
 call_instrs added orders (node.MemberThere i given) = instr.MemberThere (constant_number added i) given ∷ []
 call_instrs added orders (node.HostMember i count) = instr.MemberOf (constant_number added i) count ∷ []
 call_instrs added orders (node.NamedThere i by given) = instr.NamedThere (constant_number added i) by given ∷ []
@@ -136,6 +145,13 @@ property_instrs q count of = instr.Lift count ∷ instr.Plain ∷ instr.Fit of �
 abbrev pub object_property_instrs : (procedure arguments : ℕ) → DeclaredType → List Instr
 object_property_instrs q count of = instr.Lift count ∷ instr.FitObject of ∷ instr.Call q (suc count) ∷ instr.Drop ∷ []
 
+-- the same of a property of the object below the arguments
+abbrev pub method_instrs : (procedure arguments : ℕ) → DeclaredType → List Instr
+method_instrs q count of = instr.Lift (suc count) ∷ instr.Plain ∷ instr.Fit of ∷ instr.CallOf q (suc count) ∷ instr.Drop ∷ []
+
+abbrev pub object_method_instrs : (procedure arguments : ℕ) → DeclaredType → List Instr
+object_method_instrs q count of = instr.Lift (suc count) ∷ instr.FitObject of ∷ instr.CallOf q (suc count) ∷ instr.Drop ∷ []
+
 -- an assignment, or Set
 abbrev pub assignment_instrs : Added → ActionKind → List Instr
 assignment_instrs added kind.Assign = instr.Store ∷ []
@@ -153,6 +169,13 @@ property_assignment_instrs orders (kind.LetPropertyInOrder q count order of) = i
 property_assignment_instrs orders (kind.SetProperty q count of) = object_property_instrs q count of
 property_assignment_instrs orders (kind.SetPropertyInOrder q count order of) = instr.Reorder order count ∷ object_property_instrs q (order_length orders order) of
 property_assignment_instrs orders k = []
+
+abbrev pub method_assignment_instrs : List (List ℕ) → ActionKind → List Instr
+method_assignment_instrs orders (kind.LetMethod q count of) = method_instrs q count of
+method_assignment_instrs orders (kind.LetMethodInOrder q count order of) = instr.Reorder order count ∷ method_instrs q (order_length orders order) of
+method_assignment_instrs orders (kind.SetMethod q count of) = object_method_instrs q count of
+method_assignment_instrs orders (kind.SetMethodInOrder q count order of) = instr.Reorder order count ∷ object_method_instrs q (order_length orders order) of
+method_assignment_instrs orders k = []
 
 -- the first or the last line of a loop
 abbrev pub loop_instrs : (statement : ℕ) → ActionKind → List Instr
@@ -183,7 +206,7 @@ control_instrs i next k = []
 -- what is done behind its nodes: all of these but one are empty
 abbrev pub work_instrs : Added → List (List ℕ) → (statement next : ℕ) → ActionKind → List Instr
 work_instrs added orders i next k =
-    assignment_instrs added k ++ (property_assignment_instrs orders k ++ (loop_instrs i k ++ control_instrs i next k))
+    assignment_instrs added k ++ (property_assignment_instrs orders k ++ (method_assignment_instrs orders k ++ (loop_instrs i k ++ control_instrs i next k)))
 
 -- where it goes on
 abbrev pub end_instr : List (List ℕ) → Row → (procedure next : ℕ) → ActionKind → Instr

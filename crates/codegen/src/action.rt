@@ -1,5 +1,5 @@
 ghost use Rattle.std.specs.Prelude.{◌≡◌, suc, [], ◌∷◌, ◌++◌, IfOk, OnOk, slice_index};
-ghost use Rattle.codegen.specs.Emission.{action_instrs, around_of, assignment_instrs, before_instrs, control_instrs, end_instr, lists_of, loop_instrs, object_property_instrs, order_length, policy_in, property_assignment_instrs, property_instrs, work_instrs};
+ghost use Rattle.codegen.specs.Emission.{action_instrs, around_of, assignment_instrs, before_instrs, control_instrs, end_instr, lists_of, loop_instrs, method_assignment_instrs, method_instrs, object_method_instrs, object_property_instrs, order_length, policy_in, property_assignment_instrs, property_instrs, work_instrs};
 
 use crate::node::{Added, Around, constant_number, emit_nodes, order_length, put, put_two};
 use bound_project::{ActionKind, DeclaredType, ElementType, Handling, Node, TooLong};
@@ -137,6 +137,83 @@ fn put_object_property(
     Ok(())
 }
 
+// The same of an object: the property is one of the object below the arguments.
+fn put_method(
+    code: &mut Vec<Instr>,
+    procedure: u32,
+    arguments: u32,
+    of: DeclaredType,
+) -> Result<(), OrMemory<TooLong>>
+    ensures { OnOk result (code.new.items ≡ code.old.items ++ method_instrs procedure arguments of) }
+{
+    let all = one_more(arguments)?;
+    code.extend_from_slice(&[
+        Instr::Lift { arguments: all },
+        Instr::Plain,
+        Instr::Fit(of),
+        Instr::CallOf {
+            procedure,
+            arguments: all,
+        },
+        Instr::Drop,
+    ])?;
+    Ok(())
+}
+
+fn put_object_method(
+    code: &mut Vec<Instr>,
+    procedure: u32,
+    arguments: u32,
+    of: DeclaredType,
+) -> Result<(), OrMemory<TooLong>>
+    ensures { OnOk result (code.new.items ≡ code.old.items ++ object_method_instrs procedure arguments of) }
+{
+    let all = one_more(arguments)?;
+    code.extend_from_slice(&[
+        Instr::Lift { arguments: all },
+        Instr::FitObject(of),
+        Instr::CallOf {
+            procedure,
+            arguments: all,
+        },
+        Instr::Drop,
+    ])?;
+    Ok(())
+}
+
+// Arguments of a property of an object that have names are put in order first.
+fn put_method_in_order(
+    code: &mut Vec<Instr>,
+    orders: &[Vec<u32>],
+    procedure: u32,
+    arguments: u32,
+    order: u32,
+    of: DeclaredType,
+) -> Result<(), OrMemory<TooLong>>
+    ensures { OnOk result (code.new.items ≡ code.old.items
+        ++ Instr.Reorder order arguments ∷ method_instrs procedure (order_length (lists_of orders.now) order) of) }
+{
+    put(code, Instr::Reorder { order, arguments })?;
+    let all = order_length(orders, order)?;
+    put_method(code, procedure, all, of)
+}
+
+fn put_object_method_in_order(
+    code: &mut Vec<Instr>,
+    orders: &[Vec<u32>],
+    procedure: u32,
+    arguments: u32,
+    order: u32,
+    of: DeclaredType,
+) -> Result<(), OrMemory<TooLong>>
+    ensures { OnOk result (code.new.items ≡ code.old.items
+        ++ Instr.Reorder order arguments ∷ object_method_instrs procedure (order_length (lists_of orders.now) order) of) }
+{
+    put(code, Instr::Reorder { order, arguments })?;
+    let all = order_length(orders, order)?;
+    put_object_method(code, procedure, all, of)
+}
+
 fn put_property_in_order(
     code: &mut Vec<Instr>,
     orders: &[Vec<u32>],
@@ -229,6 +306,41 @@ fn put_property_assignment(
     }
 }
 
+// An assignment to a property of an object.
+fn put_method_assignment(
+    code: &mut Vec<Instr>,
+    orders: &[Vec<u32>],
+    action: ActionKind,
+) -> Result<(), OrMemory<TooLong>>
+    ensures { OnOk result (code.new.items ≡ code.old.items ++ method_assignment_instrs (lists_of orders.now) action) }
+{
+    match action {
+        ActionKind::LetMethod {
+            procedure,
+            arguments,
+            of,
+        } => put_method(code, procedure, arguments, of),
+        ActionKind::LetMethodInOrder {
+            procedure,
+            arguments,
+            order,
+            of,
+        } => put_method_in_order(code, orders, procedure, arguments, order, of),
+        ActionKind::SetMethod {
+            procedure,
+            arguments,
+            of,
+        } => put_object_method(code, procedure, arguments, of),
+        ActionKind::SetMethodInOrder {
+            procedure,
+            arguments,
+            order,
+            of,
+        } => put_object_method_in_order(code, orders, procedure, arguments, order, of),
+        _ => Ok(()),
+    }
+}
+
 // The first or the last line of a loop.
 fn put_loop(code: &mut Vec<Instr>, block: u32, action: ActionKind) -> Result<(), OrMemory<TooLong>>
     ensures { OnOk result (code.new.items ≡ code.old.items ++ loop_instrs block action) }
@@ -306,6 +418,7 @@ fn put_work(
 {
     put_assignment(code, added, action)?;
     put_property_assignment(code, orders, action)?;
+    put_method_assignment(code, orders, action)?;
     put_loop(code, statement, action)?;
     put_control(code, statement, next, action)
 }

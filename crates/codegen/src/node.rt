@@ -80,6 +80,10 @@ fn put_value(code: &mut Vec<Instr>, added: Added, kind: NodeKind) -> Result<(), 
         },
         NodeKind::HostObject(reference) => Instr::PushHost(reference),
         NodeKind::ActiveSheet => Instr::FirstSheet,
+        NodeKind::This => Instr::PushThis,
+        NodeKind::NewObject { class } => {
+            return put_two(code, Instr::New { class }, Instr::Drop);
+        }
         NodeKind::ErrValue(member) => Instr::LoadErr(member),
         _ => return Ok(()),
     };
@@ -106,7 +110,24 @@ fn put_place(code: &mut Vec<Instr>, kind: NodeKind) -> Result<(), OrMemory<TooLo
             is_bounded,
         },
         NodeKind::KeptPlace { header } => Instr::Dot { block: header },
+        NodeKind::ObjectField {
+            field,
+            of,
+            is_bounded,
+        } => Instr::FieldIn {
+            field,
+            of,
+            is_bounded,
+        },
+        NodeKind::NewVariable { variable, class } => {
+            return put_two(code, Instr::PathOf(variable), Instr::AsNew { class });
+        }
+        NodeKind::AsNew { class } => Instr::AsNew { class },
         NodeKind::Load => Instr::ReadThrough,
+        NodeKind::LoadMade => {
+            put_two(code, Instr::MakeThere, Instr::Drop)?;
+            return put_two(code, Instr::StoreMade, Instr::ReadThrough);
+        }
         NodeKind::ElementValue { numbers } => Instr::Index { numbers },
         NodeKind::FieldValue { field } => Instr::PartOf { field },
         NodeKind::BoundOf {
@@ -185,6 +206,24 @@ fn put_call_in_order(
     put_two(code, Instr::Reorder { order, arguments }, call)
 }
 
+fn put_method_in_order(
+    code: &mut Vec<Instr>,
+    orders: &[Vec<u32>],
+    procedure: u32,
+    arguments: u32,
+    order: u32,
+) -> Result<(), OrMemory<TooLong>>
+    ensures { OnOk result (code.new.items ≡ code.old.items
+        ++ Instr.Reorder order arguments ∷ Instr.CallOf procedure (order_length (lists_of orders.now) order) ∷ []) }
+{
+    let all = order_length(orders, order)?;
+    let call = Instr::CallOf {
+        procedure,
+        arguments: all,
+    };
+    put_two(code, Instr::Reorder { order, arguments }, call)
+}
+
 // A call, a member of an object of the host, or an argument.
 fn put_call(
     code: &mut Vec<Instr>,
@@ -207,6 +246,19 @@ fn put_call(
             arguments,
             order,
         } => return put_call_in_order(code, orders, procedure, arguments, order),
+        NodeKind::ObjectThere => Instr::ObjectThere,
+        NodeKind::Method {
+            procedure,
+            arguments,
+        } => Instr::CallOf {
+            procedure,
+            arguments,
+        },
+        NodeKind::MethodInOrder {
+            procedure,
+            arguments,
+            order,
+        } => return put_method_in_order(code, orders, procedure, arguments, order),
         NodeKind::MemberThere { name, given } => Instr::MemberThere {
             name: constant_number(added, name),
             given,

@@ -26,6 +26,6 @@ pub use faults::{
 };
 pub use known::{Known, value_type};
 pub use literals::{literal_meant, operator_kind, unary_kind};
-pub use operate::coerced;
+pub use operate::{coerced, is_variant};
 pub use own::{Constants, OwnValues, constants_in, own_values};
 pub use project::{ProjectValues, project_values};

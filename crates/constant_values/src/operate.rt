@@ -1,6 +1,6 @@
 //! Operators and conversions in constant expressions: what raises or stops has no value.
 
-ghost use Rattle.std.specs.Prelude.{◌≡◌, IfOk, IsTrue, IsFalse, Option, option_map, Result};
+ghost use Rattle.std.specs.Prelude.{◌≡◌, IfOk, IsTrue, Option, option_map, Result};
 ghost use Rattle.vba_base.specs.Answer.{Gives};
 ghost use Rattle.vba_values.specs.Operators.{has_two_operands};
 ghost use Rattle.vba_values.specs.Val.{Val};
@@ -16,7 +16,7 @@ use bound_project::{DeclaredType, ElementType};
 use std::alloc::Global;
 use vba_base::{NoMemory, OrMemory};
 use vba_expression::{BinaryOperator, UnaryOperator};
-use vba_values::{Bad, Compare, ObjRef, OpKind, Value, binary, coerce, unary};
+use vba_values::{Bad, Compare, OpKind, Value, binary, coerce, unary};
 
 /// The value that was answered, where one was.
 fn answered(answer: Result<Value, OrMemory<Bad>>) -> Result<Option<Value>, NoMemory>
@@ -30,7 +30,7 @@ fn answered(answer: Result<Value, OrMemory<Bad>>) -> Result<Option<Value>, NoMem
 }
 
 /// Is it a Variant?
-fn is_variant(of: DeclaredType) -> bool
+pub fn is_variant(of: DeclaredType) -> bool
     ensures { result ≡ plain.is_variant (declared_view of) }
 {
     matches!(of, DeclaredType::Plain(ElementType::Variant))

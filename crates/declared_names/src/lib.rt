@@ -5,6 +5,7 @@
 mod access;
 mod at_top;
 mod body;
+mod classes;
 mod entries;
 mod entry;
 mod header;
@@ -26,6 +27,9 @@ mod space;
 mod types;
 mod words;
 
+pub use classes::{
+    class_space, field_number, has_class, is_of_object, member_entry, own_class, reaches,
+};
 pub use entries::entries_of;
 pub use entry::{Entry, What, Written};
 pub use header::header_names;
@@ -47,3 +51,4 @@ pub use types::{
     is_asked, is_made, is_object, meant_type, named_type, plain_type, suffix_type, type_behind,
     type_meant,
 };
+pub use words::is_word;

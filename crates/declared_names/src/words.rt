@@ -3,7 +3,7 @@ ghost use Rattle.std.specs.Prelude.{◌≡◌, map, bytes_eq};
 ghost use Rattle.std.specs.List.{list_any};
 
 /// Has a text these ASCII characters?
-pub(crate) fn is_word(text: &[u16], word: &[u8]) -> bool
+pub fn is_word(text: &[u16], word: &[u8]) -> bool
     ensures { result ≡ bytes_eq text.now word.now }
 {
     match text {

@@ -80,6 +80,25 @@ pub enum Instr {
         names: ArgumentNames,
         arguments: u32,
     },
+    /// The object whose procedure runs; a new object of a class, below what its Class_Initialize gives; whether there is
+    /// an object on top; and the place of a variable of it.
+    PushThis,
+    New {
+        class: u32,
+    },
+    ObjectThere,
+    FieldIn {
+        field: u32,
+        of: DeclaredType,
+        is_bounded: bool,
+    },
+    /// A path is that of a place declared As New; an object is made where it is Nothing, below what its Class_Initialize
+    /// gives, else Empty; and what was made is stored.
+    AsNew {
+        class: u32,
+    },
+    MakeThere,
+    StoreMade,
     /// Is and TypeOf.
     Same,
     IsType(DeclaredType),
@@ -114,6 +133,11 @@ pub enum Instr {
         arguments: u32,
     },
     Call {
+        procedure: u32,
+        arguments: u32,
+    },
+    /// A call of the object below so many arguments.
+    CallOf {
         procedure: u32,
         arguments: u32,
     },

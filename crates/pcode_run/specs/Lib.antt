@@ -2,3 +2,4 @@ pub mod Runs
 pub mod Moving
 pub mod Reaching
 pub mod Chains
+pub mod Naming

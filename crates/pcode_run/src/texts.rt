@@ -1,10 +1,13 @@
 // How a run shows what it tells.
 ghost use Rattle.std.specs.Prelude.{◌≡◌, ℕ, List, ◌++◌, ◌∷◌, [], IfOk, OnOk, flat_map, map, string_bytes};
-ghost use Rattle.std.specs.Fmt.{signed_decimal};
+ghost use Rattle.std.specs.Fmt.{decimal, signed_decimal};
 ghost use Rattle.run_host.specs.View.{told_view, event_view};
-ghost use Rattle.pcode_run.specs.Runs.{cell_shown, escaped, escaped_unit, name_at, names_of, quoted_unit, text_of, text_of_event, trace_line, value_shown};
+ghost use Rattle.bound_project.specs.View.{class_view, declarations_view};
+ghost use Rattle.pcode_run.specs.Naming.{names_view};
+ghost use Rattle.pcode_run.specs.Runs.{Names as PlainNames, cell_shown, class_names, escaped, escaped_unit, name_at, names_of, object_shown, quoted_unit, sheet_names, text_of, text_of_event, trace_line, value_shown};
 ghost use Rattle.pcode_run.specs.declared.texts.Shows.TheVariants.{Plain, Trace};
 
+use bound_project::{Class, Declarations};
 use pcode_vm::{Event, Told};
 use sheet_host::{Book, CellValue, SheetId, cell_address, field_of_cell};
 use std::alloc::Global;
@@ -17,28 +20,44 @@ pub enum Shows {
     Trace,
 }
 
-/// How a run shows what it tells, and the names of its sheets, in their order.
+/// The names that a trace has: those of the sheets of a book and of the classes of a project, in their order.
+#[derive(Drop)]
+pub struct Names {
+    pub sheets: Vec<Units>,
+    pub classes: Vec<Units>,
+}
+
+/// How a run shows what it tells, and the names of its sheets and classes.
 #[derive(Drop)]
 pub struct Showing {
     pub shows: Shows,
-    pub names: Vec<Units>,
+    pub names: Names,
 }
 
 impl Showing {
-    /// The names are those of the sheets of a book.
-    pub fn new(alloc: Global, shows: Shows, book: &Book) -> Result<Showing, NoMemory>
+    /// The names are those of the sheets of a book and of the classes of a project.
+    pub fn new(
+        alloc: Global,
+        shows: Shows,
+        book: &Book,
+        declared: &Declarations,
+    ) -> Result<Showing, NoMemory>
         ensures shows { IfOk result (λ showing. showing.shows ≡ shows) }
-        ensures names { IfOk result (λ showing. showing.names.items ≡ names_of book.now) }
+        ensures names { IfOk result (λ showing. names_view showing.names ≡ names_of (declarations_view declared.now) book.now) }
     {
-        let names = names_of(alloc, book)?;
-        Ok(Showing { shows, names })
+        let sheets = sheet_names(alloc, book)?;
+        let classes = class_names(alloc, declared)?;
+        Ok(Showing {
+            shows,
+            names: Names { sheets, classes },
+        })
     }
 }
 
 // The names of the sheets of a book.
 #[tactic(auto, using(crate::proofs::Names::names_more, crate::proofs::Names::names_all))]
-fn names_of(alloc: Global, book: &Book) -> Result<Vec<Units>, NoMemory>
-    ensures { IfOk result (λ names. names.items ≡ names_of book.now) }
+fn sheet_names(alloc: Global, book: &Book) -> Result<Vec<Units>, NoMemory>
+    ensures { IfOk result (λ names. names.items ≡ sheet_names book.now) }
 {
     let mut names = Vec::new(alloc);
     for place in 0..book.sheets() {
@@ -48,9 +67,34 @@ fn names_of(alloc: Global, book: &Book) -> Result<Vec<Units>, NoMemory>
     Ok(names)
 }
 
+// Adds the names of classes.
+fn push_class_names(
+    alloc: Global,
+    names: &mut Vec<Units>,
+    mut left: &[Class],
+) -> Result<(), NoMemory>
+    ensures { OnOk result (names.new.items ≡ names.old.items ++ map (λ c. (class_view c).name.spelling) left.entry.now) }
+{
+    while let [class, rest @ ..] = left {
+        names.push(Units::from_units(alloc, class.name.spelling.units())?)?;
+        left = rest;
+    }
+    Ok(())
+}
+
+// The names of the classes of a project.
+#[tactic(auto, using(crate::proofs::Names::classes_seen))]
+fn class_names(alloc: Global, declared: &Declarations) -> Result<Vec<Units>, NoMemory>
+    ensures { IfOk result (λ names. names.items ≡ class_names (declarations_view declared.now)) }
+{
+    let mut names = Vec::new(alloc);
+    push_class_names(alloc, &mut names, &declared.classes)?;
+    Ok(names)
+}
+
 /// The text of what was told.
 pub fn text_told(alloc: Global, showing: &Showing, told: &Told) -> Result<Vec<u8>, NoMemory>
-    ensures { IfOk result (λ bytes. bytes.items ≡ text_of showing.now.shows showing.now.names.items (told_view told.now)) }
+    ensures { IfOk result (λ bytes. bytes.items ≡ text_of showing.now.shows (names_view showing.now.names) (told_view told.now)) }
 {
     let mut bytes = Vec::new(alloc);
     add_texts(alloc, showing, &mut bytes, told.events.as_slice())?;
@@ -64,7 +108,7 @@ fn add_texts(
     bytes: &mut Vec<u8>,
     events: &[Event],
 ) -> Result<(), NoMemory>
-    ensures { OnOk result (bytes.new.items ≡ bytes.old.items ++ text_of showing.now.shows showing.now.names.items (map event_view events.now)) }
+    ensures { OnOk result (bytes.new.items ≡ bytes.old.items ++ text_of showing.now.shows (names_view showing.now.names) (map event_view events.now)) }
 {
     match events {
         [] => Ok(()),
@@ -82,17 +126,17 @@ fn add_text(
     bytes: &mut Vec<u8>,
     event: &Event,
 ) -> Result<(), NoMemory>
-    ensures { OnOk result (bytes.new.items ≡ bytes.old.items ++ text_of_event showing.now.shows showing.now.names.items (event_view event.now)) }
+    ensures { OnOk result (bytes.new.items ≡ bytes.old.items ++ text_of_event showing.now.shows (names_view showing.now.names) (event_view event.now)) }
 {
     match showing.shows {
         Shows::Plain => add_plain(alloc, bytes, event),
-        Shows::Trace => add_traced(alloc, showing.names.as_slice(), bytes, event),
+        Shows::Trace => add_traced(alloc, &showing.names, bytes, event),
     }
 }
 
 // Adds what Debug.Print shows, with LF where the line ends. Other events are told in silence.
 fn add_plain(alloc: Global, bytes: &mut Vec<u8>, event: &Event) -> Result<(), NoMemory>
-    ensures { (names : List (List ℕ)) → OnOk result (bytes.new.items ≡ bytes.old.items ++ text_of_event Plain names (event_view event.now)) }
+    ensures { (names : PlainNames) → OnOk result (bytes.new.items ≡ bytes.old.items ++ text_of_event Plain names (event_view event.now)) }
 {
     if let Event::Printed { text, ends } = event {
         let encoded = encode_text(alloc, text.units())?;
@@ -104,14 +148,14 @@ fn add_plain(alloc: Global, bytes: &mut Vec<u8>, event: &Event) -> Result<(), No
     Ok(())
 }
 
-// Adds the line of a trace for an event. Those of objects have none so far.
+// Adds the line of a trace for an event.
 fn add_traced(
     alloc: Global,
-    names: &[Units],
+    names: &Names,
     bytes: &mut Vec<u8>,
     event: &Event,
 ) -> Result<(), NoMemory>
-    ensures { OnOk result (bytes.new.items ≡ bytes.old.items ++ text_of_event Trace names.now (event_view event.now)) }
+    ensures { OnOk result (bytes.new.items ≡ bytes.old.items ++ text_of_event Trace (names_view names.now) (event_view event.now)) }
 {
     match event {
         Event::Printed { text, ends } => {
@@ -125,7 +169,7 @@ fn add_traced(
             column,
             value,
         } => {
-            let shown = cell_shown(alloc, names, *sheet, *row, *column, value)?;
+            let shown = cell_shown(alloc, &names.sheets, *sheet, *row, *column, value)?;
             let encoded = encode_text(alloc, shown.units())?;
             add_line(bytes, b'C', encoded.as_slice())?;
         }
@@ -133,9 +177,39 @@ fn add_traced(
             let number = number_text(alloc, *number)?;
             add_line(bytes, b'E', number.as_bytes())?;
         }
-        Event::Init { .. } | Event::Term { .. } => {}
+        Event::Init { class, number } => {
+            add_object(alloc, &names.classes, bytes, b'I', *class, *number)?;
+        }
+        Event::Term { class, number } => {
+            add_object(alloc, &names.classes, bytes, b'T', *class, *number)?;
+        }
     }
     Ok(())
+}
+
+// Adds the line of a trace for what an object tells: the name of its class, and its number.
+fn add_object(
+    alloc: Global,
+    names: &[Units],
+    bytes: &mut Vec<u8>,
+    letter: u8,
+    class: u32,
+    number: u32,
+) -> Result<(), NoMemory>
+    ensures { OnOk result (bytes.new.items ≡ bytes.old.items ++ trace_line letter (object_shown names.now class number)) }
+{
+    let mut text = encode_text(alloc, name_at(names, class))?;
+    text.push(b' ')?;
+    let number = object_number(alloc, number)?;
+    text.extend_from_slice(number.as_bytes())?;
+    add_line(bytes, letter, text.as_slice())
+}
+
+// The text of the number of an object.
+fn object_number(alloc: Global, number: u32) -> Result<String, NoMemory>
+    ensures { IfOk result (λ text. string_bytes text ≡ decimal number) }
+{
+    Ok(format!(in alloc; "{number}")?)
 }
 
 // Adds a line of a trace: a letter, a blank and a text.
@@ -186,7 +260,7 @@ fn cell_shown(
     Ok(text)
 }
 
-// The name of the sheet of a number, which counts from 1.
+// The name of the sheet or the class of a number, which counts from 1.
 fn name_at(names: &[Units], number: u32) -> &[u16]
     ensures { result.now ≡ name_at names.now number }
 {

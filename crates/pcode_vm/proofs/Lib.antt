@@ -4,4 +4,6 @@ pub mod Given
 pub mod Waiting
 pub mod Carried
 pub mod Tellings
+pub mod Making
+pub mod Counted
 mod Popped

@@ -2,3 +2,4 @@ pub mod View
 pub mod Operands
 pub mod Odd
 pub mod Does
+pub mod Made

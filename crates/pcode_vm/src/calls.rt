@@ -1,7 +1,6 @@
 // Calls.
 ghost use Rattle.std.specs.Prelude.{◌≡◌, ◌∷◌, nat_lt, length, ◌<◌, ◌+◌, ◌^◌, IfOk, OnOk, map};
 ghost use Rattle.vba_values.specs.View.{view};
-ghost use Rattle.vba_values.specs.Val.{empty};
 ghost use Rattle.bound_project.specs.View.{declarations_view};
 ghost use Rattle.vba_meaning.specs.Memory.{entered};
 ghost use Rattle.run_memory.specs.View.{slot_view, memory_view};
@@ -41,26 +40,27 @@ impl Machine {
         let Some(taken) = self.operands.take(alloc, arguments)? else {
             return Ok(Step::Stuck);
         };
-        self.call_with(alloc, code, turns, pc + 1, procedure, taken)
+        let me = Value::Empty;
+        self.call_with(alloc, code, turns, pc + 1, procedure, me, taken)
     }
 
-    // A call with these arguments, which goes on at an address.
-    fn call_with(
+    // A call of an object, or of none, with these arguments, which goes on at an address.
+    pub fn call_with(
         &mut self,
         alloc: Global,
         code: &Code,
         turns: u64,
         next: usize,
         procedure: u32,
+        me: Value,
         arguments: Vec<Slot>,
     ) -> Result<Step, NoMemory>
-        ensures { IfOk result (λ step. Does turns (calls (code_view code.now) procedure empty (map slot_view arguments.items) next (operands_view self.old.operands) (backs_view self.old.backs) (state_view self.old)) self.old self.new step) }
+        ensures { IfOk result (λ step. Does turns (calls (code_view code.now) procedure (view me) (map slot_view arguments.items) next (operands_view self.old.operands) (backs_view self.old.backs) (state_view self.old)) self.old self.new step) }
     {
         if !self.has_room() {
             return self.raise_number(alloc, turns, 28);
         }
         let back = self.wait_at(alloc, next);
-        let me = Value::Empty;
         self.enter_before(alloc, code, turns, back, true, procedure, me, arguments)
     }
 

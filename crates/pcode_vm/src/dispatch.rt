@@ -170,6 +170,21 @@ impl Machine {
             Instr::Halt => Ok(Step::Ended(StepEnd::Ended)),
             Instr::StopHere => self.stop_here(alloc, code, turns, pc),
             Instr::Leave => self.leave(alloc, code, turns, pc),
+            Instr::PushThis => self.push_this(alloc, code, turns, pc),
+            Instr::New { class } => self.new_object(alloc, code, turns, pc, class),
+            Instr::ObjectThere => self.object_there(alloc, code, turns, pc),
+            Instr::FieldIn {
+                field,
+                of,
+                is_bounded,
+            } => self.field_in(alloc, code, turns, pc, field, of, is_bounded),
+            Instr::AsNew { class } => self.as_new(alloc, code, turns, pc, class),
+            Instr::MakeThere => self.make_there(alloc, code, turns, pc),
+            Instr::StoreMade => self.store_made(alloc, code, turns, pc),
+            Instr::CallOf {
+                procedure,
+                arguments,
+            } => self.call_of(alloc, code, turns, pc, procedure, arguments),
         }
     }
 }

@@ -25,6 +25,7 @@ mod calls;
 mod control;
 mod dispatch;
 mod host;
+mod instances;
 mod library;
 mod loops;
 mod machine;
@@ -34,6 +35,7 @@ mod operators;
 mod paths;
 mod step;
 mod telling;
+mod uses;
 mod values;
 
 pub use arguments::startup_slots;

@@ -33,8 +33,7 @@ impl Machine {
         Ok(Step::On)
     }
 
-    // An object gives way to the value of its default member, where that needs no argument. A counted object is answered as
-    // want of memory, as above.
+    // An object gives way to the value of its default member, where that needs no argument.
     pub fn plain_if_any(
         &mut self,
         alloc: Global,
@@ -49,7 +48,7 @@ impl Machine {
             return Ok(Step::Stuck);
         };
         if is_counted(&value) {
-            return Err(NoMemory);
+            return self.give_way_if_any(alloc, code, turns, pc + 1, value);
         }
         let value = attempt!(self, alloc, turns, self.memory.plain_if_any(alloc, value));
         self.operands.push_value(value)?;

@@ -166,8 +166,7 @@ impl Machine {
         Ok(Step::On)
     }
 
-    // An object gives way to the value of its default member. Objects of classes aren't built: a counted object is answered
-    // as want of memory.
+    // An object gives way to the value of its default member.
     pub fn plain(
         &mut self,
         alloc: Global,
@@ -182,7 +181,7 @@ impl Machine {
             return Ok(Step::Stuck);
         };
         if is_counted(&value) {
-            return Err(NoMemory);
+            return self.give_way(alloc, code, turns, pc + 1, value);
         }
         let value = attempt!(self, alloc, turns, self.memory.plain(alloc, value));
         self.operands.push_value(value)?;

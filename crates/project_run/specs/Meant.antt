@@ -36,7 +36,7 @@ meant_book pr book turns = (meaning pr book turns).state.memory.book
 
 -- what it shows: what it prints, or the trace of all that it tells
 abbrev pub meant_text : Project → Sheets → ℕ → Shows → List ℕ
-meant_text pr book turns shows = text_of shows (names_of book) (meaning pr book turns).events
+meant_text pr book turns shows = text_of shows (names_of pr.declared book) (meaning pr book turns).events
 
 -- a run ends and leaves its book as is meant and puts all that is meant to its sink; a run that is cut short puts a prefix
 abbrev pub RunsAsMeant : Project → Sheets → ℕ → Shows → Result (Outcome × Sheets) RunFault → (old new : Option (List ℕ)) → Type 0

@@ -1,22 +1,24 @@
 -- What a project declares, module by module.
-use Rattle.std.proofs.Common.{◌≡◌, ℕ, suc, Bool, List, [], ◌∷◌, ◌++◌, map, refl, sym, ap, ◌∙◌}
-use Rattle.std.specs.Prelude.{flat_map}
-use Rattle.std.proofs.lemmas.List.{map-append}
+use Rattle.std.proofs.Common.{◌≡◌, ℕ, suc, Bool, List, [], ◌∷◌, ◌++◌, map, refl, sym, ap, ◌∙◌, take}
+use Rattle.std.proofs.lemmas.List.{append-nil, map-append}
 use Rattle.bound_declarations.specs.vba_words.specs.declared.identifier.Identifier.{Identifier}
 use Rattle.bound_declarations.specs.bound_project.specs.Project as bound
-use Rattle.bound_declarations.specs.bound_project.specs.View.{declaration_view, module_view, procedure_view}
-use Rattle.bound_declarations.specs.bound_project.specs.declared.declarations.Declaration.{Declaration}
+use Rattle.bound_declarations.specs.bound_project.specs.View.{module_view, procedure_view, class_view, named_view}
 use Rattle.bound_declarations.specs.bound_project.specs.declared.declarations.Module.{Module}
 use Rattle.bound_declarations.specs.bound_project.specs.declared.declarations.Procedure.{Procedure}
-use Rattle.bound_declarations.specs.binder.specs.Projects.{numbered, class_of, bound_procedure, procedures_of}
-use Rattle.bound_declarations.specs.binder.specs.Constants.{home}
+use Rattle.bound_declarations.specs.binder.specs.Projects.{numbered, bound_procedure, procedures_of}
 use Rattle.bound_declarations.specs.binder.specs.Declarations.{Written, What, a_variable, a_constant, an_enum, a_member, a_type, an_event, a_procedure, Entry}
-use Rattle.bound_declarations.specs.binder.specs.Names.{scope_of, scope_in, locals_of}
-use Rattle.bound_declarations.specs.binder.specs.Scopes.{Space, Scope}
-use Rattle.bound_declarations.specs.binder.specs.Storage.{declarations_if, is_static, module_declarations, static_declarations, shared_of}
+use Rattle.bound_declarations.specs.binder.specs.Names.{scope_in, locals_of}
+use Rattle.bound_declarations.specs.binder.specs.Scopes.{Scope}
+use Rattle.bound_declarations.specs.binder.specs.Storage.{declarations_if, is_static, static_declarations}
 use Rattle.project_tables.specs.declared.rows.ProcedureRow.{ProcedureRow}
-use Rattle.project_tables.specs.Rows.{Row, row_of, row_view, AreRowsOf}
-use Rattle.project_tables.specs.Steps.{IsPlain, ArePlain, own_statics, statics_in, procedure_of}
+use Rattle.project_tables.specs.Rows.{row_of, row_view, AreRowsOf}
+use Rattle.project_tables.specs.Steps.{statics_in, procedure_of}
+use Rattle.bound_declarations.specs.bound_project.specs.declared.declarations.Class.{Class}
+use Rattle.bound_declarations.specs.bound_project.specs.declared.declarations.NamedMember.{NamedMember}
+use Rattle.bound_declarations.specs.declared_names.specs.View.{entry_view}
+use Rattle.bound_declarations.specs.declared_names.specs.declared.entry.Entry.{Entry as EntryHere}
+use Rattle.bound_declarations.specs.declared_names.proofs.Walks.{take_map}
 
 pub modules_push : (xs : List Module) (x : Module) → map module_view (xs ++ x ∷ []) ≡ map module_view xs ++ module_view x ∷ []
 modules_push xs x = map-append module_view xs (x ∷ [])
@@ -54,8 +56,17 @@ all_bound s (p ∷ ps) = ap (λ xs. bound_procedure s p ∷ xs) (all_bound s ps)
 pub module_bound : (s : Scope) (rows : List ProcedureRow) → AreRowsOf s rows → map (procedure_of s) (map row_view rows) ≡ procedures_of s
 module_bound s rows are = ap (map (procedure_of s)) are.rows_are ∙ all_bound s (numbered 0 s.here.entries)
 
--- ---- no classes
+-- ---- classes
 
-pub no_classes : (s : Scope) (spaces : List Space) → ArePlain spaces → flat_map (λ space. class_of (home s space)) spaces ≡ []
-no_classes s [] plain = refl
-no_classes s (space ∷ spaces) plain = rw (plain.0.no_class, no_classes s spaces plain.1) refl
+pub classes_push : (xs : List Class) (x : Class) → map class_view (xs ++ x ∷ []) ≡ map class_view xs ++ class_view x ∷ []
+classes_push xs x = map-append class_view xs (x ∷ [])
+
+pub named_push : (xs : List NamedMember) (x : NamedMember) → map named_view (xs ++ x ∷ []) ≡ map named_view xs ++ named_view x ∷ []
+named_push xs x = map-append named_view xs (x ∷ [])
+
+-- the first entries of a module
+pub take_entries : (n : ℕ) (es : List EntryHere) → map entry_view (take n es) ≡ take n (map entry_view es)
+take_entries n es = sym (take_map entry_view n es)
+
+pub none_pushed : (xs : List NamedMember) → map named_view xs ≡ map named_view xs ++ []
+none_pushed xs = sym (append-nil (map named_view xs))

@@ -2,3 +2,4 @@ pub mod Rows
 pub mod Signed
 pub mod Startups
 pub mod Steps
+pub mod ClassParts

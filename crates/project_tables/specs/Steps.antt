@@ -1,5 +1,5 @@
 -- Serves the code: the procedures of a module one after another.
-use Rattle.std.specs.Prelude.{◌≡◌, false, ℕ, suc, ◌+◌, ◌==◌, List, [], ◌∷◌, ◌++◌, length, map, if◌then◌else◌, Vec}
+use Rattle.std.specs.Prelude.{ℕ, ◌+◌, ◌==◌, List, [], ◌∷◌, ◌++◌, map, if◌then◌else◌, Vec}
 use Rattle.std.specs.declared.alloc.Global.{Global}
 use Rattle.bound_declarations.specs.bound_project.specs.Project as bound
 use Rattle.bound_declarations.specs.Whole.{procedure_in}
@@ -56,14 +56,6 @@ own_statics s row = declarations_if is_static (with_names s row.locals) row.loca
 abbrev pub statics_in : Scope → List Row → List bound.Declaration
 statics_in s [] = []
 statics_in s (row ∷ rows) = own_statics s row ++ statics_in s rows
-
--- a module that is no class
-pub record IsPlain (space : Space) : Type 0 where
-  pub no_class : space.source.is_class ≡ false
-
-abbrev pub ArePlain : List Space → Type 0
-ArePlain [] = Unit {0}
-ArePlain (space ∷ spaces) = IsPlain space × ArePlain spaces
 
 -- a procedure as it is bound
 abbrev pub procedure_of : Scope → Row → bound.Procedure

@@ -5,19 +5,20 @@ ghost use Rattle.bound_declarations.specs.binder.specs.Projects as projects;
 ghost use Rattle.bound_declarations.specs.binder.specs.Constants.{home};
 ghost use Rattle.bound_declarations.specs.binder.specs.Names.{scope_of};
 ghost use Rattle.bound_declarations.specs.binder.specs.Storage as storage;
-ghost use Rattle.bound_declarations.specs.bound_project.specs.View.{declaration_view, declarations_view, module_view, procedure_view};
+ghost use Rattle.bound_declarations.specs.bound_project.specs.View.{declaration_view, declarations_view, module_view, procedure_view, class_view};
 ghost use Rattle.bound_declarations.specs.constant_values.specs.Rounds.{AreNumbered, IsPlaced};
 ghost use Rattle.bound_declarations.specs.constant_values.specs.Tables.{AreProjectValues};
 ghost use Rattle.bound_declarations.specs.declared_names.specs.Outside.{the_outside};
 ghost use Rattle.bound_declarations.specs.declared_names.specs.View.{scope_view, space_view};
 ghost use Rattle.project_tables.specs.Rows.{AreRows, row_view};
 ghost use Rattle.project_tables.specs.Signed.{whole_scope};
-ghost use Rattle.project_tables.specs.Steps.{ArePlain, HasValues, IsModule, IsPlain, module_scope, own_statics, procedure_of, statics_in};
+ghost use Rattle.project_tables.specs.Steps.{HasValues, IsModule, module_scope, own_statics, procedure_of, statics_in};
 
+use crate::class_tables::class_table;
 use crate::project_types::user_types;
 use crate::rows::{ProcedureRow, Rows};
 use crate::scopes::constants_of;
-use bound_declarations::bound_project::{Declaration, Declarations, Module, Procedure};
+use bound_declarations::bound_project::{Class, Declaration, Declarations, Module, Procedure};
 use bound_declarations::constant_values::{ProjectValues, constants_in, own_values};
 use bound_declarations::declared_names::{Scope, Space};
 use bound_declarations::vba_base::{NoMemory, OrMemory};
@@ -25,27 +26,6 @@ use bound_declarations::{
     Kept, NotYet, bound_module, bound_procedure, kept_declarations, module_variables,
 };
 use std::alloc::Global;
-
-/// Goes on where a module is no class.
-fn check_plain(space: &Space) -> Result<(), OrMemory<NotYet>>
-    ensures { OnOk result (IsPlain (space_view space.now)) }
-{
-    if space.source.is_class {
-        return Err(OrMemory::Fault(NotYet));
-    }
-    Ok(())
-}
-
-/// Goes on where no module is a class.
-#[tactic(auto, using(std::proofs::lemmas::List::drop_more))]
-fn check_all_plain(spaces: &[Space]) -> Result<(), OrMemory<NotYet>>
-    ensures { OnOk result (ArePlain (map space_view spaces.now)) }
-{
-    for space in spaces {
-        check_plain(space)?;
-    }
-    Ok(())
-}
 
 /// Adds a module.
 #[tactic(auto, using(crate::proofs::Shared::modules_push))]
@@ -245,8 +225,57 @@ fn bound_procedures<'a>(
     Ok(procedures)
 }
 
-/// All that a project declares. A class anywhere isn't written yet.
-#[tactic(auto, using(crate::proofs::Shared::no_classes))]
+/// Adds a class.
+#[tactic(auto, using(crate::proofs::Shared::classes_push))]
+fn push_bound_class(classes: &mut Vec<Class>, class: Class) -> Result<(), OrMemory<NotYet>>
+    ensures { OnOk result (map class_view classes.new.items ≡ map class_view classes.old.items ++ class_view class ∷ []) }
+{
+    Ok(classes.push(class)?)
+}
+
+/// Adds a module where it is a class.
+fn push_class<'a>(
+    alloc: Global,
+    spaces: &'a [Space<'a>],
+    space: &'a Space<'a>,
+    project: &ProjectValues,
+    classes: &mut Vec<Class>,
+) -> Result<(), OrMemory<NotYet>>
+    requires placed { IsPlaced (module_scope spaces.now space.now) }
+    requires values { AreProjectValues project.now (module_scope spaces.now space.now).spaces }
+    ensures { OnOk result (map class_view classes.new.items ≡ map class_view classes.old.items ++ projects.class_of (module_scope spaces.now space.now)) }
+{
+    if !space.source.is_class {
+        return Ok(());
+    }
+    let scope = Scope {
+        spaces,
+        here: space,
+        locals: &[],
+    };
+    push_bound_class(classes, class_table(alloc, scope, project)?)
+}
+
+/// The classes of a project.
+#[tactic(auto, using(std::proofs::lemmas::List::drop_more))]
+fn bound_classes<'a>(
+    alloc: Global,
+    spaces: &'a [Space<'a>],
+    rows: &Rows<'a>,
+) -> Result<Vec<Class>, OrMemory<NotYet>>
+    requires numbered { AreNumbered (map space_view spaces.now) }
+    requires rows { AreRows rows.now (map space_view spaces.now) }
+    ensures { IfOk result (λ classes. map class_view classes.items
+        ≡ flat_map (λ space. projects.class_of (home (whole_scope (map space_view spaces.now)) space)) (map space_view spaces.now)) }
+{
+    let mut classes = Vec::new(alloc);
+    for space in spaces {
+        push_class(alloc, spaces, space, &rows.values, &mut classes)?;
+    }
+    Ok(classes)
+}
+
+/// All that a project declares.
 pub fn declarations<'a>(
     alloc: Global,
     spaces: &'a [Space<'a>],
@@ -257,15 +286,15 @@ pub fn declarations<'a>(
     ensures { IfOk result (λ declared. declarations_view declared
         ≡ projects.declarations_of the_outside (scope_of the_outside (map space_view spaces.now) projects.no_space) (map space_view spaces.now)) }
 {
-    check_all_plain(spaces)?;
     let modules = bound_modules(alloc, spaces)?;
     let types = user_types(alloc, spaces, rows)?;
+    let classes = bound_classes(alloc, spaces, rows)?;
     let shared = shared_variables(alloc, spaces, rows)?;
     let procedures = bound_procedures(alloc, spaces, rows)?;
     Ok(Declarations {
         modules,
         types,
-        classes: Vec::new(alloc),
+        classes,
         shared,
         procedures,
     })

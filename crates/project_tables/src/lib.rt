@@ -1,6 +1,7 @@
 //! The procedures of a project with their names, and where its variables are kept.
 #![tactic(auto)]
 
+mod class_tables;
 mod counting;
 mod declaring;
 mod project_types;
@@ -9,6 +10,7 @@ mod scopes;
 mod signing;
 mod startup;
 
+pub use class_tables::{Mark, attribute_name};
 pub use declaring::declarations;
 pub use rows::{ProcedureRow, Rows, project_rows};
 pub use signing::{Signatures, project_signatures};

@@ -80,9 +80,8 @@ pub fn assigned_at(
             let target = Value::Object(reference);
             written_default(memory, alloc, &target, value, told)
         }
-        Root::Frame { .. } | Root::Project { .. } | Root::Block { .. } => plain_assigned(
-            memory, alloc, path, value,
-        ),
+        Root::Frame { .. } | Root::Project { .. } | Root::Instance { .. } | Root::Block { .. } =>
+            plain_assigned(memory, alloc, path, value),
     }
 }
 

@@ -11,6 +11,7 @@ pub mod Exchanged
 pub mod Found
 pub mod Frames
 pub mod Ids
+pub mod Instances
 pub mod KeptInOrder
 pub mod KeptPlaces
 pub mod Bounds

@@ -1,10 +1,10 @@
 -- Serves the code: values that take the place of others. Where a place has no value nothing is exchanged.
-use Rattle.std.specs.Prelude.{ℕ, ◌==◌, List, [], ◌∷◌, length, if◌then◌else◌, Option, Some, None, slice_set}
+use Rattle.std.specs.Prelude.{ℕ, ◌==◌, List, [], ◌∷◌, length, if◌then◌else◌, Option, Some, None, slice_index_or, slice_set}
 use Rattle.vba_values.specs.Val.{Val}
 use Rattle.arrays_udt.specs.declared.paths.PathStep.{PathStep}
 use Rattle.arrays_udt.specs.Paths.{with_path}
 use Rattle.vba_meaning.specs.Paths.{Root}
-use Rattle.vba_meaning.specs.Memory.{Frame, Memory, Slot, value, path, with_root}
+use Rattle.vba_meaning.specs.Memory.{Frame, Memory, Object, Slot, value, path, object_or, with_field, with_root}
 
 abbrev pub slot_exchanged : Slot → Val → Slot
 slot_exchanged (value v) w = value w
@@ -18,6 +18,15 @@ slots_exchanged xs x (Some v) w = slice_set xs x (value w)
 abbrev pub values_exchanged : List Val → ℕ → Option Val → Val → List Val
 values_exchanged xs x None w = xs
 values_exchanged xs x (Some v) w = slice_set xs x w
+
+-- a counted object, and objects, by the value that a variable of one had
+abbrev pub object_exchanged : Option Object → ℕ → Option Val → Val → Option Object
+object_exchanged None i old w = None
+object_exchanged (Some b) i old w = Some (record b { fields = values_exchanged b.fields i old w })
+
+abbrev pub objects_exchanged : List (Option Object) → (number field : ℕ) → Option Val → Val → List (Option Object)
+objects_exchanged bs o i None w = bs
+objects_exchanged bs o i (Some v) w = slice_set bs o (Some (with_field (object_or (slice_index_or bs o None)) i w))
 
 abbrev pub frame_exchanged : ℕ → Option Val → Val → Frame → Frame
 frame_exchanged x old w f = record f { slots = slots_exchanged f.slots x old w }

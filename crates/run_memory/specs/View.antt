@@ -25,6 +25,7 @@ use Rattle.run_memory.specs.declared.memory.Memory.{Memory}
 abbrev pub root_view : Root → plain.Root
 root_view (root.Frame k x) = plain.in_frame k x
 root_view (root.Project x) = plain.in_project x
+root_view (root.Instance o i) = plain.in_fields o i
 root_view (root.Block k i) = plain.in_block k i
 root_view (root.Object o) = plain.in_object o
 
@@ -32,7 +33,7 @@ abbrev pub step_view : Step → plain.Step
 step_view s = record { step = s.step; moves = s.moves }
 
 abbrev pub path_view : Path → plain.Path
-path_view p = record { root = root_view p.root; steps = map step_view p.steps.items; of = declared p.of; bounded = p.is_bounded; makes = None }
+path_view p = record { root = root_view p.root; steps = map step_view p.steps.items; of = declared p.of; bounded = p.is_bounded; makes = p.makes }
 
 -- ---- frames: the last item of a stack is its first
 

@@ -102,6 +102,7 @@ impl Memory {
                 steps: Vec::new(alloc),
                 of: VType::Variant,
                 is_bounded: false,
+                makes: None,
             }),
             Some(Kept::AtPath(path)) => Ok(path.copy(alloc)?),
             _ => Err(OrMemory::Fault(Bad::Raise(91))),

@@ -1,14 +1,14 @@
 // Values that take the place of others in variables.
-ghost use Rattle.std.specs.Prelude.{◌≡◌, IfOk, map, option_map, reverse, slice_get, Some};
+ghost use Rattle.std.specs.Prelude.{◌≡◌, IfOk, None, map, option_map, reverse, slice_get, slice_index_or, Some};
 ghost use Rattle.vba_values.specs.View.{view};
-ghost use Rattle.vba_meaning.specs.Memory.{frame_at, root_value, value_in};
+ghost use Rattle.vba_meaning.specs.Memory.{frame_at, object_or, root_value, value_in};
 ghost use Rattle.vba_meaning.specs.Paths.{in_block};
-ghost use Rattle.run_memory.specs.Exchanges.{frame_exchanged, frames_with, root_exchanged, slot_exchanged, slots_exchanged, values_exchanged};
+ghost use Rattle.run_memory.specs.Exchanges.{frame_exchanged, frames_with, object_exchanged, objects_exchanged, root_exchanged, slot_exchanged, slots_exchanged, values_exchanged};
 ghost use Rattle.run_memory.specs.Looks.{frame_or};
-ghost use Rattle.run_memory.specs.View.{frame_view, memory_view, root_view, slot_view};
+ghost use Rattle.run_memory.specs.View.{frame_view, memory_view, object_view, root_view, slot_view};
 
 use crate::frame::{Frame, Kept, Slot};
-use crate::memory::Memory;
+use crate::memory::{Memory, Object};
 use crate::path::Root;
 use std::alloc::Global;
 use std::mem;
@@ -34,7 +34,7 @@ impl Memory {
     }
 
     /// A value takes the place of that of a variable; of a block's it takes a copy, and an object is no variable.
-    #[tactic(auto, using(crate::proofs::Exchanged::local_exchanged, crate::proofs::Exchanged::shared_exchanged))]
+    #[tactic(auto, using(crate::proofs::Exchanged::local_exchanged, crate::proofs::Exchanged::shared_exchanged, crate::proofs::Instances::instance_exchanged))]
     pub fn exchange(
         &mut self,
         alloc: Global,
@@ -50,6 +50,12 @@ impl Memory {
             Root::Project { variable } => {
                 Ok(exchange_in_values(&mut self.shared, variable as usize, new))
             }
+            Root::Instance { object, field } => Ok(exchange_in_objects(
+                &mut self.objects,
+                object as usize,
+                field as usize,
+                new,
+            )),
             Root::Block { frame, header } => self.exchange_block(alloc, frame, header, new),
             Root::Object { reference } => Ok(Some(Value::Object(reference))),
         }
@@ -86,6 +92,34 @@ pub fn exchange_in_values(values: &mut Vec<Value>, variable: usize, new: Value) 
         Some(mem::replace(&mut values[variable], new))
     } else {
         None
+    }
+}
+
+#[tactic(auto, using(crate::proofs::Instances::field_set, crate::proofs::Instances::field_past, crate::proofs::Numbered::object_read))]
+fn exchange_in_objects(
+    objects: &mut Vec<Option<Object>>,
+    object: usize,
+    field: usize,
+    new: Value,
+) -> Option<Value>
+    ensures old { option_map view result ≡ slice_get (object_or (slice_index_or (map (option_map object_view) objects.old.items) object None)).fields field }
+    ensures new { map (option_map object_view) objects.new.items
+        ≡ objects_exchanged (map (option_map object_view) objects.old.items) object field (option_map view result) (view new) }
+{
+    if object < objects.len() {
+        exchange_in_object(&mut objects[object], field, new)
+    } else {
+        None
+    }
+}
+
+fn exchange_in_object(object: &mut Option<Object>, field: usize, new: Value) -> Option<Value>
+    ensures old { option_map view result ≡ slice_get (object_or (option_map object_view object.old)).fields field }
+    ensures new { option_map object_view object.new ≡ object_exchanged (option_map object_view object.old) field (option_map view result) (view new) }
+{
+    match object {
+        Some(object) => exchange_in_values(&mut object.fields, field, new),
+        None => None,
     }
 }
 

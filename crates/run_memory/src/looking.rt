@@ -3,7 +3,7 @@ ghost use Rattle.std.specs.Prelude.{◌≡◌, option_map, slice_get, map, IfOk}
 ghost use Rattle.arrays_udt.specs.Paths.{path_value};
 ghost use Rattle.vba_values.specs.View.{view};
 ghost use Rattle.bound_project.specs.View.{variable_view};
-ghost use Rattle.vba_meaning.specs.Memory.{found, frame_at, path_of, value_in, value_kept};
+ghost use Rattle.vba_meaning.specs.Memory.{found, frame_at, number_of, object_at, path_of, top, value_in, value_kept};
 ghost use Rattle.run_memory.specs.Looks.{frame_or, root_or};
 ghost use Rattle.run_memory.specs.View.{frame_view, kept_at_view, kept_view, memory_view, path_view, root_view, slot_view};
 
@@ -14,7 +14,7 @@ use arrays_udt::{PathStep, has_path, path_read};
 use bound_project::{Storage, Variable};
 use std::alloc::Global;
 use vba_base::NoMemory;
-use vba_values::Value;
+use vba_values::{ObjRef, Value};
 
 impl Memory {
     /// The frame with so many below it.
@@ -38,8 +38,33 @@ impl Memory {
         match root {
             Root::Frame { frame, variable } => self.frame_at(frame)?.value_of(variable),
             Root::Project { variable } => self.shared.get(variable as usize),
+            Root::Instance {
+                object: number,
+                field,
+            } => self.instance_value(number, field),
             Root::Block { frame, header } => self.frame_at(frame)?.value_kept(header),
             Root::Object { .. } => Some(object),
+        }
+    }
+
+    /// The value of a variable of a counted object.
+    fn instance_value(&self, object: u32, field: u32) -> Option<&Value>
+        ensures { option_map (λ value. view value.now) result ≡ slice_get (object_at (memory_view self.now) object).fields field }
+    {
+        match self.objects.get(object as usize) {
+            Some(Some(object)) => object.fields.get(field as usize),
+            _ => None,
+        }
+    }
+
+    /// The number of the object whose procedure runs.
+    fn own_number(&self) -> u32
+        ensures { result ≡ number_of (top (memory_view self.now)).me }
+    {
+        if self.stands {
+            number_of(&self.top.me)
+        } else {
+            0
         }
     }
 
@@ -49,12 +74,17 @@ impl Memory {
     {
         let number = match variable.storage {
             Storage::Local(number) => number,
+            Storage::Own(field) => {
+                let object = self.own_number();
+                return Path::of_instance(alloc, object, field, variable.of, variable.is_bounded);
+            }
             Storage::Shared(number) => {
                 return Ok(Path {
                     root: Root::Project { variable: number },
                     steps: Vec::new(alloc),
                     of: variable.of.value_type(alloc)?,
                     is_bounded: variable.is_bounded,
+                    makes: None,
                 });
             }
         };
@@ -71,7 +101,18 @@ impl Memory {
             steps: Vec::new(alloc),
             of: variable.of.value_type(alloc)?,
             is_bounded: variable.is_bounded,
+            makes: None,
         })
+    }
+}
+
+/// The number of a counted object.
+fn number_of(value: &Value) -> u32
+    ensures { result ≡ number_of (view value.now) }
+{
+    match value {
+        Value::Object(ObjRef::Heap(id)) => id.0,
+        _ => 0,
     }
 }
 

@@ -1,10 +1,11 @@
-ghost use Rattle.std.specs.Prelude.{◌≡◌, IfOk, OnOk, map};
+ghost use Rattle.std.specs.Prelude.{◌≡◌, [], IfOk, OnOk, None, map};
 ghost use Rattle.arrays_udt.specs.Paths.{same_step};
 ghost use Rattle.bound_project.specs.View.{declared_view};
 ghost use Rattle.vba_values.specs.Types.{declared};
 ghost use Rattle.vba_values.specs.View.{view};
 ghost use Rattle.vba_meaning.specs.Memory.{Memory as PlainMemory, root_value};
-ghost use Rattle.vba_meaning.specs.Paths.{any_moves, element_path, field_path, is_below, leads_through, object_path, plain_steps, same_root};
+ghost use Rattle.vba_meaning.specs.Objects.{made_at};
+ghost use Rattle.vba_meaning.specs.Paths.{any_moves, element_path, field_path, in_fields, is_below, leads_through, object_path, plain_steps, same_root};
 ghost use Rattle.run_memory.specs.Looks.{root_or};
 ghost use Rattle.run_memory.specs.View.{path_view, root_view, step_view};
 
@@ -14,12 +15,14 @@ use std::alloc::Global;
 use vba_base::NoMemory;
 use vba_values::{ObjRef, VType, Value, copy_type};
 
-/// Where a path begins: a variable of a frame, whose number is that of the frames below it, or of the project; the value
-/// that a With block of a frame keeps; or an object that an index gave, which no variable has.
+/// Where a path begins: a variable of a frame, whose number is that of the frames below it, or of the project; a variable
+/// of a counted object, by the object's number; the value that a With block of a frame keeps; or an object that an index
+/// gave, which no variable has.
 #[derive(Clone, Copy)]
 pub enum Root {
     Frame { frame: usize, variable: u32 },
     Project { variable: u32 },
+    Instance { object: u32, field: u32 },
     Block { frame: usize, header: u32 },
     Object { reference: ObjRef },
 }
@@ -32,12 +35,14 @@ pub struct Step {
 }
 
 /// A path to a value: to a variable, then to fields and elements inside it. It has the declared type of what is there,
-/// and whether that is an array declared with bounds.
+/// whether that is an array declared with bounds, and the class of which an object is made where it is read while it has
+/// Nothing, if it is declared As New.
 pub struct Path {
     pub root: Root,
     pub steps: Vec<Step>,
     pub of: VType,
     pub is_bounded: bool,
+    pub makes: Option<u32>,
 }
 
 impl Drop for Path {
@@ -47,6 +52,7 @@ impl Drop for Path {
             steps: _steps,
             of: _of,
             is_bounded: _is_bounded,
+            makes: _makes,
         } = self;
     }
 }
@@ -58,7 +64,10 @@ impl Root {
     {
         match self {
             Root::Object { reference } => Value::Object(reference),
-            Root::Frame { .. } | Root::Project { .. } | Root::Block { .. } => Value::Empty,
+            Root::Frame { .. }
+            | Root::Project { .. }
+            | Root::Instance { .. }
+            | Root::Block { .. } => Value::Empty,
         }
     }
 }
@@ -73,7 +82,36 @@ impl Path {
             steps: Vec::new(alloc),
             of: VType::Variant,
             is_bounded: false,
+            makes: None,
         }
+    }
+
+    /// Where a variable of a counted object is.
+    pub fn of_instance(
+        alloc: Global,
+        object: u32,
+        field: u32,
+        of: DeclaredType,
+        is_bounded: bool,
+    ) -> Result<Path, NoMemory>
+        ensures { IfOk result (λ path. path_view path ≡ record { root = in_fields object field; steps = []; of = declared_view of; bounded = is_bounded; makes = None }) }
+    {
+        Ok(Path {
+            root: Root::Instance { object, field },
+            steps: Vec::new(alloc),
+            of: of.value_type(alloc)?,
+            is_bounded,
+            makes: None,
+        })
+    }
+
+    /// The place is declared As New.
+    pub fn making(self, class: u32) -> Path
+        ensures { path_view result ≡ made_at class (path_view self) }
+    {
+        let mut path = self;
+        path.makes = Some(class);
+        path
     }
 
     /// A copy of the path.
@@ -87,6 +125,7 @@ impl Path {
             steps,
             of,
             is_bounded: self.is_bounded,
+            makes: self.makes,
         })
     }
 
@@ -100,6 +139,7 @@ impl Path {
         })?;
         self.of = of;
         self.is_bounded = false;
+        self.makes = None;
         Ok(())
     }
 
@@ -113,6 +153,7 @@ impl Path {
         })?;
         self.of = of;
         self.is_bounded = is_bounded;
+        self.makes = None;
         Ok(())
     }
 
@@ -164,6 +205,13 @@ fn same_root(left: Root, right: Root) -> bool
             },
         ) => frame == other && variable == of_other,
         (Root::Project { variable }, Root::Project { variable: other }) => variable == other,
+        (
+            Root::Instance { object, field },
+            Root::Instance {
+                object: other,
+                field: of_other,
+            },
+        ) => object == other && field == of_other,
         (
             Root::Block { frame, header },
             Root::Block {

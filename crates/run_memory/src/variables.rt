@@ -138,7 +138,6 @@ impl Memory {
     }
 
     /// A value is stored; what was there gives way.
-    #[tactic(auto, using(crate::proofs::Unconnected::unconnected))]
     pub fn stored(&mut self, alloc: Global, path: &Path, value: Value) -> Result<(), OrMemory<Bad>>
         ensures { Acts (λ done. done) result (memory_view self.new) (stored (path_view path.now) (view value) (memory_view self.old)) }
     {

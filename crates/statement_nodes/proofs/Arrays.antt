@@ -1,5 +1,5 @@
 -- Arrays and their bounds are pushed one after another.
-use Rattle.std.proofs.Common.{◌≡◌, ℕ, suc, ◌+◌, List, [], ◌∷◌, refl, ◌∙◌, sym, ap, subst}
+use Rattle.std.proofs.Common.{◌≡◌, ℕ, ◌+◌, List, ◌∷◌, refl, ◌∙◌, sym, ap, subst}
 use Rattle.std.specs.Prelude.{Option, Some, None, option_map, if◌then◌else◌}
 use Rattle.vba_base.specs.declared.place.Place.{Place}
 use Rattle.vba_values.specs.Types.{Declared}
@@ -128,12 +128,12 @@ pub array_pushed : (env : Env) (a : ReDimArray) (rest : List ReDimArray) (of : O
     → ItemPushed Resizes resizes_off (redim_arrays env (a ∷ rest)) (redim_arrays env rest) d g
 array_pushed env a rest of own place count d e f m g of_is p r b is =
     let made = r.make no_exprs in
-    let got = if may_resize (terms.a_place p.at (declared_view own) p.bounded p.lends) of then made else last_broken place made in
+    let got = if may_resize (terms.a_place p.at (declared_view own) p.bounded p.lends p.makes) of then made else last_broken place made in
     let es = resized_by env a made in
     let taken : exprs_off count f.pieces no_exprs ≡ Some (made, a_place p.at ∷ d.pieces) = r.taken no_exprs ∙ ap (λ (ps : List Piece). Some (made, ps)) p.on_top in
-    let marked : exprs_off count m.pieces no_exprs ≡ Some (got, a_place p.at ∷ d.pieces) = b.stands p.at p.bounded p.lends made (a_place p.at ∷ d.pieces) taken in
+    let marked : exprs_off count m.pieces no_exprs ≡ Some (got, a_place p.at ∷ d.pieces) = b.stands p.at p.bounded p.lends p.makes made (a_place p.at ∷ d.pieces) taken in
     let whole : exprs_off count m.pieces no_exprs ≡ Some (es, a_place p.at ∷ d.pieces) =
-    marked ∙ ap (λ (fs : Exprs). Some (fs, a_place p.at ∷ d.pieces)) (bounds_got env a of (terms.a_place p.at (declared_view own) p.bounded p.lends) place made of_is p.is p.place_is) in
+    marked ∙ ap (λ (fs : Exprs). Some (fs, a_place p.at ∷ d.pieces)) (bounds_got env a of (terms.a_place p.at (declared_view own) p.bounded p.lends p.makes) place made of_is p.is p.place_is) in
     record {
       same = record {
         statements = ap (λ (x : Drafted). x.statements) is ∙ (b.same.statements ∙ (r.same.statements ∙ p.grown.statements));

@@ -1,5 +1,5 @@
 -- What the nodes of a statement say is what is added.
-use Rattle.std.proofs.Common.{◌≡◌, ℕ, pos, Bool, true, false, List, [], ◌∷◌, ◌++◌, refl, ◌∙◌, sym, ap, subst}
+use Rattle.std.proofs.Common.{◌≡◌, ℕ, pos, Bool, true, List, [], ◌∷◌, ◌++◌, refl, ◌∙◌, sym, ap}
 use Rattle.std.specs.Prelude.{Option, Some, is_some, option_map}
 use Rattle.vba_base.specs.declared.place.Place.{Place}
 use Rattle.vba_values.specs.declared.types.Compare.{Compare}

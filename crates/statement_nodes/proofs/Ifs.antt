@@ -1,6 +1,6 @@
 -- Single-line Ifs with the statements in them, and statements that are parts.
-use Rattle.std.proofs.Common.{◌≡◌, ℕ, suc, ◌+◌, Bool, true, List, [], ◌∷◌, arith, refl, ◌∙◌, sym, ap, subst}
-use Rattle.std.specs.Prelude.{Option, Some, option_map}
+use Rattle.std.proofs.Common.{◌≡◌, ℕ, suc, ◌+◌, true, List, arith, refl, ◌∙◌, sym, ap, subst}
+use Rattle.std.specs.Prelude.{Option, option_map}
 use Rattle.vba_base.specs.declared.place.Place.{Place}
 use Rattle.vba_lexer.specs.declared.token.Token.{Token}
 use Rattle.vba_expression.specs.Tree.{Expr}

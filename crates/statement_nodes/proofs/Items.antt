@@ -1,6 +1,6 @@
 -- Tests and items are pushed one after another.
-use Rattle.std.proofs.Common.{◌≡◌, ℕ, zero, suc, ◌+◌, Bool, true, false, List, [], ◌∷◌, refl, ◌∙◌, sym, ap, subst, arith}
-use Rattle.std.specs.Prelude.{Option, Some, None, Result, Ok, Err, OnOk, is_some, option_map}
+use Rattle.std.proofs.Common.{◌≡◌, ℕ, suc, ◌+◌, true, List, [], ◌∷◌, refl, ◌∙◌, sym, ap, subst, arith}
+use Rattle.std.specs.Prelude.{Option, Some, None, Result, Ok, Err, OnOk, option_map}
 use Rattle.vba_tree.specs.Tree.{CaseTest, value, comparison, PrintItem}
 use Rattle.vba_lexer.specs.declared.token.Token.{Token}
 use Rattle.vba_expression.specs.declared.operator.BinaryOperator.{BinaryOperator}
@@ -19,7 +19,7 @@ use Rattle.bound_calls.specs.binder.specs.Constants.{operator_kind, place_of_exp
 use Rattle.bound_calls.specs.bound_forms.specs.Terms.{Env}
 use Rattle.bound_calls.specs.bound_forms.specs.ExpressionsBound.{bound_operand}
 use Rattle.bound_calls.specs.bound_forms.specs.StatementsBound.{case_tests, ends_line}
-use Rattle.statement_nodes.specs.Actions.{OnlyPieces, ValuePushed}
+use Rattle.statement_nodes.specs.Actions.{ValuePushed}
 use Rattle.statement_nodes.specs.Reads.{ItemPushed, Read, ends_after}
 use Rattle.statement_nodes.proofs.Ended.{as_operand_itself}
 

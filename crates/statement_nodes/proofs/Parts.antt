@@ -1,9 +1,8 @@
 -- Parts of a body by their numbers.
 use Rattle.std.proofs.Common.{◌≡◌, ℕ, zero, suc, List, [], ◌∷◌, refl}
-use Rattle.std.specs.Prelude.{map, Some, None, slice_get, slice_index_or}
-use Rattle.module_parts.specs.View.{part_view, parts_view}
+use Rattle.std.specs.Prelude.{Some, None, slice_get}
+use Rattle.module_parts.specs.View.{part_view}
 use Rattle.module_parts.specs.declared.part.Part.{Part}
-use Rattle.vba_module.specs.Parts as plain
 use Rattle.statement_numbers.specs.View.{part_at, no_part}
 
 pub part_there : (body : List Part) (at : ℕ) (part : Part) → slice_get body at ≡ Some part → part_at body at ≡ part_view part

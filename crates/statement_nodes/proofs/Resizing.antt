@@ -1,13 +1,11 @@
 -- What a ReDim resizes, and its bounds.
-use Rattle.std.proofs.Common.{◌≡◌, ℕ, zero, suc, Bool, true, false, List, [], ◌∷◌, refl, ◌∙◌, sym, ap, subst}
+use Rattle.std.proofs.Common.{◌≡◌, ℕ, zero, suc, Bool, true, false, List, ◌∷◌, refl, ◌∙◌, sym, ap, subst}
 use Rattle.std.specs.Prelude.{◌≢◌, Option, Some, None, if◌then◌else◌}
 use Rattle.vba_base.specs.declared.place.Place.{Place}
 use Rattle.vba_values.specs.Types.{Declared}
-use Rattle.vba_values.specs.Types as type
 use Rattle.bound_project.specs.declared.declared_type.DeclaredType.{DeclaredType}
 use Rattle.bound_project.specs.declared.declared_type.DeclaredType.TheVariants.{ArrayOf, Plain}
 use Rattle.bound_project.specs.declared.declared_type.ElementType.{ElementType}
-use Rattle.bound_project.specs.declared.declared_type.ElementType.TheVariants as element
 use Rattle.bound_project.specs.declared.declared_type.ElementType.TheVariants.{Variant}
 use Rattle.bound_project.specs.declared.node.NodeKind.TheVariants as node
 use Rattle.bound_project.specs.Expressions as bound
@@ -23,22 +21,22 @@ use Rattle.statement_nodes.specs.Resizing.{MarksBounds}
 
 -- ---- what is resized, by its type
 
-pub resizes_array : (of : DeclaredType) (element : ElementType) (written : Option Declared) (x : Lvalue) (bounded lends found : Bool) → of ≡ ArrayOf element
-    → found ≡ may_resize (terms.a_place x (declared_view (ArrayOf element)) bounded lends) written → found ≡ may_resize (terms.a_place x (declared_view of) bounded lends) written
-resizes_array of element written x bounded lends found is found_is = found_is ∙ ap (λ (u : DeclaredType). may_resize (terms.a_place x (declared_view u) bounded lends) written) (sym is)
+pub resizes_array : (of : DeclaredType) (element : ElementType) (written : Option Declared) (x : Lvalue) (bounded lends makes found : Bool) → of ≡ ArrayOf element
+    → found ≡ may_resize (terms.a_place x (declared_view (ArrayOf element)) bounded lends makes) written → found ≡ may_resize (terms.a_place x (declared_view of) bounded lends makes) written
+resizes_array of element written x bounded lends makes found is found_is = found_is ∙ ap (λ (u : DeclaredType). may_resize (terms.a_place x (declared_view u) bounded lends makes) written) (sym is)
 
 -- what is no array is resized where it is a Variant
-plain_resizes : (element : ElementType) (written : Option Declared) (x : Lvalue) (bounded lends : Bool)
-    → is_variant (element_view element) ≡ may_resize (terms.a_place x (element_view element) bounded lends) written
-plain_resizes Variant written x bounded lends = refl
-plain_resizes element written x bounded lends = refl
+plain_resizes : (element : ElementType) (written : Option Declared) (x : Lvalue) (bounded lends makes : Bool)
+    → is_variant (element_view element) ≡ may_resize (terms.a_place x (element_view element) bounded lends makes) written
+plain_resizes Variant written x bounded lends makes = refl
+plain_resizes element written x bounded lends makes = refl
 
-pub resizes_plain : (of : DeclaredType) (element : ElementType) (written : Option Declared) (x : Lvalue) (bounded lends found : Bool) → of ≡ Plain element
-    → found ≡ is_variant (declared_view of) → found ≡ may_resize (terms.a_place x (declared_view of) bounded lends) written
-resizes_plain of element written x bounded lends found is found_is =
+pub resizes_plain : (of : DeclaredType) (element : ElementType) (written : Option Declared) (x : Lvalue) (bounded lends makes found : Bool) → of ≡ Plain element
+    → found ≡ is_variant (declared_view of) → found ≡ may_resize (terms.a_place x (declared_view of) bounded lends makes) written
+resizes_plain of element written x bounded lends makes found is found_is =
     found_is
     ∙ (ap (λ (u : DeclaredType). is_variant (declared_view u)) is
-    ∙ (plain_resizes element written x bounded lends ∙ ap (λ (u : DeclaredType). may_resize (terms.a_place x (declared_view u) bounded lends) written) (sym is)))
+    ∙ (plain_resizes element written x bounded lends makes ∙ ap (λ (u : DeclaredType). may_resize (terms.a_place x (declared_view u) bounded lends makes) written) (sym is)))
 
 -- ---- the last bound
 
@@ -73,24 +71,24 @@ pub none_marked : (of : DeclaredType) (written : Option Declared) (place : Place
 none_marked of written place count d none =
     subst (λ (n : ℕ). MarksBounds of written place n d d) (sym none) (record {
       same = record { statements = refl; bodies = refl };
-      stands = λ at bounded lends es below is. none_there place (may_resize (terms.a_place at (declared_view of) bounded lends) written) d.pieces below es is;
+      stands = λ at bounded lends makes es below is. none_there place (may_resize (terms.a_place at (declared_view of) bounded lends makes) written) d.pieces below es is;
     })
 
-pub resizing_marked : (of : DeclaredType) (written : Option Declared) (place : Place) (count : ℕ) (d : Drafted) → ((at : Lvalue) (bounded lends : Bool) → may_resize (terms.a_place at (declared_view of) bounded lends) written ≡ true)
+pub resizing_marked : (of : DeclaredType) (written : Option Declared) (place : Place) (count : ℕ) (d : Drafted) → ((at : Lvalue) (bounded lends makes : Bool) → may_resize (terms.a_place at (declared_view of) bounded lends makes) written ≡ true)
     → MarksBounds of written place count d d
 resizing_marked of written place count d fits = record {
   same = record { statements = refl; bodies = refl };
-  stands = λ at bounded lends es below is. is ∙ ap (λ (b : Bool). Some (if b then es else last_broken place es, below)) (sym (fits at bounded lends));
+  stands = λ at bounded lends makes es below is. is ∙ ap (λ (b : Bool). Some (if b then es else last_broken place es, below)) (sym (fits at bounded lends makes));
 }
 
 pub other_marked : (of : DeclaredType) (written : Option Declared) (place : Place) (count : ℕ) (d e : Drafted) → count ≢ 0
-    → ((at : Lvalue) (bounded lends : Bool) → may_resize (terms.a_place at (declared_view of) bounded lends) written ≡ false)
+    → ((at : Lvalue) (bounded lends makes : Bool) → may_resize (terms.a_place at (declared_view of) bounded lends makes) written ≡ false)
     → e ≡ record d { pieces = put d.tables (node_of (node.Marked (record { rule = 27; place = place }) 1) place (Plain Variant)) d.pieces }
     → MarksBounds of written place count d e
 other_marked of written place count d e some fits is =
     let n = node_of (node.Marked (record { rule = 27; place = place }) 1) place (Plain Variant) in
     subst (λ (x : Drafted). MarksBounds of written place count d x) (sym is) (record {
       same = record { statements = refl; bodies = refl };
-      stands = λ at bounded lends es below taken.
-          bound_marked d.tables place count d.pieces es below some taken ∙ ap (λ (b : Bool). Some (if b then es else last_broken place es, below)) (sym (fits at bounded lends));
+      stands = λ at bounded lends makes es below taken.
+          bound_marked d.tables place count d.pieces es below some taken ∙ ap (λ (b : Bool). Some (if b then es else last_broken place es, below)) (sym (fits at bounded lends makes));
     })

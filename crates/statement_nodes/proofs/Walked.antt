@@ -1,12 +1,11 @@
 -- A body is bound part by part.
-use Rattle.std.proofs.Common.{◌≡◌, ℕ, ◌+◌, Bool, true, false, ◌&&◌, List, [], ◌∷◌, ◌++◌, append_assoc, refl, ◌∙◌, sym, ap, subst}
-use Rattle.std.specs.Prelude.{Option, Some, None, is_some}
+use Rattle.std.proofs.Common.{◌≡◌, ◌+◌, true, List, [], ◌∷◌, ◌++◌, append_assoc, refl, ◌∙◌, sym, ap}
+use Rattle.std.specs.Prelude.{Option, Some, None}
 use Rattle.std.proofs.lemmas.List.{append-nil}
-use Rattle.vba_module.specs.Parts.{Part, label, statement, whole_line, place_of}
+use Rattle.vba_module.specs.Parts.{Part, label, statement, whole_line}
 use Rattle.vba_tree.specs.Tree.{simple, if_then, if_else}
 use Rattle.bound_project.specs.Statements.{Statement}
 use Rattle.bound_project.specs.Drafts.{Drafted}
-use Rattle.bound_calls.specs.binder.specs.Options.{or_else, from_two}
 use Rattle.bound_calls.specs.binder.specs.Numbering.{Standing, standings_in}
 use Rattle.bound_calls.specs.bound_forms.specs.StatementsBound.{Around, both, part_statements, all_statements}
 use Rattle.bound_calls.specs.binder.specs.Blocks.{next_number}

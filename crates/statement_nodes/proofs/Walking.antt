@@ -1,5 +1,5 @@
 -- What a For Each goes over.
-use Rattle.std.proofs.Common.{◌≡◌, Bool, true, false, List, [], ◌∷◌, refl, ◌∙◌, sym, ap, subst}
+use Rattle.std.proofs.Common.{◌≡◌, Bool, true, false, ◌∷◌, refl, ◌∙◌, sym, ap, subst}
 use Rattle.std.specs.Prelude.{if◌then◌else◌}
 use Rattle.vba_base.specs.declared.place.Place.{Place}
 use Rattle.vba_values.specs.Types as type
@@ -10,7 +10,7 @@ use Rattle.bound_project.specs.declared.declared_type.ElementType.TheVariants.{V
 use Rattle.bound_project.specs.declared.node.NodeKind.TheVariants as node
 use Rattle.bound_project.specs.Expressions as bound
 use Rattle.bound_project.specs.Expressions.{expr, no_exprs, also}
-use Rattle.bound_project.specs.Pieces.{Piece, an_expr, put}
+use Rattle.bound_project.specs.Pieces.{an_expr, put}
 use Rattle.bound_project.specs.Drafts.{Drafted}
 use Rattle.bound_project.specs.View.{declared_view}
 use Rattle.bound_calls.specs.bound_forms.specs.Terms.{Env, broken_rule}

@@ -21,12 +21,13 @@ pub record ArrayTold (env : Env) (tree : Expr) (of : DeclaredType) (place : Plac
   pub at : Lvalue
   pub bounded : Bool
   pub lends : Bool
-  pub is : term_of env tree ≡ terms.a_place at (declared_view of) bounded lends
+  pub makes : Bool
+  pub is : term_of env tree ≡ terms.a_place at (declared_view of) bounded lends makes
   pub place_is : place ≡ place_told tree
   pub on_top : e.pieces ≡ a_place at ∷ d.pieces
 
 -- so many bounds were pushed, and the last one marked where a place of this type doesn't get elements of the written one
 pub record MarksBounds (of : DeclaredType) (written : Option Declared) (place : Place) (count : ℕ) (d e : Drafted) : Type 0 where
   pub same : OnlyPieces d e
-  pub stands : (at : Lvalue) (bounded lends : Bool) (es : Exprs) (below : List Piece) → exprs_off count d.pieces no_exprs ≡ Some (es, below)
-      → exprs_off count e.pieces no_exprs ≡ Some (if may_resize (terms.a_place at (declared_view of) bounded lends) written then es else last_broken place es, below)
+  pub stands : (at : Lvalue) (bounded lends makes : Bool) (es : Exprs) (below : List Piece) → exprs_off count d.pieces no_exprs ≡ Some (es, below)
+      → exprs_off count e.pieces no_exprs ≡ Some (if may_resize (terms.a_place at (declared_view of) bounded lends makes) written then es else last_broken place es, below)

@@ -14,8 +14,8 @@ use vba_base::{NoMemory, Place, Refusal};
 
 /// Are these the elements that an array has, where any are written?
 fn are_elements(element: ElementType, written: Option<DeclaredType>) -> bool
-    ensures { (x : Lvalue) (bounded lends : Bool)
-        → result ≡ plain.may_resize (terms.a_place x (declared_view (DeclaredType.ArrayOf element)) bounded lends) (option_map declared_view written) }
+    ensures { (x : Lvalue) (bounded lends makes : Bool)
+        → result ≡ plain.may_resize (terms.a_place x (declared_view (DeclaredType.ArrayOf element)) bounded lends makes) (option_map declared_view written) }
 {
     match written {
         None => true,
@@ -26,7 +26,7 @@ fn are_elements(element: ElementType, written: Option<DeclaredType>) -> bool
 /// Does a place of a type get such elements, where any are written?
 #[tactic(auto, using(crate::proofs::Resizing::resizes_array, crate::proofs::Resizing::resizes_plain))]
 fn may_resize(of: DeclaredType, written: Option<DeclaredType>) -> bool
-    ensures { (x : Lvalue) (bounded lends : Bool) → result ≡ plain.may_resize (terms.a_place x (declared_view of) bounded lends) (option_map declared_view written) }
+    ensures { (x : Lvalue) (bounded lends makes : Bool) → result ≡ plain.may_resize (terms.a_place x (declared_view of) bounded lends makes) (option_map declared_view written) }
 {
     match of {
         DeclaredType::ArrayOf(element) => are_elements(element, written),

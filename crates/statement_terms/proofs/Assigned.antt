@@ -1,6 +1,6 @@
 -- What the value of an assignment goes to.
-use Rattle.std.proofs.Common.{◌≡◌, ℕ, Bool, true, false, List, [], ◌∷◌, ◌++◌, map, length, Some, if◌then◌else◌, refl, sym, ap, subst, ◌∙◌}
-use Rattle.std.specs.Prelude.{◌||◌, option_and_then, option_map, slice_get}
+use Rattle.std.proofs.Common.{◌≡◌, ℕ, Bool, true, false, List, [], ◌∷◌, ◌++◌, map, length, Option, Some, None, is_some, if◌then◌else◌, refl, sym, ap, subst, ◌∙◌}
+use Rattle.std.specs.Prelude.{◌||◌, not, option_and_then, option_map, slice_get}
 use Rattle.vba_base.specs.declared.place.Place.{Place}
 use Rattle.vba_lexer.specs.declared.token.Token.{Token}
 use Rattle.bound_project.specs.Project as project
@@ -16,39 +16,39 @@ use Rattle.bound_project.specs.declared.statement.ActionKind.TheVariants as acti
 use Rattle.bound_project.specs.Expressions.{no_exprs}
 use Rattle.bound_project.specs.Expressions as bound
 use Rattle.bound_project.specs.Statements as to
-use Rattle.bound_project.specs.Bodies.{action_of, behind_value}
+use Rattle.bound_project.specs.Bodies.{action_of, behind_object, behind_value}
 use Rattle.bound_project.specs.View.{declared_view, parameter_view}
 use Rattle.bound_project.specs.Lists.{above, args_of}
 use Rattle.bound_project.proofs.Lists.{args_are}
-use Rattle.bound_project.specs.Pieces.{Piece, Tables, an_argument, an_expr}
+use Rattle.bound_project.specs.Pieces.{Piece, Tables, an_argument, an_expr, an_object}
 use Rattle.bound_project.specs.Drafts.{Drafted, ActionNamed}
 use Rattle.bound_members.specs.binder.specs.Options.{or_else}
-use Rattle.bound_members.specs.binder.specs.Types.{is_object}
 use Rattle.bound_members.specs.binder.specs.Declarations.{Written}
 use Rattle.bound_members.specs.binder.specs.Scopes.{Space}
-use Rattle.bound_members.specs.bound_forms.specs.Terms.{Env, Given, a_routine}
+use Rattle.bound_members.specs.bound_forms.specs.Terms.{Env, Given, routine_term}
 use Rattle.bound_members.specs.bound_forms.specs.Terms as plain
-use Rattle.bound_members.specs.bound_forms.specs.ExpressionsBound.{argument_of, item_of, givens, indexed, term_of, place_told}
-use Rattle.bound_members.specs.bound_forms.specs.StatementsBound.{assigned, assigned_to, broken_target, is_given_with, is_no_target, is_variant_place, takes_value, target_before, untaken, value_given, written_to}
+use Rattle.bound_members.specs.bound_forms.specs.ExpressionsBound.{argument_of, item_of, givens, indexed, term_of, place_told, behind_base, may_be_instance}
+use Rattle.bound_members.specs.bound_forms.specs.StatementsBound.{assigned, assigned_to, broken_target, is_given_with, is_no_target, is_variant_place, takes_value, target_before, untaken, value_given, written_to, property_given}
 use Rattle.bound_members.specs.declared_names.specs.View.{space_view}
 use Rattle.statement_terms.specs.declared.trees.Split.{Split}
 use Rattle.bound_members.specs.bound_calls.specs.declared.term.Routine.{Routine}
-use Rattle.bound_members.specs.bound_calls.specs.declared.term.Term.{Term}
 use Rattle.bound_members.specs.bound_calls.specs.declared.term.Tree.{Tree}
-use Rattle.bound_members.specs.bound_calls.specs.Standing.{PropertyStands, RoutineStands, TreeStands}
+use Rattle.bound_members.specs.bound_calls.specs.Standing.{PropertyStands, RoutineStands, TreeStands, IsReceiver, ReceiverThere}
 use Rattle.bound_members.specs.bound_calls.specs.Steps.{Leaves}
 use Rattle.statement_nodes.specs.Pushed.{ActionStands}
-use Rattle.statement_terms.specs.Assigning.{ValueFor}
+use Rattle.statement_terms.specs.Assigning.{ValueFor, goes_anywhere}
 use Rattle.statement_terms.specs.Members.{AssignsTree}
 use Rattle.bound_members.specs.bound_calls.specs.Calls.{PassesRest}
-use Rattle.statement_terms.specs.Called.{ActionIs, AllPassed, AssignsTo, IsBare, LetMade, SplitAt, let_action, let_with, property_kind}
+use Rattle.statement_terms.specs.Called.{ActionIs, AllPassed, AssignsTo, IsBare, LetMade, SplitAt, let_with, property_kind, GoesThere, is_method}
 use Rattle.statement_terms.specs.Heights.{AddsOne}
 use Rattle.bound_members.specs.bound_calls.proofs.Growing.{grown_twice}
 use Rattle.bound_members.specs.bound_calls.proofs.Arguing.{left_long}
-use Rattle.bound_members.specs.bound_calls.proofs.CallSteps.{parameters_long}
+use Rattle.bound_members.specs.bound_calls.proofs.CallSteps.{parameters_long, routine_item}
 use Rattle.bound_members.specs.bound_calls.proofs.Passing.{arguments_bound}
 use Rattle.statement_terms.proofs.NodeTrees.{behind_both, behind_push}
-use Rattle.bound_members.specs.bound_calls.proofs.Reading.{written_by}
+use Rattle.bound_members.specs.binder.specs.Classes.{has_class}
+use Rattle.bound_members.specs.bound_calls.specs.declared.term.Receiver.{Receiver}
+use Rattle.bound_members.specs.bound_calls.specs.declared.term.Receiver.TheVariants as receiver
 
 -- ---- properties that are assigned to
 
@@ -63,35 +63,57 @@ passes_front env front d e all h a = record {
   on_top = h.on_top;
 }
 
--- what is given to a property, by its last parameter's type
-let_fits : (env : Env) (parameters : List project.Parameter) (gs : List Given) (written all procedure : ℕ) (of : DeclaredType) (t : Tables) (ps below : List Piece) (value : bound.Expr) → below ≡ an_expr value ∷ [] → (h : AllPassed env parameters gs written all ps below)
-    → action_of t (property_kind procedure all of) ps ≡ Some (written_by procedure (args_of h.made) value (declared_view of))
-let_fits env parameters gs written all procedure of t ps below value alone h =
-    let top : ps ≡ above (map an_argument h.made) (an_expr value ∷ []) = h.on_top ∙ ap (λ st. above (map an_argument h.made) st) alone in
-    ap (λ st. action_of t (property_kind procedure all of) st) top ∙ ap (λ n. action_of t (property_kind procedure n of) (above (map an_argument h.made) (an_expr value ∷ []))) h.all_is
-    ∙ by_type (is_object (declared_view of))
+-- what is given to a property, or to one of an object
+let_fits : (of_object itself : Bool) (base : Option bound.Expr) (env : Env) (parameters : List project.Parameter) (gs : List Given) (written all procedure : ℕ) (of : DeclaredType) (t : Tables) (ps below : List Piece) (value : bound.Expr)
+    → is_some base ≡ of_object → ReceiverThere base below (an_expr value ∷ []) → (h : AllPassed env parameters gs written all ps below)
+    → action_of t (property_kind of_object itself procedure all of) ps ≡ Some (property_given itself base procedure (args_of h.made) value (declared_view of))
+let_fits of_object itself base env parameters gs written all procedure of t ps below value same there h =
+    ap (λ st. action_of t (property_kind of_object itself procedure all of) st) h.on_top
+    ∙ ap (λ n. action_of t (property_kind of_object itself procedure n of) (above (map an_argument h.made) below)) h.all_is ∙ by of_object itself base same there
   where
-    by_type : (b : Bool) → action_of t (if b then action.SetProperty procedure (length h.made) of else action.LetProperty procedure (length h.made) of) (above (map an_argument h.made) (an_expr value ∷ []))
-        ≡ Some (if b then to.set_property procedure (args_of h.made) value (declared_view of) else to.let_property procedure (args_of h.made) value (declared_view of))
-    by_type true = ap (λ o. behind_value o (λ args e. to.set_property procedure args e (declared_view of))) (args_are h.made (an_expr value ∷ []))
-    by_type false = ap (λ o. behind_value o (λ args e. to.let_property procedure args e (declared_view of))) (args_are h.made (an_expr value ∷ []))
+    P : Bool → Bool → Option bound.Expr → List Piece → Type 0
+    P m i o st = action_of t (property_kind m i procedure (length h.made) of) (above (map an_argument h.made) st) ≡ Some (property_given i o procedure (args_of h.made) value (declared_view of))
 
-pub let_made : (env : Env) (parameters : List project.Parameter) (gs : List Given) (written all procedure : ℕ) (of : DeclaredType) (t : Tables) (ps below : List Piece) (value : bound.Expr) → AllPassed env parameters gs written all ps below → below ≡ an_expr value ∷ []
-    → LetMade env parameters procedure of gs value (property_kind procedure all of) t ps
-let_made env parameters gs written all procedure of t ps below value h alone = record { args = args_of h.made; bound_is = h.bound; fits = let_fits env parameters gs written all procedure of t ps below value alone h }
+    by : (m i : Bool) (o : Option bound.Expr) → is_some o ≡ m → ReceiverThere o below (an_expr value ∷ []) → P m i o below
+    by false false None s k = subst (P false false None) (sym k) (ap (λ o. behind_value o (λ args e. to.let_property procedure args e (declared_view of))) (args_are h.made (an_expr value ∷ [])))
+    by false true None s k = subst (P false true None) (sym k) (ap (λ o. behind_value o (λ args e. to.set_property procedure args e (declared_view of))) (args_are h.made (an_expr value ∷ [])))
+    by true i None s k = let z : false ≡ true = s in absurd cc
+    by false i (Some e) s k = let z : true ≡ false = s in absurd cc
+    by true false (Some b) s k =
+        subst (P true false (Some b)) (sym k) (ap (λ o. behind_object o (λ base args e. to.let_method base procedure args e (declared_view of))) (args_are h.made (an_object b ∷ an_expr value ∷ [])))
+    by true true (Some b) s k =
+        subst (P true true (Some b)) (sym k) (ap (λ o. behind_object o (λ base args e. to.set_method base procedure args e (declared_view of))) (args_are h.made (an_object b ∷ an_expr value ∷ [])))
 
-pub let_done : (env : Env) (place : Place) (parameters : List project.Parameter) (procedure : ℕ) (of : DeclaredType) (gs : List Given) (value : bound.Expr) (kind : ActionKind) (t : Tables) (ps : List Piece)
-    → LetMade env parameters procedure of gs value kind t ps → ActionIs kind (let_with env place parameters procedure (declared_view of) gs value) t ps
-let_done env place parameters procedure of gs value kind t ps m =
-    let other = option_map (broken_target 25 place value) (untaken env parameters gs) in
-    record { made = let_action procedure m.args value (declared_view of); is = ap (λ o. or_else (option_map (λ args. let_action procedure args value (declared_view of)) o) other) m.bound_is; fits = m.fits }
+pub let_made : (of_object itself : Bool) (base : Option bound.Expr) (env : Env) (parameters : List project.Parameter) (gs : List Given) (written all procedure : ℕ) (of : DeclaredType) (t : Tables) (ps below : List Piece) (value : bound.Expr)
+    → AllPassed env parameters gs written all ps below → is_some base ≡ of_object → ReceiverThere base below (an_expr value ∷ []) → LetMade env parameters itself base procedure of gs value (property_kind of_object itself procedure all of) t ps
+let_made of_object itself base env parameters gs written all procedure of t ps below value h same there =
+    record { args = args_of h.made; bound_is = h.bound; fits = let_fits of_object itself base env parameters gs written all procedure of t ps below value same there h }
 
-pub property_named : (t : Tables) (procedure all : ℕ) (of : DeclaredType) → ActionNamed t (property_kind procedure all of)
-property_named t procedure all of = by_type (is_object (declared_view of))
-  where
-    by_type : (b : Bool) → ActionNamed t (if b then action.SetProperty procedure all of else action.LetProperty procedure all of)
-    by_type true = tt
-    by_type false = tt
+-- what was pushed is what is done
+pub let_done : (itself : Bool) (base : Option bound.Expr) (env : Env) (place : Place) (parameters : List project.Parameter) (procedure : ℕ) (of : DeclaredType) (gs : List Given) (value : bound.Expr) (kind : ActionKind) (t : Tables) (ps : List Piece)
+    → LetMade env parameters itself base procedure of gs value kind t ps → ActionIs kind (let_with env place itself base parameters procedure (declared_view of) gs value) t ps
+let_done itself base env place parameters procedure of gs value kind t ps m =
+    let other = option_map (λ es. broken_target 25 place value (behind_base base es)) (untaken env parameters gs) in
+    record {
+      made = property_given itself base procedure m.args value (declared_view of);
+      is = ap (λ o. or_else (option_map (λ args. property_given itself base procedure args value (declared_view of)) o) other) m.bound_is;
+      fits = m.fits;
+    }
+
+pub property_named : (of_object itself : Bool) (t : Tables) (procedure all : ℕ) (of : DeclaredType) → ActionNamed t (property_kind of_object itself procedure all of)
+property_named false false t procedure all of = tt
+property_named false true t procedure all of = tt
+property_named true false t procedure all of = tt
+property_named true true t procedure all of = tt
+
+-- what has a receiver is a property of an object
+pub base_there : (r : Receiver) (base : Option bound.Expr) → IsReceiver r base → is_some base ≡ is_method r
+base_there receiver.Module None h = refl
+base_there (receiver.Own of) (Some base) h = refl
+base_there (receiver.Pushed of) (Some base) h = refl
+base_there receiver.Module (Some base) h = absurd h
+base_there (receiver.Own of) None h = absurd h
+base_there (receiver.Pushed of) None h = absurd h
 
 -- ---- assignments
 
@@ -110,31 +132,34 @@ bare_given env (index base left args right) h = absurd h
 bare_given env e h = refl
 
 -- to a property without arguments
-pub property_of : (env : Env) (r : Routine) (y : plain.Term) (ps below : List Piece) → RoutineStands env r y ps below → PropertyStands env (record { space = r.space; written = r.written }) y ps below
+pub property_of : (env : Env) (r : Routine) (y : plain.Term) (ps below : List Piece) → RoutineStands env r y ps below → PropertyStands env (record { receiver = r.receiver; space = r.space; written = r.written }) y ps below
 property_of env r y ps below s =
+    let x = s.routine in
     let P : Space → Type 0 = λ q. slice_get env.scope.spaces q.number ≡ Some q in
     record {
-      number = s.number;
-      is = s.is ∙ ap (λ q. a_routine q s.number s.written) s.space_is ∙ ap (λ q. a_routine (space_view r.space.now) s.number q) s.written_is;
-      placed = subst P s.space_is s.placed;
-      none_pushed = s.none_pushed;
+      base = x.base;
+      number = x.number;
+      is = x.is ∙ ap (λ q. routine_term x.base q x.number x.written) x.space_is ∙ ap (λ q. routine_term x.base (space_view r.space.now) x.number q) x.written_is;
+      received = x.received;
+      placed = subst P x.space_is x.placed;
+      pushed = s.pushed;
     }
 
 -- to another expression that doesn't end with arguments
-pub assigns_tree : (env : Env) (place : Expr) (x : Tree) (d f e : Drafted) (kind : ActionKind) (given : Bool) → IsBare place → is_no_target env place ≡ false → Leaves env place d f x → AssignsTree x f e kind given
-    → AssignsTo env place d e kind given
-assigns_tree env place x d f e kind given bare target l a = record {
+pub assigns_tree : (has : Bool) (env : Env) (place : Expr) (x : Tree) (d f e : Drafted) (kind : ActionKind) (given : Bool) → has_class env.scope.spaces ≡ has → IsBare place → is_no_target env place ≡ false → Leaves env place d f x
+    → AssignsTree has x f e kind given → AssignsTo env place d e kind given
+assigns_tree has env place x d f e kind given known bare target l a = record {
   grown = grown_twice d f e l.grown a.grown;
   named = a.named;
   takes = a.takes env place d.pieces bare l.stands;
-  stands = λ value alone.
+  stands = λ value goes alone.
       let T : List Piece → Type 0 = λ ps. TreeStands env f.tables x place f.pieces ps in
-      a.stands env place value bare target (subst T alone l.stands);
+      a.stands env known place value goes bare target (subst T alone l.stands);
 }
 
 -- to a property with arguments
-pub item_itself : (place : Place) (y : plain.Term) (space : Space) (number : ℕ) (p : Written) → y ≡ a_routine space number p → item_of place y ≡ y
-item_itself place y space number p e = ap (λ z. item_of place z) e ∙ sym e
+pub item_itself : (env : Env) (place : Place) (y : plain.Term) (base : Option bound.Expr) (space : Space) (number : ℕ) (p : Written) → y ≡ routine_term base space number p → item_of env place y ≡ y
+item_itself env place y base space number p e = routine_item env place y base space number p e
 
 pub split_given : (env : Env) (base : Expr) (left right : Token) (args : Args) → takes_value env (target_before env base) ≡ true → is_given_with env (index base left args right) ≡ true
 split_given env base left right args h = ap (λ (b : Bool). b || is_variant_place (target_before env base)) h
@@ -156,10 +181,10 @@ all_is split all s alone =
 
 -- to what brackets make of what takes no value with arguments
 pub record Untaken (env : Env) (place : Place) (given : Bool) (z : plain.Term) : Type 0 where
-  pub takes : takes_value env (item_of place z) ≡ false
-  pub variant : is_variant_place (item_of place z) ≡ given
+  pub takes : takes_value env (item_of env place z) ≡ false
+  pub variant : is_variant_place (item_of env place z) ≡ given
 
-pub other_untaken : (env : Env) (place : Place) (given : Bool) (z y : plain.Term) → item_of place z ≡ y → takes_value env y ≡ false → is_variant_place y ≡ given → Untaken env place given z
+pub other_untaken : (env : Env) (place : Place) (given : Bool) (z y : plain.Term) → item_of env place z ≡ y → takes_value env y ≡ false → is_variant_place y ≡ given → Untaken env place given z
 other_untaken env place given z y is a b = record { takes = ap (λ (t : plain.Term). takes_value env t) is ∙ a; variant = ap is_variant_place is ∙ b }
 
 -- arguments that are one more item
@@ -171,12 +196,22 @@ index_at split all s alone one =
       all_is split all s alone ∙ ap last_tree (behind_push base split.arguments.now (node.Index s.left s.right)) ∙ ap (λ (l : List nodes.Item). last_tree (behind_node (node.Index s.left s.right) l)) (one.is base),
     )
 
-pub action_assigned : (env : Env) (value place : Expr) (d e g : Drafted) (kind : ActionKind) (given : Bool) → d.pieces ≡ [] → ValueFor (value_given env place value) d e → AssignsTo env place e g kind given
+not_either : (b : Bool) → not b ≡ true → b ≡ false
+not_either false h = refl
+not_either true h = let e : false ≡ true = h in absurd cc
+
+-- what may be an object of a class goes there
+goes_there : (env : Env) (may_be : Bool) (kind : ActionKind) (made : bound.Expr) → goes_anywhere may_be kind ≡ true → (may_be ≡ false → may_be_instance env made ≡ false) → GoesThere env kind made
+goes_there env may_be (action.AssignMember name count) made a f = f (not_either may_be a)
+goes_there env may_be action.AssignDefault made a f = f (not_either may_be a)
+goes_there env may_be kind made a f = tt
+
+pub action_assigned : (env : Env) (value place : Expr) (may_be : Bool) (d e g : Drafted) (kind : ActionKind) (given : Bool) → d.pieces ≡ [] → ValueFor env may_be (value_given env place value) d e → goes_anywhere may_be kind ≡ true → AssignsTo env place e g kind given
     → ActionStands (Some kind) (option_and_then (assigned_to env place) (value_given env place value)) d g
-action_assigned env value place d e g kind given none b a =
+action_assigned env value place may_be d e g kind given none b goes a =
     let made = b.pushed.made in
     let alone : e.pieces ≡ an_expr made ∷ [] = b.pushed.on_top ∙ ap (λ (ps : List Piece). an_expr made ∷ ps) none in
-    let s = a.stands made alone in
+    let s = a.stands made (goes_there env may_be kind made goes b.free) alone in
     let all = grown_twice d e g b.grown a.grown in
     record { statements = all.statements; bodies = all.bodies; named = a.named; made = s.made; is = ap (λ o. option_and_then (assigned_to env place) o) b.pushed.is ∙ s.is; fits = s.fits }
 

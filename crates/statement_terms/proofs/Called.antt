@@ -26,7 +26,7 @@ use Rattle.bound_project.specs.Drafts.{Drafted}
 use Rattle.bound_members.specs.binder.specs.Declarations.{Written}
 use Rattle.bound_members.specs.binder.specs.Scopes.{Space}
 use Rattle.bound_members.specs.binder.specs.Options.{or_else}
-use Rattle.bound_members.specs.bound_forms.specs.Terms.{Env, Given, a_routine, broken_rule, err_raise, err_clear, error_word, no_term, bound_arguments, has_names}
+use Rattle.bound_members.specs.bound_forms.specs.Terms.{Env, Given, broken_rule, routine_term, err_raise, err_clear, error_word, no_term, bound_arguments, has_names}
 use Rattle.bound_members.specs.bound_forms.specs.Terms as plain
 use Rattle.bound_members.specs.bound_forms.specs.ExpressionsBound.{argument_of, given_as, givens, indexed}
 use Rattle.bound_members.specs.bound_forms.specs.StatementsBound.{called_place, called_term, called_with, is_one, raise_parameters, raised, untaken}
@@ -162,40 +162,47 @@ acts_lacking env x place d e is eq =
           record { made = evaluate (broken_rule 25 place no_exprs); is = ap (λ z. called_term env place z []) h.0; fits = ap (λ ps. action_of d.tables action.Evaluate (put d.tables n ps)) h.1 };
     }))
 
--- a procedure is called by a statement
-pub routine_called : (env : Env) (place : Place) (y : plain.Term) (space : Space) (number : ℕ) (w : Written) (gs : List Given) (made : bound.Expr) → y ≡ a_routine space number w
+-- a procedure is called by a statement, of an object or of none
+routine_by : (env : Env) (place : Place) (base : Option bound.Expr) (space : Space) (number : ℕ) (w : Written) (gs : List Given)
+    → called_term env place (routine_term base space number w) gs ≡ option_map evaluate (given_as env (indexed env place (routine_term base space number w) gs) place)
+routine_by env place None space number w gs = refl
+routine_by env place (Some b) space number w gs = refl
+
+pub routine_called : (env : Env) (place : Place) (y : plain.Term) (base : Option bound.Expr) (space : Space) (number : ℕ) (w : Written) (gs : List Given) (made : bound.Expr) → y ≡ routine_term base space number w
     → given_as env (indexed env place y gs) place ≡ Some made → called_term env place y gs ≡ Some (evaluate made)
-routine_called env place y space number w gs made is h =
+routine_called env place y base space number w gs made is h =
     let A : plain.Term → Type 0 = λ z. given_as env (indexed env place z gs) place ≡ Some made in
     let B : plain.Term → Type 0 = λ z. called_term env place z gs ≡ Some (evaluate made) in
-    subst B (sym is) (ap (λ o. option_map evaluate o) (subst A is h))
+    subst B (sym is) (routine_by env place base space number w gs ∙ ap (λ o. option_map evaluate o) (subst A is h))
 
 -- ---- values and objects as statements
 
 pub none_there : (e : bound.Expr) → None ≡ Some e → ⊥
 none_there e h = subst T (ap (λ (o : Option bound.Expr). is_some o) (sym h)) tt
 
-routine_evaluated : (env : Env) (place : Place) (s : Space) (n : ℕ) (w : Written) (made : bound.Expr) → given_as env (a_routine s n w) place ≡ Some made → called_term env place (a_routine s n w) [] ≡ Some (evaluate made)
-routine_evaluated env place s n w made h = ap (λ o. option_map evaluate o) (sym (called_same env place s n w) ∙ h)
+routine_evaluated : (env : Env) (place : Place) (base : Option bound.Expr) (s : Space) (n : ℕ) (w : Written) (made : bound.Expr) → given_as env (routine_term base s n w) place ≡ Some made
+    → called_term env place (routine_term base s n w) [] ≡ Some (evaluate made)
+routine_evaluated env place base s n w made h = routine_by env place base s n w [] ∙ ap (λ o. option_map evaluate o) (sym (called_same env place base s n w) ∙ h)
 
 given_none : (env : Env) (place : Place) (z t : plain.Term) (made : bound.Expr) → z ≡ t → given_as env t place ≡ None → given_as env z place ≡ Some made → ⊥
 given_none env place z t made is none h = none_there made (sym none ∙ sym (ap (λ y. given_as env y place) is) ∙ h)
 
 called_given : (env : Env) (t : Tables) (x : Term) (z : plain.Term) (ps below : List Piece) (place : Place) (made : bound.Expr) → TermStands env t x z ps below → given_as env z place ≡ Some made
     → called_term env place z [] ≡ Some (evaluate made)
-called_given env t (term.Place kind of bounded lends) z ps below place made h k =
+called_given env t (term.Place kind of bounded lends makes) z ps below place made h k =
     let A : plain.Term → Type 0 = λ y. called_term env place y [] ≡ option_map evaluate (given_as env y place) in subst A (sym h.is) refl ∙ ap (λ o. option_map evaluate o) k
 called_given env t (term.Value e) z ps below place made h k =
     let A : plain.Term → Type 0 = λ y. called_term env place y [] ≡ option_map evaluate (given_as env y place) in subst A (sym h.is) refl ∙ ap (λ o. option_map evaluate o) k
 called_given env t (term.Routine r) z ps below place made h k =
     let A : plain.Term → Type 0 = λ y. given_as env y place ≡ Some made in
     let B : plain.Term → Type 0 = λ y. called_term env place y [] ≡ Some (evaluate made) in
-    subst B (sym h.is) (routine_evaluated env place h.space h.number h.written made (subst A h.is k))
+    let s = h.routine in
+    subst B (sym s.is) (routine_evaluated env place s.base s.space s.number s.written made (subst A s.is k))
 called_given env t (term.Property p) z ps below place made h k =
     let A : plain.Term → Type 0 = λ y. given_as env y place ≡ Some made in
     let B : plain.Term → Type 0 = λ y. called_term env place y [] ≡ Some (evaluate made) in
     let s = h.property in
-    subst B (sym s.is) (routine_evaluated env place (space_view p.space.now) s.number (written_view p.written) made (subst A s.is k))
+    subst B (sym s.is) (routine_evaluated env place s.base (space_view p.space.now) s.number (written_view p.written) made (subst A s.is k))
 called_given env t (term.Function f) z ps below place made h k =
     let A : plain.Term → Type 0 = λ y. called_term env place y [] ≡ option_map evaluate (given_as env y place) in subst A (sym h.0.is) refl ∙ ap (λ o. option_map evaluate o) k
 called_given env t (term.HostMember m) z ps below place made h k =

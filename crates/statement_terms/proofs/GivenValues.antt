@@ -1,6 +1,6 @@
 -- The value of an assignment: as it is, or as an operand.
-use Rattle.std.proofs.Common.{◌≡◌, ℕ, Bool, true, false, List, Option, Some, None, if◌then◌else◌, refl, sym, ap, subst, ◌∙◌}
-use Rattle.std.specs.Prelude.{◌&&◌, ◌||◌, not, option_map}
+use Rattle.std.proofs.Common.{◌≡◌, ℕ, Bool, true, false, List, [], Option, Some, None, if◌then◌else◌, refl, sym, ap, subst, ◌∙◌, ◌==◌}
+use Rattle.std.specs.Prelude.{◌&&◌, ◌||◌, not, option_map, option_and_then}
 use Rattle.vba_base.specs.declared.place.Place.{Place}
 use Rattle.vba_values.specs.Types.{Declared}
 use Rattle.vba_values.specs.Types as type
@@ -8,40 +8,48 @@ use Rattle.vba_expression.specs.Tree.{Expr}
 use Rattle.bound_project.specs.declared.declared_type.DeclaredType.{DeclaredType}
 use Rattle.bound_project.specs.Expressions as bound
 use Rattle.bound_project.specs.Drafts.{Drafted}
-use Rattle.bound_project.specs.Pieces.{Piece, Tables}
+use Rattle.bound_project.specs.Pieces.{Piece, Tables, put}
 use Rattle.bound_project.specs.View.{declared_view}
 use Rattle.bound_members.specs.binder.specs.Options.{or_else}
 use Rattle.bound_members.specs.binder.specs.Types.{is_object}
 use Rattle.bound_members.specs.binder.specs.Constants.{is_variant}
-use Rattle.bound_members.specs.bound_forms.specs.Terms.{Env, a_place, a_value, a_routine, a_function, a_host_member, err_object, err_raise, err_clear, error_word, no_term, expression_of, given_rule, given_to, typed_value, unless_broken}
+use Rattle.bound_members.specs.bound_forms.specs.Terms.{Env, a_place, a_value, a_routine, a_function, a_host_member, err_object, err_raise, err_clear, error_word, no_term, expression_of, given_rule, given_to, typed_value, unless_broken, a_method, read_of, value_in, broken_rule, takes}
 use Rattle.bound_members.specs.bound_forms.specs.Terms as plain
-use Rattle.bound_members.specs.bound_forms.specs.ExpressionsBound.{bound_as_given, bound_operand, default_value, given_as, may_be_object as may_be_object_at, operand_of, plain_operand, reference_of, term_of, value_of, place_told}
+use Rattle.bound_members.specs.bound_forms.specs.ExpressionsBound.{bound_as_given, bound_operand, default_value, given_as, may_be_object as may_be_object_at, operand_of, plain_operand, reference_of, term_of, value_of, place_told, bare_call, has_default, has_object, is_instance_type, is_of_host, may_be_instance, given_way, default_rule, host_kind, lacking_call, behind_base}
 use Rattle.bound_members.specs.bound_forms.specs.StatementsBound.{given_to_term, is_given_with, target_term, value_for, value_given}
 use Rattle.bound_members.specs.bound_calls.specs.declared.term.Term.{Term}
 use Rattle.bound_members.specs.bound_calls.specs.declared.term.Term.TheVariants as term
 use Rattle.bound_members.specs.bound_calls.specs.declared.term.Tree.{Tree}
-use Rattle.bound_members.specs.bound_calls.specs.References.{PushesGiven}
 use Rattle.bound_members.specs.bound_calls.specs.Standing.{TermStands}
-use Rattle.bound_members.specs.bound_calls.specs.Steps.{Binds, Leaves, PushesOperand, PushesValue}
-use Rattle.bound_members.specs.bound_calls.proofs.Growing.{grown_twice}
+use Rattle.bound_members.specs.bound_calls.specs.Steps.{Leaves, PushesOperand, PushesValue}
+use Rattle.bound_members.specs.bound_calls.proofs.Growing.{grown_twice, grown_pieces}
 use Rattle.statement_terms.specs.Terms.{may_be_object}
-use Rattle.statement_terms.specs.Assigning.{ExprPushed, PushesFor, ValueFor, is_plain, taken_for}
+use Rattle.statement_terms.specs.Assigning.{ExprPushed, PushesFor, ValueBound, ValueFor, is_plain, taken_for}
 use Rattle.statement_terms.specs.declared.takers.Taker.{Taker}
 use Rattle.statement_terms.specs.Takers.{MarksTaken, TakenBy, given_by, may_break}
+use Rattle.bound_members.specs.binder.specs.Classes.{has_class}
+use Rattle.bound_members.specs.bound_calls.specs.declared.term.Ending.{Ending}
+use Rattle.bound_members.specs.bound_calls.specs.Calls.{node_of}
+use Rattle.bound_members.specs.bound_calls.specs.References.{TakesGiven, may_be_instance_by}
+use Rattle.bound_members.specs.bound_calls.proofs.LastNodes.{no_instance}
+use Rattle.bound_members.specs.binder.specs.Signatures.{parameters_in, reader}
+use Rattle.bound_members.specs.binder.specs.Scopes.{Space}
+use Rattle.bound_members.specs.binder.specs.Declarations.{Written}
 
 value_as_given : (env : Env) (t : plain.Term) (place : Place) (made : bound.Expr) → value_of env t place ≡ Some made → given_as env t place ≡ Some made
 value_as_given env t place made h = ap (λ (o : Option bound.Expr). or_else o (reference_of env t place)) h
 
 valued : (env : Env) (t : plain.Term) (place : Place) (made : bound.Expr) → value_of env t place ≡ Some made → plain_operand made ≡ made
-    → or_else (option_map plain_operand (value_of env t place)) (option_map (default_value place) (reference_of env t place)) ≡ Some made
+    → or_else (option_map plain_operand (value_of env t place)) (option_and_then (default_value place) (reference_of env t place)) ≡ Some made
 valued env t place made h p =
-    let other = option_map (default_value place) (reference_of env t place) in
+    let other = option_and_then (default_value place) (reference_of env t place) in
     ap (λ (o : Option bound.Expr). or_else (option_map plain_operand o) other) h ∙ ap (λ (e : bound.Expr). Some e) p
 
 value_operand : (env : Env) (t : plain.Term) (place : Place) (made : bound.Expr) → value_of env t place ≡ Some made → plain_operand made ≡ made → operand_of env t place ≡ Some made
-value_operand env (a_place x of bounded lends) place made h p = valued env (a_place x of bounded lends) place made h p
+value_operand env (a_place x of bounded lends makes) place made h p = valued env (a_place x of bounded lends makes) place made h p
 value_operand env (a_value node of) place made h p = valued env (a_value node of) place made h p
 value_operand env (a_routine space number w) place made h p = valued env (a_routine space number w) place made h p
+value_operand env (a_method base space number w) place made h p = valued env (a_method base space number w) place made h p
 value_operand env (a_function f text_form base) place made h p = valued env (a_function f text_form base) place made h p
 value_operand env (a_host_member e m) place made h p = valued env (a_host_member e m) place made h p
 value_operand env err_object place made h p = let k : None ≡ Some made = h in absurd cc
@@ -82,31 +90,195 @@ alone None e h = h
 alone (Some x) e h = h
 
 plain_itself : (env : Env) (t : Tables) (x : Term) (z : plain.Term) (ps below : List Piece) (place : Place) (made : bound.Expr) → is_plain x ≡ true → TermStands env t x z ps below → value_of env z place ≡ Some made → plain_operand made ≡ made
-plain_itself env t (term.Place kind of bounded lends) z ps below place made p h v =
-    stays_itself (bound.load h.at) place of made p (alone (typed_value (bound.load h.at) place (declared_view of)) made (ap (λ (y : plain.Term). value_of env y place) (sym h.is) ∙ v))
+plain_itself env t (term.Place kind of bounded lends makes) z ps below place made p h v =
+    stays_itself (read_of makes h.at) place of made p (alone (typed_value (read_of makes h.at) place (declared_view of)) made (ap (λ (y : plain.Term). value_of env y place) (sym h.is) ∙ v))
 plain_itself env t (term.Value e) z ps below place made p h v =
     stays_itself h.made place e.of made p (alone (typed_value h.made place (declared_view e.of)) made (ap (λ (y : plain.Term). value_of env y place) (sym h.is) ∙ v))
 plain_itself env t x z ps below place made p h v = let e : false ≡ true = p in absurd cc
 
-pub plain_pushed : (given : Bool) (x : Tree) (of : DeclaredType) (d e : Drafted) → is_plain x.term ≡ true → PushesValue x d e (Some of) → PushesFor given x d e of
-plain_pushed given x of d e plain p = record {
+-- ---- what may be an object of a class
+
+no_right_and : (b : Bool) → (b && false) ≡ false
+no_right_and true = refl
+no_right_and false = refl
+
+abbrev type_in : bound.Expr → Declared
+type_in (bound.expr node place of operand) = of
+
+free_of : (env : Env) (node : bound.Node) (place : Place) (of operand : Declared) → is_instance_type node of ≡ false → may_be_instance env (bound.expr node place of operand) ≡ false
+free_of env node place of operand h = ap (λ (b : Bool). has_class env.scope.spaces && (b && not (is_of_host node))) h ∙ no_right_and (has_class env.scope.spaces)
+
+not_instance : (node : bound.Node) (of : Declared) → is_object of ≡ false → has_object node of ≡ false → is_instance_type node of ≡ false
+not_instance node type.object p h = let e : true ≡ false = p in absurd cc
+not_instance node (type.class number) p h = let e : true ≡ false = p in absurd cc
+not_instance node type.variant p h = h
+not_instance node of p h = refl
+
+-- what gives way to its default member's value is none
+plain_free : (env : Env) (e : bound.Expr) → is_object (type_in e) ≡ false → may_be_instance env (plain_operand e) ≡ false
+plain_free env (bound.expr node at of operand) p = by (has_object node of) refl
+  where
+    x : bound.Expr
+    x = bound.expr node at of operand
+
+    by : (b : Bool) → has_object node of ≡ b → may_be_instance env (if b then expression_of (bound.default_of x) at type.variant else x) ≡ false
+    by true h = free_of env (bound.default_of x) at type.variant type.variant refl
+    by false h = free_of env node at of operand (not_instance node of p h)
+
+typed_plain : (node : bound.Node) (place : Place) (of : Declared) (e : bound.Expr) → typed_value node place of ≡ Some e → is_object (type_in e) ≡ false
+typed_plain node place of e h = by (is_object of) refl h
+  where
+    by : (b : Bool) → is_object of ≡ b → (if b then None else Some (expression_of node place of)) ≡ Some e → is_object (type_in e) ≡ false
+    by true k q = let none : None ≡ Some e = q in absurd cc
+    by false k q =
+        let same : expression_of node place of ≡ e = (let j : Some (expression_of node place of) ≡ Some e = q in cc) in
+        let A : bound.Expr → Type 0 = λ (y : bound.Expr). is_object (type_in y) ≡ false in
+        subst A same k
+
+in_typed : (t : plain.Term) (place : Place) (e : bound.Expr) → value_in typed_value t place ≡ Some e → is_object (type_in e) ≡ false
+in_typed (a_value node of) place e h = typed_plain node place of e h
+in_typed t place e h = let none : None ≡ Some e = h in absurd cc
+
+-- what lacks arguments is marked
+lacking_plain : (env : Env) (base : Option bound.Expr) (space : Space) (number : ℕ) (p : Written) (place : Place) (e : bound.Expr) → lacking_call env base space number p place ≡ Some e → is_object (type_in e) ≡ false
+lacking_plain env base space number p place e h = by (reader env.scope space number p) h
+  where
+    lacking : ℕ × Written → Option bound.Expr
+    lacking f = if takes (parameters_in env.scope space f.1) [] then None else Some (broken_rule 25 place (behind_base base bound.no_exprs))
+
+    test : (b : Bool) → (if b then None else Some (broken_rule 25 place (behind_base base bound.no_exprs))) ≡ Some e → is_object (type_in e) ≡ false
+    test true k = let none : None ≡ Some e = k in absurd cc
+    test false k =
+        let made : bound.Expr = broken_rule 25 place (behind_base base bound.no_exprs) in
+        let same : made ≡ e = (let j : Some made ≡ Some e = k in cc) in
+        let A : bound.Expr → Type 0 = λ (y : bound.Expr). is_object (type_in y) ≡ false in
+        subst A same refl
+
+    by : (o : Option (ℕ × Written)) → option_and_then lacking o ≡ Some e → is_object (type_in e) ≡ false
+    by None k = let none : None ≡ Some e = k in absurd cc
+    by (Some f) k = test (takes (parameters_in env.scope space f.1) []) k
+
+-- one of two
+either_plain : (o l : Option bound.Expr) (e : bound.Expr) → ((x : bound.Expr) → o ≡ Some x → is_object (type_in x) ≡ false) → ((x : bound.Expr) → l ≡ Some x → is_object (type_in x) ≡ false) → or_else o l ≡ Some e → is_object (type_in e) ≡ false
+either_plain None l e f g h = g e h
+either_plain (Some x) l e f g h = f e h
+
+nothing_plain : (x : bound.Expr) → None ≡ Some x → is_object (type_in x) ≡ false
+nothing_plain x h = let none : None ≡ Some x = h in absurd cc
+
+member_plain : (least : Bool) (o : bound.Expr) (m : plain.HostMember) (place : Place) (e : bound.Expr) → (if least then typed_value (bound.host_member o m.name bound.no_exprs) place m.of else None) ≡ Some e → is_object (type_in e) ≡ false
+member_plain true o m place e k = typed_plain (bound.host_member o m.name bound.no_exprs) place m.of e k
+member_plain false o m place e k = let none : None ≡ Some e = k in absurd cc
+
+needed_plain : (least : Bool) (o : bound.Expr) (place : Place) (e : bound.Expr) → (if least then None else Some (broken_rule 25 place (bound.also o bound.no_exprs))) ≡ Some e → is_object (type_in e) ≡ false
+needed_plain true o place e k = let none : None ≡ Some e = k in absurd cc
+needed_plain false o place e k =
+    let made : bound.Expr = broken_rule 25 place (bound.also o bound.no_exprs) in
+    let same : made ≡ e = (let j : Some made ≡ Some e = k in cc) in
+    let A : bound.Expr → Type 0 = λ (y : bound.Expr). is_object (type_in y) ≡ false in
+    subst A same refl
+
+value_typed : (env : Env) (t : plain.Term) (place : Place) (e : bound.Expr) → value_of env t place ≡ Some e → is_object (type_in e) ≡ false
+value_typed env (a_place x of bounded lends makes) place e h = either_plain (typed_value (read_of makes x) place of) None e (λ y k. typed_plain (read_of makes x) place of y k) nothing_plain h
+value_typed env (a_value node of) place e h = either_plain (typed_value node place of) None e (λ y k. typed_plain node place of y k) nothing_plain h
+value_typed env (a_host_member o m) place e h =
+    either_plain (if m.least == 0 then typed_value (bound.host_member o m.name bound.no_exprs) place m.of else None) (if m.least == 0 then None else Some (broken_rule 25 place (bound.also o bound.no_exprs))) e
+    (λ y k. member_plain (m.least == 0) o m place y k) (λ y k. needed_plain (m.least == 0) o place y k) h
+value_typed env (a_routine space number p) place e h =
+    either_plain (value_in typed_value (bare_call env None space number p) place) (lacking_call env None space number p place) e (λ y k. in_typed (bare_call env None space number p) place y k) (λ y k. lacking_plain env None space number p place y k) h
+value_typed env (a_method base space number p) place e h =
+    either_plain (value_in typed_value (bare_call env (Some base) space number p) place) (lacking_call env (Some base) space number p place) e (λ y k. in_typed (bare_call env (Some base) space number p) place y k)
+    (λ y k. lacking_plain env (Some base) space number p place y k) h
+value_typed env t place e h = let none : None ≡ Some e = h in absurd cc
+
+-- what is marked is no object of a class
+host_free : (has b : Bool) → (has && (b && false)) ≡ false
+host_free true true = refl
+host_free true false = refl
+host_free false b = refl
+
+marked_free : (env : Env) (rule : ℕ) (place : Place) (es : bound.Exprs) → may_be_instance env (broken_rule rule place es) ≡ false
+marked_free env rule place es = host_free (has_class env.scope.spaces) (is_instance_type (bound.marked (record { rule = rule; place = place }) es) type.variant)
+
+default_free : (env : Env) (place : Place) (found : Option bound.Expr) (e : bound.Expr) → option_and_then (default_value place) found ≡ Some e → may_be_instance env e ≡ false
+default_free env place None e h = let none : None ≡ Some e = h in absurd cc
+default_free env place (Some (bound.expr node at of operand)) e h = by (has_default of) h
+  where
+    object : bound.Expr
+    object = bound.expr node at of operand
+
+    made : bound.Expr
+    made = given_way (default_rule (host_kind node of)) place object
+
+    way : (o : Option ℕ) → may_be_instance env (given_way o place object) ≡ false
+    way None = free_of env (bound.default_of object) place type.variant type.variant refl
+    way (Some rule) = marked_free env rule place (bound.also object bound.no_exprs)
+
+    by : (b : Bool) → (if b then Some made else None) ≡ Some e → may_be_instance env e ≡ false
+    by true k =
+        let same : made ≡ e = (let j : Some made ≡ Some e = k in cc) in
+        let A : bound.Expr → Type 0 = λ (y : bound.Expr). may_be_instance env y ≡ false in
+        subst A same (way (default_rule (host_kind node of)))
+    by false k = let none : None ≡ Some e = k in absurd cc
+
+either_free : (env : Env) (t : plain.Term) (place : Place) (e : bound.Expr) → or_else (option_map plain_operand (value_of env t place)) (option_and_then (default_value place) (reference_of env t place)) ≡ Some e → may_be_instance env e ≡ false
+either_free env t place e h = by (value_of env t place) refl h
+  where
+    by : (o : Option bound.Expr) → value_of env t place ≡ o → or_else (option_map plain_operand o) (option_and_then (default_value place) (reference_of env t place)) ≡ Some e → may_be_instance env e ≡ false
+    by None k q = default_free env place (reference_of env t place) e q
+    by (Some x) k q =
+        let same : plain_operand x ≡ e = (let j : Some (plain_operand x) ≡ Some e = q in cc) in
+        let A : bound.Expr → Type 0 = λ (y : bound.Expr). may_be_instance env y ≡ false in
+        subst A same (plain_free env x (value_typed env t place x k))
+
+-- an operand is no object of a class
+operand_free : (env : Env) (t : plain.Term) (place : Place) (e : bound.Expr) → operand_of env t place ≡ Some e → may_be_instance env e ≡ false
+operand_free env err_object place e h =
+    let made = expression_of (bound.err_value bound.err_number) place type.long in
+    let same : made ≡ e = (let j : Some made ≡ Some e = h in cc) in
+    let A : bound.Expr → Type 0 = λ (y : bound.Expr). may_be_instance env y ≡ false in
+    subst A same (free_of env (bound.err_value bound.err_number) place type.long type.long refl)
+operand_free env t place e h = either_free env t place e h
+
+pub plain_pushed : (has given : Bool) (x : Tree) (of : DeclaredType) (d e : Drafted) → is_plain x.term ≡ true → PushesValue x d e (Some of) → PushesFor has false given x d e of
+plain_pushed has given x of d e plain p = record {
   grown = p.grown;
-  stands = λ env tree below k.
+  stands = λ env known tree below k.
       let m = p.stands env tree below k in
       let t = term_of env tree in
       let at = place_told tree in
-      record { made = m.made; is = value_taken given env t at m.made m.is (plain_itself env d.tables x.term t d.pieces below at m.made plain k.term_is m.is); operand = m.operand; on_top = m.on_top };
+      let itself = plain_itself env d.tables x.term t d.pieces below at m.made plain k.term_is m.is in
+      record {
+        pushed = record { made = m.made; is = value_taken given env t at m.made m.is itself; operand = m.operand; on_top = m.on_top };
+        free = λ no. operand_free env t at m.made (value_operand env t at m.made m.is itself);
+      };
 }
 
-pub given_pushed : (given : Bool) (x : Tree) (of : DeclaredType) (d e : Drafted) → given ≡ true → PushesGiven x d e of → PushesFor given x d e of
-given_pushed given x of d e b p =
-    let P : Bool → Type 0 = λ (c : Bool). PushesFor c x d e of in
-    subst P (sym b) (record { grown = p.grown; stands = p.stands })
+pub given_pushed : (has may_be : Bool) (x : Tree) (d m e : Drafted) (v : Ending) → TakesGiven x.term x.place d m v → e ≡ record m { pieces = put m.tables (node_of v.kind x.place v.of) m.pieces } → may_be_instance_by has v ≡ may_be
+    → PushesFor has may_be true x d e v.of
+given_pushed has may_be x d m e v t eq same =
+    let P : Drafted → Type 0 = λ (z : Drafted). PushesFor has may_be true x d z v.of in
+    let n = node_of v.kind x.place v.of in
+    subst P (sym eq) (record {
+      grown = grown_twice d m (record m { pieces = put m.tables n m.pieces }) t.grown (grown_pieces m (put m.tables n m.pieces));
+      stands = λ env known tree below k.
+          let g = t.stands env (term_of env tree) below k.term_is in
+          let made = expression_of g.made x.place (declared_view v.of) in
+          let A : Place → Type 0 = λ (place : Place). given_as env (term_of env tree) place ≡ Some made in
+          record {
+            pushed = record { made = made; is = subst A k.place_is g.is; operand = refl; on_top = g.ends n };
+            free = λ no. no_instance has v (same ∙ no) env m.tables g.made x.place m.pieces below known g.ends;
+          };
+    })
 
-pub operand_pushed : (given : Bool) (x : Tree) (of : DeclaredType) (d e : Drafted) → given ≡ false → PushesOperand x d e (Some of) → PushesFor given x d e of
-operand_pushed given x of d e b p =
-    let P : Bool → Type 0 = λ (c : Bool). PushesFor c x d e of in
-    subst P (sym b) (record { grown = p.grown; stands = p.stands })
+pub operand_pushed : (has given : Bool) (x : Tree) (of : DeclaredType) (d e : Drafted) → given ≡ false → PushesOperand x d e (Some of) → PushesFor has false given x d e of
+operand_pushed has given x of d e b p =
+    let P : Bool → Type 0 = λ (c : Bool). PushesFor has false c x d e of in
+    subst P (sym b) (record {
+      grown = p.grown;
+      stands = λ env known tree below k.
+          let m = p.stands env tree below k in record { pushed = m; free = λ no. operand_free env (term_of env tree) (place_told tree) m.made m.is };
+    })
 
 -- ---- of an assignment to an expression
 
@@ -115,12 +287,14 @@ taken_is true env e = refl
 taken_is false env e = refl
 
 -- the value was pushed, and its type
-pub value_bound : (env : Env) (place value : Expr) (x : Tree) (of : DeclaredType) (d f e : Drafted) → Leaves env value d f x → PushesFor (is_given_with env place) x f e of → Binds (value_for env place value) d e (Some of)
-value_bound env place value x of d f e l p =
-    let m = p.stands env value d.pieces l.stands in
+pub value_bound : (has may_be : Bool) (env : Env) (place value : Expr) (x : Tree) (of : DeclaredType) (d f e : Drafted) → has_class env.scope.spaces ≡ has → Leaves env value d f x → PushesFor has may_be (is_given_with env place) x f e of
+    → ValueBound env may_be of (value_for env place value) d e
+value_bound has may_be env place value x of d f e known l p =
+    let m = p.stands env known value d.pieces l.stands in
+    let v = m.pushed in
     record {
       grown = grown_twice d f e l.grown p.grown;
-      pushed = record { made = m.made; is = sym (taken_is (is_given_with env place) env value) ∙ m.is; operand = m.operand; on_top = m.on_top };
+      pushed = record { pushed = record { made = v.made; is = sym (taken_is (is_given_with env place) env value) ∙ v.is; operand = v.operand; on_top = v.on_top }; free = m.free };
     }
 
 -- one that is taken everywhere
@@ -138,7 +312,7 @@ unmarked of bounded place v given is h =
     ap (λ (u : Declared). unless_broken (given_rule of bounded u) place v) is ∙ ap (λ (o : Option ℕ). unless_broken o place v) (not_broken of (declared_view given) bounded h)
 
 stays : (t : plain.Term) (place : Place) (v : bound.Expr) (given : DeclaredType) → bound.operand_type v ≡ declared_view given → may_break (declared_view given) ≡ false → given_to_term t place v ≡ v
-stays (a_place x of bounded lends) place v given is h = unmarked of bounded place v given is h
+stays (a_place x of bounded lends makes) place v given is h = unmarked of bounded place v given is h
 stays (a_host_member e m) place v given is h = unmarked type.variant false place v given is h
 stays t place v given is h = refl
 
@@ -146,33 +320,49 @@ by_taker : (t : plain.Term) (taker : Option Taker) (place : Place) (found : Opti
 by_taker t taker place None h = refl
 by_taker t taker place (Some v) h = ap (λ (e : bound.Expr). Some e) (h place v)
 
-pub value_kept : (env : Env) (place value : Expr) (of : DeclaredType) (d e : Drafted) → may_break (declared_view of) ≡ false → Binds (value_for env place value) d e (Some of) → ValueFor (value_given env place value) d e
-value_kept env place value of d e h b =
-    let v = b.pushed.made in
+pub value_kept : (env : Env) (may_be : Bool) (place value : Expr) (of : DeclaredType) (d e : Drafted) → may_break (declared_view of) ≡ false → ValueBound env may_be of (value_for env place value) d e → ValueFor env may_be (value_given env place value) d e
+value_kept env may_be place value of d e h b =
+    let u = b.pushed.pushed in
+    let v = u.made in
     let term = target_term env place in
     let at = place_told value in
-    let kept : given_to_term term at v ≡ v = stays term at v of b.pushed.operand h in
+    let kept : given_to_term term at v ≡ v = stays term at v of u.operand h in
     record {
       grown = b.grown;
       pushed = record {
         made = v;
-        is = ap (λ (o : Option bound.Expr). option_map (given_to_term term at) o) b.pushed.is ∙ ap (λ (e : bound.Expr). Some e) kept;
-        on_top = b.pushed.on_top;
+        is = ap (λ (o : Option bound.Expr). option_map (given_to_term term at) o) u.is ∙ ap (λ (e : bound.Expr). Some e) kept;
+        on_top = u.on_top;
       };
+      free = b.pushed.free;
     }
 
+-- marking makes no object of a class
+unless_free : (env : Env) (o : Option ℕ) (place : Place) (v : bound.Expr) → may_be_instance env v ≡ false → may_be_instance env (unless_broken o place v) ≡ false
+unless_free env None place v h = h
+unless_free env (Some rule) place v h = marked_free env rule place (bound.also v bound.no_exprs)
+
+taker_free : (env : Env) (taker : Option Taker) (place : Place) (v : bound.Expr) → may_be_instance env v ≡ false → may_be_instance env (given_by taker place v) ≡ false
+taker_free env None place v h = h
+taker_free env (Some k) place v h = unless_free env (given_rule (declared_view k.of) k.is_bounded (bound.operand_type v)) place v h
+
 -- one that was marked where the target doesn't take it
-pub value_marked : (env : Env) (place value : Expr) (x : Tree) (of : DeclaredType) (taker : Option Taker) (d f e g : Drafted) → Leaves env value d f x → TakenBy (target_term env place) taker → Binds (value_for env place value) d e (Some of)
-    → MarksTaken taker x.place of e g → ValueFor (value_given env place value) d g
-value_marked env place value x of taker d f e g l t b m =
-    let v = b.pushed.made in
+pub value_marked : (env : Env) (may_be : Bool) (place value : Expr) (x : Tree) (of : DeclaredType) (taker : Option Taker) (d f e g : Drafted) → Leaves env value d f x → TakenBy (target_term env place) taker
+    → ValueBound env may_be of (value_for env place value) d e → MarksTaken taker x.place of e g → ValueFor env may_be (value_given env place value) d g
+value_marked env may_be place value x of taker d f e g l t b m =
+    let u = b.pushed.pushed in
+    let v = u.made in
+    let at = place_told value in
     let term = target_term env place in
-    let pushed = m.stands (value_for env place value) d.pieces b.pushed in
+    let pushed = m.stands (value_for env place value) d.pieces u in
     let P : Place → Type 0 = λ (p : Place). ExprPushed (option_map (given_by taker p) (value_for env place value)) g.pieces d.pieces in
     let there = subst P l.stands.place_is pushed in
-    let given : option_map (given_to_term term (place_told value)) (value_for env place value) ≡ option_map (given_by taker (place_told value)) (value_for env place value) =
-    by_taker term taker (place_told value) (value_for env place value) t in
+    let given : option_map (given_to_term term at) (value_for env place value) ≡ option_map (given_by taker at) (value_for env place value) = by_taker term taker at (value_for env place value) t in
+    let both : Some (given_by taker at v) ≡ Some there.made = ap (λ (o : Option bound.Expr). option_map (given_by taker at) o) (sym u.is) ∙ there.is in
+    let same : given_by taker at v ≡ there.made = cc in
+    let F : bound.Expr → Type 0 = λ (y : bound.Expr). may_be_instance env y ≡ false in
     record {
       grown = grown_twice d e g b.grown m.grown;
       pushed = record { made = there.made; is = given ∙ there.is; on_top = there.on_top };
+      free = λ no. subst F same (taker_free env taker at v (b.pushed.free no));
     }

@@ -15,7 +15,7 @@ use Rattle.bound_project.specs.Drafts.{Drafted}
 use Rattle.bound_project.specs.Expressions as bound
 use Rattle.bound_project.specs.Pieces.{Piece}
 use Rattle.bound_project.specs.Statements.{evaluate}
-use Rattle.bound_members.specs.bound_forms.specs.Terms.{Env, Given, a_place, a_value, a_routine, a_function, a_host_member, err_object, err_raise, err_clear, error_word, no_term}
+use Rattle.bound_members.specs.bound_forms.specs.Terms.{Env, Given, a_place, a_value, a_routine, a_function, a_host_member, err_object, err_raise, err_clear, error_word, no_term, a_method}
 use Rattle.bound_members.specs.bound_forms.specs.Terms as plain
 use Rattle.bound_members.specs.bound_forms.specs.ExpressionsBound.{callee, given_as, givens, indexed, item_of, term_of, place_told}
 use Rattle.bound_members.specs.bound_forms.specs.StatementsBound.{called_term, called_with}
@@ -98,10 +98,11 @@ some_given env ns g =
 
 -- ---- what is called
 
-by_items : (env : Env) (place : Place) (t : plain.Term) (g : Given) (gs : List Given) (made : bound.Expr) → given_as env (indexed env place (item_of place t) (g ∷ gs)) place ≡ Some made → called_term env place t (g ∷ gs) ≡ Some (evaluate made)
-by_items env place (a_place x of bounded lends) g gs made h = ap (λ (o : Option bound.Expr). option_map evaluate o) h
+by_items : (env : Env) (place : Place) (t : plain.Term) (g : Given) (gs : List Given) (made : bound.Expr) → given_as env (indexed env place (item_of env place t) (g ∷ gs)) place ≡ Some made → called_term env place t (g ∷ gs) ≡ Some (evaluate made)
+by_items env place (a_place x of bounded lends makes) g gs made h = ap (λ (o : Option bound.Expr). option_map evaluate o) h
 by_items env place (a_value node of) g gs made h = ap (λ (o : Option bound.Expr). option_map evaluate o) h
 by_items env place (a_routine space number p) g gs made h = ap (λ (o : Option bound.Expr). option_map evaluate o) h
+by_items env place (a_method base space number p) g gs made h = ap (λ (o : Option bound.Expr). option_map evaluate o) h
 by_items env place (a_function f text_form base) g gs made h = ap (λ (o : Option bound.Expr). option_map evaluate o) h
 by_items env place (a_host_member e m) g gs made h = ap (λ (o : Option bound.Expr). option_map evaluate o) h
 by_items env place err_object g gs made h = ap (λ (o : Option bound.Expr). option_map evaluate o) h
@@ -110,10 +111,10 @@ by_items env place err_clear g gs made h = ap (λ (o : Option bound.Expr). optio
 by_items env place error_word g gs made h = absurd (none_there made h)
 by_items env place no_term g gs made h = ap (λ (o : Option bound.Expr). option_map evaluate o) h
 
-called_by : (env : Env) (place : Place) (t : plain.Term) (gs : List Given) (made : bound.Expr) → SomeGiven gs → given_as env (indexed env place (item_of place t) gs) place ≡ Some made → called_term env place t gs ≡ Some (evaluate made)
+called_by : (env : Env) (place : Place) (t : plain.Term) (gs : List Given) (made : bound.Expr) → SomeGiven gs → given_as env (indexed env place (item_of env place t) gs) place ≡ Some made → called_term env place t gs ≡ Some (evaluate made)
 called_by env place t gs made s h =
     let P : List Given → Type 0 = λ (l : List Given). called_term env place t l ≡ Some (evaluate made) in
-    let G : List Given → Type 0 = λ (l : List Given). given_as env (indexed env place (item_of place t) l) place ≡ Some made in
+    let G : List Given → Type 0 = λ (l : List Given). given_as env (indexed env place (item_of env place t) l) place ≡ Some made in
     subst P (sym s.is) (by_items env place t s.first s.others made (subst G s.is h))
 
 -- brackets behind an expression make a value
@@ -125,7 +126,7 @@ indexed_called env tree args mark more m e some there g =
     let gs = givens env args in
     let whole = index tree mark args mark in
     let pushed = g.stands env (term_of env whole) [] there.term_is in
-    let is : given_as env (indexed env p (item_of p z) gs) p ≡ Some pushed.made = ap (λ (q : Place). given_as env (indexed env p (item_of p z) gs) q) (sym there.place_is) ∙ pushed.is in
+    let is : given_as env (indexed env p (item_of env p z) gs) p ≡ Some pushed.made = ap (λ (q : Place). given_as env (indexed env p (item_of env p z) gs) q) (sym there.place_is) ∙ pushed.is in
     record { made = evaluate pushed.made; is = called_by env p z gs pushed.made some is; fits = ap (λ (ps : List Piece). action_of e.tables action.Evaluate ps) pushed.on_top }
 
 behind_brackets : (ns : List ExpressionNode) (g : GivesSome ns) (tree : Expr) (mark : Token) → last_tree (behind_nodes (nodes.tree tree ∷ []) (ns ++ node.Index mark mark ∷ [])) ≡ index tree mark (args_in ns g) mark

@@ -3,6 +3,7 @@ pub mod NodeTrees
 pub mod Calling
 pub mod Called
 pub mod Assigned
+pub mod Apart
 pub mod Placing
 pub mod Folding
 pub mod NamedCalls

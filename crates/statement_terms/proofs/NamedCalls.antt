@@ -30,11 +30,11 @@ use Rattle.bound_members.specs.bound_calls.specs.declared.term.Ordered.{Ordered}
 use Rattle.bound_members.specs.bound_calls.specs.declared.term.Passed.{Passed}
 use Rattle.bound_members.specs.bound_calls.specs.declared.term.Routine.{Routine}
 use Rattle.statement_terms.specs.Called.{ActsOn, PassesAll, Reads, RestPushed, args_on}
-use Rattle.bound_members.specs.bound_calls.specs.Calls.{EndsCall}
+use Rattle.bound_members.specs.bound_calls.specs.Calls.{EndsCall, PushesReceiver}
 use Rattle.bound_members.specs.bound_calls.specs.Passing.{AllTaken}
 use Rattle.bound_members.specs.bound_calls.specs.InOrder.{AllNamedTaken, EndsInOrder, EndsNamed, with_named}
 use Rattle.statement_terms.specs.NamedCalls.{NamedPassed, PushesCall, PushesNamed, ReadsNamed}
-use Rattle.bound_members.specs.bound_calls.specs.Standing.{Base, PassedStands, RoutineStands, Stands, ValueStands}
+use Rattle.bound_members.specs.bound_calls.specs.Standing.{Base, PassedStands, ReceiverThere, RoutineIs, Stands, ValueStands}
 use Rattle.statement_terms.specs.Assigning.{GivenPushed}
 use Rattle.bound_members.specs.bound_calls.proofs.Growing.{grown_twice}
 use Rattle.bound_members.specs.bound_calls.proofs.CallSteps.{call_stands as plain_stands}
@@ -66,13 +66,13 @@ passed_plain env parameters x args ps below p =
 pub pushes_call : (r : Routine) (x : Passed) (place : Place) (d d1 e : Drafted) (ending : Ending) → EndsCall r x d d1 ending → GivenPushed (term.Value ending) place d1 e → PushesCall r x place d e
 pushes_call r x place d d1 e ending h p = record {
   grown = grown_twice d d1 e h.grown p.grown;
-  stands = λ env y args qs below s t. p.stands env (indexed env place y (givens env args)) below (plain_stands env d1.tables r x d d1 ending y place args qs below h s t);
+  stands = λ env y args there below s on t. p.stands env (indexed env place y (givens env args)) below (plain_stands env d1.tables r x d d1 ending y place args there below h s on t);
 }
 
 pub pushes_plain : (r : Routine) (x : Passed) (place : Place) (d e : Drafted) → PushesCall r x place d e → PushesNamed r x [] place d e
 pushes_plain r x place d e h = record {
   grown = h.grown;
-  stands = λ env y args qs below s p. h.stands env y args qs below s (passed_plain env (map parameter_view r.parameters.now) x args d.pieces below p);
+  stands = λ env y args there below s on p. h.stands env y args there below s on (passed_plain env (map parameter_view r.parameters.now) x args d.pieces there p);
 }
 
 -- ---- arguments of which some have names
@@ -82,21 +82,21 @@ some_reversed [] some h = some refl
 some_reversed (k ∷ ks) some h = absurd (omega (arith, ap (λ l. length l) h, length-reverse (k ∷ ks)))
 
 -- the value of a call
-value_stands : (env : Env) (r : Routine) (x : Passed) (named : List ℕ) (d e : Drafted) (ending : Ending) (y : plain.Term) (place : Place) (gs : List Given) (before : Args) (given : List Given) (made : List Argument) (qs between below : List Piece)
-    → (named ≡ [] → ⊥) → EndsNamed r x named d e ending → RoutineStands env r y qs qs → gs ≡ givens env before ++ given → AllNamedTaken (argument_of env) x.count (map parameter_view x.left.now) given named made
-    → d.pieces ≡ above (map an_argument made) between → PassedStands env (map parameter_view r.parameters.now) x before between below → ValueStands e.tables ending (indexed env place y gs) e.pieces below
-value_stands env r x [] d e ending y place gs before given made qs between below some h s is names a p = absurd (some refl)
-value_stands env r x (k ∷ ks) d e ending y place gs before [] made qs between below some h s is names a p = absurd names
-value_stands env r x (k ∷ ks) d e ending y place gs before (g ∷ ns) made qs between below some h s is names a p =
+value_stands : (env : Env) (r : Routine) (x : Passed) (named : List ℕ) (d e : Drafted) (ending : Ending) (y : plain.Term) (place : Place) (gs : List Given) (before : Args) (given : List Given) (made : List Argument) (there between below : List Piece)
+    → (named ≡ [] → ⊥) → EndsNamed r x named d e ending → (s : RoutineIs env r y) → ReceiverThere s.base there below → gs ≡ givens env before ++ given → AllNamedTaken (argument_of env) x.count (map parameter_view x.left.now) given named made
+    → d.pieces ≡ above (map an_argument made) between → PassedStands env (map parameter_view r.parameters.now) x before between there → ValueStands e.tables ending (indexed env place y gs) e.pieces below
+value_stands env r x [] d e ending y place gs before given made there between below some h s on is names a p = absurd (some refl)
+value_stands env r x (k ∷ ks) d e ending y place gs before [] made there between below some h s on is names a p = absurd names
+value_stands env r x (k ∷ ks) d e ending y place gs before (g ∷ ns) made there between below some h s on is names a p =
     let A : List Given → Type 0 = λ l. ValueStands e.tables ending (indexed env place y l) e.pieces below in
-    subst A (sym is) (call_stands env e.tables r x d e (k ∷ ks) ending y place (givens env before) p.made g ns made qs between below h refl s p.taken p.count_is names a p.on_top)
+    subst A (sym is) (call_stands env e.tables r x d e (k ∷ ks) ending y place (givens env before) p.made g ns made between there below h refl s on p.taken p.count_is names a p.on_top)
 
 pub pushes_named : (r : Routine) (x : Passed) (named : List ℕ) (place : Place) (d d1 e : Drafted) (ending : Ending) → (named ≡ [] → ⊥) → EndsNamed r x named d d1 ending → GivenPushed (term.Value ending) place d1 e → PushesNamed r x named place d e
 pushes_named r x named place d d1 e ending some h p = record {
   grown = grown_twice d d1 e h.ends.grown p.grown;
-  stands = λ env y args qs below s t.
+  stands = λ env y args there below s on t.
       p.stands env (indexed env place y (givens env args)) below
-      (value_stands env r x named d d1 ending y place (givens env args) t.before t.given t.made qs t.between below some h s t.givens_are t.taken t.on_top t.passed);
+      (value_stands env r x named d d1 ending y place (givens env args) t.before t.given t.made there t.between below some h s on t.givens_are t.taken t.on_top t.passed);
 }
 
 -- ---- the arguments of a statement
@@ -116,20 +116,19 @@ reads_plain env ns parameters x named d e none h =
     let r = subst A none h in
     record { grown = r.grown; framed = r.framed; stands = λ items. passed_plain env parameters x (args_on items ns) e.pieces d.pieces (r.stands items) }
 
-pub acts_routine : (env : Env) (r : Routine) (x : Passed) (named : List ℕ) (place : Place) (ns : List ExpressionNode) (d d1 e : Drafted) → ReadsNamed env (map parameter_view r.parameters.now) ns d d1 x named
+pub acts_routine : (env : Env) (r : Routine) (x : Passed) (named : List ℕ) (place : Place) (ns : List ExpressionNode) (d r0 d1 e : Drafted) → PushesReceiver r.receiver d r0 → ReadsNamed env (map parameter_view r.parameters.now) ns r0 d1 x named
     → PushesNamed r x (reverse named) place d1 e → ActsOn env (term.Routine r) place ns d e action.Evaluate
-acts_routine env r x named place ns d d1 e a p = record {
+acts_routine env r x named place ns d r0 d1 e pushed a p = record {
   framed = a.framed;
   acts = λ items.
       let args = args_on items ns in
       record {
-        grown = grown_twice d d1 e a.grown p.grown;
+        grown = grown_twice d r0 e pushed.grown (grown_twice r0 d1 e a.grown p.grown);
         named = tt;
         stands = λ y h.
-            let A : List Piece → Type 0 = λ qs. RoutineStands env r y qs [] in
-            let B : List Piece → Type 0 = λ qs. NamedPassed env (map parameter_view r.parameters.now) x (reverse named) args d1.pieces qs in
-            let m = p.stands env y args [] [] (subst A h.none_pushed h) (subst B h.none_pushed (a.stands items)) in
-            record { made = evaluate m.made; is = routine_called env place y h.space h.number h.written (givens env args) m.made h.is m.is; fits = ap (λ ps. action_of e.tables action.Evaluate ps) m.on_top };
+            let s = h.routine in
+            let m = p.stands env y args r0.pieces [] s (pushed.there s.base [] s.received h.pushed) (a.stands items) in
+            record { made = evaluate m.made; is = routine_called env place y s.base s.space s.number s.written (givens env args) m.made s.is m.is; fits = ap (λ ps. action_of e.tables action.Evaluate ps) m.on_top };
       };
 }
 

@@ -21,13 +21,14 @@ use Rattle.bound_project.specs.Expressions as bound
 use Rattle.bound_project.specs.Pieces.{Piece, Tables, an_expr, expr_of, exprs_off, misfit, of_found, put, put_kind}
 use Rattle.bound_project.specs.Statements.{Action, set, set_member}
 use Rattle.bound_project.specs.View.{declared_view}
+use Rattle.bound_members.specs.binder.specs.Options.{or_else}
 use Rattle.bound_members.specs.binder.specs.Types.{is_object}
 use Rattle.bound_members.specs.binder.specs.Constants.{is_variant}
 use Rattle.bound_members.specs.binder.specs.Signatures.{is_property}
-use Rattle.bound_members.specs.bound_forms.specs.Terms.{Env, Given, a_host_member, a_place, a_routine, a_value, expression_of, no_term}
+use Rattle.bound_members.specs.bound_forms.specs.Terms.{Env, Given, a_host_member, a_method, a_place, a_routine, a_value, expression_of, no_term}
 use Rattle.bound_members.specs.bound_forms.specs.Terms as plain
-use Rattle.bound_members.specs.bound_forms.specs.ExpressionsBound.{bound_as_given, givens, indexed, item_of, term_of, place_told}
-use Rattle.bound_members.specs.bound_forms.specs.StatementsBound.{broken_target, is_sub, is_unassignable, may_refer, no_reference, not_assignable, set_given, set_target, set_to, set_value, target_before, target_of_call}
+use Rattle.bound_members.specs.bound_forms.specs.ExpressionsBound.{bound_as_given, givens, indexed, term_of, place_told}
+use Rattle.bound_members.specs.bound_forms.specs.StatementsBound.{broken_target, is_sub, is_unassignable, may_refer, no_reference, not_assignable, object_set, set_by, set_given, set_target, set_to, set_value, target_before, target_of_call}
 use Rattle.bound_members.specs.bound_calls.specs.declared.term.Ending.{Ending}
 use Rattle.bound_members.specs.bound_calls.specs.declared.term.HostMember.{HostMember}
 use Rattle.bound_members.specs.bound_calls.specs.declared.term.Term.TheVariants as term
@@ -46,35 +47,35 @@ use Rattle.statement_terms.proofs.WrittenTargets.{unassignable}
 
 -- ---- terms
 
-place_set : (word place : Place) (y : plain.Term) (value : bound.Expr) (x : Lvalue) (of : Declared) (bounded lends : Bool) → y ≡ a_place x of bounded lends → (is_object of || is_variant of) ≡ true → set_to word place y value ≡ Some (set x value)
-place_set word place y value x of bounded lends e h =
+place_set : (word place : Place) (y : plain.Term) (value : bound.Expr) (x : Lvalue) (of : Declared) (bounded lends makes : Bool) → y ≡ a_place x of bounded lends makes → (is_object of || is_variant of) ≡ true → set_to word place y value ≡ Some (set x value)
+place_set word place y value x of bounded lends makes e h =
     ap (λ (z : plain.Term). set_to word place z value) e
     ∙ ap (λ (b : Bool). if b then Some (set x value) else Some (no_reference word (also value (also (expression_of (bound.load x) word of) no_exprs)))) h
 
 pub sets_place : (word : Place) (kind : NodeKind) (of : DeclaredType) (place : Place) (d e : Drafted) → may_be_object of ≡ true → e ≡ record d { pieces = put d.tables (node_of kind place of) d.pieces }
-    → (bounded lends : Bool) → SetsTerm word place (term.Place kind of bounded lends) d e action.Set
-sets_place word kind of place d e h eq bounded lends =
-    let P : Drafted → Type 0 = λ (z : Drafted). SetsTerm word place (term.Place kind of bounded lends) d z action.Set in
+    → (bounded lends makes : Bool) → SetsTerm word place (term.Place kind of bounded lends makes) d e action.Set
+sets_place word kind of place d e h eq bounded lends makes =
+    let P : Drafted → Type 0 = λ (z : Drafted). SetsTerm word place (term.Place kind of bounded lends makes) d z action.Set in
     let n = node_of kind place of in
     subst P (sym eq) (record {
       grown = grown_pieces d (put d.tables n d.pieces);
       named = tt;
       stands = λ env y value k.
-          record { made = set k.at value; is = place_set word place y value k.at (declared_view of) bounded lends k.is h; fits = ap (λ (ps : List Piece). action_of d.tables action.Set ps) (k.ends n) };
+          record { made = set k.at value; is = place_set word place y value k.at (declared_view of) bounded lends makes k.is h; fits = ap (λ (ps : List Piece). action_of d.tables action.Set ps) (k.ends n) };
     })
 
 -- a place that can't have an object
-no_place_set : (word place : Place) (y : plain.Term) (value : bound.Expr) (x : Lvalue) (of : Declared) (bounded lends : Bool) → y ≡ a_place x of bounded lends → (is_object of || is_variant of) ≡ false
+no_place_set : (word place : Place) (y : plain.Term) (value : bound.Expr) (x : Lvalue) (of : Declared) (bounded lends makes : Bool) → y ≡ a_place x of bounded lends makes → (is_object of || is_variant of) ≡ false
     → set_to word place y value ≡ Some (no_reference word (also value (also (expression_of (bound.load x) word of) no_exprs)))
-no_place_set word place y value x of bounded lends e h =
+no_place_set word place y value x of bounded lends makes e h =
     ap (λ (z : plain.Term). set_to word place z value) e
     ∙ ap (λ (b : Bool). if b then Some (set x value) else Some (no_reference word (also value (also (expression_of (bound.load x) word of) no_exprs)))) h
 
 pub sets_no_place : (word : Place) (kind : NodeKind) (of : DeclaredType) (place : Place) (d d1 d2 e : Drafted) → may_be_object of ≡ false → d1 ≡ record d { pieces = put d.tables (node_of kind place of) d.pieces }
     → d2 ≡ record d1 { pieces = put d1.tables (node_of node.Load word of) d1.pieces } → e ≡ record d2 { pieces = put d2.tables (node_of (node.Marked (record { rule = 28; place = word }) 2) word (Plain Variant)) d2.pieces }
-    → (bounded lends : Bool) → SetsTerm word place (term.Place kind of bounded lends) d e action.Evaluate
-sets_no_place word kind of place d d1 d2 e h a b c bounded lends =
-    let P : Drafted → Type 0 = λ (z : Drafted). SetsTerm word place (term.Place kind of bounded lends) d z action.Evaluate in
+    → (bounded lends makes : Bool) → SetsTerm word place (term.Place kind of bounded lends makes) d e action.Evaluate
+sets_no_place word kind of place d d1 d2 e h a b c bounded lends makes =
+    let P : Drafted → Type 0 = λ (z : Drafted). SetsTerm word place (term.Place kind of bounded lends makes) d z action.Evaluate in
     let n = node_of kind place of in
     let l = node_of node.Load word of in
     let m = node_of (node.Marked (record { rule = 28; place = word }) 2) word (Plain Variant) in
@@ -86,7 +87,7 @@ sets_no_place word kind of place d d1 d2 e h a b c bounded lends =
       stands = λ env y value k.
           record {
             made = no_reference word (also value (also (expression_of (bound.load k.at) word (declared_view of)) no_exprs));
-            is = no_place_set word place y value k.at (declared_view of) bounded lends k.is h;
+            is = no_place_set word place y value k.at (declared_view of) bounded lends makes k.is h;
             fits = ap (λ (ps : List Piece). action_of d.tables action.Evaluate (put d.tables m (put d.tables l ps))) (k.ends n);
           };
     })
@@ -156,6 +157,7 @@ constant_set word place (bound.constant c) of v h = refl
 constant_set word place (bound.err_value m) of v h = refl
 constant_set word place (bound.library f text_form es compare base) of v h = refl
 constant_set word place (bound.call p args) of v h = refl
+constant_set word place (bound.method e p args) of v h = refl
 constant_set word place made of v h = let e : false ≡ true = h in absurd cc
 
 -- what a value was marked with: the rule that Set of it breaks, and where
@@ -200,11 +202,12 @@ sets_no_object word place ending d f e constant may first second =
 
 -- ---- expressions
 
--- what stands before arguments, which are looked at where it is no member that is found in the run; of a property the Set isn't
--- built
+-- what stands before arguments, which are looked at where it is no member that is found in the run; nothing but its Set sets a
+-- property
 abbrev pub set_with : Env → Place → List Given → plain.Term → plain.Term
 set_with env place gs (a_host_member e m) = if is_some m.greatest then indexed env place (a_host_member e m) gs else a_host_member e m
 set_with env place gs (a_routine space number p) = if is_property p.kind then no_term else indexed env place (a_routine space number p) gs
+set_with env place gs (a_method object space number p) = if is_property p.kind then no_term else indexed env place (a_method object space number p) gs
 set_with env place gs t = indexed env place t gs
 
 pub target_parts : (env : Env) (base : Expr) (left right : Token) (args : Args) → set_target env (index base left args right) ≡ set_with env (place_told base) (givens env args) (target_before env base)
@@ -214,11 +217,13 @@ target_parts env base left right args = refl
 abbrev pub is_apart : plain.Term → Bool
 is_apart (a_host_member e m) = true
 is_apart (a_routine space number p) = is_property p.kind
+is_apart (a_method object space number p) = is_property p.kind
 is_apart t = false
 
 pub other_set : (env : Env) (place : Place) (gs : List Given) (t : plain.Term) → is_apart t ≡ false → set_with env place gs t ≡ indexed env place t gs
 other_set env place gs (a_host_member e m) h = let k : true ≡ false = h in absurd cc
 other_set env place gs (a_routine space number p) h = ap (λ (b : Bool). if b then no_term else indexed env place (a_routine space number p) gs) h
+other_set env place gs (a_method object space number p) h = ap (λ (b : Bool). if b then no_term else indexed env place (a_method object space number p) gs) h
 other_set env place gs t h = refl
 
 -- a member is set only where it is found in the run
@@ -233,6 +238,7 @@ member_set word at env place gs e m value made h = late_alone (is_some m.greates
 -- one without arguments, by what it is
 abbrev pub set_bare : Env → Place → plain.Term → plain.Term
 set_bare env place (a_routine space number p) = if is_property p.kind then no_term else indexed env place (a_routine space number p) []
+set_bare env place (a_method object space number p) = if is_property p.kind then no_term else indexed env place (a_method object space number p) []
 set_bare env place t = t
 
 pub bare_target : (env : Env) (place : Expr) → IsBare place → set_target env place ≡ set_bare env (place_told place) (term_of env place)
@@ -244,12 +250,24 @@ bare_callee env (index base left args right) h = absurd h
 bare_callee env e h = refl
 
 -- what is done with an expression that is no Sub
-pub set_there_is : (word : Place) (env : Env) (place : Expr) (value : bound.Expr) → is_sub (target_of_call env place) ≡ false → set_there env word place value ≡ set_to word (place_told place) (set_target env place) value
-set_there_is word env place value none = ap (λ (b : Bool). if b then Some (broken_target 27 (place_told place) value no_exprs) else set_to word (place_told place) (set_target env place) value) none
+pub set_there_is : (word : Place) (env : Env) (place : Expr) (value : bound.Expr) → is_sub (target_of_call env place) ≡ false → set_there env word place value ≡ object_set env word place value
+set_there_is word env place value none = ap (λ (b : Bool). if b then Some (broken_target 27 (place_told place) value no_exprs) else object_set env word place value) none
+
+-- with one that doesn't end with arguments: its Set, or else what it is
+pub bare_set : (word : Place) (env : Env) (place : Expr) (value : bound.Expr) → IsBare place
+    → object_set env word place value ≡ or_else (set_by env (place_told place) [] (term_of env place) value) (set_to word (place_told place) (set_target env place) value)
+bare_set word env (index base left args right) value h = absurd h
+bare_set word env e value h = refl
+
+-- with one that has no Set
+pub set_other : (word : Place) (env : Env) (place : Expr) (value : bound.Expr) → IsBare place → is_sub (target_of_call env place) ≡ false → set_by env (place_told place) [] (term_of env place) value ≡ None
+    → set_there env word place value ≡ set_to word (place_told place) (set_target env place) value
+set_other word env place value bare none unset =
+    set_there_is word env place value none ∙ bare_set word env place value bare ∙ ap (λ (o : Option Action). or_else o (set_to word (place_told place) (set_target env place) value)) unset
 
 pub sets_bare : (word : Place) (env : Env) (place : Expr) (x : Tree) (d f e : Drafted) (kind : ActionKind) → IsBare place → is_sub (term_of env place) ≡ false → set_bare env (place_told place) (term_of env place) ≡ term_of env place
-    → Leaves env place d f x → SetsTerm word x.place x.term f e kind → SetsTo word env place d e kind
-sets_bare word env place x d f e kind bare no_sub itself l s = record {
+    → ((value : bound.Expr) → set_by env (place_told place) [] (term_of env place) value ≡ None) → Leaves env place d f x → SetsTerm word x.place x.term f e kind → SetsTo word env place d e kind
+sets_bare word env place x d f e kind bare no_sub itself unset l s = record {
   grown = grown_twice d f e l.grown s.grown;
   named = s.named;
   stands = λ value alone.
@@ -258,15 +276,21 @@ sets_bare word env place x d f e kind bare no_sub itself l s = record {
       let m = subst A l.stands.place_is (s.stands env (term_of env place) value (subst T alone l.stands.term_is)) in
       record {
         made = m.made;
-        is = set_there_is word env place value (ap (λ (t : plain.Term). is_sub t) (bare_callee env place bare) ∙ no_sub)
+        is = set_other word env place value bare (ap (λ (t : plain.Term). is_sub t) (bare_callee env place bare) ∙ no_sub) (unset value)
             ∙ ap (λ (t : plain.Term). set_to word (place_told place) t value) (bare_target env place bare ∙ itself) ∙ m.is;
         fits = m.fits;
       };
 }
 
--- other arguments
-pub other_kept : (place : Place) (z y : plain.Term) → z ≡ y → item_of place y ≡ y → is_apart y ≡ false → is_apart (item_of place z) ≡ false
-other_kept place z y is a b = ap (λ (t : plain.Term). is_apart (item_of place t)) is ∙ ap is_apart a ∙ b
+-- with one that ends with arguments, of what has no Set
+pub split_other : (word : Place) (env : Env) (base : Expr) (left right : Token) (args : Args) (value : bound.Expr) → is_sub (target_of_call env (index base left args right)) ≡ false
+    → set_by env (place_told base) (givens env args) (target_before env base) value ≡ None
+    → set_there env word (index base left args right) value ≡ set_to word (place_told base) (set_with env (place_told base) (givens env args) (target_before env base)) value
+split_other word env base left right args value none unset =
+    let p = place_told base in
+    let t = target_before env base in
+    let gs = givens env args in
+    set_there_is word env (index base left args right) value none ∙ ap (λ (o : Option Action). or_else o (set_to word p (set_with env p gs t) value)) unset
 
 -- ---- the statement
 

@@ -1,5 +1,5 @@
 -- What takes the values of assignments.
-use Rattle.std.proofs.Common.{◌≡◌, Bool, true, false, List, Option, Some, None, refl, sym, ap, subst}
+use Rattle.std.proofs.Common.{◌≡◌, ℕ, Bool, true, false, List, Option, Some, None, refl, sym, ap, subst}
 use Rattle.std.specs.Prelude.{option_map, if◌then◌else◌}
 use Rattle.vba_base.specs.declared.place.Place.{Place}
 use Rattle.vba_lexer.specs.declared.token.Token.{Token}
@@ -9,7 +9,10 @@ use Rattle.bound_project.specs.Drafts.{Drafted}
 use Rattle.bound_project.specs.Expressions as bound
 use Rattle.bound_project.specs.Pieces.{Piece, Tables}
 use Rattle.bound_project.specs.View.{declared_view}
-use Rattle.bound_members.specs.bound_forms.specs.Terms.{Env}
+use Rattle.bound_members.specs.binder.specs.Declarations.{Written}
+use Rattle.bound_members.specs.binder.specs.Scopes.{Space}
+use Rattle.bound_members.specs.declared_names.specs.View.{space_view, written_view}
+use Rattle.bound_members.specs.bound_forms.specs.Terms.{Env, routine_term}
 use Rattle.bound_members.specs.bound_forms.specs.Terms as plain
 use Rattle.bound_members.specs.bound_forms.specs.ExpressionsBound.{givens, indexed, place_told, term_of}
 use Rattle.bound_members.specs.bound_forms.specs.StatementsBound.{takes_value, target_before, target_term}
@@ -27,11 +30,17 @@ use Rattle.statement_terms.specs.Takers.{MarksTaken, TakenBy, taker_of}
 pub as_taken : (z y : plain.Term) (taker : Option Taker) → z ≡ y → TakenBy y taker → TakenBy z taker
 as_taken z y taker is h = let P : plain.Term → Type 0 = λ (t : plain.Term). TakenBy t taker in subst P (sym is) h
 
+routine_taken : (base : Option bound.Expr) (space : Space) (number : ℕ) (w : Written) → TakenBy (routine_term base space number w) None
+routine_taken None space number w place v = refl
+routine_taken (Some b) space number w place v = refl
+
 pub taken_there : (env : Env) (t : Tables) (x : Term) (z : plain.Term) (ps below : List Piece) → TermStands env t x z ps below → TakenBy z (taker_of x)
-taken_there env t (term.Place kind of bounded lends) z ps below h = as_taken z _ (taker_of (term.Place kind of bounded lends)) h.is (λ place v. refl)
+taken_there env t (term.Place kind of bounded lends makes) z ps below h = as_taken z _ (taker_of (term.Place kind of bounded lends makes)) h.is (λ place v. refl)
 taken_there env t (term.Value e) z ps below h = as_taken z _ None h.is (λ place v. refl)
-taken_there env t (term.Routine r) z ps below h = as_taken z _ None h.is (λ place v. refl)
-taken_there env t (term.Property p) z ps below h = as_taken z _ None h.property.is (λ place v. refl)
+taken_there env t (term.Routine r) z ps below h =
+    let s = h.routine in as_taken z (routine_term s.base s.space s.number s.written) None s.is (routine_taken s.base s.space s.number s.written)
+taken_there env t (term.Property p) z ps below h =
+    let s = h.property in as_taken z (routine_term s.base (space_view p.space.now) s.number (written_view p.written)) None s.is (routine_taken s.base (space_view p.space.now) s.number (written_view p.written))
 taken_there env t (term.Function f) z ps below h = as_taken z _ None h.0.is (λ place v. refl)
 taken_there env t (term.HostMember m) z ps below h = as_taken z _ (taker_of (term.HostMember m)) h.is (λ place v. refl)
 taken_there env t (term.SheetMember m) z ps below h = as_taken z _ (taker_of (term.SheetMember m)) h.0 (λ place v. refl)

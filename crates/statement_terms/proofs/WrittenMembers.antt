@@ -4,7 +4,6 @@ use Rattle.std.specs.Prelude.{◌<◌, bytes_eq, codes}
 use Rattle.std.specs.List.{list_any}
 use Rattle.std.proofs.lemmas.List.{length-map}
 use Rattle.vba_base.specs.declared.place.Place.{Place}
-use Rattle.vba_values.specs.Types as type
 use Rattle.vba_lexer.specs.declared.token.Token.{Token}
 use Rattle.vba_expression.specs.Tree.{Expr, Args, index}
 use Rattle.vba_expression.specs.Nodes as nodes
@@ -28,7 +27,7 @@ use Rattle.bound_members.specs.binder.specs.Options.{or_else}
 use Rattle.bound_members.specs.binder.specs.Types.{is_object}
 use Rattle.bound_members.specs.bound_forms.specs.Terms.{Env, Given, a_host_member, expression_of, has_names}
 use Rattle.bound_members.specs.bound_forms.specs.Terms as plain
-use Rattle.bound_members.specs.bound_forms.specs.ExpressionsBound.{argument_of, arguments_rule, callee, givens, item_of, member_takes, host_arguments, indexed, mark_members, named_called, takes_arguments, term_of, place_told}
+use Rattle.bound_members.specs.bound_forms.specs.ExpressionsBound.{arguments_rule, callee, givens, item_of, member_takes, host_arguments, indexed, mark_members, named_called, takes_arguments, term_of, place_told, host_given, may_be_instance}
 use Rattle.bound_members.specs.bound_forms.specs.StatementsBound.{arguments_written, assigned, assigned_to, broken_target, fits_written, has_written_default, is_given_with, is_no_target, is_param_array, is_sub, is_variant_place, is_written_member, member_written, named_written, takes_value, target_before, unwritten_rule, written_rule, wrong_written}
 use Rattle.bound_members.specs.bound_calls.specs.declared.term.HostMember.{HostMember}
 use Rattle.bound_members.specs.bound_calls.specs.declared.term.MemberCall.{MemberCall}
@@ -63,31 +62,32 @@ late_or_default false false false written mark h k = let e : false ≡ true = h 
 
 -- ---- without arguments
 
-bare_written : (env : Env) (place : Place) (object : bound.Expr) (m : plain.HostMember) (value : bound.Expr) → is_written_member m ≡ true → m.least ≡ 0 → member_written env place object m [] value ≡ Some (assign_member object m.name no_exprs value)
-bare_written env place object m value w least =
+bare_written : (env : Env) (place : Place) (object : bound.Expr) (m : plain.HostMember) (value : bound.Expr) → is_written_member m ≡ true → m.least ≡ 0 → may_be_instance env value ≡ false → member_written env place object m [] value ≡ Some (assign_member object m.name no_exprs value)
+bare_written env place object m value w least free =
     let done : Option Action = Some (assign_member object m.name no_exprs value) in
     let wrong = wrong_written env place object (written_rule m []) [] value in
-    ap (λ (b : Bool). or_else (if b && (m.least == 0) then done else None) wrong) w ∙ ap (λ (n : ℕ). or_else (if n == 0 then done else None) wrong) least
+    ap (λ (b : Bool). or_else (if b && ((m.least == 0) && not (may_be_instance env value)) then done else None) wrong) w
+    ∙ ap (λ (n : ℕ). or_else (if (n == 0) && not (may_be_instance env value) then done else None) wrong) least ∙ ap (λ (b : Bool). or_else (if not b then done else None) wrong) free
 
 bare_fits : (t : Tables) (name : ℕ) (object value : bound.Expr) → action_of t (action.AssignMember name 0) (a_member object (name_in t name) 0 ∷ an_expr value ∷ []) ≡ Some (assign_member object (name_in t name) no_exprs value)
 bare_fits t name object value =
     let n = name_in t name in
     ap (λ (b : Bool). if b then Some (assign_member object n no_exprs value) else None) (is_itself n no_exprs)
 
-pub member_assigned : (m : HostMember) (place : Place) (d e : Drafted) → m.name < length d.tables.constants → m.least ≡ 0 → is_written (name_in d.tables m.name) (declared_view m.of) m.greatest ≡ true
-    → e ≡ record d { pieces = put d.tables (node_of (kinds.MemberThere m.name 0) place m.of) d.pieces } → AssignsTerm place (term.HostMember m) d e (action.AssignMember m.name 0) true
-member_assigned m place d e there least written eq =
-    let P : Drafted → Type 0 = λ (z : Drafted). AssignsTerm place (term.HostMember m) d z (action.AssignMember m.name 0) true in
+pub member_assigned : (has : Bool) (m : HostMember) (place : Place) (d e : Drafted) → m.name < length d.tables.constants → m.least ≡ 0 → is_written (name_in d.tables m.name) (declared_view m.of) m.greatest ≡ true
+    → e ≡ record d { pieces = put d.tables (node_of (kinds.MemberThere m.name 0) place m.of) d.pieces } → AssignsTerm has place (term.HostMember m) d e (action.AssignMember m.name 0) true
+member_assigned has m place d e there least written eq =
+    let P : Drafted → Type 0 = λ (z : Drafted). AssignsTerm has place (term.HostMember m) d z (action.AssignMember m.name 0) true in
     let t = d.tables in
     let M = member_is t m in
     subst P (sym eq) (record {
       grown = grown_pieces d (put t (node_of (kinds.MemberThere m.name 0) place m.of) d.pieces);
       named = there;
       takes = λ env z ps below h. ap (λ (y : plain.Term). takes_value env y) h.is;
-      stands = λ env z value h.
+      stands = λ env known z value goes h.
           record {
             made = assign_member h.object M.name no_exprs value;
-            is = ap (λ (y : plain.Term). assigned env place value [] y) h.is ∙ bare_written env place h.object M value written least;
+            is = ap (λ (y : plain.Term). assigned env place value [] y) h.is ∙ bare_written env place h.object M value written least goes;
             fits = ap (λ (ps : List Piece). action_of t (action.AssignMember m.name 0) (of_value (λ x. a_member x (name_in t m.name) 0) ps)) h.on_top ∙ bare_fits t m.name h.object value;
           };
     })
@@ -109,24 +109,24 @@ writes_broken rule count all place d e long eq =
     })
 
 -- a member that breaks a rule isn't written
-no_written : (written least : Bool) (rule : ℕ) (kept wrong : Option Action) (other : Option ℕ) → (if not least then Some 25 else if written then None else other) ≡ Some rule → or_else (if written && least then kept else None) wrong ≡ wrong
-no_written true true rule kept wrong other h = let e : None ≡ Some rule = h in absurd cc
-no_written true false rule kept wrong other h = refl
-no_written false least rule kept wrong other h = refl
+no_written : (written least free : Bool) (rule : ℕ) (kept wrong : Option Action) (other : Option ℕ) → (if not least then Some 25 else if written then None else other) ≡ Some rule → or_else (if written && (least && free) then kept else None) wrong ≡ wrong
+no_written true true free rule kept wrong other h = let e : None ≡ Some rule = h in absurd cc
+no_written true false free rule kept wrong other h = refl
+no_written false least free rule kept wrong other h = refl
 
 bare_broken : (env : Env) (place : Place) (object : bound.Expr) (m : plain.HostMember) (rule : ℕ) (value : bound.Expr) → written_rule m [] ≡ Some rule
     → member_written env place object m [] value ≡ Some (broken_target rule place value (also object no_exprs))
 bare_broken env place object m rule value h =
     let done = arguments_written env place object m [] value in
     let wrong = wrong_written env place object (written_rule m []) [] value in
-    no_written (is_written_member m) (m.least == 0) rule done wrong (unwritten_rule m.of) h ∙ ap (λ (o : Option ℕ). wrong_written env place object o [] value) h
+    no_written (is_written_member m) (m.least == 0) (not (may_be_instance env value)) rule done wrong (unwritten_rule m.of) h ∙ ap (λ (o : Option ℕ). wrong_written env place object o [] value) h
 
-pub member_broken : (m : HostMember) (rule : ℕ) (place : Place) (d e : Drafted) (kind : ActionKind) → Some rule ≡ written_rule (member_is d.tables m) [] → WritesBroken rule 0 place d e kind → AssignsTerm place (term.HostMember m) d e kind true
-member_broken m rule place d e kind broken w = record {
+pub member_broken : (has : Bool) (m : HostMember) (rule : ℕ) (place : Place) (d e : Drafted) (kind : ActionKind) → Some rule ≡ written_rule (member_is d.tables m) [] → WritesBroken rule 0 place d e kind → AssignsTerm has place (term.HostMember m) d e kind true
+member_broken has m rule place d e kind broken w = record {
   grown = w.grown;
   named = w.named;
   takes = λ env z ps below h. ap (λ (y : plain.Term). takes_value env y) h.is;
-  stands = λ env z value h.
+  stands = λ env known z value goes h.
       record {
         made = broken_target rule place value (also h.object no_exprs);
         is = ap (λ (y : plain.Term). assigned env place value [] y) h.is ∙ bare_broken env place h.object (member_is d.tables m) rule value (sym broken);
@@ -152,24 +152,24 @@ some_shapes (s ∷ ss) some h = let e : shape_given s ∷ shapes_given ss ≡ []
 member_there : (m : HostMember) (d f : Drafted) → PushesSheet d f → (z : plain.Term) → z ≡ a_host_member sheet_expression (member_is d.tables m) → z ≡ a_host_member sheet_expression (member_is f.tables m)
 member_there m d f s z h = h ∙ ap (λ (t : Tables). a_host_member sheet_expression (member_is t m)) (sym s.tables_are)
 
-pub sheet_assigned : (m : HostMember) (place : Place) (d f e : Drafted) (kind : ActionKind) → PushesSheet d f → AssignsTerm place (term.HostMember m) f e kind true → AssignsTerm place (term.SheetMember m) d e kind true
-sheet_assigned m place d f e kind s a = record {
+pub sheet_assigned : (has : Bool) (m : HostMember) (place : Place) (d f e : Drafted) (kind : ActionKind) → PushesSheet d f → AssignsTerm has place (term.HostMember m) f e kind true → AssignsTerm has place (term.SheetMember m) d e kind true
+sheet_assigned has m place d f e kind s a = record {
   grown = grown_twice d f e s.grown a.grown;
   named = a.named;
   takes = λ env z ps below h. a.takes env z (an_expr sheet_expression ∷ ps) below (record { object = sheet_expression; is = member_there m d f s z h.0; on_top = ap (λ (qs : List Piece). an_expr sheet_expression ∷ qs) h.1 });
-  stands = λ env z value h. a.stands env z value (sheet_stands m d f s env z (an_expr value ∷ []) h);
+  stands = λ env known z value goes h. a.stands env known z value goes (sheet_stands m d f s env z (an_expr value ∷ []) h);
 }
 
 -- Err can't be assigned to
-pub err_assigned : (place : Place) (d e : Drafted) → e ≡ record d { pieces = put d.tables (node_of (broken_ending 27 place 1).kind place (broken_ending 27 place 1).of) d.pieces } → AssignsTerm place term.Err d e action.Evaluate false
-err_assigned place d e eq =
+pub err_assigned : (has : Bool) (place : Place) (d e : Drafted) → e ≡ record d { pieces = put d.tables (node_of (broken_ending 27 place 1).kind place (broken_ending 27 place 1).of) d.pieces } → AssignsTerm has place term.Err d e action.Evaluate false
+err_assigned has place d e eq =
     let n = node_of (broken_ending 27 place 1).kind place (broken_ending 27 place 1).of in
-    let P : Drafted → Type 0 = λ (z : Drafted). AssignsTerm place term.Err d z action.Evaluate false in
+    let P : Drafted → Type 0 = λ (z : Drafted). AssignsTerm has place term.Err d z action.Evaluate false in
     subst P (sym eq) (record {
       grown = grown_pieces d (put d.tables n d.pieces);
       named = tt;
       takes = λ env z ps below h. ap (λ (y : plain.Term). takes_value env y) h.0;
-      stands = λ env z value h.
+      stands = λ env known z value goes h.
           record {
             made = broken_target 27 place value no_exprs;
             is = ap (λ (y : plain.Term). assigned env place value [] y) h.0;
@@ -177,23 +177,23 @@ err_assigned place d e eq =
           };
     })
 
-term_assigned : (x : Tree) (d e : Drafted) (kind : ActionKind) (given : Bool) → AssignsTerm x.place x.term d e kind given → AssignsTree x d e kind given
-term_assigned x d e kind given a = record {
+term_assigned : (has : Bool) (x : Tree) (d e : Drafted) (kind : ActionKind) (given : Bool) → AssignsTerm has x.place x.term d e kind given → AssignsTree has x d e kind given
+term_assigned has x d e kind given a = record {
   grown = a.grown;
   named = a.named;
   takes = λ env tree below bare h. bare_given env tree bare ∙ a.takes env (term_of env tree) d.pieces below h.term_is;
-  stands = λ env tree value bare target h.
+  stands = λ env known tree value goes bare target h.
       let B : Place → Type 0 = λ (p : Place). ActionIs kind (assigned env p value [] (term_of env tree)) e.tables e.pieces in
-      let m = subst B h.place_is (a.stands env (term_of env tree) value h.term_is) in
+      let m = subst B h.place_is (a.stands env known (term_of env tree) value goes h.term_is) in
       record { made = m.made; is = bare_assigned env tree value bare target ∙ m.is; fits = m.fits };
 }
 
-pub tree_assigned : (x : Tree) (t : Term) (d e : Drafted) (kind k : ActionKind) (given g : Bool) → x.term ≡ t → k ≡ kind → g ≡ given → AssignsTerm x.place t d e kind given → AssignsTree x d e k g
-tree_assigned x t d e kind k given g is same flag a =
-    let T : Term → Type 0 = λ (y : Term). AssignsTerm x.place y d e kind given in
-    let K : ActionKind → Type 0 = λ (l : ActionKind). AssignsTree x d e l given in
-    let G : Bool → Type 0 = λ (b : Bool). AssignsTree x d e k b in
-    subst G (sym flag) (subst K (sym same) (term_assigned x d e kind given (subst T (sym is) a)))
+pub tree_assigned : (has : Bool) (x : Tree) (t : Term) (d e : Drafted) (kind k : ActionKind) (given g : Bool) → x.term ≡ t → k ≡ kind → g ≡ given → AssignsTerm has x.place t d e kind given → AssignsTree has x d e k g
+tree_assigned has x t d e kind k given g is same flag a =
+    let T : Term → Type 0 = λ (y : Term). AssignsTerm has x.place y d e kind given in
+    let K : ActionKind → Type 0 = λ (l : ActionKind). AssignsTree has x d e l given in
+    let G : Bool → Type 0 = λ (b : Bool). AssignsTree has x d e k b in
+    subst G (sym flag) (subst K (sym same) (term_assigned has x d e kind given (subst T (sym is) a)))
 
 -- ---- with arguments
 
@@ -203,8 +203,8 @@ some_fit m (g ∷ gs) some takes k = ap (λ (b : Bool). b && has_written_default
 
 -- a member with arguments is written with what these are
 is_arguments : (env : Env) (place : Place) (object : bound.Expr) (m : plain.HostMember) (count : ℕ) (gs : List Given) (value : bound.Expr) → count ≡ length gs → count ≢ 0 → takes_arguments m count ≡ true → has_written_default m.of ≡ true
-    → (not (is_some m.greatest) || is_object m.of) ≡ true → (made : Action) → arguments_written env place object m gs value ≡ Some made → member_written env place object m gs value ≡ Some made
-is_arguments env place object m count gs value long some takes k late made given =
+    → (not (is_some m.greatest) || is_object m.of) ≡ true → may_be_instance env value ≡ false → (made : Action) → arguments_written env place object m gs value ≡ Some made → member_written env place object m gs value ≡ Some made
+is_arguments env place object m count gs value long some takes k late free made given =
     let N : ℕ → Type 0 = λ (n : ℕ). n ≢ 0 in
     let T : ℕ → Type 0 = λ (n : ℕ). takes_arguments m n ≡ true in
     let written : is_written_member m ≡ true =
@@ -212,13 +212,14 @@ is_arguments env place object m count gs value long some takes k late made given
     let fits : fits_written m gs ≡ true = some_fit m gs (subst N long some) (subst T long takes) k in
     let done = arguments_written env place object m gs value in
     let wrong = wrong_written env place object (written_rule m gs) gs value in
-    ap (λ (b : Bool). or_else (if b && fits_written m gs then done else None) wrong) written ∙ ap (λ (b : Bool). or_else (if b then done else None) wrong) fits ∙ ap (λ (o : Option Action). or_else o wrong) given
+    ap (λ (b : Bool). or_else (if b && (fits_written m gs && not (may_be_instance env value)) then done else None) wrong) written
+    ∙ ap (λ (b : Bool). or_else (if b && not (may_be_instance env value) then done else None) wrong) fits ∙ ap (λ (b : Bool). or_else (if not b then done else None) wrong) free ∙ ap (λ (o : Option Action). or_else o wrong) given
 
-call_written : (env : Env) (place : Place) (object : bound.Expr) (m : plain.HostMember) (named : ℕ) (gs : List Given) (es : List bound.Expr) (value : bound.Expr) → NamesCame [] named gs → AllGiven (argument_of env type.variant) gs es
+call_written : (env : Env) (place : Place) (object : bound.Expr) (m : plain.HostMember) (named : ℕ) (gs : List Given) (es : List bound.Expr) (value : bound.Expr) → NamesCame [] named gs → AllGiven (host_given env) gs es
     → arguments_written env place object m gs value ≡ Some (assign_member object m.name (exprs_of es) value)
 call_written env place object m named gs es value came values =
     let done : Option Exprs → Option Action = λ (o : Option Exprs). option_map (λ (xs : Exprs). assign_member object m.name xs value) o in
-    ap (λ (b : Bool). if b then named_written env place object m gs value else done (host_arguments env gs)) (none_named named gs came) ∙ ap done (given_listed (argument_of env type.variant) gs es values)
+    ap (λ (b : Bool). if b then named_written env place object m gs value else done (host_arguments env gs)) (none_named named gs came) ∙ ap done (given_listed (host_given env) gs es values)
 
 by_name_written : (env : Env) (place : Place) (object : bound.Expr) (m : plain.HostMember) (gs : List Given) (made : bound.Node) (value : bound.Expr) → bytes_eq m.name (codes "raise") ≡ false → named_called env object m gs ≡ Some made → has_names gs ≡ true
     → arguments_written env place object m gs value ≡ Some (assign_default (expression_of made place m.of) value)
@@ -240,12 +241,12 @@ pub indexed_given : (env : Env) (base : Expr) (left right : Token) (args : Args)
 indexed_given env base left right args object m h = ap (λ (t : plain.Term). takes_value env t || is_variant_place t) h
 
 -- a member is no Sub
-no_sub : (place : Place) (t : plain.Term) (object : bound.Expr) (m : plain.HostMember) → item_of place t ≡ a_host_member object m → is_sub t ≡ false
-no_sub place (plain.a_routine space number p) object m h = let e : plain.a_routine space number p ≡ a_host_member object m = h in absurd cc
-no_sub place t object m h = refl
+no_sub : (env : Env) (place : Place) (t : plain.Term) (object : bound.Expr) (m : plain.HostMember) → item_of env place t ≡ a_host_member object m → is_sub t ≡ false
+no_sub env place (plain.a_routine space number p) object m h = let e : plain.a_routine space number p ≡ a_host_member object m = h in absurd cc
+no_sub env place t object m h = refl
 
 member_target : (env : Env) (base : Expr) (left right : Token) (args : Args) (object : bound.Expr) (m : plain.HostMember) → target_before env base ≡ a_host_member object m → is_no_target env (index base left args right) ≡ false
-member_target env base left right args object m h = ap (λ (b : Bool). b || is_param_array env (index base left args right)) (no_sub (place_told base) (callee env base (term_of env base)) object m h)
+member_target env base left right args object m h = ap (λ (b : Bool). b || is_param_array env (index base left args right)) (no_sub env (place_told base) (callee env base (term_of env base)) object m h)
 
 pub indexed_assigned : (env : Env) (base : Expr) (left right : Token) (args : Args) (object : bound.Expr) (m : plain.HostMember) (value : bound.Expr) → target_before env base ≡ a_host_member object m
     → assigned_to env (index base left args right) value ≡ member_written env (place_told base) object m (givens env args) value
@@ -259,16 +260,16 @@ pub writes_plain : (x : MemberCall) (d : Drafted) → MemberNamed d.tables x →
 writes_plain x d named none w = record {
   grown = grown_same d;
   named = named.0;
-  stands = λ env base args value s.
+  stands = λ env base args value goes s.
       let t = d.tables in
       let m = member_is t x.member in
       let gs = givens env args in
       let place = place_told base in
       let N : Option ArgumentNames → Type 0 = λ (o : Option ArgumentNames). NamesCame (names_told t o) x.named gs in
-      let long : x.count ≡ length gs = omega (arith, s.count_is, given_long (argument_of env type.variant) gs s.made s.values) in
+      let long : x.count ≡ length gs = omega (arith, s.count_is, given_long (host_given env) gs s.made s.values) in
       record {
         made = assign_member s.object m.name (exprs_of s.made) value;
-        is = is_arguments env place s.object m x.count gs value long w.some (w.takes t) w.default w.written (assign_member s.object m.name (exprs_of s.made) value)
+        is = is_arguments env place s.object m x.count gs value long w.some (w.takes t) w.default w.written goes (assign_member s.object m.name (exprs_of s.made) value)
             (call_written env place s.object m x.named gs s.made value (subst N none s.names) s.values);
         fits = call_fits t x.member.name x.given x.count s.object value s.made d.pieces s.count_is (w.given_is ∙ sym (all_written s.made x.written s.written_is))
             (s.on_top ∙ ap (λ (o : Option ArgumentNames). above (map an_expr s.made) (looked_for t x.member.name o x.given s.object ∷ an_expr value ∷ [])) none);
@@ -285,12 +286,12 @@ writes_named x by d e told w other fit eq =
     subst P (sym eq) (record {
       grown = grown_pieces d (put t n d.pieces);
       named = tt;
-      stands = λ env base args value s.
+      stands = λ env base args value goes s.
           let m = member_is t x.member in
           let gs = givens env args in
           let how = by_name_in t by in
           let N : Option ArgumentNames → Type 0 = λ (o : Option ArgumentNames). NamesCame (names_told t o) x.named gs in
-          let long : x.count ≡ length gs = omega (arith, s.count_is, given_long (argument_of env type.variant) gs s.made s.values) in
+          let long : x.count ≡ length gs = omega (arith, s.count_is, given_long (host_given env) gs s.made s.values) in
           let all : x.named ≡ length how.names = fit.all ∙ sym (length-map (order_in t by.order) (name_in t)) in
           let count : length gs ≡ by.before + x.named = omega (arith, fit.count, long) in
           let r = by_name_called env s.object m how x.named gs s.made fit.some all count fit.takes (subst N told s.names) s.values in
@@ -301,7 +302,7 @@ writes_named x by d e told w other fit eq =
           let A : Place → Type 0 = λ (place : Place). ActionIs action.AssignDefault (member_written env place s.object m gs value) t (put t n d.pieces) in
           subst A s.place_is (record {
             made = assign_default (expression_of made x.place m.of) value;
-            is = is_arguments env x.place s.object m x.count gs value long w.some (w.takes t) w.default w.written (assign_default (expression_of made x.place m.of) value)
+            is = is_arguments env x.place s.object m x.count gs value long w.some (w.takes t) w.default w.written goes (assign_default (expression_of made x.place m.of) value)
                 (by_name_written env x.place s.object m gs made value other r.0 r.1);
             fits = ap (λ (ps : List Piece). action_of t action.AssignDefault ps) top;
           });
@@ -320,8 +321,8 @@ member_given env x kind left right d e (nodes.arguments args ∷ nodes.tree base
     let S : List Piece → Type 0 = λ (l : List Piece). MemberStands env d.tables x base args d.pieces l in
     record {
       given = indexed_given env base left right args s.object M s.is;
-      does = λ value alone.
+      does = λ value goes alone.
           let there : MemberStands env d.tables x base args d.pieces (an_expr value ∷ []) = subst S (h.1.1.1 ∙ alone) s in
-          let done = w.stands env base args value there in
+          let done = w.stands env base args value goes there in
           record { made = done.made; is = indexed_assigned env base left right args there.object M value there.is ∙ done.is; fits = done.fits };
     }

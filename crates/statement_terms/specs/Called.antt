@@ -1,5 +1,5 @@
 -- Serves the code: calls that stand as statements.
-use Rattle.std.specs.Prelude.{◌≡◌, ℕ, ◌+◌, length, Bool, false, List, [], ◌∷◌, ◌++◌, map, Option, Some, option_map, if◌then◌else◌}
+use Rattle.std.specs.Prelude.{◌≡◌, ℕ, ◌+◌, length, Bool, false, List, [], ◌∷◌, ◌++◌, map, Option, Some, option_map, true, is_some}
 use Rattle.vba_base.specs.declared.place.Place.{Place}
 use Rattle.vba_lexer.specs.declared.token.Token.{Token}
 use Rattle.vba_values.specs.Types.{Declared}
@@ -19,13 +19,11 @@ use Rattle.bound_project.specs.Lists.{above, args_of}
 use Rattle.bound_project.specs.Pieces.{Argument, Piece, Tables, an_argument, an_expr}
 use Rattle.bound_project.specs.Project as project
 use Rattle.bound_project.specs.Statements.{Action}
-use Rattle.bound_project.specs.Statements as to
 use Rattle.bound_members.specs.binder.specs.Options.{or_else}
-use Rattle.bound_members.specs.binder.specs.Types.{is_object}
 use Rattle.bound_members.specs.bound_forms.specs.Terms.{Env, Given, bound_arguments, has_names}
 use Rattle.bound_members.specs.bound_forms.specs.Terms as plain
-use Rattle.bound_members.specs.bound_forms.specs.ExpressionsBound.{argument_of, givens}
-use Rattle.bound_members.specs.bound_forms.specs.StatementsBound.{assigned, assigned_to, broken_target, untaken, called_term, called_with, is_given_with}
+use Rattle.bound_members.specs.bound_forms.specs.ExpressionsBound.{argument_of, behind_base, givens, may_be_instance}
+use Rattle.bound_members.specs.bound_forms.specs.StatementsBound.{assigned, assigned_to, broken_target, untaken, called_term, called_with, is_given_with, property_given, set_by}
 use Rattle.statement_terms.specs.declared.trees.Split.{Split}
 use Rattle.bound_members.specs.bound_calls.specs.declared.term.Item.TheVariants as item
 use Rattle.bound_members.specs.bound_calls.specs.declared.term.Ordered.{Ordered}
@@ -33,9 +31,12 @@ use Rattle.bound_members.specs.bound_calls.specs.declared.term.Passed.{Passed}
 use Rattle.bound_members.specs.bound_calls.specs.declared.term.Property.{Property}
 use Rattle.bound_members.specs.bound_calls.specs.declared.term.Term.{Term}
 use Rattle.bound_members.specs.bound_calls.specs.declared.term.Tree.{Tree}
-use Rattle.bound_members.specs.bound_calls.specs.Standing.{PropertyStands, PassedStands, TermStands, TreeStands, Grown}
+use Rattle.bound_members.specs.bound_calls.specs.Standing.{PropertyStands, PassedStands, TermStands, TreeStands, Grown, IsReceiver, ReceiverStands, ReceiverThere}
 use Rattle.bound_members.specs.bound_calls.specs.Steps.{Goes, Leaves}
 use Rattle.bound_members.specs.bound_calls.specs.Calls.{PassesRest}
+use Rattle.statement_terms.specs.declared.assigning.PropertyLet.{PropertyLet}
+use Rattle.bound_members.specs.bound_calls.specs.declared.term.Receiver.{Receiver}
+use Rattle.bound_members.specs.bound_calls.specs.declared.term.Receiver.TheVariants as receiver
 
 -- ---- expressions by a part of their nodes
 
@@ -124,50 +125,76 @@ pub record CallsTreeOn (env : Env) (x : Tree) (ns : List ExpressionNode) (d e : 
 
 -- ---- properties that are assigned to
 
--- a value parameter of an object type is given the object itself
-abbrev pub property_kind : (procedure arguments : ℕ) → DeclaredType → ActionKind
-property_kind procedure arguments of =
-    if is_object (declared_view of) then action.SetProperty procedure arguments of else action.LetProperty procedure arguments of
+-- a property of an object
+abbrev pub is_method : Receiver → Bool
+is_method receiver.Module = false
+is_method other = true
+
+-- a property, or one of an object, is given a value, or an object itself
+abbrev pub property_kind : (of_object itself : Bool) → (procedure arguments : ℕ) → DeclaredType → ActionKind
+property_kind false false procedure arguments of = action.LetProperty procedure arguments of
+property_kind false true procedure arguments of = action.SetProperty procedure arguments of
+property_kind true false procedure arguments of = action.LetMethod procedure arguments of
+property_kind true true procedure arguments of = action.SetMethod procedure arguments of
 
 -- the same of arguments of which the last ones have names
-abbrev pub ordered_kind : (procedure : ℕ) → Ordered → DeclaredType → ActionKind
-ordered_kind procedure o of =
-    if is_object (declared_view of) then action.SetPropertyInOrder procedure o.arguments o.order of else action.LetPropertyInOrder procedure o.arguments o.order of
+abbrev pub ordered_kind : (of_object itself : Bool) → (procedure : ℕ) → Ordered → DeclaredType → ActionKind
+ordered_kind false false procedure o of = action.LetPropertyInOrder procedure o.arguments o.order of
+ordered_kind false true procedure o of = action.SetPropertyInOrder procedure o.arguments o.order of
+ordered_kind true false procedure o of = action.LetMethodInOrder procedure o.arguments o.order of
+ordered_kind true true procedure o of = action.SetMethodInOrder procedure o.arguments o.order of
 
--- what is done with arguments and a value
-abbrev pub let_action : (procedure : ℕ) → bound.Args → bound.Expr → Declared → Action
-let_action procedure args value of = if is_object of then to.set_property procedure args value of else to.let_property procedure args value of
+-- what is done with the value and what is given before it to a property with these parameters, of an object where it has one
+abbrev pub let_with : Env → Place → (itself : Bool) → Option bound.Expr → List project.Parameter → (procedure : ℕ) → Declared → List Given → bound.Expr → Option Action
+let_with env place itself base parameters procedure of gs value =
+    or_else (option_map (λ args. property_given itself base procedure args value of) (bound_arguments (argument_of env) parameters gs))
+    (option_map (λ es. broken_target 25 place value (behind_base base es)) (untaken env parameters gs))
 
--- what is done with the value and what is given to a property with these parameters before it
-abbrev pub let_with : Env → Place → List project.Parameter → (procedure : ℕ) → Declared → List Given → bound.Expr → Option Action
-let_with env place parameters procedure of gs value =
-    or_else (option_map (λ args. let_action procedure args value of) (bound_arguments (argument_of env) parameters gs)) (option_map (broken_target 25 place value) (untaken env parameters gs))
+-- arguments were pushed for these parameters, behind the object whose property it is, and behind the value
+pub record LetMade (env : Env) (parameters : List project.Parameter) (itself : Bool) (base : Option bound.Expr) (procedure : ℕ) (of : DeclaredType) (gs : List Given) (value : bound.Expr) (kind : ActionKind) (t : Tables) (ps : List Piece) : Type 0
+  where
+    pub args : bound.Args
+    pub bound_is : bound_arguments (argument_of env) parameters gs ≡ Some args
+    pub fits : action_of t kind ps ≡ Some (property_given itself base procedure args value (declared_view of))
 
--- arguments were pushed for these parameters, behind the value
-pub record LetMade (env : Env) (parameters : List project.Parameter) (procedure : ℕ) (of : DeclaredType) (gs : List Given) (value : bound.Expr) (kind : ActionKind) (t : Tables) (ps : List Piece) : Type 0 where
-  pub args : bound.Args
-  pub bound_is : bound_arguments (argument_of env) parameters gs ≡ Some args
-  pub fits : action_of t kind ps ≡ Some (let_action procedure args value (declared_view of))
-
-pub record LetsWith (env : Env) (place : Place) (parameters : List project.Parameter) (procedure : ℕ) (of : DeclaredType) (ns : List ExpressionNode) (d e : Drafted) (kind : ActionKind) : Type 0 where
+-- the same by the nodes of arguments, behind the object; and where they may not be taken, too
+pub record LetsTaken (env : Env) (parameters : List project.Parameter) (of_object itself : Bool) (procedure : ℕ) (of : DeclaredType) (ns : List ExpressionNode) (d e : Drafted) (kind : ActionKind) : Type 0 where
   pub grown : Grown d e
   pub named : ActionNamed e.tables kind
   pub framed : Framed ns
-  pub stands : (items : List nodes.Item) (value : bound.Expr) → d.pieces ≡ an_expr value ∷ [] → ActionIs kind (let_with env place parameters procedure (declared_view of) (givens env (args_on items ns)) value) e.tables e.pieces
+  pub stands : (items : List nodes.Item) (value : bound.Expr) (base : Option bound.Expr) → is_some base ≡ of_object → ReceiverThere base d.pieces (an_expr value ∷ []) → LetMade env parameters itself base procedure of (givens env (args_on items ns)) value kind e.tables e.pieces
 
--- its arguments were pushed behind the value that it is given
-pub record Lets (env : Env) (p : Property) (place : Place) (gs : List Given) (d e : Drafted) (kind : ActionKind) : Type 0 where
+pub record LetsWith (env : Env) (place : Place) (parameters : List project.Parameter) (p : PropertyLet) (ns : List ExpressionNode) (d e : Drafted) (kind : ActionKind) : Type 0 where
   pub grown : Grown d e
   pub named : ActionNamed e.tables kind
-  pub stands : (y : plain.Term) (value : bound.Expr) (ps below : List Piece) → PropertyStands env p y ps below → d.pieces ≡ an_expr value ∷ [] → ActionIs kind (assigned env place value gs y) e.tables e.pieces
-
-pub record LetsOn (env : Env) (p : Property) (place : Place) (ns : List ExpressionNode) (d e : Drafted) (kind : ActionKind) : Type 0 where
   pub framed : Framed ns
-  pub lets : (items : List nodes.Item) → Lets env p place (givens env (args_on items ns)) d e kind
+  pub stands : (items : List nodes.Item) (value : bound.Expr) (base : Option bound.Expr) → IsReceiver p.receiver base → ReceiverStands p.receiver base d.pieces (an_expr value ∷ [])
+      → ActionIs kind (let_with env place p.is_itself base parameters p.procedure (declared_view p.of) (givens env (args_on items ns)) value) e.tables e.pieces
+
+-- what a property that is given a value does: by an assignment, or by a Set
+abbrev pub property_gets : (sets : Bool) → Env → Place → bound.Expr → List Given → plain.Term → Option Action
+property_gets false env place value gs y = assigned env place value gs y
+property_gets true env place value gs y = set_by env place gs y value
+
+-- its arguments were pushed behind its object, where it has one, and the value that it is given
+pub record Lets (sets : Bool) (env : Env) (p : Property) (place : Place) (gs : List Given) (d e : Drafted) (kind : ActionKind) : Type 0 where
+  pub grown : Grown d e
+  pub named : ActionNamed e.tables kind
+  pub stands : (y : plain.Term) (value : bound.Expr) → PropertyStands env p y d.pieces (an_expr value ∷ []) → ActionIs kind (property_gets sets env place value gs y) e.tables e.pieces
+
+pub record LetsOn (sets : Bool) (env : Env) (p : Property) (place : Place) (ns : List ExpressionNode) (d e : Drafted) (kind : ActionKind) : Type 0 where
+  pub framed : Framed ns
+  pub lets : (items : List nodes.Item) → Lets sets env p place (givens env (args_on items ns)) d e kind
+
+-- what goes to a member of the host, and to a default member, is no object of a class
+abbrev pub GoesThere : Env → ActionKind → bound.Expr → Type 0
+GoesThere env (action.AssignMember name count) value = may_be_instance env value ≡ false
+GoesThere env action.AssignDefault value = may_be_instance env value ≡ false
+GoesThere env kind value = Unit {0}
 
 -- an expression is assigned the value that was pushed, and whether that comes as it is
 pub record AssignsTo (env : Env) (place : Expr) (d e : Drafted) (kind : ActionKind) (given : Bool) : Type 0 where
   pub grown : Grown d e
   pub named : ActionNamed e.tables kind
   pub takes : is_given_with env place ≡ given
-  pub stands : (value : bound.Expr) → d.pieces ≡ an_expr value ∷ [] → ActionIs kind (assigned_to env place value) e.tables e.pieces
+  pub stands : (value : bound.Expr) → GoesThere env kind value → d.pieces ≡ an_expr value ∷ [] → ActionIs kind (assigned_to env place value) e.tables e.pieces

@@ -26,7 +26,8 @@ use Rattle.bound_members.specs.bound_calls.specs.declared.term.Tree.{Tree}
 use Rattle.bound_members.specs.bound_calls.specs.declared.term.Item.TheVariants as item
 use Rattle.bound_members.specs.bound_calls.specs.Standing.{MemberStands, TermStands, TreeStands, Grown, member_is}
 use Rattle.bound_members.specs.bound_calls.specs.Steps.{Goes}
-use Rattle.statement_terms.specs.Called.{ActionIs, IsBare}
+use Rattle.statement_terms.specs.Called.{ActionIs, IsBare, GoesThere}
+use Rattle.bound_members.specs.binder.specs.Classes.{has_class}
 
 -- whether a member is written, by its name, the type of what it gives and the greatest number of its arguments
 abbrev pub is_written : List ℕ → Declared → (greatest : Option ℕ) → Bool
@@ -46,19 +47,19 @@ pub record WritesBroken (rule count : ℕ) (place : Place) (d e : Drafted) (kind
 -- ---- without arguments
 
 -- a term at this place in the source is assigned the value that was pushed below it, and whether that comes as it is
-pub record AssignsTerm (place : Place) (x : Term) (d e : Drafted) (kind : ActionKind) (given : Bool) : Type 0 where
+pub record AssignsTerm (has : Bool) (place : Place) (x : Term) (d e : Drafted) (kind : ActionKind) (given : Bool) : Type 0 where
   pub grown : Grown d e
   pub named : ActionNamed e.tables kind
   pub takes : (env : Env) (z : plain.Term) (ps below : List Piece) → TermStands env d.tables x z ps below → takes_value env z ≡ given
-  pub stands : (env : Env) (z : plain.Term) (value : bound.Expr) → TermStands env d.tables x z d.pieces (an_expr value ∷ [])
+  pub stands : (env : Env) → has_class env.scope.spaces ≡ has → (z : plain.Term) (value : bound.Expr) → GoesThere env kind value → TermStands env d.tables x z d.pieces (an_expr value ∷ [])
       → ActionIs kind (assigned env place value [] z) e.tables e.pieces
 
 -- the same of an expression that doesn't end with arguments in brackets, and is no Sub and no ParamArray
-pub record AssignsTree (x : Tree) (d e : Drafted) (kind : ActionKind) (given : Bool) : Type 0 where
+pub record AssignsTree (has : Bool) (x : Tree) (d e : Drafted) (kind : ActionKind) (given : Bool) : Type 0 where
   pub grown : Grown d e
   pub named : ActionNamed e.tables kind
   pub takes : (env : Env) (tree : Expr) (below : List Piece) → IsBare tree → TreeStands env d.tables x tree d.pieces below → is_given_with env tree ≡ given
-  pub stands : (env : Env) (tree : Expr) (value : bound.Expr) → IsBare tree → is_no_target env tree ≡ false → TreeStands env d.tables x tree d.pieces (an_expr value ∷ [])
+  pub stands : (env : Env) → has_class env.scope.spaces ≡ has → (tree : Expr) (value : bound.Expr) → GoesThere env kind value → IsBare tree → is_no_target env tree ≡ false → TreeStands env d.tables x tree d.pieces (an_expr value ∷ [])
       → ActionIs kind (assigned_to env tree value) e.tables e.pieces
 
 -- ---- with arguments
@@ -81,13 +82,13 @@ pub record IsWritten (x : MemberCall) : Type 0 where
 pub record WritesCall (x : MemberCall) (d e : Drafted) (kind : ActionKind) : Type 0 where
   pub grown : Grown d e
   pub named : ActionNamed e.tables kind
-  pub stands : (env : Env) (base : Expr) (args : Args) (value : bound.Expr) (s : MemberStands env d.tables x base args d.pieces (an_expr value ∷ []))
+  pub stands : (env : Env) (base : Expr) (args : Args) (value : bound.Expr) → GoesThere env kind value → (s : MemberStands env d.tables x base args d.pieces (an_expr value ∷ []))
       → ActionIs kind (member_written env (place_told base) s.object (member_is d.tables x.member) (givens env args) value) e.tables e.pieces
 
 -- an expression that is a member with arguments is assigned the value below its object
 pub record GivesMember (env : Env) (place : Expr) (kind : ActionKind) (t : Tables) (ps below : List Piece) : Type 0 where
   pub given : is_given_with env place ≡ true
-  pub does : (value : bound.Expr) → below ≡ an_expr value ∷ [] → ActionIs kind (assigned_to env place value) t ps
+  pub does : (value : bound.Expr) → GoesThere env kind value → below ≡ an_expr value ∷ [] → ActionIs kind (assigned_to env place value) t ps
 
 -- what is called is assigned a value with these arguments
 pub record AssignsItem (env : Env) (place : Place) (x : Term) (ns : List ExpressionNode) (d e : Drafted) (kind : ActionKind) : Type 0 where

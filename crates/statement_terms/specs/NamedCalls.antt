@@ -17,7 +17,7 @@ use Rattle.bound_members.specs.bound_forms.specs.ExpressionsBound.{argument_of, 
 use Rattle.bound_members.specs.bound_calls.specs.declared.term.Routine.{Routine}
 use Rattle.bound_members.specs.bound_calls.specs.declared.term.Passed.{Passed}
 use Rattle.bound_members.specs.bound_calls.specs.InOrder.{AllNamedTaken}
-use Rattle.bound_members.specs.bound_calls.specs.Standing.{AllListed, Grown, PassedStands, RoutineStands, is_gathering}
+use Rattle.bound_members.specs.bound_calls.specs.Standing.{AllListed, Grown, PassedStands, RoutineIs, ReceiverThere, is_gathering}
 use Rattle.statement_terms.specs.Assigning.{ExprPushed}
 use Rattle.statement_terms.specs.Called.{Framed, args_on}
 
@@ -35,13 +35,13 @@ pub record NamedPassed (env : Env) (parameters : List Parameter) (x : Passed) (n
 -- what a call gives was pushed behind arguments without names
 pub record PushesCall (r : Routine) (x : Passed) (place : Place) (d e : Drafted) : Type 0 where
   pub grown : Grown d e
-  pub stands : (env : Env) (y : plain.Term) (args : Args) (qs below : List Piece) → RoutineStands env r y qs qs → PassedStands env (map parameter_view r.parameters.now) x args d.pieces below
+  pub stands : (env : Env) (y : plain.Term) (args : Args) (between below : List Piece) (s : RoutineIs env r y) → ReceiverThere s.base between below → PassedStands env (map parameter_view r.parameters.now) x args d.pieces between
       → ExprPushed (given_as env (indexed env place y (givens env args)) place) e.pieces below
 
 -- the same behind such arguments
 pub record PushesNamed (r : Routine) (x : Passed) (named : List ℕ) (place : Place) (d e : Drafted) : Type 0 where
   pub grown : Grown d e
-  pub stands : (env : Env) (y : plain.Term) (args : Args) (qs below : List Piece) → RoutineStands env r y qs qs → NamedPassed env (map parameter_view r.parameters.now) x named args d.pieces below
+  pub stands : (env : Env) (y : plain.Term) (args : Args) (between below : List Piece) (s : RoutineIs env r y) → ReceiverThere s.base between below → NamedPassed env (map parameter_view r.parameters.now) x named args d.pieces between
       → ExprPushed (given_as env (indexed env place y (givens env args)) place) e.pieces below
 
 -- the arguments of a statement were pushed for these parameters; the last ones name theirs, here the last one first
@@ -66,5 +66,5 @@ pub record ValuesPassed (env : Env) (parameters : List Parameter) (x : Passed) (
 -- the same behind such arguments
 pub record PushesValues (r : Routine) (x : Passed) (values : ℕ) (place : Place) (d e : Drafted) : Type 0 where
   pub grown : Grown d e
-  pub stands : (env : Env) (y : plain.Term) (args : Args) (qs below : List Piece) → RoutineStands env r y qs qs → ValuesPassed env (map parameter_view r.parameters.now) x values args d.pieces below
+  pub stands : (env : Env) (y : plain.Term) (args : Args) (between below : List Piece) (s : RoutineIs env r y) → ReceiverThere s.base between below → ValuesPassed env (map parameter_view r.parameters.now) x values args d.pieces between
       → ExprPushed (given_as env (indexed env place y (givens env args)) place) e.pieces below

@@ -13,7 +13,7 @@ use Rattle.bound_project.specs.Statements.{Action}
 use Rattle.bound_members.specs.bound_forms.specs.Terms.{Env}
 use Rattle.bound_members.specs.bound_forms.specs.Terms as plain
 use Rattle.bound_members.specs.bound_forms.specs.ExpressionsBound.{place_told}
-use Rattle.bound_members.specs.bound_forms.specs.StatementsBound.{broken_target, is_sub, set_target, set_to, target_of_call}
+use Rattle.bound_members.specs.bound_forms.specs.StatementsBound.{broken_target, is_sub, set_to, target_of_call, object_set}
 use Rattle.bound_members.specs.bound_calls.specs.declared.term.Term.{Term}
 use Rattle.bound_members.specs.bound_calls.specs.Standing.{Grown, TermStands}
 use Rattle.statement_terms.specs.Called.{ActionIs}
@@ -31,7 +31,7 @@ pub record SetsTerm (word place : Place) (x : Term) (d e : Drafted) (kind : Acti
 
 -- what is done with a reference that an expression is set to
 abbrev pub set_there : Env → (word : Place) → Expr → bound.Expr → Option Action
-set_there env word x v = if is_sub (target_of_call env x) then Some (broken_target 27 (place_told x) v no_exprs) else set_to word (place_told x) (set_target env x) v
+set_there env word x v = if is_sub (target_of_call env x) then Some (broken_target 27 (place_told x) v no_exprs) else object_set env word x v
 
 -- an expression is set to the reference that was pushed
 pub record SetsTo (word : Place) (env : Env) (place : Expr) (d e : Drafted) (kind : ActionKind) : Type 0 where

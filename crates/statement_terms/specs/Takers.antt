@@ -24,7 +24,7 @@ abbrev pub variant_taker : Taker
 variant_taker = record { of = Plain Variant; is_bounded = false }
 
 abbrev pub taker_of : Term → Option Taker
-taker_of (term.Place kind of bounded lends) = Some (record { of = of; is_bounded = bounded })
+taker_of (term.Place kind of bounded lends makes) = Some (record { of = of; is_bounded = bounded })
 taker_of (term.HostMember m) = Some variant_taker
 taker_of (term.SheetMember m) = Some variant_taker
 taker_of x = None

@@ -21,11 +21,15 @@ use Rattle.bound_members.specs.bound_calls.specs.declared.term.Term.{Term}
 use Rattle.bound_members.specs.bound_calls.specs.declared.term.Term.TheVariants as term
 use Rattle.bound_members.specs.bound_calls.specs.References.{is_typed_kind}
 use Rattle.bound_members.specs.bound_calls.specs.Standing.{TermStands, ValueEnds, Grown}
-use Rattle.statement_terms.specs.Called.{ActionIs}
+use Rattle.statement_terms.specs.Called.{ActionIs, GoesThere}
+use Rattle.bound_members.specs.binder.specs.Classes.{has_class}
 
 -- the last node of a value, other than an element, that may give an object
 abbrev pub ends_value : NodeKind → Bool
 ends_value kinds.Load = true
+ends_value kinds.LoadMade = true
+ends_value (kinds.Method p count) = true
+ends_value (kinds.MethodInOrder p count order) = true
 ends_value (kinds.FieldValue i) = true
 ends_value (kinds.Call p count) = true
 ends_value (kinds.CallInOrder p count order) = true
@@ -64,6 +68,8 @@ ends_unassignable (kinds.ErrValue _) = true
 ends_unassignable (kinds.Library f text_form count compare one) = true
 ends_unassignable (kinds.Call p count) = true
 ends_unassignable (kinds.CallInOrder p count order) = true
+ends_unassignable (kinds.Method p count) = true
+ends_unassignable (kinds.MethodInOrder p count order) = true
 ends_unassignable kind = false
 
 -- a value that is no object, and can be none
@@ -73,8 +79,8 @@ EndsValue e = (t : Tables) (made : bound.Node) (ps below : List Piece) → Value
 -- a value that breaks this rule where it is assigned to at this place
 abbrev pub EndsWrong : Ending → (rule : ℕ) → Place → Type 0
 EndsWrong e rule place =
-    (t : Tables) (made : bound.Node) (value : bound.Expr) (ps below : List Piece) → ValueEnds t e.kind made ps below
-    → value_written place value made (declared_view e.of) ≡ Some (broken_target rule place value (also (expression_of made place (declared_view e.of)) no_exprs))
+    (env : Env) (t : Tables) (made : bound.Node) (value : bound.Expr) (ps below : List Piece) → ValueEnds t e.kind made ps below
+    → value_written env place value made (declared_view e.of) ≡ Some (broken_target rule place value (also (expression_of made place (declared_view e.of)) no_exprs))
 
 -- a value is an element with so many numbers, and no object
 pub record EndsItem (e : Ending) (count : ℕ) : Type 0 where
@@ -82,14 +88,14 @@ pub record EndsItem (e : Ending) (count : ℕ) : Type 0 where
   pub no_object : is_object (declared_view e.of) ≡ false
 
 -- what brackets made of a term is assigned the value that was pushed below it
-pub record AssignsIndexed (place : Place) (x : Term) (d e : Drafted) (kind : ActionKind) : Type 0 where
+pub record AssignsIndexed (has : Bool) (place : Place) (x : Term) (d e : Drafted) (kind : ActionKind) : Type 0 where
   pub grown : Grown d e
   pub named : ActionNamed e.tables kind
-  pub stands : (env : Env) (z : plain.Term) (value : bound.Expr) → TermStands env d.tables x z d.pieces (an_expr value ∷ [])
+  pub stands : (env : Env) → has_class env.scope.spaces ≡ has → (z : plain.Term) (value : bound.Expr) → GoesThere env kind value → TermStands env d.tables x z d.pieces (an_expr value ∷ [])
       → ActionIs kind (assigned env place value [] z) e.tables e.pieces
 
 -- a place or a value of type Variant
 abbrev pub is_variant_term : Term → Bool
-is_variant_term (term.Place kind of bounded lends) = is_variant (declared_view of)
+is_variant_term (term.Place kind of bounded lends makes) = is_variant (declared_view of)
 is_variant_term (term.Value e) = is_variant (declared_view e.of)
 is_variant_term x = false

@@ -6,7 +6,9 @@ ghost use Rattle.statement_terms.specs.Assigning.{PushesFor, is_plain};
 ghost use Rattle.bound_members.specs.bound_calls.specs.Standing.{TermNamed};
 
 use crate::targets::may_be_object;
-use bound_members::bound_calls::{Term, Tree, push_given, push_operand};
+use bound_members::bound_calls::{
+    Term, Tree, given_ending, may_be_instance, push_node, push_operand,
+};
 use bound_members::bound_declarations::NotYet;
 use bound_project::{DeclaredType, Draft};
 use std::alloc::Global;
@@ -23,22 +25,25 @@ pub fn is_plain<'a>(term: Term<'a>) -> bool
     }
 }
 
-/// Pushes what is assigned, as it is or as an operand; answers the type that it has as an operand.
+/// Pushes what is assigned, as it is or as an operand; answers the type that it has as an operand, and whether it may be an
+/// object of a class.
 pub fn push_assigned<'a>(
     alloc: Global,
     draft: &mut Draft,
     tree: Tree<'a>,
     given: bool,
-) -> Result<DeclaredType, OrMemory<NotYet>>
+    has_class: bool,
+) -> Result<(DeclaredType, bool), OrMemory<NotYet>>
     requires { TermNamed (draft_view draft.old).tables tree.term }
-    ensures { IfOk result (λ of. PushesFor given tree.entry (draft_view draft.old) (draft_view draft.new) of) }
+    ensures { IfOk result (λ pushed. PushesFor has_class pushed.1 given tree.entry (draft_view draft.old) (draft_view draft.new) pushed.0) }
 {
     if given {
-        let of = push_given(alloc, draft, tree)?;
-        return Ok(of);
+        let ending = given_ending(alloc, draft, tree)?;
+        push_node(draft, ending.kind, ending.of, tree.place)?;
+        return Ok((ending.of, may_be_instance(has_class, ending)));
     }
     let Some(of) = push_operand(alloc, draft, tree)? else {
         return Err(OrMemory::Fault(NotYet));
     };
-    Ok(of)
+    Ok((of, false))
 }

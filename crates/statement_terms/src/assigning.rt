@@ -2,15 +2,14 @@
 
 ghost use Rattle.std.specs.Prelude.{◌≡◌, true, false, IfOk};
 ghost use Rattle.bound_project.specs.DraftView.{draft_view};
-ghost use Rattle.statement_terms.specs.Called.{ordered_kind, property_kind};
+ghost use Rattle.statement_terms.specs.Called.{is_method, ordered_kind, property_kind};
 ghost use Rattle.statement_terms.specs.Members.{AssignsTree};
 ghost use Rattle.bound_members.specs.bound_calls.specs.Standing.{TermNamed};
 
 use crate::member_targets::{assign_member, assign_sheet};
 use crate::targets::{assign_place, assign_value};
-use bound_members::bound_calls::{Ending, Ordered, Term, Tree, push_broken};
+use bound_members::bound_calls::{Ending, Ordered, Receiver, Term, Tree, push_broken};
 use bound_members::bound_declarations::NotYet;
-use bound_members::declared_names::is_object;
 use bound_project::{ActionKind, DeclaredType, Draft};
 use vba_base::OrMemory;
 
@@ -44,66 +43,121 @@ pub fn as_operand(kind: ActionKind) -> Assignment
     }
 }
 
-/// An assignment to a property, whose last parameter has a type: one of an object is given the object itself.
-pub fn property_kind(procedure: u32, arguments: u32, of: DeclaredType) -> ActionKind
-    ensures { result ≡ property_kind procedure arguments of }
+/// A procedure that writes a property, what it is called of, the type of its last parameter, and whether that is given the
+/// object itself.
+#[derive(Clone, Copy)]
+pub struct PropertyLet {
+    pub receiver: Receiver,
+    pub procedure: u32,
+    pub of: DeclaredType,
+    pub is_itself: bool,
+}
+
+/// Is it a property of an object?
+fn is_method(receiver: Receiver) -> bool
+    ensures { result ≡ is_method receiver }
 {
-    if is_object(of) {
-        ActionKind::SetProperty {
-            procedure,
-            arguments,
-            of,
-        }
-    } else {
-        ActionKind::LetProperty {
-            procedure,
-            arguments,
-            of,
-        }
+    match receiver {
+        Receiver::Module => false,
+        Receiver::Own(_) | Receiver::Pushed(_) => true,
     }
 }
 
-/// A procedure that writes a property, and the type of its last parameter.
-#[derive(Clone, Copy)]
-pub struct PropertyLet {
-    pub procedure: u32,
-    pub of: DeclaredType,
+/// An assignment to a property behind so many arguments.
+pub fn property_kind(property: PropertyLet, arguments: u32) -> ActionKind
+    ensures { result ≡ property_kind (is_method property.receiver) property.is_itself property.procedure arguments property.of }
+{
+    let PropertyLet {
+        receiver,
+        procedure,
+        of,
+        is_itself,
+    } = property;
+    match (is_method(receiver), is_itself) {
+        (false, false) => ActionKind::LetProperty {
+            procedure,
+            arguments,
+            of,
+        },
+        (false, true) => ActionKind::SetProperty {
+            procedure,
+            arguments,
+            of,
+        },
+        (true, false) => ActionKind::LetMethod {
+            procedure,
+            arguments,
+            of,
+        },
+        (true, true) => ActionKind::SetMethod {
+            procedure,
+            arguments,
+            of,
+        },
+    }
 }
 
 /// The same of arguments of which the last ones have names.
 pub fn ordered_kind(property: PropertyLet, ordered: Ordered) -> ActionKind
-    ensures { result ≡ ordered_kind property.procedure ordered property.of }
+    ensures { result ≡ ordered_kind (is_method property.receiver) property.is_itself property.procedure ordered property.of }
 {
-    if is_object(property.of) {
-        ActionKind::SetPropertyInOrder {
-            procedure: property.procedure,
-            arguments: ordered.arguments,
-            order: ordered.order,
-            of: property.of,
-        }
-    } else {
-        ActionKind::LetPropertyInOrder {
-            procedure: property.procedure,
-            arguments: ordered.arguments,
-            order: ordered.order,
-            of: property.of,
-        }
+    let PropertyLet {
+        receiver,
+        procedure,
+        of,
+        is_itself,
+    } = property;
+    let Ordered { arguments, order } = ordered;
+    match (is_method(receiver), is_itself) {
+        (false, false) => ActionKind::LetPropertyInOrder {
+            procedure,
+            arguments,
+            order,
+            of,
+        },
+        (false, true) => ActionKind::SetPropertyInOrder {
+            procedure,
+            arguments,
+            order,
+            of,
+        },
+        (true, false) => ActionKind::LetMethodInOrder {
+            procedure,
+            arguments,
+            order,
+            of,
+        },
+        (true, true) => ActionKind::SetMethodInOrder {
+            procedure,
+            arguments,
+            order,
+            of,
+        },
     }
 }
 
 /// An expression that doesn't end with arguments in brackets, behind the value that it is given.
-pub fn assign_tree<'a>(draft: &mut Draft, tree: Tree<'a>) -> Result<Assignment, OrMemory<NotYet>>
+pub fn assign_tree<'a>(
+    draft: &mut Draft,
+    tree: Tree<'a>,
+    has_class: bool,
+) -> Result<Assignment, OrMemory<NotYet>>
     requires { TermNamed (draft_view draft.old).tables tree.term }
-    ensures { IfOk result (λ done. AssignsTree tree.entry (draft_view draft.old) (draft_view draft.new) done.kind done.is_given) }
+    ensures { IfOk result (λ done. AssignsTree has_class tree.entry (draft_view draft.old) (draft_view draft.new) done.kind done.is_given) }
 {
     let place = tree.place;
     match tree.term {
-        Term::Place { kind, of, .. } => {
-            let kind = assign_place(draft, Ending { kind, of }, place)?;
+        Term::Place {
+            kind,
+            of,
+            makes,
+            ..
+        } => {
+            let kind = assign_place(draft, Ending { kind, of }, makes, place, has_class)?;
             Ok(as_operand(kind))
         }
         Term::Value(ending) => {
-            let kind = assign_value(draft, ending, place)?;
+            let kind = assign_value(draft, ending, place, has_class)?;
             Ok(as_operand(kind))
         }
         Term::HostMember(member) => {

@@ -1,6 +1,6 @@
 //! Members of objects that are assigned to, once their arguments were read.
 
-ghost use Rattle.std.specs.Prelude.{◌≡◌, ◌≢◌, ◌<◌, [], true, not, length, is_some, IfOk, MatchBool, Some, bytes_eq};
+ghost use Rattle.std.specs.Prelude.{◌≡◌, ◌≢◌, ◌<◌, [], true, not, length, is_some, IfOk, MatchBool, Some, Bool, bytes_eq};
 ghost use Rattle.std.specs.List.{list_any};
 ghost use Rattle.bound_project.specs.DraftView.{draft_view};
 ghost use Rattle.bound_project.specs.View.{declared_view};
@@ -122,7 +122,7 @@ fn write_member(
     place: Place,
 ) -> Result<ActionKind, OrMemory<NotYet>>
     requires { member.name < length (draft_view draft.old).tables.constants }
-    ensures { IfOk result (λ kind. AssignsTerm place (term.HostMember member) (draft_view draft.old) (draft_view draft.new) kind true) }
+    ensures { IfOk result (λ kind. (has : Bool) → AssignsTerm has place (term.HostMember member) (draft_view draft.old) (draft_view draft.new) kind true) }
 {
     if member.least != 0 || !is_written(draft.name(member.name), member.of, member.greatest) {
         return Err(OrMemory::Fault(NotYet));
@@ -159,7 +159,7 @@ pub fn assign_member(
     place: Place,
 ) -> Result<ActionKind, OrMemory<NotYet>>
     requires { member.name < length (draft_view draft.old).tables.constants }
-    ensures { IfOk result (λ kind. AssignsTerm place (term.HostMember member) (draft_view draft.old) (draft_view draft.new) kind true) }
+    ensures { IfOk result (λ kind. (has : Bool) → AssignsTerm has place (term.HostMember member) (draft_view draft.old) (draft_view draft.new) kind true) }
 {
     match bare_rule(draft, member) {
         Some(rule) => write_broken(draft, rule, 0, place),
@@ -174,7 +174,7 @@ pub fn assign_sheet(
     place: Place,
 ) -> Result<ActionKind, OrMemory<NotYet>>
     requires { member.name < length (draft_view draft.old).tables.constants }
-    ensures { IfOk result (λ kind. AssignsTerm place (term.SheetMember member) (draft_view draft.old) (draft_view draft.new) kind true) }
+    ensures { IfOk result (λ kind. (has : Bool) → AssignsTerm has place (term.SheetMember member) (draft_view draft.old) (draft_view draft.new) kind true) }
 {
     push_sheet(draft)?;
     assign_member(draft, member, place)

@@ -45,8 +45,8 @@ fn set_place(
     place: Place,
 ) -> Result<ActionKind, OrMemory<NotYet>>
     requires { NodeNamed (draft_view draft.old).tables at.kind }
-    ensures { IfOk result (λ kind. (bounded lends : Bool)
-        → SetsTerm set_word place (term.Place at.kind at.of bounded lends) (draft_view draft.old) (draft_view draft.new) kind) }
+    ensures { IfOk result (λ kind. (bounded lends makes : Bool)
+        → SetsTerm set_word place (term.Place at.kind at.of bounded lends makes) (draft_view draft.old) (draft_view draft.new) kind) }
 {
     push_node(draft, at.kind, at.of, place)?;
     if may_be_object(at.of) {

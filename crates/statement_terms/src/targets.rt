@@ -11,13 +11,16 @@ ghost use Rattle.bound_members.specs.binder.specs.Types as types;
 ghost use Rattle.statement_terms.specs.Terms.{may_be_object};
 ghost use Rattle.statement_terms.specs.Members.{AssignsTerm};
 ghost use Rattle.statement_terms.specs.Targets.{AssignsIndexed, EndsItem, EndsObject, EndsValue, EndsWrong, ends_unassignable, ends_value, is_library, is_value_kind, is_variant_term};
+ghost use Rattle.bound_members.specs.bound_calls.specs.References.{NoInstance};
+ghost use Rattle.bound_members.specs.bound_calls.specs.Taking.{read_kind};
 ghost use Rattle.bound_members.specs.bound_calls.specs.declared.term.Term.TheVariants as term;
 ghost use Rattle.bound_members.specs.bound_calls.specs.Standing.{TermNamed};
 ghost use Rattle.bound_members.specs.declared.kinds.HostKind as declared;
 ghost use Rattle.bound_members.specs.Kinds.{EndingOfKind, kind_view};
 
 use bound_members::bound_calls::{
-    Ending, Term, has_object, is_typed_kind, is_variant, push_broken, push_node,
+    Ending, Term, has_object, is_typed_kind, is_variant, may_be_instance, push_broken, push_node,
+    read_kind,
 };
 use bound_members::bound_declarations::NotYet;
 use bound_members::declared_names::is_object;
@@ -61,6 +64,9 @@ fn ends_value(kind: NodeKind) -> bool
 {
     match kind {
         NodeKind::Load => true,
+        NodeKind::LoadMade => true,
+        NodeKind::Method { .. } => true,
+        NodeKind::MethodInOrder { .. } => true,
         NodeKind::FieldValue { .. } => true,
         NodeKind::Call { .. } => true,
         NodeKind::CallInOrder { .. } => true,
@@ -104,6 +110,8 @@ pub fn is_unassignable(kind: NodeKind) -> bool
         NodeKind::Library { .. } => true,
         NodeKind::Call { .. } => true,
         NodeKind::CallInOrder { .. } => true,
+        NodeKind::Method { .. } => true,
+        NodeKind::MethodInOrder { .. } => true,
         _ => false,
     }
 }
@@ -135,35 +143,45 @@ fn gives_object(ending: Ending) -> bool
 fn assign_plain(draft: &mut Draft, at: Ending, place: Place) -> Result<ActionKind, NoMemory>
     requires named { NodeNamed (draft_view draft.old).tables at.kind }
     requires plain { types.is_object (declared_view at.of) ≡ false }
-    ensures { IfOk result (λ kind. (bounded lends : Bool)
-        → AssignsTerm place (term.Place at.kind at.of bounded lends) (draft_view draft.old) (draft_view draft.new) kind false) }
+    ensures { IfOk result (λ kind. (has bounded lends makes : Bool)
+        → AssignsTerm has place (term.Place at.kind at.of bounded lends makes) (draft_view draft.old) (draft_view draft.new) kind false) }
 {
     push_node(draft, at.kind, at.of, place)?;
     Ok(ActionKind::Assign)
 }
 
 /// A place of an object, whose default member is written, behind the value that it is given.
-fn assign_object(draft: &mut Draft, at: Ending, place: Place) -> Result<ActionKind, NoMemory>
+fn assign_object(
+    draft: &mut Draft,
+    at: Ending,
+    makes: bool,
+    place: Place,
+) -> Result<ActionKind, NoMemory>
     requires named { NodeNamed (draft_view draft.old).tables at.kind }
     requires object { types.is_object (declared_view at.of) ≡ true }
     requires written { plain.has_written_default (declared_view at.of) ≡ true }
-    ensures { IfOk result (λ kind. (bounded lends : Bool)
-        → AssignsTerm place (term.Place at.kind at.of bounded lends) (draft_view draft.old) (draft_view draft.new) kind false) }
+    ensures { IfOk result (λ kind. (has bounded lends : Bool) → NoInstance has (record { kind = read_kind makes; of = at.of })
+        → AssignsTerm has place (term.Place at.kind at.of bounded lends makes) (draft_view draft.old) (draft_view draft.new) kind false) }
 {
     push_node(draft, at.kind, at.of, place)?;
-    push_node(draft, NodeKind::Load, at.of, place)?;
+    push_node(draft, read_kind(makes), at.of, place)?;
     Ok(ActionKind::AssignDefault)
 }
 
 /// A place of a sheet, which has no default member, behind the value that it is given.
-fn assign_sheet(draft: &mut Draft, at: Ending, place: Place) -> Result<ActionKind, NoMemory>
+fn assign_sheet(
+    draft: &mut Draft,
+    at: Ending,
+    makes: bool,
+    place: Place,
+) -> Result<ActionKind, NoMemory>
     requires named { NodeNamed (draft_view draft.old).tables at.kind }
     requires sheet { declared_view at.of ≡ type.worksheet }
-    ensures { IfOk result (λ kind. (bounded lends : Bool)
-        → AssignsTerm place (term.Place at.kind at.of bounded lends) (draft_view draft.old) (draft_view draft.new) kind false) }
+    ensures { IfOk result (λ kind. (has bounded lends : Bool)
+        → AssignsTerm has place (term.Place at.kind at.of bounded lends makes) (draft_view draft.old) (draft_view draft.new) kind false) }
 {
     push_node(draft, at.kind, at.of, place)?;
-    push_node(draft, NodeKind::Load, at.of, place)?;
+    push_node(draft, read_kind(makes), at.of, place)?;
     push_broken(draft, 34, place, 2)?;
     Ok(ActionKind::Evaluate)
 }
@@ -182,36 +200,50 @@ fn is_sheet(of: DeclaredType) -> bool
 fn assign_default(
     draft: &mut Draft,
     at: Ending,
+    makes: bool,
     place: Place,
+    has_class: bool,
 ) -> Result<ActionKind, OrMemory<NotYet>>
     requires named { NodeNamed (draft_view draft.old).tables at.kind }
     requires object { types.is_object (declared_view at.of) ≡ true }
     ensures { IfOk result (λ kind. (bounded lends : Bool)
-        → AssignsTerm place (term.Place at.kind at.of bounded lends) (draft_view draft.old) (draft_view draft.new) kind false) }
+        → AssignsTerm has_class place (term.Place at.kind at.of bounded lends makes) (draft_view draft.old) (draft_view draft.new) kind false) }
 {
-    if has_written_default(at.of) {
-        return Ok(assign_object(draft, at, place)?);
-    }
     if is_sheet(at.of) {
-        return Ok(assign_sheet(draft, at, place)?);
+        let broken = assign_sheet(draft, at, makes, place)?;
+        return Ok(broken);
     }
-    Err(OrMemory::Fault(NotYet))
+    let read = Ending {
+        kind: read_kind(makes),
+        of: at.of,
+    };
+    if !has_written_default(at.of) {
+        return Err(OrMemory::Fault(NotYet));
+    }
+    if may_be_instance(has_class, read) {
+        return Err(OrMemory::Fault(NotYet));
+    }
+    let done = assign_object(draft, at, makes, place)?;
+    Ok(done)
 }
 
 /// A place, behind the value that it is given.
 pub fn assign_place(
     draft: &mut Draft,
     at: Ending,
+    makes: bool,
     place: Place,
+    has_class: bool,
 ) -> Result<ActionKind, OrMemory<NotYet>>
     requires { NodeNamed (draft_view draft.old).tables at.kind }
     ensures { IfOk result (λ kind. (bounded lends : Bool)
-        → AssignsTerm place (term.Place at.kind at.of bounded lends) (draft_view draft.old) (draft_view draft.new) kind false) }
+        → AssignsTerm has_class place (term.Place at.kind at.of bounded lends makes) (draft_view draft.old) (draft_view draft.new) kind false) }
 {
     if !is_object(at.of) {
-        return Ok(assign_plain(draft, at, place)?);
+        let plain = assign_plain(draft, at, place)?;
+        return Ok(plain);
     }
-    assign_default(draft, at, place)
+    assign_default(draft, at, makes, place, has_class)
 }
 
 /// The rule that an assignment to the default member of an object of a kind breaks before the run.
@@ -233,12 +265,16 @@ fn assign_written(
     draft: &mut Draft,
     ending: Ending,
     place: Place,
+    has_class: bool,
 ) -> Result<ActionKind, OrMemory<NotYet>>
     requires { NodeNamed (draft_view draft.old).tables ending.kind }
     ensures { IfOk result (λ kind. (of : declared.HostKind) → EndsObject ending → EndingOfKind ending of → plain.write_rule (Some (kind_view of)) ≡ None
-        → AssignsTerm place (term.Value ending) (draft_view draft.old) (draft_view draft.new) kind false) }
+        → AssignsTerm has_class place (term.Value ending) (draft_view draft.old) (draft_view draft.new) kind false) }
 {
     if !has_written_default(ending.of) {
+        return Err(OrMemory::Fault(NotYet));
+    }
+    if may_be_instance(has_class, ending) {
         return Err(OrMemory::Fault(NotYet));
     }
     push_node(draft, ending.kind, ending.of, place)?;
@@ -254,7 +290,7 @@ fn assign_wrong(
 ) -> Result<ActionKind, OrMemory<NotYet>>
     requires named { NodeNamed (draft_view draft.old).tables ending.kind }
     requires wrong { EndsWrong ending rule place }
-    ensures { IfOk result (λ kind. AssignsTerm place (term.Value ending) (draft_view draft.old) (draft_view draft.new) kind false) }
+    ensures { IfOk result (λ kind. (has : Bool) → AssignsTerm has place (term.Value ending) (draft_view draft.old) (draft_view draft.new) kind false) }
 {
     push_node(draft, ending.kind, ending.of, place)?;
     push_broken(draft, rule, place, 2)?;
@@ -267,15 +303,16 @@ fn assign_known(
     ending: Ending,
     of: HostKind,
     place: Place,
+    has_class: bool,
 ) -> Result<ActionKind, OrMemory<NotYet>>
     requires named { NodeNamed (draft_view draft.old).tables ending.kind }
     requires gives { EndsObject ending }
     requires known { EndingOfKind ending of }
-    ensures { IfOk result (λ kind. AssignsTerm place (term.Value ending) (draft_view draft.old) (draft_view draft.new) kind false) }
+    ensures { IfOk result (λ kind. AssignsTerm has_class place (term.Value ending) (draft_view draft.old) (draft_view draft.new) kind false) }
 {
     match write_rule(of) {
         Some(rule) => assign_wrong(draft, ending, rule, place),
-        None => assign_written(draft, ending, place),
+        None => assign_written(draft, ending, place, has_class),
     }
 }
 
@@ -312,7 +349,7 @@ fn assign_constant(
     place: Place,
 ) -> Result<ActionKind, OrMemory<NotYet>>
     requires { NodeNamed (draft_view draft.old).tables ending.kind }
-    ensures { IfOk result (λ kind. AssignsTerm place (term.Value ending) (draft_view draft.old) (draft_view draft.new) kind false) }
+    ensures { IfOk result (λ kind. (has : Bool) → AssignsTerm has place (term.Value ending) (draft_view draft.old) (draft_view draft.new) kind false) }
 {
     if !is_wrong(ending) {
         return Err(OrMemory::Fault(NotYet));
@@ -325,9 +362,10 @@ pub fn assign_value(
     draft: &mut Draft,
     ending: Ending,
     place: Place,
+    has_class: bool,
 ) -> Result<ActionKind, OrMemory<NotYet>>
     requires { NodeNamed (draft_view draft.old).tables ending.kind }
-    ensures { IfOk result (λ kind. AssignsTerm place (term.Value ending) (draft_view draft.old) (draft_view draft.new) kind false) }
+    ensures { IfOk result (λ kind. AssignsTerm has_class place (term.Value ending) (draft_view draft.old) (draft_view draft.new) kind false) }
 {
     if !gives_object(ending) {
         return assign_constant(draft, ending, place);
@@ -335,7 +373,7 @@ pub fn assign_value(
     let Some(of) = kind_of_ending(ending) else {
         return Err(OrMemory::Fault(NotYet));
     };
-    assign_known(draft, ending, of, place)
+    assign_known(draft, ending, of, place, has_class)
 }
 
 /// How many numbers of an item end a value, where it is an element that is no object.
@@ -357,13 +395,14 @@ fn assign_indexed_value(
     draft: &mut Draft,
     ending: Ending,
     place: Place,
+    has_class: bool,
 ) -> Result<ActionKind, OrMemory<NotYet>>
     requires { NodeNamed (draft_view draft.old).tables ending.kind }
-    ensures { IfOk result (λ kind. AssignsIndexed place (term.Value ending) (draft_view draft.old) (draft_view draft.new) kind) }
+    ensures { IfOk result (λ kind. AssignsIndexed has_class place (term.Value ending) (draft_view draft.old) (draft_view draft.new) kind) }
 {
     match item_numbers(ending) {
         Some(numbers) => Ok(ActionKind::AssignItem { numbers }),
-        None => assign_value(draft, ending, place),
+        None => assign_value(draft, ending, place, has_class),
     }
 }
 
@@ -372,13 +411,19 @@ pub fn assign_indexed<'a>(
     draft: &mut Draft,
     term: Term<'a>,
     place: Place,
+    has_class: bool,
 ) -> Result<ActionKind, OrMemory<NotYet>>
     requires { TermNamed (draft_view draft.old).tables term }
-    ensures { IfOk result (λ kind. AssignsIndexed place term.entry (draft_view draft.old) (draft_view draft.new) kind) }
+    ensures { IfOk result (λ kind. AssignsIndexed has_class place term.entry (draft_view draft.old) (draft_view draft.new) kind) }
 {
     match term {
-        Term::Place { kind, of, .. } => assign_place(draft, Ending { kind, of }, place),
-        Term::Value(ending) => assign_indexed_value(draft, ending, place),
+        Term::Place {
+            kind,
+            of,
+            makes,
+            ..
+        } => assign_place(draft, Ending { kind, of }, makes, place, has_class),
+        Term::Value(ending) => assign_indexed_value(draft, ending, place, has_class),
         _ => Err(OrMemory::Fault(NotYet)),
     }
 }

@@ -13,7 +13,7 @@ use Rattle.bound_project.specs.Expressions.{Expr, expr, operand_type}
 use Rattle.bound_project.specs.Pieces.{Piece, Tables, name_in, by_name_in, as_operand, put_kind, put, read}
 use Rattle.static_rules.specs.Broken.{double_at, broken}
 use Rattle.static_rules.specs.Scan.{kind_places, nodes_places}
-use Rattle.static_rules.proofs.Pieces.{found_in, Adds, value_adds, value_keeps, place_keeps, both_add, both_keep, test_adds, range_adds, list_adds, list_kept, args_kept, place_and_list, value_and_list, member_kept, named_kept}
+use Rattle.static_rules.proofs.Pieces.{found_in, Adds, value_adds, value_keeps, place_keeps, both_add, both_keep, test_adds, range_adds, list_adds, list_kept, args_kept, place_and_list, value_and_list, member_kept, object_kept, named_kept}
 
 -- an operand keeps its places, and has the type that its operator says
 pub as_one : (of : DeclaredType) (e : Expr) (more : Declared → List Refusal) → broken (as_operand of e) ++ more (operand_type (as_operand of e)) ≡ broken e ++ more (declared_view of)
@@ -32,7 +32,11 @@ node_adds t selected n (node.Item x count) st there = list_kept (declared_view s
 node_adds t selected n (node.Element count) st there = place_and_list (declared_view selected) count st _ (λ x es. refl) there
 node_adds t selected n (node.Field i of bounded) st there = place_keeps (declared_view selected) _ (λ x. refl) st there
 node_adds t selected n (node.KeptPlace header) st there = (refl, there.1)
+node_adds t selected n (node.ObjectField i of bounded) st there = value_keeps (declared_view selected) _ (λ e. refl) st there
+node_adds t selected n (node.NewVariable x c) st there = (refl, there.1)
+node_adds t selected n (node.AsNew c) st there = place_keeps (declared_view selected) _ (λ x. refl) st there
 node_adds t selected n node.Load st there = place_keeps (declared_view selected) _ (λ x. refl) st there
+node_adds t selected n node.LoadMade st there = place_keeps (declared_view selected) _ (λ x. refl) st there
 node_adds t selected n (node.ElementValue count) st there = value_and_list (declared_view selected) count st _ (λ x es. refl) there
 node_adds t selected n (node.FieldValue i) st there = value_keeps (declared_view selected) _ (λ e. refl) st there
 node_adds t selected n (node.Unary o of) st there =
@@ -41,6 +45,11 @@ node_adds t selected n (node.Binary o compare left right) st there =
     both_add (declared_view selected) _ _ (λ a b. as_two left right a b (λ d e. double_at n.place o d e)) st there
 node_adds t selected n (node.Call p count) st there = args_kept (declared_view selected) count st _ (λ args. refl) there
 node_adds t selected n (node.CallInOrder p count order) st there = args_kept (declared_view selected) count st _ (λ args. refl) there
+node_adds t selected n node.This st there = (refl, there.1)
+node_adds t selected n (node.NewObject c) st there = (refl, there.1)
+node_adds t selected n node.ObjectThere st there = value_keeps (declared_view selected) _ (λ e. refl) st there
+node_adds t selected n (node.Method p count) st there = object_kept (declared_view selected) count st _ (λ e args. refl) there
+node_adds t selected n (node.MethodInOrder p count order) st there = object_kept (declared_view selected) count st _ (λ e args. refl) there
 node_adds t selected n (node.ErrValue told) st there = (refl, there.1)
 node_adds t selected n (node.Library f text_form count compare one) st there = list_kept (declared_view selected) count st _ (λ es. refl) there
 node_adds t selected n (node.Marked broken count) st there = list_adds (declared_view selected) count st _ (broken ∷ []) (λ es. refl) there

@@ -4,7 +4,7 @@ use Rattle.std.proofs.lemmas.List.{append-nil}
 use Rattle.vba_base.specs.declared.place.Refusal.{Refusal}
 use Rattle.vba_values.specs.Types.{Declared}
 use Rattle.bound_project.specs.Expressions.{Expr, Exprs, no_exprs, also, ByName, Lvalue, Args, no_args, operand_type}
-use Rattle.bound_project.specs.Pieces.{Argument, place_lent, value_copied, default_taken, values_listed, Piece, nothing, an_expr, a_place, an_argument, a_member, a_named_member, a_value_shown, a_zone, a_test_begun, a_test_is, a_test_range, a_resize, an_erased, of_value, of_place, of_both, of_test, of_range, of_found, of_place_found, of_value_found, is_member, misfit, of_member, of_member_found, is_named_member, of_named, of_named_found, exprs_off, arguments_off, with_argument}
+use Rattle.bound_project.specs.Pieces.{Argument, place_lent, value_copied, default_taken, values_listed, Piece, nothing, an_expr, a_place, an_argument, a_member, an_object, a_named_member, a_value_shown, a_zone, a_test_begun, a_test_is, a_test_range, a_resize, an_erased, of_value, of_place, of_both, of_test, of_range, of_found, of_place_found, of_value_found, is_member, misfit, of_member, of_member_found, of_object, of_object_found, is_named_member, of_named, of_named_found, exprs_off, arguments_off, with_argument}
 use Rattle.static_rules.specs.Broken.{double_at, broken, place_broken, args_broken, list_broken, range_broken}
 
 abbrev pub argument_broken : Argument → List Refusal
@@ -21,6 +21,7 @@ piece_broken selected (a_place x) = place_broken x
 piece_broken selected (an_argument a) = argument_broken a
 piece_broken selected (a_member e name given) = broken e
 piece_broken selected (a_named_member e name by given) = broken e
+piece_broken selected (an_object e) = broken e
 piece_broken selected (a_value_shown e) = broken e
 piece_broken selected a_zone = []
 piece_broken selected a_test_begun = []
@@ -225,3 +226,21 @@ named_off selected st name by make h (Some (es, rest)) off there =
 pub named_kept : (selected : Declared) (n : ℕ) (st : List Piece) (name : List ℕ) (by : ByName) (make : Expr → Exprs → Piece) → ((e : Expr) (es : Exprs) → piece_broken selected (make e es) ≡ broken e ++ list_broken es)
     → Adds selected (of_named_found name by make (exprs_off n st no_exprs)) st []
 named_kept selected n st name by make h = named_off selected st name by make h (exprs_off n st no_exprs) (exprs_are selected n st no_exprs)
+
+-- ---- procedures of objects
+
+object_adds : (selected : Declared) (make : Expr → Args → Piece) (args : Args) → ((e : Expr) → piece_broken selected (make e args) ≡ broken e ++ args_broken args)
+    → (st : List Piece) → Adds selected (of_object make args st) st (args_broken args)
+object_adds selected make args h (an_object e ∷ st) there = (one (found_in selected st) (broken e) (args_broken args) _ (h e), (tt, there.1))
+object_adds selected make args h st there = absurd there.0
+
+object_off : (selected : Declared) (st : List Piece) (make : Expr → Args → Piece) → ((e : Expr) (args : Args) → piece_broken selected (make e args) ≡ broken e ++ args_broken args)
+    → (o : Option (Args × List Piece)) → ArgsOff selected st no_args o → Adds selected (of_object_found make o) st []
+object_off selected st make h None off there = absurd there.0
+object_off selected st make h (Some (args, rest)) off there =
+    let r = object_adds selected make args (λ e. h e args) rest there in
+    (r.0 ∙ off.0, off.1 r.1)
+
+pub object_kept : (selected : Declared) (n : ℕ) (st : List Piece) (make : Expr → Args → Piece) → ((e : Expr) (args : Args) → piece_broken selected (make e args) ≡ broken e ++ args_broken args)
+    → Adds selected (of_object_found make (arguments_off n st no_args)) st []
+object_kept selected n st make h = object_off selected st make h (arguments_off n st no_args) (args_are selected n st no_args)

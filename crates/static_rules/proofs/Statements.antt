@@ -17,8 +17,8 @@ use Rattle.bound_project.specs.View.{declared_view}
 use Rattle.bound_project.specs.Expressions.{Expr, Exprs, no_exprs, Lvalue, Args, no_args, Prints, no_prints, shown, zone, operand_type}
 use Rattle.bound_project.specs.Statements.{Tests, no_tests, test_is, test_range, Resizes, no_resizes, resize, Arrays, no_arrays, an_array, Action, assign_member}
 use Rattle.bound_project.specs.Statements as plain
-use Rattle.bound_project.specs.Pieces.{Piece, an_expr, a_place, a_member, is_member, name_in, exprs_off, a_value_shown, a_zone, a_test_is, a_test_range, a_resize, an_erased, Tables, prints_off, tests_off, resizes_off, arrays_off, arguments_off, pieces}
-use Rattle.bound_project.specs.Bodies.{whole, one_value, one_place, behind_value, member_found, item_found, alone, action_of, action_or, part, statement_view, StatementFits, AllFit, BodiesFit, Fits, body_view, tables_of, project_view}
+use Rattle.bound_project.specs.Pieces.{Piece, an_expr, a_place, a_member, an_object, is_member, name_in, exprs_off, a_value_shown, a_zone, a_test_is, a_test_range, a_resize, an_erased, Tables, prints_off, tests_off, resizes_off, arrays_off, arguments_off, pieces}
+use Rattle.bound_project.specs.Bodies.{whole, one_value, one_place, behind_object, behind_value, member_found, item_found, alone, action_of, action_or, part, statement_view, StatementFits, AllFit, BodiesFit, Fits, body_view, tables_of, project_view}
 use Rattle.static_rules.specs.Broken.{double_at, broken, place_broken, args_broken, list_broken, prints_broken, range_broken, tests_broken, resizes_broken, arrays_broken, loop_broken, action_broken, body_broken, least_of, first_broken}
 use Rattle.static_rules.specs.Scan.{selected_type, nodes_places, loop_places, statement_places, statements_places, bodies_places}
 use Rattle.static_rules.proofs.Pieces.{found_in, AllThere, ExprsOff, exprs_are, ArgsOff, args_are, one, two}
@@ -133,6 +133,14 @@ behind_made selected go h st None off = tt
 behind_made selected go h st (Some (args, an_expr e ∷ [])) off = (h args e ∙ off.0, off.1 (tt, tt))
 behind_made selected go h st (Some (args, rest)) off = tt
 
+-- arguments of a procedure of an object, behind a value
+object_made : (selected : Declared) (go : Expr → Args → Expr → Action) → ((base : Expr) (args : Args) (e : Expr) → action_broken (go base args e) ≡ broken e ++ (broken base ++ args_broken args))
+    → (st : List Piece) (found : Option (Args × List Piece)) → ArgsOff selected st no_args found → Made selected [] st (behind_object found go)
+object_made selected go h st None off = tt
+object_made selected go h st (Some (args, an_object base ∷ an_expr e ∷ [])) off =
+    (h base args e ∙ sym (append_assoc (broken e) (broken base) (args_broken args)) ∙ off.0, off.1 (tt, (tt, tt)))
+object_made selected go h st (Some (args, rest)) off = tt
+
 -- an assignment to a member: arguments behind the member that was looked for, behind a value
 assigned_if : (selected : Declared) (name other : List ℕ) (given : ℕ) (es : Exprs) (base e : Expr) (st : List Piece)
     → ExprsOff selected st no_exprs (Some (es, a_member base other given ∷ an_expr e ∷ [])) → (b : Bool) → Made selected [] st (cond b (Some (assign_member base name es e)) None)
@@ -202,6 +210,18 @@ action_made t (kind.SetProperty q count of) st =
 action_made t (kind.SetPropertyInOrder q count order of) st =
     let selected = selected_of (kind.SetPropertyInOrder q count order of) in
     behind_made selected _ (λ args e. refl) st (arguments_off count st no_args) (args_are selected count st no_args)
+action_made t (kind.LetMethod q count of) st =
+    let selected = selected_of (kind.LetMethod q count of) in
+    object_made selected _ (λ base args e. refl) st (arguments_off count st no_args) (args_are selected count st no_args)
+action_made t (kind.LetMethodInOrder q count order of) st =
+    let selected = selected_of (kind.LetMethodInOrder q count order of) in
+    object_made selected _ (λ base args e. refl) st (arguments_off count st no_args) (args_are selected count st no_args)
+action_made t (kind.SetMethod q count of) st =
+    let selected = selected_of (kind.SetMethod q count of) in
+    object_made selected _ (λ base args e. refl) st (arguments_off count st no_args) (args_are selected count st no_args)
+action_made t (kind.SetMethodInOrder q count order of) st =
+    let selected = selected_of (kind.SetMethodInOrder q count order of) in
+    object_made selected _ (λ base args e. refl) st (arguments_off count st no_args) (args_are selected count st no_args)
 action_made t (kind.Print count ends) st =
     let of = selected_of (kind.Print count ends) in
     prints_made of _ (λ ps. refl) st (prints_off count st no_prints) (prints_are of count st no_prints)

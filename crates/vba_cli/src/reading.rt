@@ -28,7 +28,7 @@ use refusal_order::note_both;
 use signature_rules::first_signature;
 use static_rules::first_broken;
 use std::alloc::Global;
-use vba_base::{NoMemory, OrMemory, Place, Refusal};
+use vba_base::{NoMemory, OrMemory, Refusal};
 
 /// The project that the files of modules are, or the place of a part that isn't built yet. The run begins at
 /// the startup of their list, or else at Main of the first module. The fault is the first rule that is broken: the
@@ -219,22 +219,7 @@ fn fault_at<'a>(
     startup_fault(spaces, startup_of(spaces, start))
 }
 
-// The front of the first class.
-fn class_front(spaces: &[Space]) -> Option<Place> {
-    for space in spaces {
-        if space.source.is_class {
-            let module = u32::try_from(space.number).unwrap_or(u32::MAX);
-            return Some(Place {
-                module: module.saturating_add(1),
-                line: 1,
-                column: 1,
-            });
-        }
-    }
-    None
-}
-
-// The modules of a project, bound with the macro to begin with. A project that has a class isn't bound yet.
+// The modules of a project, bound with the macro to begin with.
 fn bind_at<'a>(
     alloc: Global,
     spaces: &'a [Space<'a>],
@@ -244,10 +229,7 @@ fn bind_at<'a>(
     ensures fits { IfOk result IsFitted }
     ensures bound { (ms : List PlainSource) → map space_view spaces.now ≡ spaces_from 0 ms → IfOk result (IsBound the_outside (map space_view spaces.now) (begins_at (option_map (λ s. start_view s.now) start.entry) ms)) }
 {
-    match class_front(spaces) {
-        Some(place) => Ok(Bound::NotBuilt(place)),
-        None => bind(alloc, spaces, startup_of(spaces, start)),
-    }
+    bind(alloc, spaces, startup_of(spaces, start))
 }
 
 // The macro to begin with.

@@ -10,4 +10,4 @@ returns c =
     let d = draft_view c.args.draft.now in
     let e = draft_view c.push_value.new.draft in
     let A : Option DeclaredType → Type 0 = λ o. PushesValue c.args.tree d e o in
-    λ given. plain_pushed given c.args.tree c.in-Some.of d e c.requires.plain (subst A c.in-Some.is c.in_ok-of.ensures)
+    λ has given. plain_pushed has given c.args.tree c.in-Some.of d e c.requires.plain (subst A c.in-Some.is c.in_ok-of.ensures)

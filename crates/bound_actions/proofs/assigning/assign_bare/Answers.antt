@@ -1,4 +1,4 @@
-use Rattle.std.proofs.Common.{Bool, true, subst, ◌∙◌}
+use Rattle.std.proofs.Common.{Bool, true, sym, subst, ◌∙◌}
 use Rattle.std.proofs.lemmas.Result.{IfOk-weaker}
 use Rattle.bound_project.specs.DraftView.{draft_view}
 use Rattle.vba_expression.specs.View.{view}
@@ -44,4 +44,5 @@ returns-in-None c =
     let f = draft_view c.tree_of.new.draft in
     let e = draft_view c.assign_other.new.draft in
     let target = c.is_no_target.ensures f.tables place f.pieces d.pieces c.requires.bare c.in_ok-tree.ensures.stands ∙ c.if-is_no_target.false in
-    IfOk-weaker c.assign_other.result _ _ (λ done a. assigns_other env place x d f e done.kind done.is_given c.requires.bare target c.in-None.ensures c.in_ok-tree.ensures a) c.assign_other.ensures
+    IfOk-weaker c.assign_other.result _ _
+    (λ done a. assigns_other c.args.env.has_class env place x d f e done.kind done.is_given (sym c.args.env.has_class_is) c.requires.bare target c.in-None.ensures c.in_ok-tree.ensures a) c.assign_other.ensures

@@ -3,7 +3,7 @@ use Rattle.bound_project.specs.DraftView.{draft_view}
 use Rattle.vba_expression.specs.Nodes.{tree_in}
 use Rattle.std.specs.Prelude.{◌||◌}
 use Rattle.statement_terms.specs.Targets.{is_variant_term}
-use Rattle.bound_terms.specs.bound_names.specs.Items.{lacks_item}
+use Rattle.bound_terms.specs.bound_accesses.specs.Items.{lacks_item}
 use Rattle.bound_terms.specs.bound_names.specs.View.{env_view}
 use Rattle.bound_terms.specs.bound_forms.specs.ExpressionsBound.{callee, term_of}
 use Rattle.bound_actions.specs.NoTargets.{IsSub}
@@ -73,5 +73,5 @@ returns c =
     let base = tree_in c.args.split.target.now in
     let no_sub = c.is_sub.ensures env g.tables (callee env base (term_of env base)) f.pieces d.pieces (c.in_ok-term.ensures.stands base f.pieces d.pieces c.in_ok-tree.ensures.leaves.stands) ∙ c.if-is_sub.false in
     done_is env (tree_in ns) d e k k (is_variant_term y || lacks_item y) c.is_item_given.result refl c.is_item_given.ensures
-    (assigns_indexed env c.args.split ns x c.in_ok-more.more y d f g h e k c.requires.split c.if-not-adds_one.ensures c.in_ok-tree.ensures c.in_ok-term.ensures no_sub c.in_default.ensures (sym c.takes_item.ensures ∙ c.if-takes_item.false)
-    c.in_ok-more.ensures c.in_ok-kind-4.ensures)
+    (assigns_indexed c.args.env.has_class env (sym c.args.env.has_class_is) c.args.split ns x c.in_ok-more.more y d f g h e k c.requires.split c.if-not-adds_one.ensures c.in_ok-tree.ensures c.in_ok-term.ensures no_sub c.in_default.ensures
+    (sym c.takes_item.ensures ∙ c.if-takes_item.false) c.in_ok-more.ensures c.in_ok-kind-4.ensures)

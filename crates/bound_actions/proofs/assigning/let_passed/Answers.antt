@@ -1,46 +1,15 @@
-use Rattle.std.proofs.Common.{◌≡◌, true, false, [], length, sym, subst, ap, ◌∙◌, eq-eqb}
-use Rattle.std.proofs.lemmas.Bool.{eqb-true}
-use Rattle.std.proofs.lemmas.List.{nil_from_length}
 use Rattle.std.proofs.lemmas.Result.{IfOk-weaker}
 use Rattle.std.specs.Prelude.{map}
 use Rattle.bound_project.specs.DraftView.{draft_view}
 use Rattle.bound_project.specs.View.{parameter_view}
-use Rattle.bound_project.specs.declared.statement.ActionKind.{ActionKind}
 use Rattle.bound_terms.specs.bound_names.specs.View.{env_view}
-use Rattle.statement_terms.specs.Called.{LetsWith}
-use Rattle.statement_terms.proofs.NamedLets.{lets_named, lets_plain}
-use Rattle.bound_actions.proofs.Refusing.{let_refused}
+use Rattle.bound_actions.proofs.Assigned.{lets_taken}
 use Rattle.bound_actions.proofs.assigning.let_passed.Goals as goal
-
-pub returns-then-is_empty : goal.returns-then-is_empty
-returns-then-is_empty c =
-    let read = c.in_ok-passed in
-    let v = read.named in
-    let p = c.args.property in
-    let env = env_view c.args.env in
-    let d = draft_view c.args.draft.now in
-    let e = draft_view c.push_rest.new.draft in
-    let empty : v.items ≡ [] = nil_from_length v.items (sym v.ok.0 ∙ eqb-true v.len 0 (sym c.if-is_empty.ensures)) in
-    let P : ActionKind → Type 0 = λ (k : ActionKind). LetsWith env c.args.place (map parameter_view c.args.front.now) p.procedure p.of c.args.nodes.now d e k in
-    subst P (sym c.property_kind.ensures)
-    (lets_plain env c.args.place c.args.front.now p.procedure p.of c.args.nodes.now read.passed v.items c.in_ok-_written._written c.in_ok-_written.arguments d (draft_view c.read_named.new.draft) e empty read.ensures c.in_ok-_written.ensures)
 
 pub returns : goal.returns
 returns c =
-    let read = c.in_ok-passed in
-    let v = read.named in
-    let p = c.args.property in
-    let env = env_view c.args.env in
     let d = draft_view c.args.draft.now in
-    let e = draft_view c.push_in_order.new.draft in
-    let some : v.items ≡ [] → ⊥ = λ q. let z : v.len ≡ 0 = v.ok.0 ∙ ap (λ l. length l) q in let wrong : true ≡ false = sym (eq-eqb v.len 0 z) ∙ sym c.if-is_empty.ensures in absurd cc in
-    let P : ActionKind → Type 0 = λ (k : ActionKind). LetsWith env c.args.place (map parameter_view c.args.front.now) p.procedure p.of c.args.nodes.now d e k in
-    subst P (sym c.ordered_kind.ensures)
-    (lets_named env c.args.place c.args.front.now p.procedure p.of c.args.nodes.now read.passed v.items c.in_ok-ordered.ordered d (draft_view c.read_named.new.draft) e some read.ensures c.in_ok-ordered.ensures)
-
-pub returns-then-not-is_taken : goal.returns-then-not-is_taken
-returns-then-not-is_taken c =
-    let p = c.args.property in
-    let d = draft_view c.args.draft.now in
-    let e = draft_view c.refuse_arguments.new.draft in
-    IfOk-weaker c.refuse_arguments.result _ _ (λ k r. let_refused (env_view c.args.env) c.args.place (map parameter_view c.args.front.now) p.procedure p.of c.args.nodes.now d e k r) c.refuse_arguments.ensures
+    let r = draft_view c.push_receiver.new.draft in
+    let e = draft_view c.let_taken.new.draft in
+    IfOk-weaker c.let_taken.result _ _
+    (λ k h. lets_taken (env_view c.args.env) c.args.place (map parameter_view c.args.front.now) c.args.property c.args.nodes.now d r e k c.in_ok-push_receiver.ensures h) c.let_taken.ensures

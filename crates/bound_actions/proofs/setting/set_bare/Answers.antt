@@ -3,8 +3,11 @@ use Rattle.std.proofs.lemmas.Result.{IfOk-weaker}
 use Rattle.vba_expression.specs.View.{view}
 use Rattle.bound_project.specs.DraftView.{draft_view}
 use Rattle.bound_terms.specs.bound_names.specs.View.{env_view}
-use Rattle.bound_actions.proofs.SetTargets.{sets_bare_routine, sets_bare_sub, sets_other}
+use Rattle.bound_actions.proofs.SetTargets.{sets_bare_routine, sets_bare_sub, sets_other, sets_property_bare}
 use Rattle.bound_actions.proofs.setting.set_bare.Goals as goal
+
+pub let_bare-requires-clause-writer : goal.let_bare-requires-clause-writer
+let_bare-requires-clause-writer c = c.in-Some.ensures.writer
 
 pub returns-then-is_sub : goal.returns-then-is_sub
 returns-then-is_sub c =
@@ -14,6 +17,15 @@ returns-then-is_sub c =
     sets_bare_sub c.args.set_word (env_view c.args.env) (view c.args.place.now) c.in_ok-tree.tree d f e c.in_ok-refuse_target.field-0 c.requires.bare (λ env t y ps below h. c.is_sub.ensures env t y ps below h ∙ c.if-is_sub.true)
     c.in_ok-tree.ensures c.in_ok-refuse_target.ensures
 
+pub returns-in-Some : goal.returns-in-Some
+returns-in-Some c =
+    let d = draft_view c.args.draft.now in
+    let f = draft_view c.tree_of.new.draft in
+    let e = draft_view c.let_bare.new.draft in
+    IfOk-weaker c.let_bare.result _ _
+    (λ k h. sets_property_bare c.args.set_word (env_view c.args.env) (view c.args.place.now) c.in_ok-tree.tree c.in-Some.setter d f e k c.requires.bare
+    (λ env t y ps below s. c.is_sub.ensures env t y ps below s ∙ c.if-is_sub.false) c.in_ok-tree.ensures c.in-Some.ensures h) c.let_bare.ensures
+
 pub returns-in-Routine : goal.returns-in-Routine
 returns-in-Routine c =
     let d = draft_view c.args.draft.now in
@@ -21,13 +33,13 @@ returns-in-Routine c =
     let e = draft_view c.set_routine.new.draft in
     IfOk-weaker c.set_routine.result _ _
     (λ k s. sets_bare_routine c.args.set_word (env_view c.args.env) (view c.args.place.now) c.in_ok-tree.tree c.in-Routine.routine d f e k c.requires.bare c.in-Routine.is
-    (λ env t y ps below h. c.is_sub.ensures env t y ps below h ∙ c.if-is_sub.false) c.in_ok-tree.ensures s) c.set_routine.ensures
+    (λ env t y ps below h. c.is_sub.ensures env t y ps below h ∙ c.if-is_sub.false) c.in_default.ensures c.in_ok-tree.ensures s) c.set_routine.ensures
 
-pub returns-in_default : goal.returns-in_default
-returns-in_default c =
+pub returns-in_default-term : goal.returns-in_default-term
+returns-in_default-term c =
     let d = draft_view c.args.draft.now in
     let f = draft_view c.tree_of.new.draft in
     let e = draft_view c.set_term.new.draft in
     IfOk-weaker c.set_term.result _ _
-    (λ k s. sets_other c.args.set_word (env_view c.args.env) (view c.args.place.now) c.in_ok-tree.tree d f e k c.requires.bare (λ env t y ps below h. c.is_sub.ensures env t y ps below h ∙ c.if-is_sub.false) c.in_ok-tree.ensures s)
-    c.set_term.ensures
+    (λ k s. sets_other c.args.set_word (env_view c.args.env) (view c.args.place.now) c.in_ok-tree.tree d f e k c.requires.bare (λ env t y ps below h. c.is_sub.ensures env t y ps below h ∙ c.if-is_sub.false) c.in_default.ensures
+    c.in_ok-tree.ensures s) c.set_term.ensures

@@ -2,7 +2,7 @@ use Rattle.std.proofs.Common.{sym, ◌∙◌}
 use Rattle.std.proofs.lemmas.Result.{IfOk-weaker}
 use Rattle.bound_project.specs.DraftView.{draft_view}
 use Rattle.bound_terms.specs.bound_names.specs.View.{env_view}
-use Rattle.bound_actions.proofs.SetTargets.{sets_split, sets_split_member, sets_split_refused, sets_split_sub}
+use Rattle.bound_actions.proofs.SetTargets.{sets_split, sets_split_member, sets_split_refused, sets_split_sub, sets_property_split}
 use Rattle.statement_terms.proofs.NodeTrees.{still_named}
 use Rattle.bound_actions.proofs.setting.set_split.Goals as goal
 
@@ -16,6 +16,9 @@ pub continue_tree-requires-clause-named : goal.continue_tree-requires-clause-nam
 continue_tree-requires-clause-named c =
     still_named c.in_ok-tree.tree (draft_view c.nodes_tree.new.draft) (draft_view c.callee_term.new.draft) c.in_ok-term.ensures.grown c.in_ok-tree.ensures.leaves.named
 
+pub let_given-requires-clause-writer : goal.let_given-requires-clause-writer
+let_given-requires-clause-writer c = c.in-Some.ensures.writer
+
 pub returns-then-is_sub : goal.returns-then-is_sub
 returns-then-is_sub c =
     let d = draft_view c.args.draft.now in
@@ -24,6 +27,16 @@ returns-then-is_sub c =
     let e = draft_view c.refuse_target.new.draft in
     sets_split_sub c.args.set_word (env_view c.args.env) c.args.split c.args.nodes.now c.in_ok-tree.tree c.in_ok-term.term d f g e c.in_ok-refuse_target.field-0 c.requires.split c.if-not-adds_one.ensures c.in_ok-tree.ensures c.in_ok-term.ensures
     (λ env t y ps below h. c.is_sub.ensures env t y ps below h ∙ c.if-is_sub.true) c.in_ok-refuse_target.ensures
+
+pub returns-in-Some : goal.returns-in-Some
+returns-in-Some c =
+    let d = draft_view c.args.draft.now in
+    let f = draft_view c.nodes_tree.new.draft in
+    let g = draft_view c.callee_term.new.draft in
+    let e = draft_view c.let_given.new.draft in
+    IfOk-weaker c.let_given.result _ _
+    (λ k h. sets_property_split c.args.set_word (env_view c.args.env) c.args.split c.args.nodes.now c.in_ok-tree.tree c.in_ok-term.term c.in-Some.setter d f g e k c.requires.split c.in_ok-tree.ensures c.in_ok-term.ensures
+    (λ env t y ps below s. c.is_sub.ensures env t y ps below s ∙ c.if-is_sub.false) c.in-Some.ensures h) c.let_given.ensures
 
 pub returns-then-is_late : goal.returns-then-is_late
 returns-then-is_late c =
@@ -55,5 +68,5 @@ returns c =
     let e = draft_view c.set_term.new.draft in
     IfOk-weaker c.set_term.result _ _
     (λ k s. sets_split c.args.set_word (env_view c.args.env) c.args.split c.args.nodes.now c.in_ok-tree.tree c.in_ok-more.more c.in_ok-term.term d f g h e k c.requires.split c.if-not-adds_one.ensures c.in_ok-tree.ensures c.in_ok-term.ensures
-    (λ env t y ps below h. c.is_sub.ensures env t y ps below h ∙ c.if-is_sub.false) (λ env t y ps below h. c.is_property_term.ensures env t y ps below h ∙ c.if-is_property_term.false) (sym c.takes_item.ensures ∙ c.if-takes_item.false) c.in_ok-more.ensures s)
-    c.set_term.ensures
+    (λ env t y ps below q. c.is_sub.ensures env t y ps below q ∙ c.if-is_sub.false) c.in_default.ensures (λ env t y ps below q. c.is_property_term.ensures env t y ps below q ∙ c.if-is_property_term.false)
+    (sym c.takes_item.ensures ∙ c.if-takes_item.false) c.in_ok-more.ensures s) c.set_term.ensures

@@ -9,7 +9,8 @@ use Rattle.bound_calls.proofs.calls.called_ending.Goals as goal
 pub returns-then-not-takes_none : goal.returns-then-not-takes_none
 returns-then-not-takes_none c =
     let d = draft_view c.args.draft.now in
-    subst (λ (e : Ending). CallsAt c.args.routine c.args.place d d e) (sym c.broken_ending.ensures) (calls_lacking c.args.routine c.args.place d (sym c.takes_none.ensures ∙ c.if-not-takes_none.true))
+    IfOk-weaker c.lacking_ending.result _ _
+    (λ v h. subst (λ (e : Ending). CallsAt c.args.routine c.args.place d d e) (sym h.is) (calls_lacking c.args.routine c.args.place d (sym c.takes_none.ensures ∙ c.if-not-takes_none.true) h.of_module)) c.lacking_ending.ensures
 
 pub returns : goal.returns
 returns c =

@@ -8,7 +8,6 @@ use Rattle.bound_calls.specs.References.{TakesReference, may_refer}
 use Rattle.bound_calls.specs.Standing.{TermNamed}
 use Rattle.bound_calls.specs.Taking.{CallsRoutine, ReadsMember}
 use Rattle.bound_calls.proofs.Referring.{takes_place, takes_routine, takes_member, takes_sheet_member, takes_err, err_reference}
-use Rattle.bound_project.specs.declared.node.NodeKind.TheVariants as node
 use Rattle.bound_calls.proofs.Taking.{named_still}
 use Rattle.bound_calls.proofs.references.reference_ending.Goals as goal
 
@@ -21,8 +20,9 @@ returns-in_ok-push_node-in-Place c =
     let p = c.in-Place in
     let d = draft_view c.args.draft.now in
     let e = draft_view c.push_node.new.draft in
-    let P : Term → Type 0 = λ t. TakesReference t d e (record { kind = node.Load; of = p.of }) in
-    subst P (sym p.is) (takes_place p.kind p.of p.is_bounded p.lends c.args.place d e (subst Refers p.is c.requires.refers) c.in_ok-push_node-in-Place.ensures)
+    let k = c.read_kind.result in
+    let P : Term → Type 0 = λ t. TakesReference t d e (record { kind = k; of = p.of }) in
+    subst P (sym p.is) (takes_place p.kind p.of p.is_bounded p.lends p.makes c.args.place d e k c.read_kind.ensures (subst Refers p.is c.requires.refers) c.in_ok-push_node-in-Place.ensures)
 
 pub returns-in-HostMember : goal.returns-in-HostMember
 unfolding Refers

@@ -13,7 +13,7 @@ returns-in_ok-ending-in-Place c =
     let d = draft_view c.args.draft.now in
     let e = draft_view c.load.new.draft in
     let P : Term → Type 0 = λ x. TakesValue x c.args.place d e c.in_ok-ending-in-Place.ending in
-    subst P (sym c.in-Place.is) (takes_place c.in-Place.kind c.in-Place.of c.in-Place.is_bounded c.in-Place.lends c.args.place d e c.in_ok-ending-in-Place.ending c.in_ok-ending-in-Place.ensures)
+    subst P (sym c.in-Place.is) (takes_place c.in-Place.kind c.in-Place.of c.in-Place.is_bounded c.in-Place.lends c.in-Place.makes c.args.place d e c.in_ok-ending-in-Place.ending c.in_ok-ending-in-Place.ensures)
 
 pub returns-in-Routine : goal.returns-in-Routine
 returns-in-Routine c =

@@ -10,7 +10,7 @@ pub returns-in-Place : goal.returns-in-Place
 returns-in-Place c =
     let d = draft_view c.args.draft.now in
     let A : Term → Type 0 = λ (t : Term). Keeps c.args.header t d c.kept_place.result in
-    subst A (sym c.in-Place.is) (keeps_place c.args.header c.in-Place.kind c.in-Place.of c.in-Place.is_bounded c.in-Place.lends d c.kept_place.result c.kept_place.ensures)
+    subst A (sym c.in-Place.is) (keeps_place c.args.header c.in-Place.kind c.in-Place.of c.in-Place.is_bounded c.in-Place.lends c.in-Place.makes d c.kept_place.result c.kept_place.ensures)
 
 pub returns-in-Value : goal.returns-in-Value
 returns-in-Value c =

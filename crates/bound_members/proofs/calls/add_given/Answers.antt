@@ -10,5 +10,6 @@ pub returns : goal.returns
 returns c =
     let d = draft_view c.args.draft.now in
     let e = draft_view c.add_value.new.draft in
-    IfOk-weaker c.add_value.result (λ z. AddsValue c.args.call c.args.tree 0 d e z) (λ z. AddsArgument (item.Member c.args.call) c.args.tree d e (item.Member z))
-    (λ z v. adds_given c.args.call z c.args.tree d e c.requires.member c.if-call-ne0.false v) c.add_value.ensures
+    let has = c.args.has_class in
+    IfOk-weaker c.add_value.result (λ z. AddsValue has c.args.call c.args.tree 0 d e z) (λ z. AddsArgument has (item.Member c.args.call) c.args.tree d e (item.Member z))
+    (λ z v. adds_given has c.args.call z c.args.tree d e c.requires.member c.if-call-ne0.false v) c.add_value.ensures

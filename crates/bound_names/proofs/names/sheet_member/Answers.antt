@@ -3,7 +3,7 @@ use Rattle.bound_project.specs.DraftView.{draft_view}
 use Rattle.bound_members.specs.bound_calls.specs.declared.term.HostMember.{HostMember}
 use Rattle.bound_members.specs.declared.kinds.HostKind.TheVariants as kind
 use Rattle.bound_members.specs.Members.{Finds, FindsMember}
-use Rattle.bound_names.proofs.ItemTerms.{sheet_leaf}
+use Rattle.bound_names.proofs.UnknownTerms.{sheet_leaf}
 use Rattle.bound_names.proofs.names.sheet_member.Goals as goal
 
 pub returns : goal.returns

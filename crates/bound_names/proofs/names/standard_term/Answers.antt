@@ -12,6 +12,7 @@ use Rattle.bound_members.specs.bound_calls.specs.Steps.{MakesLeaf}
 use Rattle.bound_names.specs.View.{env_view}
 use Rattle.bound_names.proofs.NamedTerms.{leaf_as, entry_variable, entry_procedure}
 use Rattle.bound_names.proofs.names.standard_term.Goals as goal
+use Rattle.bound_names.proofs.RoutineTerms.{module_leaf}
 
 pub module_variable-requires-clause-standard : goal.module_variable-requires-clause-standard
 module_variable-requires-clause-standard c = sym c.is_class.ensures ∙ c.if-is_class.false
@@ -45,4 +46,7 @@ returns-in-Procedure c =
     let P : What → Type 0 = λ (k : What). IfOk c.procedure_term.result
     (λ t. (d : Drafted) (x : Identifier) → MakesLeaf env d d t (entry_term env x space n (record { name = e.name.now; is_public = e.is_public; what = what_view k }))) in
     subst P (sym c.in-Procedure.is)
-    (IfOk-weaker c.procedure_term.result _ _ (λ t m d x. leaf_as env d d t (a_routine space n w) _ (sym (entry_procedure env x space n e.name.now e.is_public w class)) (m d)) c.procedure_term.ensures)
+    (IfOk-weaker c.procedure_term.result _ _ (λ t m d x. leaf_as env d d t (a_routine space n w) _ (sym (entry_procedure env x space n e.name.now e.is_public w class)) (module_leaf env space n w t d m)) c.procedure_term.ensures)
+
+pub own_member-requires-clause-class : goal.own_member-requires-clause-class
+own_member-requires-clause-class c = sym c.is_class.ensures ∙ c.if-is_class.true

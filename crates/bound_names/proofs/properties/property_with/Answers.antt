@@ -9,15 +9,15 @@ pub returns-in-Procedure-clause-is : goal.returns-in-Procedure-clause-is
 returns-in-Procedure-clause-is c =
     let s = scope_view c.args.scope in
     let space = space_view c.args.space.now in
-    property_is c.args.gets s space c.args.name.now c.in-Some.number (entry_view c.in-Some.entry) (written_view c.in-Procedure.written) (sym c.first_wanted.ensures ∙ ap (λ o. option_map found_view o) c.in-Some.is) (ap what_view c.in-Procedure.is)
+    property_is c.args.part s space c.args.name.now c.in-Some.number (entry_view c.in-Some.entry) (written_view c.in-Procedure.written) (sym c.first_wanted.ensures ∙ ap (λ o. option_map found_view o) c.in-Some.is) (ap what_view c.in-Procedure.is)
 
 pub returns-in-Procedure-clause-entry : goal.returns-in-Procedure-clause-entry
 returns-in-Procedure-clause-entry c =
     let s = scope_view c.args.scope in
     let space = space_view c.args.space.now in
-    entry_found c.args.gets s space c.args.name.now c.in-Some.number (entry_view c.in-Some.entry) (written_view c.in-Procedure.written) (sym c.first_wanted.ensures ∙ ap (λ o. option_map found_view o) c.in-Some.is) (ap what_view c.in-Procedure.is)
+    entry_found c.args.part s space c.args.name.now c.in-Some.number (entry_view c.in-Some.entry) (written_view c.in-Procedure.written) (sym c.first_wanted.ensures ∙ ap (λ o. option_map found_view o) c.in-Some.is) (ap what_view c.in-Procedure.is)
 
 pub returns-in_default-what-clause-is : goal.returns-in_default-what-clause-is
 returns-in_default-what-clause-is c =
-    property_none c.args.gets (scope_view c.args.scope) (space_view c.args.space.now) c.args.name.now c.in-Some.number (entry_view c.in-Some.entry) (sym c.first_wanted.ensures ∙ ap (λ o. option_map found_view o) c.in-Some.is)
+    property_none c.args.part (scope_view c.args.scope) (space_view c.args.space.now) c.args.name.now c.in-Some.number (entry_view c.in-Some.entry) (sym c.first_wanted.ensures ∙ ap (λ o. option_map found_view o) c.in-Some.is)
     (no_procedure c.in-Some.entry.what c.in_default-what.not-Procedure)

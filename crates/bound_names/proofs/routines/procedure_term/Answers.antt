@@ -16,8 +16,8 @@ routine_at-requires-clause-entry c = record { entry = entry_view c.args.entry; a
 
 pub returns-then-is_property : goal.returns-then-is_property
 returns-then-is_property c =
-    IfOk-weaker c.property_term.result _ _ (λ t m d. m (sym c.is_property.ensures ∙ c.if-is_property.true) c.args.number d) c.property_term.ensures
+    IfOk-weaker c.property_term.result _ _ (λ t m. m (sym c.is_property.ensures ∙ c.if-is_property.true) c.args.number) c.property_term.ensures
 
 pub returns : goal.returns
 returns c =
-    λ d. plain_procedure (env_view c.args.env) (space_view c.args.space.now) c.args.number (written_view c.args.written) c.in_ok-routine.routine d (sym c.is_property.ensures ∙ c.if-is_property.false) c.in_ok-routine.ensures
+    plain_procedure (env_view c.args.env) c.args.receiver (space_view c.args.space.now) c.args.number (written_view c.args.written) c.in_ok-routine.routine (sym c.is_property.ensures ∙ c.if-is_property.false) c.in_ok-routine.ensures

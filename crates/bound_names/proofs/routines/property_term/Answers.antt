@@ -13,8 +13,8 @@ returns-in_ok-routine-in-Some c =
     let space = space_view c.args.space.now in
     let written = written_view c.args.written in
     let read : ℕ × Written = (c.in-Some.number, written_view c.in-Some.read) in
-    property_read (env_view c.args.env) space written read c.in_ok-routine-in-Some.routine c.in-Some.ensures.is c.in_ok-routine-in-Some.ensures
+    property_read (env_view c.args.env) c.args.receiver space written read c.in_ok-routine-in-Some.routine c.in-Some.ensures.is c.in_ok-routine-in-Some.ensures
 
 pub returns-in-None : goal.returns-in-None
 returns-in-None c =
-    property_unread (env_view c.args.env) (record { space = c.args.space; written = c.args.written }) c.in-None.ensures.is c.requires.placed
+    property_unread (env_view c.args.env) (record { receiver = c.args.receiver; space = c.args.space; written = c.args.written }) c.in-None.ensures.is c.requires.placed

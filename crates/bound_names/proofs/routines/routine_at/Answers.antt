@@ -6,6 +6,7 @@ pub returns : goal.returns
 returns c =
     let i = c.requires.entry in
     record {
+      receiver_is = refl;
       procedure_is = c.in_ok-procedure.ensures;
       parameters_are = c.in_ok-parameters.ensures i.entry (written_view c.args.read) c.requires.placed i.at i.what;
       of_is = c.in_ok-of.ensures;

@@ -3,4 +3,4 @@ use Rattle.bound_operands.proofs.Elements.{pushes_whole}
 use Rattle.bound_operands.proofs.indexing.push_whole.Goals as goal
 
 pub returns : goal.returns
-returns c = pushes_whole c.args.ending c.in-Some.element c.args.place (draft_view c.args.draft.now) (draft_view c.push_node.new.draft) c.in-Some.ensures c.in_ok-push_node.ensures
+returns c = pushes_whole c.args.has_class c.args.ending c.in-Some.element c.args.place (draft_view c.args.draft.now) (draft_view c.push_node.new.draft) c.in-Some.ensures c.in_ok-push_node.ensures

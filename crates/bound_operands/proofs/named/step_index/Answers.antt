@@ -9,7 +9,6 @@ use Rattle.bound_members.specs.bound_calls.specs.Standing.{AllNamed}
 use Rattle.bound_members.specs.bound_calls.specs.Steps.{Goes}
 use Rattle.bound_operands.specs.Gathering.{with_gathered}
 use Rattle.bound_operands.proofs.ParamArrays.{named_below}
-use Rattle.bound_operands.specs.Untaken.{EndsRefused}
 use Rattle.bound_operands.proofs.named.step_index.Goals as goal
 
 pub returns-then-branch : goal.returns-then-branch

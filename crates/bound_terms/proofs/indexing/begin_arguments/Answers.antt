@@ -13,7 +13,7 @@ returns c =
     let d = draft_view c.args.draft.now in
     let e = draft_view c.callee_term.new.draft in
     let f = draft_view c.open_term.new.draft in
-    IfOk-weaker c.open_term.result _ _ (λ i o. opens env c.args.tree c.in_ok-term.term i d e f c.in_ok-term.ensures (o env)) c.open_term.ensures
+    IfOk-weaker c.open_term.result _ _ (λ i o. opens env c.args.tree c.in_ok-term.term i d e f c.in_ok-term.ensures o) c.open_term.ensures
 
 pub item_member-requires : goal.item_member-requires
 item_member-requires c = c.in_ok-term.ensures.named

@@ -1,17 +1,26 @@
-use Rattle.std.proofs.Common.{Bool, sym, subst}
+use Rattle.std.proofs.Common.{◌≡◌, Bool, sym, subst}
+use Rattle.bound_project.specs.declared.node.NodeKind.{NodeKind}
+use Rattle.bound_project.specs.Drafts.{Drafted}
+use Rattle.bound_project.specs.Pieces.{put}
 use Rattle.bound_project.specs.DraftView.{draft_view}
-use Rattle.bound_names.specs.bound_forms.specs.Terms.{Env}
 use Rattle.bound_names.specs.bound_calls.specs.declared.term.Item.{Item}
 use Rattle.bound_names.specs.bound_calls.specs.declared.term.Term.TheVariants as term
+use Rattle.bound_names.specs.bound_calls.specs.Calls.{node_of}
 use Rattle.bound_names.specs.bound_calls.specs.Indexing.{OpensTerm}
+use Rattle.bound_names.specs.View.{env_view}
 use Rattle.bound_terms.proofs.Refused.{place_untaken}
 use Rattle.bound_terms.proofs.indexing.open_indexed.Goals as goal
 
 pub returns-then-branch : goal.returns-then-branch
 returns-then-branch c =
+    let env = env_view c.args.env in
     let d = draft_view c.args.draft.now in
     let m = draft_view c.push_node.new.draft in
     let e = draft_view c.push_node-then-branch.new.draft in
     let at = c.args.at in
-    let P : Item → Type 0 = λ (i : Item). (env : Env) (bounded : Bool) → OpensTerm env c.args.tree (term.Place at.kind at.of bounded c.args.lends) d e i in
-    subst P (sym c.untaken.ensures) (λ env bounded. place_untaken env c.args.tree at.kind at.of bounded c.args.lends d m e c.in_ok-push_node.ensures c.in_ok-push_node-2.ensures)
+    let P : Item → Type 0 = λ (i : Item). (bounded : Bool) → OpensTerm env c.args.tree (term.Place at.kind at.of bounded c.args.lends c.args.makes) d e i in
+    let Q : NodeKind → Type 0 = λ (k : NodeKind). ◌≡◌ {A = Drafted} e (record m { pieces = put m.tables (node_of k c.args.tree.place at.of) m.pieces }) in
+    subst P (sym c.untaken.ensures) (λ bounded. place_untaken env c.args.tree at.kind at.of bounded c.args.lends c.args.makes d m e c.in_ok-push_node.ensures (subst Q c.read_kind.ensures c.in_ok-push_node-2.ensures))
+
+pub returns : goal.returns
+returns c = λ bounded. c.in_ok-indexed.ensures (env_view c.args.env) (sym c.args.env.has_class_is) bounded

@@ -1,8 +1,9 @@
-use Rattle.std.proofs.Common.{subst}
+use Rattle.std.proofs.Common.{sym, subst}
 use Rattle.bound_project.specs.DraftView.{draft_view}
 use Rattle.bound_names.specs.bound_calls.specs.declared.term.Term.{Term}
 use Rattle.bound_names.specs.bound_calls.specs.Standing.{TermNamed}
-use Rattle.bound_names.specs.Items.{MakesItem}
+use Rattle.bound_accesses.specs.Items.{MakesItem}
+use Rattle.bound_names.specs.View.{env_view}
 use Rattle.bound_terms.proofs.LackingItems.{opens_lacking}
 use Rattle.bound_terms.proofs.indexing.open_lacking.Goals as goal
 
@@ -16,5 +17,5 @@ returns c =
     let d = draft_view c.args.draft.now in
     let e = draft_view c.item_term.new.draft in
     let f = draft_view c.push_whole.new.draft in
-    let M : Term → Type 0 = λ (t : Term). MakesItem c.args.tree.place c.args.term d e t in
-    λ env. opens_lacking env c.args.tree c.args.term c.in-Value.ending c.in_ok-indexed.indexed d e f (subst M c.in-Value.is c.in_ok-item.ensures) c.in_ok-indexed.ensures
+    let M : Term → Type 0 = λ (t : Term). MakesItem (env_view c.args.env) c.args.tree.place c.args.term d e t in
+    opens_lacking (env_view c.args.env) c.args.env.has_class c.args.tree c.args.term c.in-Value.ending c.in_ok-indexed.indexed d e f (sym c.args.env.has_class_is) (subst M c.in-Value.is c.in_ok-item.ensures) c.in_ok-indexed.ensures

@@ -2,7 +2,7 @@ use Rattle.std.proofs.Common.{sym, subst}
 use Rattle.std.specs.Prelude.{IfOk}
 use Rattle.std.proofs.lemmas.Result.{IfOk-weaker}
 use Rattle.bound_project.specs.DraftView.{draft_view}
-use Rattle.bound_names.specs.bound_forms.specs.Terms.{Env}
+use Rattle.bound_names.specs.View.{env_view}
 use Rattle.bound_names.specs.bound_calls.specs.declared.term.Term.{Term}
 use Rattle.bound_names.specs.bound_calls.specs.declared.term.Item.{Item}
 use Rattle.bound_names.specs.bound_calls.specs.declared.term.Item.TheVariants as item
@@ -14,34 +14,34 @@ use Rattle.bound_terms.proofs.indexing.open_term.Goals as goal
 pub returns-in-Function : goal.returns-in-Function
 returns-in-Function c =
     let d = draft_view c.args.draft.now in
-    let P : Term → Type 0 = λ (t : Term). (env : Env) → OpensTerm env c.args.tree t d d (item.Function c.open_function.result) in
-    subst P (sym c.in-Function.is) (λ env. c.open_function.ensures env d)
+    let P : Term → Type 0 = λ (t : Term). OpensTerm (env_view c.args.env) c.args.tree t d d (item.Function c.open_function.result) in
+    subst P (sym c.in-Function.is) (c.open_function.ensures (env_view c.args.env) d)
 
 pub returns-in-Place : goal.returns-in-Place
 returns-in-Place c =
-    let P : Term → Type 0 = λ (t : Term). IfOk c.open_indexed.result (λ i. (env : Env) → OpensTerm env c.args.tree t (draft_view c.args.draft.now) (draft_view c.open_indexed.new.draft) i) in
-    subst P (sym c.in-Place.is) (IfOk-weaker c.open_indexed.result _ _ (λ i o env. o env c.in-Place.is_bounded) c.open_indexed.ensures)
+    let P : Term → Type 0 = λ (t : Term). IfOk c.open_indexed.result (λ i. OpensTerm (env_view c.args.env) c.args.tree t (draft_view c.args.draft.now) (draft_view c.open_indexed.new.draft) i) in
+    subst P (sym c.in-Place.is) (IfOk-weaker c.open_indexed.result _ _ (λ i o. o c.in-Place.is_bounded) c.open_indexed.ensures)
 
 pub returns-in-Value : goal.returns-in-Value
 returns-in-Value c =
-    let P : Term → Type 0 = λ (t : Term). IfOk c.open_whole.result (λ i. (env : Env) → OpensTerm env c.args.tree t (draft_view c.args.draft.now) (draft_view c.open_whole.new.draft) i) in
+    let P : Term → Type 0 = λ (t : Term). IfOk c.open_whole.result (λ i. OpensTerm (env_view c.args.env) c.args.tree t (draft_view c.args.draft.now) (draft_view c.open_whole.new.draft) i) in
     subst P (sym c.in-Value.is) c.open_whole.ensures
 
 pub returns-in-Routine : goal.returns-in-Routine
 returns-in-Routine c =
-    let P : Term → Type 0 = λ (t : Term). IfOk c.open_routine.result (λ i. (env : Env) → OpensTerm env c.args.tree t (draft_view c.args.draft.now) (draft_view c.open_routine.new.draft) i) in
+    let P : Term → Type 0 = λ (t : Term). IfOk c.open_routine.result (λ i. OpensTerm (env_view c.args.env) c.args.tree t (draft_view c.args.draft.now) (draft_view c.open_routine.new.draft) i) in
     subst P (sym c.in-Routine.is) c.open_routine.ensures
 
 pub returns-in-Err : goal.returns-in-Err
 returns-in-Err c =
     let d = draft_view c.args.draft.now in
-    let P : Term → Type 0 = λ (t : Term). IfOk c.open_none.result (λ i. (env : Env) → OpensTerm env c.args.tree t d d i) in
-    let Q : (i : Item) → Type 0 = λ (i : Item). (env : Env) → OpensTerm env c.args.tree term.Err d d i in
-    subst P (sym c.in-Err.is) (IfOk-weaker c.open_none.result _ _ (λ i o. subst Q (sym o) (λ env. error_untaken env c.args.tree d)) c.open_none.ensures)
+    let P : Term → Type 0 = λ (t : Term). IfOk c.open_none.result (λ i. OpensTerm (env_view c.args.env) c.args.tree t d d i) in
+    let Q : (i : Item) → Type 0 = λ (i : Item). OpensTerm (env_view c.args.env) c.args.tree term.Err d d i in
+    subst P (sym c.in-Err.is) (IfOk-weaker c.open_none.result _ _ (λ i o. subst Q (sym o) (error_untaken (env_view c.args.env) c.args.tree d)) c.open_none.ensures)
 
 pub returns-in-ErrClear : goal.returns-in-ErrClear
 returns-in-ErrClear c =
     let d = draft_view c.args.draft.now in
-    let P : Term → Type 0 = λ (t : Term). IfOk c.open_none-in-ErrClear.result (λ i. (env : Env) → OpensTerm env c.args.tree t d d i) in
-    let Q : (i : Item) → Type 0 = λ (i : Item). (env : Env) → OpensTerm env c.args.tree term.ErrClear d d i in
-    subst P (sym c.in-ErrClear.is) (IfOk-weaker c.open_none-in-ErrClear.result _ _ (λ i o. subst Q (sym o) (λ env. clear_untaken env c.args.tree d)) c.open_none-in-ErrClear.ensures)
+    let P : Term → Type 0 = λ (t : Term). IfOk c.open_none-in-ErrClear.result (λ i. OpensTerm (env_view c.args.env) c.args.tree t d d i) in
+    let Q : (i : Item) → Type 0 = λ (i : Item). OpensTerm (env_view c.args.env) c.args.tree term.ErrClear d d i in
+    subst P (sym c.in-ErrClear.is) (IfOk-weaker c.open_none-in-ErrClear.result _ _ (λ i o. subst Q (sym o) (clear_untaken (env_view c.args.env) c.args.tree d)) c.open_none-in-ErrClear.ensures)

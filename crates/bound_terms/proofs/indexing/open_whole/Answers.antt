@@ -1,6 +1,6 @@
 use Rattle.std.proofs.Common.{sym, subst}
 use Rattle.bound_project.specs.DraftView.{draft_view}
-use Rattle.bound_names.specs.bound_forms.specs.Terms.{Env}
+use Rattle.bound_names.specs.View.{env_view}
 use Rattle.bound_names.specs.bound_calls.specs.declared.term.Item.{Item}
 use Rattle.bound_names.specs.bound_calls.specs.declared.term.Term.TheVariants as term
 use Rattle.bound_names.specs.bound_calls.specs.Indexing.{OpensTerm}
@@ -11,5 +11,8 @@ pub returns-then-branch : goal.returns-then-branch
 returns-then-branch c =
     let d = draft_view c.args.draft.now in
     let e = draft_view c.push_node.new.draft in
-    let P : Item → Type 0 = λ (i : Item). (env : Env) → OpensTerm env c.args.tree (term.Value c.args.ending) d e i in
-    subst P (sym c.untaken.ensures) (λ env. value_untaken env c.args.tree c.args.ending d e c.in_ok-push_node.ensures)
+    let P : Item → Type 0 = λ (i : Item). OpensTerm (env_view c.args.env) c.args.tree (term.Value c.args.ending) d e i in
+    subst P (sym c.untaken.ensures) (value_untaken (env_view c.args.env) c.args.tree c.args.ending d e c.in_ok-push_node.ensures)
+
+pub returns : goal.returns
+returns c = c.in_ok-indexed.ensures (env_view c.args.env) (sym c.args.env.has_class_is)

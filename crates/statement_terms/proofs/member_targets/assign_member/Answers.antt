@@ -1,4 +1,4 @@
-use Rattle.std.proofs.Common.{true}
+use Rattle.std.proofs.Common.{Bool, true}
 use Rattle.std.proofs.lemmas.Result.{IfOk-weaker}
 use Rattle.bound_project.specs.DraftView.{draft_view}
 use Rattle.bound_members.specs.bound_calls.specs.declared.term.Term.TheVariants as term
@@ -12,4 +12,4 @@ returns-in-Some c =
     let e = draft_view c.write_broken.new.draft in
     let m = c.args.member in
     let place = c.args.place in
-    IfOk-weaker c.write_broken.result _ (λ k. AssignsTerm place (term.HostMember m) d e k true) (λ k h. member_broken m c.in-Some.rule place d e k c.in-Some.ensures h) c.write_broken.ensures
+    IfOk-weaker c.write_broken.result _ (λ k. (has : Bool) → AssignsTerm has place (term.HostMember m) d e k true) (λ k h has. member_broken has m c.in-Some.rule place d e k c.in-Some.ensures h) c.write_broken.ensures

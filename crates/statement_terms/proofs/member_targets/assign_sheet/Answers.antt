@@ -1,5 +1,5 @@
 use Rattle.std.proofs.lemmas.Result.{IfOk-weaker}
-use Rattle.std.specs.Prelude.{true}
+use Rattle.std.specs.Prelude.{Bool, true}
 use Rattle.bound_project.specs.DraftView.{draft_view}
 use Rattle.bound_members.specs.bound_calls.specs.declared.term.Term.TheVariants as term
 use Rattle.statement_terms.specs.Members.{AssignsTerm}
@@ -13,4 +13,5 @@ returns c =
     let e = draft_view c.assign_member.new.draft in
     let m = c.args.member in
     let place = c.args.place in
-    IfOk-weaker c.assign_member.result (λ k. AssignsTerm place (term.HostMember m) f e k true) (λ k. AssignsTerm place (term.SheetMember m) d e k true) (λ k h. sheet_assigned m place d f e k c.in_ok-push_sheet.ensures h) c.assign_member.ensures
+    IfOk-weaker c.assign_member.result (λ k. (has : Bool) → AssignsTerm has place (term.HostMember m) f e k true) (λ k. (has : Bool) → AssignsTerm has place (term.SheetMember m) d e k true)
+    (λ k h has. sheet_assigned has m place d f e k c.in_ok-push_sheet.ensures (h has)) c.assign_member.ensures

@@ -9,4 +9,4 @@ pub returns : goal.returns
 returns c =
     let m = c.args.member in
     let W : List ℕ → Type 0 = λ (name : List ℕ). is_written name (declared_view m.of) m.greatest ≡ true in
-    member_assigned m c.args.place (draft_view c.args.draft.now) (draft_view c.push_node.new.draft) c.requires c.if-member-ne0.false (subst W c.name.ensures (sym c.if-not-is_written.ensures)) c.in_ok-push_node.ensures
+    λ has. member_assigned has m c.args.place (draft_view c.args.draft.now) (draft_view c.push_node.new.draft) c.requires c.if-member-ne0.false (subst W c.name.ensures (sym c.if-not-is_written.ensures)) c.in_ok-push_node.ensures

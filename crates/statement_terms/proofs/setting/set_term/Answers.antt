@@ -14,7 +14,7 @@ returns-in-Place c =
     let d = draft_view c.args.draft.now in
     let e = draft_view c.set_place.new.draft in
     IfOk-weaker c.set_place.result _ (λ k. SetsTerm c.args.set_word c.args.place c.args.term d e k)
-    (λ k h. let A : Term → Type 0 = λ t. SetsTerm c.args.set_word c.args.place t d e k in subst A (sym i.is) (h i.is_bounded i.lends)) c.set_place.ensures
+    (λ k h. let A : Term → Type 0 = λ t. SetsTerm c.args.set_word c.args.place t d e k in subst A (sym i.is) (h i.is_bounded i.lends i.makes)) c.set_place.ensures
 
 pub returns-in-HostMember : goal.returns-in-HostMember
 returns-in-HostMember c =

@@ -13,14 +13,14 @@ returns-in-Place c =
     let place = c.args.place in
     let d = draft_view c.args.draft.now in
     let e = draft_view c.assign_place.new.draft in
-    IfOk-weaker c.assign_place.result _ (λ k. AssignsIndexed place c.args.term d e k)
-    (λ k h. let A : Term → Type 0 = λ t. AssignsIndexed place t d e k in
-    subst A (sym i.is) (term_indexed place (term.Place i.kind i.of i.is_bounded i.lends) d e k (h i.is_bounded i.lends))) c.assign_place.ensures
+    IfOk-weaker c.assign_place.result _ (λ k. AssignsIndexed c.args.has_class place c.args.term d e k)
+    (λ k h. let A : Term → Type 0 = λ t. AssignsIndexed c.args.has_class place t d e k in
+    subst A (sym i.is) (term_indexed c.args.has_class place (term.Place i.kind i.of i.is_bounded i.lends i.makes) d e k (h i.is_bounded i.lends))) c.assign_place.ensures
 
 pub returns-in-Value : goal.returns-in-Value
 returns-in-Value c =
     let place = c.args.place in
     let d = draft_view c.args.draft.now in
     let e = draft_view c.assign_indexed_value.new.draft in
-    IfOk-weaker c.assign_indexed_value.result (λ k. AssignsIndexed place (term.Value c.in-Value.ending) d e k) (λ k. AssignsIndexed place c.args.term d e k)
-    (λ k h. let A : Term → Type 0 = λ t. AssignsIndexed place t d e k in subst A (sym c.in-Value.is) h) c.assign_indexed_value.ensures
+    IfOk-weaker c.assign_indexed_value.result (λ k. AssignsIndexed c.args.has_class place (term.Value c.in-Value.ending) d e k) (λ k. AssignsIndexed c.args.has_class place c.args.term d e k)
+    (λ k h. let A : Term → Type 0 = λ t. AssignsIndexed c.args.has_class place t d e k in subst A (sym c.in-Value.is) h) c.assign_indexed_value.ensures

@@ -1,0 +1,99 @@
+-- Objects without a default member with arguments: what brackets behind them make breaks S34.
+use Rattle.std.proofs.Common.{◌≡◌, Bool, true, false, ◌&&◌, not, List, Some, refl, sym, ap, subst, ◌∙◌}
+use Rattle.std.specs.Prelude.{codes, if◌then◌else◌}
+use Rattle.std.proofs.lemmas.Bool.{and_parts}
+use Rattle.vba_base.specs.declared.place.Place.{Place}
+use Rattle.vba_values.specs.Types.{Declared}
+use Rattle.vba_values.specs.Types as type
+use Rattle.vba_values.specs.declared.object.HostRef.{HostRef}
+use Rattle.vba_values.specs.declared.object.HostRef.TheVariants as host
+use Rattle.bound_project.specs.declared.declared_type.DeclaredType.{DeclaredType}
+use Rattle.bound_project.specs.declared.declared_type.DeclaredType.TheVariants.{Plain}
+use Rattle.bound_project.specs.declared.declared_type.ElementType.TheVariants as element
+use Rattle.bound_project.specs.declared.node.NodeKind.{NodeKind}
+use Rattle.bound_project.specs.declared.node.NodeKind.TheVariants as kinds
+use Rattle.bound_project.specs.View.{declared_view}
+use Rattle.bound_project.specs.Expressions as bound
+use Rattle.bound_project.specs.Pieces.{Piece, Tables}
+use Rattle.bound_members.specs.bound_forms.specs.Terms.{Env, expression_of, read_of}
+use Rattle.bound_members.specs.binder.specs.Classes.{has_class}
+use Rattle.bound_members.specs.bound_forms.specs.Terms as plain
+use Rattle.bound_members.specs.bound_forms.specs.ExpressionsBound.{host_behind, is_instance_type, may_be_instance, host_kind, is_host_type, item_of, kind_by_type, sheet, unknown_member}
+use Rattle.bound_members.specs.bound_calls.specs.declared.term.Ending.{Ending}
+use Rattle.bound_members.specs.bound_calls.specs.declared.term.Term.{Term}
+use Rattle.bound_members.specs.bound_calls.specs.declared.term.Term.TheVariants as term
+use Rattle.bound_members.specs.bound_calls.specs.References.{is_typed_kind}
+use Rattle.bound_members.specs.bound_calls.specs.Standing.{TermStands, ValueEnds, ValueStands}
+use Rattle.bound_members.specs.bound_calls.proofs.LastNodes.{any_node}
+use Rattle.bound_members.specs.bound_calls.proofs.TypedNodes.{object_made, typed_made}
+use Rattle.bound_accesses.specs.Items.{LacksItem, is_bare, is_host_term, is_sheet, lacks_item, takes_item}
+use Rattle.bound_accesses.proofs.ItemTerms.{hosted, item_place, item_value, of_kind, read_kind_of}
+
+sheet_type : (of : DeclaredType) → is_sheet of ≡ true → declared_view of ≡ type.worksheet
+sheet_type (Plain element.Worksheet) h = refl
+sheet_type of h = let e : false ≡ true = h in absurd cc
+
+-- neither a sheet nor what is always there is an object of a class
+no_and : (b : Bool) → (b && false) ≡ false
+no_and true = refl
+no_and false = refl
+
+sheet_no : (env : Env) (place : Place) (node : bound.Node) (of : Declared) → of ≡ type.worksheet → may_be_instance env (expression_of node place of) ≡ false
+sheet_no env place node of h = subst (λ (u : Declared). may_be_instance env (expression_of node place u) ≡ false) (sym h) (no_and (has_class env.scope.spaces))
+
+always_no : (env : Env) (place : Place) (r : HostRef) (of : Declared) → may_be_instance env (expression_of (bound.host_object r) place of) ≡ false
+always_no env place r of = ap (λ (b : Bool). has_class env.scope.spaces && b) (no_and (is_instance_type (bound.host_object r) of)) ∙ no_and (has_class env.scope.spaces)
+
+-- a sheet has no Item
+sheet_lacks : (env : Env) (place : Place) (node : bound.Node) (of : Declared) → of ≡ type.worksheet → host_kind node of ≡ Some sheet → host_behind env place place node of (codes "item") ≡ unknown_member place (expression_of node place of)
+sheet_lacks env place node of is h = hosted env place place node of (codes "item") (sheet_no env place node of is) ∙ of_kind place place node of (codes "item") sheet h
+
+-- nor have Application and the workbook
+bare_lacks : (env : Env) (place : Place) (k : NodeKind) (t : Tables) (made : bound.Node) (of : Declared) (ps below : List Piece) → is_bare k ≡ true → ValueEnds t k made ps below
+    → host_behind env place place made of (codes "item") ≡ unknown_member place (expression_of made place of)
+bare_lacks env place (kinds.HostObject host.Application) t made of ps below h ends =
+    let A : bound.Node → Type 0 = λ (n : bound.Node). host_behind env place place n of (codes "item") ≡ unknown_member place (expression_of n place of) in
+    subst A (sym (object_made any_node made host.Application ps below (ends any_node))) (hosted env place place (bound.host_object host.Application) of (codes "item") (always_no env place host.Application of))
+bare_lacks env place (kinds.HostObject host.Workbook) t made of ps below h ends =
+    let A : bound.Node → Type 0 = λ (n : bound.Node). host_behind env place place n of (codes "item") ≡ unknown_member place (expression_of n place of) in
+    subst A (sym (object_made any_node made host.Workbook ps below (ends any_node))) (hosted env place place (bound.host_object host.Workbook) of (codes "item") (always_no env place host.Workbook of))
+bare_lacks env place k t made of ps below h ends = let e : false ≡ true = h in absurd cc
+
+value_lacks : (env : Env) (t : Tables) (place : Place) (v : Ending) (z : plain.Term) (ps below : List Piece) (b : Bool) → is_sheet v.of ≡ b → (if b then is_typed_kind v.kind else is_host_type (declared_view v.of) && is_bare v.kind) ≡ true
+    → ValueStands t v z ps below → LacksItem env place z
+value_lacks env t place v z ps below true s h k =
+    let of = declared_view v.of in
+    let is : of ≡ type.worksheet = sheet_type v.of s in
+    let kind : host_kind k.made of ≡ Some sheet = typed_made t any_node v.kind k.made ps below h (k.ends any_node) of ∙ ap kind_by_type is in
+    record {
+      object = expression_of k.made place of;
+      is = ap (λ (w : plain.Term). item_of env place w) k.is ∙ item_value env place k.made of (ap is_host_type is) ∙ sheet_lacks env place k.made of is kind;
+    }
+value_lacks env t place v z ps below false s h k =
+    let of = declared_view v.of in
+    let both = and_parts (is_host_type of) (is_bare v.kind) h in
+    record {
+      object = expression_of k.made place of;
+      is = ap (λ (w : plain.Term). item_of env place w) k.is ∙ item_value env place k.made of both.0 ∙ bare_lacks env place v.kind t k.made of ps below both.1 k.ends;
+    }
+
+-- what brackets behind it make is told at its first token
+pub no_item : (env : Env) (t : Tables) (place : Place) (x : Term) (z : plain.Term) (ps below : List Piece) → lacks_item x ≡ true → TermStands env t x z ps below → LacksItem env place z
+no_item env t place (term.Place kind of bounded lends makes) z ps below h k =
+    let u = declared_view of in
+    let is : u ≡ type.worksheet = sheet_type of h in
+    record {
+      object = expression_of (read_of makes k.at) place u;
+      is = ap (λ (w : plain.Term). item_of env place w) k.is ∙ item_place env place k.at u bounded lends makes (ap is_host_type is)
+          ∙ sheet_lacks env place (read_of makes k.at) u is (read_kind_of makes k.at u ∙ ap kind_by_type is);
+    }
+no_item env t place (term.Value v) z ps below h k = value_lacks env t place v z ps below (is_sheet v.of) refl h k
+no_item env t place x z ps below h k = let e : false ≡ true = h in absurd cc
+
+-- what isn't taken as an object, and has no Item lacking, is no object
+pub no_host : (x : Term) → takes_item x ≡ false → lacks_item x ≡ false → is_host_term x ≡ false
+no_host x i l = at (is_host_term x) (sym (ap (λ (b : Bool). is_host_term x && not b) l) ∙ i)
+  where
+    at : (a : Bool) → (a && true) ≡ false → a ≡ false
+    at true h = h
+    at false h = refl

@@ -1,0 +1,5 @@
+pub mod Dotted
+pub mod Tested
+pub mod ItemTerms
+pub mod Lacking
+pub mod Fielding

@@ -1,0 +1,15 @@
+use Rattle.std.proofs.Common.{ℕ, List, sym, subst}
+use Rattle.bound_project.specs.DraftView.{draft_view}
+use Rattle.bound_members.specs.bound_calls.specs.declared.term.Term.{Term}
+use Rattle.bound_accesses.specs.Items.{FindsBehindValue, MakesValueItem}
+use Rattle.bound_names.specs.View.{env_view}
+use Rattle.bound_accesses.proofs.ItemTerms.{value_item}
+use Rattle.bound_accesses.proofs.items.value_item.Goals as goal
+
+pub returns : goal.returns
+returns c =
+    let d = draft_view c.args.draft.now in
+    let e = draft_view c.behind_object_value.new.draft in
+    let A : List ℕ → Type 0 = λ (l : List ℕ). FindsBehindValue (env_view c.args.env) c.args.place c.args.ending l d e c.in_ok-found.found in
+    let P : Term → Type 0 = λ (t : Term). MakesValueItem (env_view c.args.env) c.args.place c.args.ending d e t in
+    subst P (sym c.found_term.ensures) (value_item (env_view c.args.env) c.args.place c.args.ending d e c.in_ok-found.found (subst A c.in_ok-item.ensures c.in_ok-found.ensures))

@@ -1,0 +1,13 @@
+use Rattle.std.proofs.Common.{◌∷◌, ap, ◌∙◌}
+use Rattle.std.specs.Prelude.{reverse}
+use Rattle.bound_project.specs.DraftView.{draft_view}
+use Rattle.bound_names.specs.View.{env_view}
+use Rattle.bound_accesses.proofs.Dotted.{goes_member}
+use Rattle.bound_accesses.proofs.members.step_member.Goals as goal
+
+pub returns : goal.returns
+returns c =
+    let x = c.in-Some-Tree.tree in
+    let xs = reverse c.take_item.new.stack.items in
+    goes_member (env_view c.args.env) x c.in_ok-made.made c.args.member.now c.args.dot xs (reverse c.args.stack.now.items) (reverse c.put_item.new.stack.items) (draft_view c.args.draft.now) (draft_view c.member_tree.new.draft)
+    (c.in-Some-Tree.ensures ∙ ap (λ i. i ∷ xs) c.in-Some-Tree.field-0-is) c.in_ok-put_item.ensures c.requires.named c.in_ok-made.ensures

@@ -1,0 +1,114 @@
+-- Serves the code: members of objects, behind a dot and before brackets.
+use Rattle.std.specs.Prelude.{◌≡◌, ℕ, Bool, true, false, ◌&&◌, not, List, Option, Some, None, if◌then◌else◌}
+use Rattle.vba_base.specs.declared.place.Place.{Place}
+use Rattle.vba_values.specs.Types as type
+use Rattle.vba_values.specs.declared.object.HostRef.TheVariants as host
+use Rattle.bound_project.specs.declared.declared_type.DeclaredType.{DeclaredType}
+use Rattle.bound_project.specs.declared.declared_type.DeclaredType.TheVariants.{Plain}
+use Rattle.bound_project.specs.declared.declared_type.ElementType.TheVariants as element
+use Rattle.bound_project.specs.declared.node.NodeKind.{NodeKind}
+use Rattle.bound_project.specs.declared.node.NodeKind.TheVariants as kinds
+use Rattle.bound_project.specs.View.{declared_view}
+use Rattle.bound_project.specs.Expressions.{is_type, new_object, Lvalue}
+use Rattle.bound_project.specs.Expressions as bound
+use Rattle.bound_project.specs.Pieces.{Piece}
+use Rattle.bound_project.specs.Drafts.{Drafted}
+use Rattle.bound_members.specs.bound_forms.specs.Terms.{Env, a_value, no_term, read_of}
+use Rattle.bound_members.specs.bound_forms.specs.Terms as plain
+use Rattle.bound_members.specs.binder.specs.Types.{is_object}
+use Rattle.bound_members.specs.bound_forms.specs.ExpressionsBound.{is_host_type, item_of, kind_by_type, unknown_member, host_behind}
+use Rattle.bound_members.specs.bound_calls.specs.declared.term.Ending.{Ending}
+use Rattle.bound_members.specs.bound_calls.specs.declared.term.HostMember.{HostMember}
+use Rattle.bound_members.specs.bound_calls.specs.declared.term.Term.{Term}
+use Rattle.bound_members.specs.bound_calls.specs.declared.term.Term.TheVariants as term
+use Rattle.bound_members.specs.bound_calls.specs.References.{is_typed_kind}
+use Rattle.bound_members.specs.bound_calls.specs.Standing.{PlaceEnds, ValueEnds, TermNamed, TermStands, Grown}
+use Rattle.bound_names.specs.ClassMembers.{unknown_term}
+
+abbrev pub found_term : Option HostMember → (dot : Place) → Term
+found_term None dot = unknown_term dot
+found_term (Some m) dot = term.HostMember m
+
+-- whether a term is what New and TypeOf are, whose class a dot behind them belongs to: none, a new object, or whether an
+-- object is of a type
+abbrev pub may_be_class : plain.Term → Bool
+may_be_class no_term = true
+may_be_class (a_value (is_type e of) type.boolean) = true
+may_be_class (a_value (new_object c) (type.class number)) = true
+may_be_class t = false
+
+-- whether a node is the last one of what TypeOf gives
+abbrev pub is_test : NodeKind → Bool
+is_test (kinds.IsType of) = true
+is_test kind = false
+
+-- a type is no object's, so what has it has no members
+pub record LacksMembers (of : DeclaredType) (found : Option HostMember) : Type 0 where
+  pub none : found ≡ None
+  pub no_object : is_object (declared_view of) ≡ false
+
+-- the same of a value, by its last node and its type; that isn't what TypeOf gives
+pub record ValueLacks (e : Ending) (found : Option HostMember) : Type 0 where
+  pub lacks : LacksMembers e.of found
+  pub no_kind : kind_by_type (declared_view e.of) ≡ None
+  pub typed : is_typed_kind e.kind ≡ true
+  pub no_test : is_test e.kind ≡ false
+
+-- a member of the object at a place, and of the object that a value gives, which are pushed and are none of a class; or that
+-- there is none
+pub record FindsBehindPlace (env : Env) (place : Place) (at : Ending) (makes : Bool) (fold : List ℕ) (d e : Drafted) (found : Option HostMember) : Type 0 where
+  pub grown : Grown d e
+  pub named : (dot : Place) → TermNamed e.tables (found_term found dot)
+  pub stands : (dot : Place) (x : Lvalue) (below : List Piece) → PlaceEnds d.tables at.kind x d.pieces below
+      → TermStands env e.tables (found_term found dot) (host_behind env place dot (read_of makes x) (declared_view at.of) fold) e.pieces below
+
+pub record FindsBehindValue (env : Env) (place : Place) (ending : Ending) (fold : List ℕ) (d e : Drafted) (found : Option HostMember) : Type 0 where
+  pub grown : Grown d e
+  pub named : (dot : Place) → TermNamed e.tables (found_term found dot)
+  pub stands : (dot : Place) (made : bound.Node) (below : List Piece) → ValueEnds d.tables ending.kind made d.pieces below
+      → TermStands env e.tables (found_term found dot) (host_behind env place dot made (declared_view ending.of) fold) e.pieces below
+  pub there : (made : bound.Node) (below : List Piece) → ValueEnds d.tables ending.kind made d.pieces below → may_be_class (a_value made (declared_view ending.of)) ≡ false
+
+-- whether a term is an object, behind which brackets take a member
+abbrev pub is_host_term : Term → Bool
+is_host_term (term.Place kind of bounded lends makes) = is_host_type (declared_view of)
+is_host_term (term.Value e) = is_host_type (declared_view e.of)
+is_host_term (term.HostMember m) = true
+is_host_term (term.SheetMember m) = true
+is_host_term x = false
+
+-- the type of sheets, and the last nodes of Application and of the workbook
+abbrev pub is_sheet : DeclaredType → Bool
+is_sheet (Plain element.Worksheet) = true
+is_sheet of = false
+
+abbrev pub is_bare : NodeKind → Bool
+is_bare (kinds.HostObject host.Application) = true
+is_bare (kinds.HostObject host.Workbook) = true
+is_bare kind = false
+
+-- whether an object has no default member with arguments
+abbrev pub lacks_item : Term → Bool
+lacks_item (term.Place kind of bounded lends makes) = is_sheet of
+lacks_item (term.Value e) = if is_sheet e.of then is_typed_kind e.kind else is_host_type (declared_view e.of) && is_bare e.kind
+lacks_item x = false
+
+pub record LacksItem (env : Env) (place : Place) (z : plain.Term) : Type 0 where
+  pub object : bound.Expr
+  pub is : item_of env place z ≡ unknown_member place object
+
+abbrev pub takes_item : Term → Bool
+takes_item x = is_host_term x && not (lacks_item x)
+
+-- what brackets behind a term take
+pub record MakesItem (env : Env) (place : Place) (x : Term) (d e : Drafted) (y : Term) : Type 0 where
+  pub grown : Grown d e
+  pub named : TermNamed e.tables y
+  pub stands : (z : plain.Term) (below : List Piece) → TermStands env d.tables x z d.pieces below → TermStands env e.tables y (item_of env place z) e.pieces below
+
+-- the same of an object at a place, and of one that a value gives
+abbrev pub MakesPlaceItem : Env → Place → Ending → (makes : Bool) → Drafted → Drafted → Term → Type 0
+MakesPlaceItem env place at makes d e y = (bounded lends : Bool) → is_host_type (declared_view at.of) ≡ true → MakesItem env place (term.Place at.kind at.of bounded lends makes) d e y
+
+abbrev pub MakesValueItem : Env → Place → Ending → Drafted → Drafted → Term → Type 0
+MakesValueItem env place v d e y = is_host_type (declared_view v.of) ≡ true → MakesItem env place (term.Value v) d e y

@@ -1,0 +1,3 @@
+pub mod Qualified
+pub mod Fields
+pub mod Items

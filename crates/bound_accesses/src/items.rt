@@ -1,0 +1,283 @@
+//! Objects behind a dot and before brackets: members of objects of the host.
+
+ghost use Rattle.std.specs.Prelude.{◌≡◌, true, IfOk};
+ghost use Rattle.bound_project.specs.DraftView.{draft_view};
+ghost use Rattle.bound_project.specs.Drafts.{NodeNamed};
+ghost use Rattle.bound_accesses.specs.Items.{FindsBehindPlace, FindsBehindValue, LacksMembers, MakesItem, MakesPlaceItem, MakesValueItem, ValueLacks, found_term, is_bare, is_host_term, is_sheet, is_test, lacks_item, takes_item};
+ghost use Rattle.bound_members.specs.bound_calls.specs.Standing.{TermNamed};
+ghost use Rattle.bound_names.specs.View.{env_view};
+
+use bound_members::bound_calls::{
+    Ending, HostMember, Term, is_host_type, is_typed_kind, may_be_instance, push_node, push_sheet,
+    read_kind,
+};
+use bound_members::bound_declarations::NotYet;
+use bound_members::declared_names::is_object;
+use bound_members::{find_member, kind_of_ending, kind_of_type};
+use bound_names::{Env, unknown_term};
+use bound_project::{DeclaredType, Draft, ElementType, NodeKind};
+use std::alloc::Global;
+use vba_base::{NoMemory, OrMemory, Place, Units};
+use vba_values::HostRef;
+
+/// An ASCII word.
+fn word(alloc: Global, bytes: &[u8]) -> Result<Units, NoMemory>
+    ensures { IfOk result (λ text. text ≡ bytes.now) }
+{
+    let mut text = Units::new(alloc);
+    for byte in bytes {
+        text.push(u16::from(*byte))?;
+    }
+    Ok(text)
+}
+
+/// A member of the object that was pushed, or what is told where there is none.
+pub fn found_term<'a>(found: Option<HostMember>, dot: Place) -> Term<'a>
+    ensures { result ≡ found_term found dot }
+{
+    match found {
+        None => unknown_term(dot),
+        Some(member) => Term::HostMember(member),
+    }
+}
+
+/// A place of no object's type, which was pushed, has no members.
+fn behind_other_place(of: DeclaredType) -> Result<Option<HostMember>, OrMemory<NotYet>>
+    ensures { IfOk result (λ found. LacksMembers of found) }
+{
+    if is_object(of) {
+        return Err(OrMemory::Fault(NotYet));
+    }
+    Ok(None)
+}
+
+/// A member of the object at a place, which is pushed; none where there is none. An object of a class may not be there.
+pub fn behind_object_place<'a>(
+    draft: &mut Draft,
+    env: Env<'a>,
+    place: Place,
+    at: Ending,
+    makes: bool,
+    name: Units,
+) -> Result<Option<HostMember>, OrMemory<NotYet>>
+    requires { NodeNamed (draft_view draft.old).tables at.kind }
+    ensures { IfOk result (λ found. FindsBehindPlace (env_view env.entry) place at makes name (draft_view draft.old) (draft_view draft.new) found) }
+{
+    let read = Ending {
+        kind: read_kind(makes),
+        of: at.of,
+    };
+    if may_be_instance(env.has_class, read) {
+        return Err(OrMemory::Fault(NotYet));
+    }
+    push_node(draft, at.kind, at.of, place)?;
+    push_node(draft, read.kind, at.of, place)?;
+    match kind_of_type(at.of) {
+        None => behind_other_place(at.of),
+        Some(kind) => find_member(draft, kind, name),
+    }
+}
+
+/// Is a node the last one of what TypeOf gives?
+fn is_test(kind: NodeKind) -> bool
+    ensures { result ≡ is_test kind }
+{
+    match kind {
+        NodeKind::IsType(_) => true,
+        _ => false,
+    }
+}
+
+/// A value of no object's type has no members. What TypeOf gives isn't looked at: a dot behind that belongs to the
+/// class.
+fn behind_other_value(ending: Ending) -> Result<Option<HostMember>, OrMemory<NotYet>>
+    ensures { IfOk result (λ found. ValueLacks ending found) }
+{
+    if is_test(ending.kind) {
+        return Err(OrMemory::Fault(NotYet));
+    }
+    if !is_typed_kind(ending.kind) {
+        return Err(OrMemory::Fault(NotYet));
+    }
+    match kind_of_type(ending.of) {
+        None => behind_other_place(ending.of),
+        Some(_) => Err(OrMemory::Fault(NotYet)),
+    }
+}
+
+/// A member of the object that a value gives, which is pushed; none where there is none. It may be no object of a class.
+pub fn behind_object_value<'a>(
+    draft: &mut Draft,
+    env: Env<'a>,
+    place: Place,
+    ending: Ending,
+    name: Units,
+) -> Result<Option<HostMember>, OrMemory<NotYet>>
+    requires { NodeNamed (draft_view draft.old).tables ending.kind }
+    ensures { IfOk result (λ found. FindsBehindValue (env_view env.entry) place ending name (draft_view draft.old) (draft_view draft.new) found) }
+{
+    if may_be_instance(env.has_class, ending) {
+        return Err(OrMemory::Fault(NotYet));
+    }
+    push_node(draft, ending.kind, ending.of, place)?;
+    match kind_of_ending(ending) {
+        None => behind_other_value(ending),
+        Some(kind) => find_member(draft, kind, name),
+    }
+}
+
+/// Is a term an object, behind which brackets take a member?
+fn is_host_term<'a>(term: Term<'a>) -> bool
+    ensures { result ≡ is_host_term term.entry }
+{
+    match term {
+        Term::Place { of, .. } => is_host_type(of),
+        Term::Value(ending) => is_host_type(ending.of),
+        Term::HostMember(_) => true,
+        Term::SheetMember(_) => true,
+        _ => false,
+    }
+}
+
+/// Is a type that of sheets?
+fn is_sheet(of: DeclaredType) -> bool
+    ensures { result ≡ is_sheet of }
+{
+    match of {
+        DeclaredType::Plain(ElementType::Worksheet) => true,
+        _ => false,
+    }
+}
+
+/// Is a node the last one of Application, or of the workbook?
+fn is_bare(kind: NodeKind) -> bool
+    ensures { result ≡ is_bare kind }
+{
+    match kind {
+        NodeKind::HostObject(HostRef::Application) => true,
+        NodeKind::HostObject(HostRef::Workbook) => true,
+        _ => false,
+    }
+}
+
+/// Is a term an object without a default member with arguments: a sheet, the workbook, or Application?
+pub fn lacks_item<'a>(term: Term<'a>) -> bool
+    ensures { result ≡ lacks_item term.entry }
+{
+    match term {
+        Term::Place { of, .. } => is_sheet(of),
+        Term::Value(ending) => {
+            if is_sheet(ending.of) {
+                is_typed_kind(ending.kind)
+            } else {
+                is_host_type(ending.of) && is_bare(ending.kind)
+            }
+        }
+        _ => false,
+    }
+}
+
+/// Do brackets behind a term take a member of an object?
+pub fn takes_item<'a>(term: Term<'a>) -> bool
+    ensures { result ≡ takes_item term.entry }
+{
+    is_host_term(term) && !lacks_item(term)
+}
+
+/// What brackets take of an object at a place: a member, or what is told where there is none.
+fn place_item<'a>(
+    alloc: Global,
+    draft: &mut Draft,
+    env: Env<'a>,
+    place: Place,
+    at: Ending,
+    makes: bool,
+) -> Result<Term<'a>, OrMemory<NotYet>>
+    requires { NodeNamed (draft_view draft.old).tables at.kind }
+    ensures { IfOk result (λ item. MakesPlaceItem (env_view env.entry) place at makes (draft_view draft.old) (draft_view draft.new) item) }
+{
+    let item = word(alloc, b"item")?;
+    let found = behind_object_place(draft, env, place, at, makes, item)?;
+    Ok(found_term(found, place))
+}
+
+/// The same of an object that a value gives.
+fn value_item<'a>(
+    alloc: Global,
+    draft: &mut Draft,
+    env: Env<'a>,
+    place: Place,
+    ending: Ending,
+) -> Result<Term<'a>, OrMemory<NotYet>>
+    requires { NodeNamed (draft_view draft.old).tables ending.kind }
+    ensures { IfOk result (λ item. MakesValueItem (env_view env.entry) place ending (draft_view draft.old) (draft_view draft.new) item) }
+{
+    let item = word(alloc, b"item")?;
+    let found = behind_object_value(draft, env, place, ending, item)?;
+    Ok(found_term(found, place))
+}
+
+/// What brackets behind an object take, which is pushed: its default member with arguments, or what is told where it
+/// has none.
+fn host_item<'a>(
+    alloc: Global,
+    draft: &mut Draft,
+    env: Env<'a>,
+    place: Place,
+    term: Term<'a>,
+) -> Result<Term<'a>, OrMemory<NotYet>>
+    requires named { TermNamed (draft_view draft.old).tables term }
+    requires object { is_host_term term ≡ true }
+    ensures { IfOk result (λ item. MakesItem (env_view env.entry) place term.entry (draft_view draft.old) (draft_view draft.new) item) }
+{
+    match term {
+        Term::Place {
+            kind,
+            of,
+            makes,
+            ..
+        } => place_item(alloc, draft, env, place, Ending { kind, of }, makes),
+        Term::Value(ending) => value_item(alloc, draft, env, place, ending),
+        Term::HostMember(_) => Ok(term),
+        Term::SheetMember(member) => {
+            push_sheet(draft)?;
+            Ok(Term::HostMember(member))
+        }
+        _ => Err(OrMemory::Fault(NotYet)),
+    }
+}
+
+/// What brackets behind a term take: of an object, which is pushed, its default member with arguments, or what is
+/// told where it has none.
+pub fn item_term<'a>(
+    alloc: Global,
+    draft: &mut Draft,
+    env: Env<'a>,
+    place: Place,
+    term: Term<'a>,
+) -> Result<Term<'a>, OrMemory<NotYet>>
+    requires { TermNamed (draft_view draft.old).tables term }
+    ensures { IfOk result (λ item. MakesItem (env_view env.entry) place term.entry (draft_view draft.old) (draft_view draft.new) item) }
+{
+    if is_host_term(term) {
+        return host_item(alloc, draft, env, place, term);
+    }
+    Ok(term)
+}
+
+/// The member that brackets behind a term take: of an object its default member with arguments. The object is pushed.
+pub fn item_member<'a>(
+    alloc: Global,
+    draft: &mut Draft,
+    env: Env<'a>,
+    place: Place,
+    term: Term<'a>,
+) -> Result<HostMember, OrMemory<NotYet>>
+    requires { TermNamed (draft_view draft.old).tables term }
+    ensures { IfOk result (λ member. MakesItem (env_view env.entry) place term.entry (draft_view draft.old) (draft_view draft.new) (Term.HostMember member)) }
+{
+    match item_term(alloc, draft, env, place, term)? {
+        Term::HostMember(member) => Ok(member),
+        _ => Err(OrMemory::Fault(NotYet)),
+    }
+}

@@ -1,0 +1,49 @@
+//! Variables declared As New, and parameters that may lead to one ([MS-VBAL] 2.5.1).
+
+ghost use Rattle.std.specs.Prelude.{◌≡◌, option_map};
+ghost use Rattle.binder.specs.Classes as classes;
+ghost use Rattle.bound_project.specs.View.{declared_view};
+ghost use Rattle.vba_tree.specs.View.{new_type_clause_view, parameter_view};
+
+use crate::kinds::is_by_val;
+use bound_project::{DeclaredType, ElementType};
+use constant_values::is_variant;
+use declared_names::is_object;
+use vba_tree::{NewTypeClause, Parameter};
+
+/// The number of the class that a type is.
+pub fn class_in(of: DeclaredType) -> Option<u32>
+    ensures { result ≡ classes.class_in (declared_view of) }
+{
+    match of {
+        DeclaredType::Plain(ElementType::Class(number)) => Some(number),
+        _ => None,
+    }
+}
+
+/// The class of which an object is made for a variable of a type, by its clause.
+pub fn made_by(clause: &Option<NewTypeClause>, of: DeclaredType) -> Option<u32>
+    ensures { result ≡ classes.made_by (option_map new_type_clause_view clause.now) (declared_view of) }
+{
+    match clause {
+        None => None,
+        Some(clause) => match clause.new_word {
+            None => None,
+            Some(_) => class_in(of),
+        },
+    }
+}
+
+/// May a variable of a type have an object?
+fn can_hold_object(of: DeclaredType) -> bool
+    ensures { result ≡ classes.can_hold_object (declared_view of) }
+{
+    is_object(of) || is_variant(of)
+}
+
+/// May what a parameter of a type leads to be declared As New, in a project with classes or without?
+pub fn made_through(has_class: bool, parameter: &Parameter, of: DeclaredType) -> bool
+    ensures { result ≡ classes.made_through has_class (parameter_view parameter.now) (declared_view of) }
+{
+    has_class && (!is_by_val(parameter.passing) && can_hold_object(of))
+}

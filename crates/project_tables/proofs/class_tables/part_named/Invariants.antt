@@ -1,0 +1,12 @@
+use Rattle.std.proofs.Common.{◌≡◌, ◌&&◌, map, drop}
+use Rattle.bound_declarations.specs.binder.specs.ClassTables.{is_procedure_that}
+use Rattle.bound_declarations.specs.binder.specs.Declarations.{Entry}
+use Rattle.bound_declarations.specs.binder.specs.Scopes.{first_at, is_named}
+use Rattle.bound_declarations.specs.declared_names.specs.View.{entry_view}
+use Rattle.project_tables.specs.ClassParts.{counts, is_part}
+use Rattle.project_tables.proofs.class_tables.part_named.Given as goal
+
+abbrev pub invariant-loop-number : goal.invariant-loop-number
+invariant-loop-number l =
+    first_at (λ (e : Entry). is_named l.name.name e.name && (counts l.all e && is_procedure_that (is_part l.part) e.what)) l.number (map entry_view (drop l.number l.scope.here.now.entries.items))
+    ≡ first_at (λ (e : Entry). is_named l.name.name e.name && (counts l.all e && is_procedure_that (is_part l.part) e.what)) 0 (map entry_view l.scope.here.now.entries.items)

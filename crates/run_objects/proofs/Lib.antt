@@ -1,0 +1,4 @@
+pub mod Numbered
+pub mod Objects
+pub mod Making
+pub mod Operands

@@ -1,0 +1,55 @@
+-- Classes by their numbers, and their new objects.
+use Rattle.std.proofs.Common.{◌≡◌, ℕ, zero, suc, ◌-◌, ◌<◌, ◌≤◌, List, [], ◌∷◌, length, get_or, map, refl, ap, sym, ◌∙◌, arith}
+use Rattle.std.specs.Prelude.{option_map, Bool, false, None, slice_index_or, ◌==◌}
+use Rattle.std.proofs.Math.Dec.{eqb-suc-zero}
+use Rattle.vba_values.specs.Val.{Val}
+use Rattle.bound_project.specs.declared.declarations.Class.{Class as RustClass}
+use Rattle.bound_project.specs.declared.declarations.Declarations.{Declarations as RustDeclarations}
+use Rattle.bound_project.specs.View.{class_member_view, class_view, declaration_view, declarations_view}
+use Rattle.bound_project.specs.Project.{Declarations, class_at, first_values, no_class}
+use Rattle.vba_meaning.specs.Memory.{Object}
+use Rattle.vba_meaning.specs.Objects.{new_instance}
+
+pub class_before : (d : Declarations) (c : ℕ) → (c ≡ 0 → ⊥) → class_at d c ≡ slice_index_or d.classes (c - 1) no_class
+class_before d zero h = absurd (h refl)
+class_before d (suc c) h = let e : suc c - 1 ≡ c = omega arith in rw e refl
+
+class_there : (cs : List RustClass) (i : ℕ) (d : RustClass) → i < length cs → slice_index_or (map class_view cs) i no_class ≡ class_view (get_or cs i d)
+class_there [] i d h = absurd (omega arith)
+class_there (c ∷ cs) zero d h = refl
+class_there (c ∷ cs) (suc i) d h = class_there cs i d (omega arith)
+
+pub class_past : (cs : List RustClass) (i : ℕ) → length cs ≤ i → slice_index_or (map class_view cs) i no_class ≡ no_class
+class_past [] i h = refl
+class_past (c ∷ cs) zero h = absurd (omega arith)
+class_past (c ∷ cs) (suc i) h = class_past cs i (omega arith)
+
+pub initialize_there : (cs : List RustClass) (i : ℕ) (d : RustClass) → i < length cs → (slice_index_or (map class_view cs) i no_class).initialize ≡ (get_or cs i d).initialize
+initialize_there cs i d h = ap (λ c. c.initialize) (class_there cs i d h)
+
+pub fields_there : (cs : List RustClass) (i : ℕ) (d : RustClass) → i < length cs → (slice_index_or (map class_view cs) i no_class).fields ≡ map declaration_view (get_or cs i d).fields.items
+fields_there cs i d h = ap (λ c. c.fields) (class_there cs i d h)
+
+pub default_there : (cs : List RustClass) (i : ℕ) (d : RustClass) → i < length cs → (slice_index_or (map class_view cs) i no_class).default ≡ option_map class_member_view (get_or cs i d).default
+default_there cs i d h = ap (λ c. c.default) (class_there cs i d h)
+
+-- no class has WithEvents variables
+none_in : (cs : List RustClass) (i : ℕ) → (slice_index_or (map class_view cs) i no_class).with_events ≡ []
+none_in [] i = refl
+none_in (c ∷ cs) zero = refl
+none_in (c ∷ cs) (suc i) = none_in cs i
+
+no_with_events : (d : RustDeclarations) (c : ℕ) → (class_at (declarations_view d) c).with_events ≡ []
+no_with_events d zero = refl
+no_with_events d (suc c) = none_in d.classes.items c
+
+by_class : (d : RustDeclarations) (c : ℕ) (told : Bool) (fs : List Val) → told ≡ (c == 0) → fs ≡ first_values (declarations_view d) (class_at (declarations_view d) c).fields
+    → let b : Object = record { class = c; told = told; fields = fs; keys = []; set_numbers = map (λ i. (i, None)) (class_at (declarations_view d) c).with_events } in b ≡ new_instance (declarations_view d) c
+by_class d zero told fs e f = rw (e, f) refl
+by_class d (suc c) told fs e f = let g : told ≡ false = e ∙ eqb-suc-zero c in rw (g, f) refl
+
+-- a new object of a class, by its fields
+pub new_by : (d : RustDeclarations) (c : ℕ) (told : Bool) (fs : List Val) → told ≡ (c == 0) → fs ≡ first_values (declarations_view d) (class_at (declarations_view d) c).fields
+    → let b : Object = record { class = c; told = told; fields = fs; keys = []; set_numbers = [] } in b ≡ new_instance (declarations_view d) c
+new_by d c told fs e f =
+    ap (λ (is : List ℕ). let b : Object = record { class = c; told = told; fields = fs; keys = []; set_numbers = map (λ i. (i, None)) is } in b) (sym (no_with_events d c)) ∙ by_class d c told fs e f

@@ -1,0 +1,49 @@
+// Classes by their numbers: 0 is that of Collection.
+ghost use Rattle.std.specs.Prelude.{◌≡◌, map, slice_index_or};
+ghost use Rattle.bound_project.specs.Project.{class_at, no_class};
+ghost use Rattle.bound_project.specs.View.{class_view, declaration_view, declarations_view};
+
+use bound_project::{Class, Declaration, Declarations};
+
+/// The Class_Initialize of a class.
+#[tactic(auto, using(crate::proofs::Numbered::class_before))]
+pub fn initialize_of(declared: &Declarations, class: u32) -> Option<u32>
+    ensures { result ≡ (class_at (declarations_view declared.now) class).initialize }
+{
+    if class == 0 {
+        return None;
+    }
+    initialize_at(declared.classes.as_slice(), class as usize - 1)
+}
+
+#[tactic(auto, using(crate::proofs::Numbered::initialize_there, crate::proofs::Numbered::class_past))]
+fn initialize_at(classes: &[Class], number: usize) -> Option<u32>
+    ensures { result ≡ (slice_index_or (map class_view classes.now) number no_class).initialize }
+{
+    if number < classes.len() {
+        classes[number].initialize
+    } else {
+        None
+    }
+}
+
+/// The variables of the objects of a class.
+#[tactic(auto, using(crate::proofs::Numbered::class_before))]
+pub fn fields_of(declared: &Declarations, class: u32) -> &[Declaration]
+    ensures { map declaration_view result.now ≡ (class_at (declarations_view declared.now) class).fields }
+{
+    if class == 0 {
+        return &[];
+    }
+    fields_at(declared.classes.as_slice(), class as usize - 1)
+}
+
+#[tactic(auto, using(crate::proofs::Numbered::fields_there, crate::proofs::Numbered::class_past))]
+fn fields_at(classes: &[Class], number: usize) -> &[Declaration]
+    ensures { map declaration_view result.now ≡ (slice_index_or (map class_view classes.now) number no_class).fields }
+{
+    match classes.get(number) {
+        Some(class) => class.fields.as_slice(),
+        None => &[],
+    }
+}
