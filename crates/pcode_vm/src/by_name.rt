@@ -6,7 +6,6 @@ ghost use Rattle.vba_meaning.specs.ByName.{in_parameter_order, named_there};
 ghost use Rattle.vba_meaning.specs.Effects.{slot_values};
 ghost use Rattle.vba_meaning.specs.Memory.{value as value_slot};
 ghost use Rattle.run_host.specs.ByName.{by_name_view};
-ghost use Rattle.run_memory.specs.Acts.{Acts};
 ghost use Rattle.run_memory.specs.View.{memory_view, slot_view};
 ghost use Rattle.pcode.specs.Instructions as plain;
 ghost use Rattle.pcode.specs.Machine.{done_then, then_push, uses_member};
@@ -19,7 +18,7 @@ use crate::step::{Step, Why};
 use bound_project::ArgumentNames;
 use pcode::Code;
 use run_host::{NamedArguments, in_parameter_order, named_there};
-use run_memory::{Memory, Slot};
+use run_memory::Slot;
 use std::alloc::Global;
 use vba_base::{NoMemory, OrMemory};
 use vba_values::{Bad, Value};
@@ -33,19 +32,6 @@ fn named_arguments<'a>(code: &'a Code, names: ArgumentNames) -> NamedArguments<'
         order: code.order(names.order),
         constants: code.constants.as_slice(),
     }
-}
-
-// Whether there is a member with such names, with the memory that stays as it is.
-fn looked_for<'a>(
-    memory: &Memory,
-    name: &[u16],
-    names: NamedArguments<'a>,
-    given: u32,
-    base: &Value,
-) -> Result<Value, OrMemory<Bad>>
-    ensures { Acts view result (memory_view memory.now) (named_there name.now (by_name_view names.entry) given (view base.now) (memory_view memory.now)) }
-{
-    named_there(name, names, given, base)
 }
 
 impl Machine {
@@ -90,7 +76,7 @@ impl Machine {
             self,
             alloc,
             turns,
-            looked_for(&self.memory, name, names, given, &base)
+            named_there(&self.memory, name, names, given, &base)
         );
         self.operands.push_value(base)?;
         self.operands.push_value(begun)?;

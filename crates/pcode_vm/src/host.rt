@@ -4,11 +4,11 @@ ghost use Rattle.vba_values.specs.View.{view};
 ghost use Rattle.bound_project.specs.Pieces.{name_in};
 ghost use Rattle.vba_meaning.specs.Memory.{value as value_slot};
 ghost use Rattle.vba_meaning.specs.Effects.{slot_values};
-ghost use Rattle.vba_meaning.specs.Host.{error_given, item_assigned, member_assigned, member_called, member_not_set, member_there, written_default};
+ghost use Rattle.vba_meaning.specs.Host.{error_given, item_assigned, member_assigned, member_called, member_not_set, member_there, object_member, written_default};
 ghost use Rattle.run_memory.specs.Acts.{Acts};
 ghost use Rattle.run_memory.specs.View.{memory_view, slot_view};
 ghost use Rattle.pcode.specs.Instructions as plain;
-ghost use Rattle.pcode.specs.Machine.{done_then, raised, then_push, then_changes, then_changes_push, uses_member};
+ghost use Rattle.pcode.specs.Machine.{done_then, raised, then_push, then_changes, then_changes_push, then_let_go, uses_member};
 ghost use Rattle.pcode.specs.View.{code_view, tables_of};
 ghost use Rattle.pcode_vm.specs.Does.{Acted, Does};
 ghost use Rattle.pcode_vm.specs.View.{backs_view, operands_view, state_view};
@@ -18,7 +18,7 @@ use crate::step::{Step, Why};
 use pcode::Code;
 use run_host::{
     error_given, first_sheet, is_counted, is_raise, item_assigned, member_assigned, member_called,
-    member_not_set, member_there, written_default,
+    member_not_set, member_there, object_member, written_default,
 };
 use run_memory::{Memory, Slot};
 use std::alloc::Global;
@@ -135,8 +135,7 @@ impl Machine {
         )
     }
 
-    // The same, with all of them off the operands: Err.Raise raises an error. Collections aren't built: a member of a counted
-    // object is answered as want of memory.
+    // The same, with all of them off the operands: Err.Raise raises an error.
     pub fn use_member(
         &mut self,
         alloc: Global,
@@ -156,7 +155,7 @@ impl Machine {
             return self.raise_given(alloc, turns, slots);
         }
         if is_counted(base) {
-            return Err(NoMemory);
+            return self.use_object(alloc, turns, pc, name, slots, base);
         }
         self.call_member(alloc, code, turns, pc, name, slots, base, begun)
     }
@@ -168,6 +167,32 @@ impl Machine {
     {
         let error = attempt!(self, alloc, turns, error_given(&self.memory, alloc, slots));
         self.raise(alloc, turns, error)
+    }
+
+    // A member of a counted object: what leaves a Collection is let go at once.
+    fn use_object(
+        &mut self,
+        alloc: Global,
+        turns: u64,
+        pc: usize,
+        name: &[u16],
+        slots: &[Slot],
+        base: &Value,
+    ) -> Result<Step, NoMemory>
+        requires { pc + 1 < 2 ^ 64 }
+        ensures { IfOk result (λ step. Does turns (done_then (object_member name.now (slot_values (map slot_view slots.now)) (view base.now) (memory_view self.old.memory))
+            (backs_view self.old.backs) (state_view self.old)
+            (λ given state. then_let_go (pc + 1) (value_slot given.0 ∷ operands_view self.old.operands) (backs_view self.old.backs) given.1 state)) self.old self.new step) }
+    {
+        let (value, count) = attempt!(
+            self,
+            alloc,
+            turns,
+            object_member(&mut self.memory, alloc, name, slots, base)
+        );
+        self.operands.push_value(value)?;
+        self.let_go(alloc, count, pc + 1);
+        Ok(Step::On)
     }
 
     // A member that is called.

@@ -65,7 +65,7 @@ fn redim_value(
     }
     let steps = path.plain_steps(alloc)?;
     let object = path.root.object_value();
-    let Some(root) = memory.root_value(path.root, &object) else {
+    let Some(root) = memory.root_value(&path.root, &object) else {
         return Err(OrMemory::Fault(Bad::Raise(13)));
     };
     match inner_value(root, steps.as_slice()) {
@@ -133,7 +133,7 @@ fn erased_at(
 {
     let steps = path.plain_steps(alloc)?;
     let object = path.root.object_value();
-    let Some(root) = memory.root_value(path.root, &object) else {
+    let Some(root) = memory.root_value(&path.root, &object) else {
         return Err(OrMemory::Fault(Bad::Raise(9)));
     };
     match inner_value(root, steps.as_slice()) {

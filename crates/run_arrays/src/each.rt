@@ -1,8 +1,8 @@
 // For Each ([MS-VBAL] 5.4.2.4).
 ghost use Rattle.std.specs.Prelude.{◌≡◌, OnOk, IfOk, true};
+ghost use Rattle.vba_values.specs.Val.{object};
 ghost use Rattle.vba_values.specs.View.{view};
 ghost use Rattle.bound_project.specs.View.{variable_view};
-ghost use Rattle.vba_meaning.specs.Memory.{Memory as PlainMemory};
 ghost use Rattle.vba_meaning.specs.References.{objects_in};
 ghost use Rattle.vba_meaning.specs.Effects.{done, kept_at};
 ghost use Rattle.vba_meaning.specs.Arrays.{each_begun, each_next, each_off, item_stored, walkable};
@@ -38,7 +38,7 @@ pub fn each_begun(
 ) -> Result<usize, OrMemory<Bad>>
     ensures { Acts (λ count. count) result (memory_view memory.new) (each_begun header (view value) (memory_view memory.old)) }
 {
-    walkable(&value)?;
+    walkable(memory, &value)?;
     let objects = kept_objects(memory, alloc, header)?;
     let count = objects.len();
     let walk = Kept::Walk {
@@ -51,17 +51,13 @@ pub fn each_begun(
     Ok(count)
 }
 
-/// What can be walked: an array, the sheets, the cells of a range. Collections aren't built: a counted object is answered
-/// as want of memory.
-fn walkable(value: &Value) -> Result<(), OrMemory<Bad>>
-    ensures { (m : PlainMemory) → Acts (λ done. done) result m (walkable (view value.now) m) }
+/// What can be walked: an array, the sheets, the cells of a range, a Collection.
+fn walkable(memory: &Memory, value: &Value) -> Result<(), OrMemory<Bad>>
+    ensures { Acts (λ done. done) result (memory_view memory.now) (walkable (view value.now) (memory_view memory.now)) }
 {
-    let number = match value {
-        Value::Array(_) => return Ok(()),
-        Value::Object(ObjRef::Host(HostRef::Sheets | HostRef::Area { .. })) => return Ok(()),
-        Value::Object(ObjRef::Nothing) => 91,
-        Value::Object(ObjRef::Heap(_)) => return Err(OrMemory::NoMemory),
-        Value::Object(_) => 438,
+    match value {
+        Value::Array(_) => Ok(()),
+        Value::Object(reference) => walkable_object(memory, *reference),
         Value::Empty
         | Value::Null
         | Value::Missing
@@ -72,9 +68,20 @@ fn walkable(value: &Value) -> Result<(), OrMemory<Bad>>
         | Value::LongLong(_)
         | Value::Currency(_)
         | Value::Text(_)
-        | Value::Udt(_) => 13,
-    };
-    Err(OrMemory::Fault(Bad::Raise(number)))
+        | Value::Udt(_) => Err(OrMemory::Fault(Bad::Raise(13))),
+    }
+}
+
+/// The same of an object.
+fn walkable_object(memory: &Memory, reference: ObjRef) -> Result<(), OrMemory<Bad>>
+    ensures { Acts (λ done. done) result (memory_view memory.now) (walkable (object reference) (memory_view memory.now)) }
+{
+    match reference {
+        ObjRef::Nothing => Err(OrMemory::Fault(Bad::Raise(91))),
+        ObjRef::Host(HostRef::Sheets | HostRef::Area { .. }) => Ok(()),
+        ObjRef::Heap(_) if memory.is_collection(reference) => Ok(()),
+        _ => Err(OrMemory::Fault(Bad::Raise(438))),
+    }
 }
 
 /// The objects of what a block keeps.

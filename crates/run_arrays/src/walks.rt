@@ -1,5 +1,5 @@
 // What the For Each of a header walks.
-ghost use Rattle.std.specs.Prelude.{◌≡◌, ◌<◌, ◌≤◌, [], ◌∷◌, IfOk, OnOk, length, map, option_map, true};
+ghost use Rattle.std.specs.Prelude.{◌≡◌, ◌<◌, ◌≤◌, [], ◌∷◌, IfOk, OnOk, length, map, option_map, slice_get, true};
 ghost use Rattle.vba_values.specs.declared.object.HostRef.TheVariants.{Sheets};
 ghost use Rattle.vba_values.specs.declared.object.ObjRef.TheVariants.{Host};
 ghost use Rattle.vba_values.specs.Val.{object};
@@ -7,7 +7,7 @@ ghost use Rattle.vba_values.specs.View.{view};
 ghost use Rattle.arrays_udt.specs.declared.paths.PathStep.TheVariants.{Element};
 ghost use Rattle.arrays_udt.specs.Paths.{path_value};
 ghost use Rattle.vba_meaning.specs.Arrays.{item_of};
-ghost use Rattle.vba_meaning.specs.Memory.{found, put, top, with_top};
+ghost use Rattle.vba_meaning.specs.Memory.{found, object_at, put, top, with_top};
 ghost use Rattle.run_memory.specs.Keeps.{is_kept, place_in};
 ghost use Rattle.run_memory.specs.View.{kept_at_view, kept_view, memory_view};
 ghost use Rattle.run_arrays.specs.Walks.{cell_at, item_walked, rewalked, walk_of, walk_set, walks_set};
@@ -58,7 +58,7 @@ pub fn item_walked(memory: &Memory, alloc: Global, header: u32) -> Result<Option
 }
 
 /// An item of what is walked, where there is one: of the sheets a sheet, of a range a cell by rows, of an array an
-/// element. Collections aren't built: a counted object is answered as want of memory.
+/// element, of a Collection that which it has now.
 fn item_of(
     memory: &Memory,
     alloc: Global,
@@ -80,7 +80,7 @@ fn item_of(
                 },
             ),
         ) => cell_item(*sheet, *top, *left, *rows, *columns, number),
-        Value::Object(ObjRef::Heap(_)) => Err(NoMemory),
+        Value::Object(ObjRef::Heap(id)) => collection_item(memory, alloc, id.0, number),
         _ => element_item(alloc, value, number),
     }
 }
@@ -125,6 +125,21 @@ fn cell_item(
         rows: 1,
         columns: 1,
     }))))
+}
+
+/// An item of a Collection, counted from 0.
+fn collection_item(
+    memory: &Memory,
+    alloc: Global,
+    object: u32,
+    number: usize,
+) -> Result<Option<Value>, NoMemory>
+    ensures { IfOk result (λ item. option_map view item ≡ slice_get (object_at (memory_view memory.now) object).fields number) }
+{
+    match memory.instance_value(object, number) {
+        Some(item) => Ok(Some(copy_value(alloc, item)?)),
+        None => Ok(None),
+    }
 }
 
 /// An element of an array, counted from 0.

@@ -5,8 +5,9 @@ use Rattle.vba_values.specs.Val.{Val, empty, missing}
 use Rattle.vba_values.specs.View.{view}
 use Rattle.bound_project.specs.Expressions.{ByName}
 use Rattle.bound_project.specs.Pieces.{name_of}
-use Rattle.vba_meaning.specs.ByName.{is_parameter, parameter_named, parameters_given}
-use Rattle.vba_meaning.specs.Effects.{Effect, Fine, Bad-at}
+use Rattle.vba_meaning.specs.ByName.{is_parameter, named_begun, parameter_named, parameters_given}
+use Rattle.vba_meaning.specs.Collections.{collection_member, names_in_collection, takes_in_collection}
+use Rattle.vba_meaning.specs.Effects.{Effect, Fine, Bad-at, on_fine}
 use Rattle.vba_meaning.specs.Memory.{Memory}
 use Rattle.run_host.specs.declared.by_name.NamedArguments.{NamedArguments}
 
@@ -35,3 +36,7 @@ first_by (suc before) named m = Fine empty m
 -- the names by which arguments are given: none where they don't fit
 abbrev pub given_names : (parameters : List (List ℕ)) → ByName → List (List ℕ)
 given_names xs by = if is_some (parameters_given xs by.before by.names) then by.names else []
+
+-- a use of a member of a counted object begins, with arguments that have names
+abbrev pub named_in_collection : (number : ℕ) → (name : List ℕ) → ByName → (given : ℕ) → Memory → Effect Val
+named_in_collection o name by k m = on_fine (collection_member o name m) (λ how m1. named_begun (names_in_collection how) (takes_in_collection how) by k m1)

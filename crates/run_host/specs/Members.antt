@@ -5,7 +5,7 @@ use Rattle.vba_values.specs.declared.object.HostRef.TheVariants as host
 use Rattle.vba_values.specs.declared.object.ObjRef.{ObjRef}
 use Rattle.vba_values.specs.Types.{Declared}
 use Rattle.vba_values.specs.Types as type
-use Rattle.vba_values.specs.Val.{Val, array, missing, object}
+use Rattle.vba_values.specs.Val.{Val, array, empty, missing, object}
 use Rattle.vba_values.specs.Coerce.{coerce_of}
 use Rattle.sheet_host.specs.declared.area.Area.{Area}
 use Rattle.sheet_host.specs.declared.members.HostMember.{HostMember}
@@ -13,8 +13,9 @@ use Rattle.sheet_host.specs.declared.members.HostMember.TheVariants.{Write, Call
 use Rattle.sheet_host.specs.AddressText.{area_of_text}
 use Rattle.sheet_host.specs.Writing.{cell_of}
 use Rattle.vba_meaning.specs.Memory.{Memory}
-use Rattle.vba_meaning.specs.Effects.{Effect, Fine, Bad-at, on_fine, done, answered, plain, range_value, area_in}
-use Rattle.vba_meaning.specs.Host.{area_found, cells_put, item_by, long_of, sheet_by, spanned, text_of, units_in, written_default}
+use Rattle.vba_meaning.specs.Effects.{Effect, Fine, Bad-at, on_fine, done, answered, plain, range_value, area_in, is_collection}
+use Rattle.vba_meaning.specs.Collections.{collection_member, collection_used, takes_in_collection}
+use Rattle.vba_meaning.specs.Host.{area_found, as_given, cells_put, fits_in, item_by, long_of, sheet_by, spanned, text_of, through_item, units_in, written_default}
 use Rattle.run_host.specs.declared.assigning.Writes.{Writes}
 use Rattle.run_host.specs.declared.assigning.Writes.TheVariants as writes
 
@@ -85,3 +86,22 @@ object_item_assigned base vs v m = on_fine (item_by base vs m) (λ w m1. written
 -- the item of a value that is no object is found, and takes the value for nothing
 abbrev pub no_item_assigned : Val → List Val → Val → Memory → Effect (Unit {0})
 no_item_assigned base vs v m = on_fine (item_by base vs m) (λ w m1. on_fine (plain v m1) (λ x m2. done m2))
+
+-- a use of a member of a counted object begins, and it is used
+abbrev pub collection_begun : (number : ℕ) → (name : List ℕ) → (given : ℕ) → Memory → Effect Val
+collection_begun o name k m = on_fine (collection_member o name m) (λ how m1. on_fine (fits_in (takes_in_collection how) k m1) (λ u m2. Fine empty m2))
+
+abbrev pub member_used : (number : ℕ) → (name : List ℕ) → List Val → Memory → Effect (Val × ℕ)
+member_used o name vs m = on_fine (collection_member o name m) (λ how m1. collection_used o how (as_given vs) m1)
+
+-- a member of one is assigned to
+abbrev pub object_assigned : (number : ℕ) → (name : List ℕ) → List Val → Val → Memory → Effect (Unit {0})
+object_assigned o name vs v m = on_fine (collection_member o name m) (λ how m1. through_item o how vs v m1)
+
+-- a value gives way to its default value, for nothing
+abbrev pub for_nothing : Val → Memory → Effect (Unit {0})
+for_nothing v m = on_fine (plain v m) (λ x m1. done m1)
+
+-- a counted object has no default member that is written without arguments
+abbrev pub without_default : ObjRef → Memory → Effect (Unit {0})
+without_default o m = if is_collection o m then Bad-at 449 m else Bad-at 438 m

@@ -1,5 +1,5 @@
 // Members of host objects whose last arguments have names ([MS-VBAL] 5.6.13.1).
-ghost use Rattle.std.specs.Prelude.{◌≡◌, ◌+◌, ◌++◌, ◌<◌, ◌^◌, IfOk, IfSome, length, map, slice_index_or, take, drop, is_some, bytes_eq};
+ghost use Rattle.std.specs.Prelude.{◌≡◌, ◌+◌, ◌++◌, ◌<◌, ◌^◌, IfOk, length, map, slice_index_or, take, drop, is_some, bytes_eq};
 ghost use Rattle.vba_values.specs.declared.object.HostRef.TheVariants as host;
 ghost use Rattle.vba_values.specs.Val.{empty};
 ghost use Rattle.vba_values.specs.View.{view};
@@ -8,11 +8,15 @@ ghost use Rattle.vba_meaning.specs.Effects.{slot_value, slot_values};
 ghost use Rattle.vba_meaning.specs.Memory.{Memory as PlainMemory};
 ghost use Rattle.vba_meaning.specs.ByName.{any_given, in_parameter_order, named_begun, named_there, names_of_member, parameter_names, parameter_named, parameters_given};
 ghost use Rattle.run_memory.specs.Acts.{Acts};
-ghost use Rattle.run_memory.specs.View.{slot_view};
-ghost use Rattle.run_host.specs.ByName.{by_name_view, first_by, given_names, names_of, value_named, values_named};
+ghost use Rattle.run_memory.specs.View.{memory_view, slot_view};
+ghost use Rattle.run_collections.specs.View.{member_view};
+ghost use Rattle.run_host.specs.ByName.{by_name_view, first_by, given_names, named_in_collection, names_of, value_named, values_named};
 
 use crate::counts::{fits_in, number_of, takes};
-use run_memory::Slot;
+use run_collections::{
+    collection_member, member_by_name, names_in_collection, takes_in_collection,
+};
+use run_memory::{Memory, Slot};
 use sheet_host::member_named;
 use std::alloc::Global;
 use vba_base::{NoMemory, OrMemory};
@@ -208,18 +212,19 @@ fn named_begun<'a>(
 }
 
 /// The same by the folded name of the member and what has it: 91 for Nothing, 438 where there is no such member, 424 for
-/// what is no object. Collections aren't built: a counted object is answered as want of memory.
+/// what is no object.
 pub fn named_there<'a>(
+    memory: &Memory,
     name: &[u16],
     names: NamedArguments<'a>,
     given: u32,
     base: &Value,
 ) -> Result<Value, OrMemory<Bad>>
-    ensures { (m : PlainMemory) → Acts view result m (named_there name.now (by_name_view names.entry) given (view base.now) m) }
+    ensures { Acts view result (memory_view memory.now) (named_there name.now (by_name_view names.entry) given (view base.now) (memory_view memory.now)) }
 {
     match base {
         Value::Object(ObjRef::Nothing) => Err(OrMemory::Fault(Bad::Raise(91))),
-        Value::Object(ObjRef::Heap(_)) => Err(OrMemory::NoMemory),
+        Value::Object(ObjRef::Heap(id)) => named_in_collection(memory, id.0, name, names, given),
         Value::Object(ObjRef::Host(of)) => {
             let how = member_named(of, name)?;
             let number = number_of(how);
@@ -227,6 +232,26 @@ pub fn named_there<'a>(
         }
         _ => Err(OrMemory::Fault(Bad::Raise(424))),
     }
+}
+
+/// The same of a counted object with a number.
+#[tactic(auto, using(run_memory::proofs::Refused::refused_then))]
+fn named_in_collection<'a>(
+    memory: &Memory,
+    number: u32,
+    name: &[u16],
+    names: NamedArguments<'a>,
+    given: u32,
+) -> Result<Value, OrMemory<Bad>>
+    ensures { Acts view result (memory_view memory.now) (named_in_collection number name.now (by_name_view names.entry) given (memory_view memory.now)) }
+{
+    let how = collection_member(memory, number, name)?;
+    named_begun(
+        names_in_collection(how),
+        takes_in_collection(how),
+        names,
+        given,
+    )
 }
 
 /// What a parameter is given, of the arguments that have names: Missing where there is none.
@@ -302,18 +327,21 @@ fn with_copies(alloc: Global, slots: &[Slot], behind: Vec<Slot>) -> Result<Vec<S
     }
 }
 
-/// The names of the parameters of a member that there is; none of a counted object.
-fn names_of_member(base: &Value, name: &[u16]) -> Option<Names>
-    ensures names { IfSome result (λ names. map (λ w. w.now) names.now ≡ names_of_member (view base.now) name.now) }
-    ensures few { IfSome result (λ names. length names.now < 4) }
+/// The names of the parameters of a member that there is.
+fn names_of_member(base: &Value, name: &[u16]) -> Names
+    ensures names { map (λ w. w.now) result.now ≡ names_of_member (view base.now) name.now }
+    ensures few { length result.now < 5 }
 {
     match base {
-        Value::Object(ObjRef::Heap(_)) => None,
-        Value::Object(ObjRef::Host(of)) => match member_named(of, name) {
-            Ok(how) => Some(parameter_names(of, number_of(how))),
-            Err(_) => Some(&[]),
+        Value::Object(ObjRef::Heap(_)) => match member_by_name(name) {
+            Some(how) => names_in_collection(how),
+            None => &[],
         },
-        _ => Some(&[]),
+        Value::Object(ObjRef::Host(of)) => match member_named(of, name) {
+            Ok(how) => parameter_names(of, number_of(how)),
+            Err(_) => &[],
+        },
+        _ => &[],
     }
 }
 
@@ -350,7 +378,7 @@ fn given_order<'a>(parameters: &[&[u8]], names: NamedArguments<'a>) -> &'a [u32]
     }
 }
 
-/// The arguments in the order of the parameters. Those of a counted object are answered as want of memory.
+/// The arguments in the order of the parameters.
 pub fn in_parameter_order<'a>(
     alloc: Global,
     base: &Value,
@@ -360,9 +388,7 @@ pub fn in_parameter_order<'a>(
 ) -> Result<Vec<Slot>, NoMemory>
     ensures { IfOk result (λ ordered. slot_values (map slot_view ordered.items) ≡ in_parameter_order (view base.now) name.now (by_name_view names.entry) (slot_values (map slot_view slots.now))) }
 {
-    let Some(parameters) = names_of_member(base, name) else {
-        return Err(NoMemory);
-    };
+    let parameters = names_of_member(base, name);
     let (before, behind) = split_slots(slots, names.before);
     let order = given_order(parameters, names);
     let left = names_from(parameters, names.before);

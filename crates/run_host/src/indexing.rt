@@ -1,6 +1,8 @@
 // Values of members that arguments index.
 ghost use Rattle.std.specs.Prelude.{map};
+ghost use Rattle.vba_values.specs.Val.{object};
 ghost use Rattle.vba_values.specs.View.{view};
+ghost use Rattle.vba_values.specs.declared.object.ObjRef.TheVariants.{Heap};
 ghost use Rattle.vba_meaning.specs.Memory.{Memory as PlainMemory};
 ghost use Rattle.vba_meaning.specs.Effects.{slot_values};
 ghost use Rattle.vba_meaning.specs.Host.{can_index, item_by};
@@ -12,10 +14,11 @@ use crate::arguments::plains;
 use crate::counts::fits_in;
 use crate::sheets::sheet_found;
 use run_arrays::indexed;
+use run_collections::item_found;
 use run_memory::{Memory, Slot, area_in};
 use std::alloc::Global;
 use vba_base::OrMemory;
-use vba_values::{Bad, HostRef, ObjRef, Value};
+use vba_values::{Bad, HostRef, ObjId, ObjRef, Value};
 
 /// A value, where so many arguments can index it: an array, the sheets by one, a range by two.
 #[tactic(auto, using(run_memory::proofs::Refused::refused_then))]
@@ -32,8 +35,8 @@ pub fn can_index(value: Value, given: u32) -> Result<Value, OrMemory<Bad>>
     Ok(value)
 }
 
-/// What arguments give of a value: a sheet of the sheets, a cell of a range, or an element, which the running statement
-/// holds then. Collections aren't built: a counted object is answered as want of memory.
+/// What arguments give of a value: a sheet of the sheets, a cell of a range, or an item of a Collection or an element,
+/// which the running statement holds then.
 #[tactic(auto, using(run_memory::proofs::Refused::refused_then))]
 pub fn item_by(
     memory: &mut Memory,
@@ -59,10 +62,28 @@ pub fn item_by(
             let area = area_in(*sheet, *top, *left, *rows, *columns);
             cell_found(memory, alloc, area, slots)
         }
-        Value::Object(ObjRef::Heap(_)) => Err(OrMemory::NoMemory),
+        Value::Object(ObjRef::Heap(id)) => counted_item(memory, alloc, *id, slots),
         _ => {
             let slots = plains(memory, alloc, slots)?;
             indexed(memory, alloc, value, slots.as_slice())
         }
     }
+}
+
+/// The same of a counted object: one of a class has no items.
+#[tactic(auto, using(run_memory::proofs::Refused::refused_then))]
+fn counted_item(
+    memory: &mut Memory,
+    alloc: Global,
+    id: ObjId,
+    slots: &[Slot],
+) -> Result<Value, OrMemory<Bad>>
+    ensures { Acts view result (memory_view memory.new) (item_by (object (Heap id)) (slot_values (map slot_view slots.now)) (memory_view memory.old)) }
+{
+    let reference = ObjRef::Heap(id);
+    if memory.is_collection(reference) {
+        return item_found(memory, alloc, id.0, slots);
+    }
+    let slots = plains(memory, alloc, slots)?;
+    indexed(memory, alloc, &Value::Object(reference), slots.as_slice())
 }

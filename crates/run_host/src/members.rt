@@ -3,8 +3,11 @@ ghost use Rattle.std.specs.Prelude.{◌≡◌, map};
 ghost use Rattle.vba_values.specs.View.{view};
 ghost use Rattle.bound_project.specs.View.{declarations_view};
 ghost use Rattle.vba_meaning.specs.Effects.{slot_values};
-ghost use Rattle.vba_meaning.specs.Host.{is_counted, member_begun, member_by, member_called, member_there};
+ghost use Rattle.vba_meaning.specs.Host.{is_counted, member_begun, member_by, member_called, member_there, object_member};
+ghost use Rattle.run_memory.specs.Acts.{Acts};
 ghost use Rattle.run_memory.specs.View.{memory_view, slot_view};
+ghost use Rattle.run_collections.specs.View.{used_view};
+ghost use Rattle.run_host.specs.Members.{collection_begun, member_used};
 ghost use Rattle.run_host.specs.Tells.{Tells};
 ghost use Rattle.run_host.specs.View.{told_view};
 
@@ -14,6 +17,7 @@ use crate::events::Told;
 use crate::indexing::{can_index, item_by};
 use crate::reading::member_value;
 use bound_project::Declarations;
+use run_collections::{collection_member, collection_used, takes_in_collection};
 use run_memory::{Memory, Slot};
 use sheet_host::{HostMember, member_named};
 use std::alloc::Global;
@@ -22,8 +26,8 @@ use vba_values::{Bad, HostRef, ObjRef, Value};
 
 /// A use of a member begins, by its folded name and how many arguments are given: 91 for Nothing, 438 where there is no
 /// such member, 450 and 449 for too many and too few arguments, 424 for what is no object. What is given is what the
-/// arguments index, where the member takes none itself, and else Empty. Collections aren't built: a counted object is
-/// answered as want of memory.
+/// arguments index, where the member takes none itself, and else Empty.
+#[tactic(auto, using(crate::proofs::Telling::acts_tell))]
 pub fn member_there(
     memory: &mut Memory,
     alloc: Global,
@@ -37,13 +41,28 @@ pub fn member_there(
 {
     match base {
         Value::Object(ObjRef::Nothing) => Err(OrMemory::Fault(Bad::Raise(91))),
-        Value::Object(ObjRef::Heap(_)) => Err(OrMemory::NoMemory),
+        Value::Object(ObjRef::Heap(id)) => collection_begun(memory, id.0, name, given),
         Value::Object(ObjRef::Host(of)) => {
             let how = member_named(of, name)?;
             member_begun(memory, alloc, declared, *of, how, given, told)
         }
         _ => Err(OrMemory::Fault(Bad::Raise(424))),
     }
+}
+
+/// A use of a member of a counted object begins: nothing is read then.
+#[tactic(auto, using(run_memory::proofs::Refused::refused_then))]
+fn collection_begun(
+    memory: &Memory,
+    number: u32,
+    name: &[u16],
+    given: u32,
+) -> Result<Value, OrMemory<Bad>>
+    ensures { Acts view result (memory_view memory.now) (collection_begun number name.now given (memory_view memory.now)) }
+{
+    let how = collection_member(memory, number, name)?;
+    fits_in(takes_in_collection(how), given)?;
+    Ok(Value::Empty)
 }
 
 /// Whether a member is one of a counted object.
@@ -123,4 +142,36 @@ pub fn member_by(
         return item_by(memory, alloc, begun, slots);
     }
     member_value(memory, alloc, declared, of, number_of(how), slots, told)
+}
+
+/// A member of a counted object is used, by its folded name, with its arguments: its value, and how many references wait
+/// to be let go at once. 424 for what is no counted object.
+pub fn object_member(
+    memory: &mut Memory,
+    alloc: Global,
+    name: &[u16],
+    slots: &[Slot],
+    base: &Value,
+) -> Result<(Value, usize), OrMemory<Bad>>
+    ensures { Acts used_view result (memory_view memory.new) (object_member name.now (slot_values (map slot_view slots.now)) (view base.now) (memory_view memory.old)) }
+{
+    match base {
+        Value::Object(ObjRef::Heap(id)) => member_used(memory, alloc, id.0, name, slots),
+        _ => Err(OrMemory::Fault(Bad::Raise(424))),
+    }
+}
+
+/// A member of the counted object with a number is used.
+#[tactic(auto, using(run_memory::proofs::Refused::refused_then))]
+fn member_used(
+    memory: &mut Memory,
+    alloc: Global,
+    number: u32,
+    name: &[u16],
+    slots: &[Slot],
+) -> Result<(Value, usize), OrMemory<Bad>>
+    ensures { Acts used_view result (memory_view memory.new) (member_used number name.now (slot_values (map slot_view slots.now)) (memory_view memory.old)) }
+{
+    let how = collection_member(memory, number, name)?;
+    collection_used(memory, alloc, number, how, as_given(slots))
 }

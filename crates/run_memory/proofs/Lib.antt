@@ -13,7 +13,6 @@ pub mod Frames
 pub mod Ids
 pub mod Instances
 pub mod KeptInOrder
-pub mod KeptPlaces
 pub mod Bounds
 pub mod Named
 pub mod Received

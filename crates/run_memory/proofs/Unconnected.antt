@@ -28,6 +28,7 @@ by_root (root.Instance o i) steps of bounded makes v n =
     ap (λ (ls : List (ℕ × Option ℕ)). if is_with_events i ls then set_number_drawn o i v (memory_view n) else done (memory_view n)) (no_set_numbers n.objects.items o)
 by_root (root.Block k i) steps of bounded makes v n = refl
 by_root (root.Object o) steps of bounded makes v n = refl
+by_root (root.Item w) steps of bounded makes v n = refl
 
 pub unconnected : (p : Path) (v : Val) (m : plain_memory.Memory) (n : Memory) → memory_view n ≡ m → connected (path_view p) v m ≡ done (memory_view n)
 unconnected p v m n e =

@@ -28,6 +28,7 @@ root_view (root.Project x) = plain.in_project x
 root_view (root.Instance o i) = plain.in_fields o i
 root_view (root.Block k i) = plain.in_block k i
 root_view (root.Object o) = plain.in_object o
+root_view (root.Item v) = plain.in_item (view v)
 
 abbrev pub step_view : Step → plain.Step
 step_view s = record { step = s.step; moves = s.moves }
@@ -81,7 +82,7 @@ frames_view stands top callers = if stands then frame_view top ∷ map frame_vie
 
 -- no variable of it is declared WithEvents
 abbrev pub object_view : Object → plain_memory.Object
-object_view b = record { class = b.class; told = b.is_told; fields = map view b.fields.items; keys = []; set_numbers = [] }
+object_view b = record { class = b.class; told = b.is_told; fields = map view b.fields.items; keys = b.keys.items; set_numbers = [] }
 
 abbrev pub error_view : RunError → plain_memory.Error
 error_view e = record { number = e.number; source = e.source; description = e.description; procedure = e.procedure; statement = e.statement }

@@ -4,13 +4,14 @@ ghost use Rattle.vba_values.specs.View.{view};
 ghost use Rattle.vba_meaning.specs.Memory.{found, without};
 ghost use Rattle.vba_meaning.specs.References.{displaced, kept_value, objects_in};
 ghost use Rattle.vba_meaning.specs.Effects.{Fine, done, keep, kept_at, kept_or, selected};
-ghost use Rattle.vba_meaning.specs.Arrays.{block_over, dot_at, keep_path, keeping};
+ghost use Rattle.vba_meaning.specs.Arrays.{block_over, dot_at, keep_path, keeping, kept_of};
 ghost use Rattle.run_memory.specs.Acts.{Acts};
 ghost use Rattle.run_memory.specs.Keeps.{others};
 ghost use Rattle.run_memory.specs.View.{frame_view, kept_at_view, kept_view, memory_view, path_view};
 
 use crate::frame::{Frame, Kept};
 use crate::keeps::put_kept;
+use crate::looking::value_in_item;
 use crate::memory::Memory;
 use crate::objects::add_objects;
 use crate::path::{Path, Root};
@@ -47,12 +48,12 @@ impl Memory {
         self.keeping(alloc, header, Kept::Only(value))
     }
 
-    /// With keeps a place.
-    #[tactic(auto, using(crate::proofs::KeptPlaces::kept_as_place))]
+    /// With keeps a place; of an item of a Collection, which has none, the value.
     pub fn keep_path(&mut self, alloc: Global, header: u32, path: Path) -> Result<(), NoMemory>
         ensures { OnOk result (keep_path header (path_view path) (memory_view self.old) ≡ done (memory_view self.new)) }
     {
-        self.keeping(alloc, header, Kept::AtPath(path))
+        let kept = kept_of(alloc, path)?;
+        self.keeping(alloc, header, kept)
     }
 
     /// A block is over: it keeps nothing any more.
@@ -108,6 +109,15 @@ impl Memory {
             _ => Err(OrMemory::Fault(Bad::Raise(91))),
         }
     }
+}
+
+fn kept_of(alloc: Global, path: Path) -> Result<Kept, NoMemory>
+    ensures { IfOk result (λ kept. kept_view kept ≡ kept_of (path_view path)) }
+{
+    if let Root::Item { value } = &path.root {
+        return Ok(Kept::Only(value_in_item(alloc, value, &path)?));
+    }
+    Ok(Kept::AtPath(path))
 }
 
 /// Adds the objects of what a block keeps.

@@ -9,6 +9,7 @@ ghost use Rattle.run_memory.specs.View.{frame_view, memory_view, path_view, slot
 
 use crate::exchange::exchange_in_slots;
 use crate::frame::{Frame, Slot};
+use crate::looking::value_in_item;
 use crate::memory::Memory;
 use crate::path::{Path, Root};
 use std::alloc::Global;
@@ -48,7 +49,7 @@ impl Memory {
         self.release_paths(arguments.as_slice());
         let mut slots = own;
         let mut arguments = arguments;
-        receive(&mut arguments);
+        receive(alloc, &mut arguments)?;
         slots.append(&mut arguments)?;
         self.push_frame(alloc, called_frame(alloc, is_called, procedure, me, slots))
     }
@@ -143,31 +144,38 @@ fn release(pending: &mut Vec<Path>, arguments: &[Slot])
     }
 }
 
-/// What parameters have: an object that an index gave is no variable, so it is copied.
+/// What parameters have: an object or an item that an index gave is no variable, so it is copied.
 #[tactic(auto, using(crate::proofs::Received::received_all))]
-fn receive(arguments: &mut Vec<Slot>)
-    ensures { map slot_view arguments.new.items ≡ map received (map slot_view arguments.old.items) }
+fn receive(alloc: Global, arguments: &mut Vec<Slot>) -> Result<(), NoMemory>
+    ensures { OnOk result (map slot_view arguments.new.items ≡ map received (map slot_view arguments.old.items)) }
 {
-    receive_from(arguments, 0);
+    receive_from(alloc, arguments, 0)
 }
 
 /// The same from a number on.
 #[tactic(auto, using(crate::proofs::Received::received_next, crate::proofs::Received::received_past))]
-fn receive_from(arguments: &mut Vec<Slot>, from: usize)
-    ensures { map slot_view arguments.new.items ≡ received_from from (map slot_view arguments.old.items) }
+fn receive_from(alloc: Global, arguments: &mut Vec<Slot>, from: usize) -> Result<(), NoMemory>
+    ensures { OnOk result (map slot_view arguments.new.items ≡ received_from from (map slot_view arguments.old.items)) }
 {
     if from < arguments.len() {
-        receive_one(&mut arguments[from]);
-        receive_from(arguments, from + 1);
+        receive_one(alloc, &mut arguments[from])?;
+        receive_from(alloc, arguments, from + 1)?;
     }
+    Ok(())
 }
 
-fn receive_one(argument: &mut Slot)
-    ensures { slot_view argument.new ≡ received (slot_view argument.old) }
+fn receive_one(alloc: Global, argument: &mut Slot) -> Result<(), NoMemory>
+    ensures { OnOk result (slot_view argument.new ≡ received (slot_view argument.old)) }
 {
-    if let Slot::Path(path) = argument
-        && let Root::Object { reference } = path.root
-    {
-        *argument = Slot::Value(Value::Object(reference));
-    }
+    let Slot::Path(path) = argument else {
+        return Ok(());
+    };
+    let value = match &path.root {
+        Root::Object { reference } => Value::Object(*reference),
+        Root::Item { value } => value_in_item(alloc, value, path)?,
+        Root::Frame { .. } | Root::Project { .. } | Root::Instance { .. } | Root::Block { .. } =>
+            return Ok(()),
+    };
+    *argument = Slot::Value(value);
+    Ok(())
 }

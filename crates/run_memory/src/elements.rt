@@ -152,7 +152,7 @@ impl Memory {
     {
         let steps = path.plain_steps(alloc)?;
         let object = path.root.object_value();
-        let Some(root) = self.root_value(path.root, &object) else {
+        let Some(root) = self.root_value(&path.root, &object) else {
             return nowhere(alloc, slots);
         };
         match inner_value(root, steps.as_slice()) {

@@ -23,6 +23,7 @@ impl Object {
             class: 0,
             is_told: true,
             fields: Vec::new(alloc),
+            keys: Vec::new(alloc),
         }
     }
 }

@@ -33,31 +33,33 @@ impl Memory {
         exchange_below(&mut self.callers, frame, variable, new)
     }
 
-    /// A value takes the place of that of a variable; of a block's it takes a copy, and an object is no variable.
+    /// A value takes the place of that of a variable; of a block's it takes a copy. An object and an item are no
+    /// variables.
     #[tactic(auto, using(crate::proofs::Exchanged::local_exchanged, crate::proofs::Exchanged::shared_exchanged, crate::proofs::Instances::instance_exchanged))]
     pub fn exchange(
         &mut self,
         alloc: Global,
-        root: Root,
+        root: &Root,
         new: Value,
     ) -> Result<Option<Value>, NoMemory>
-        ensures old { IfOk result (λ old. option_map view old ≡ root_value (memory_view self.old) (root_view root)) }
+        ensures old { IfOk result (λ old. option_map view old ≡ root_value (memory_view self.old) (root_view root.now)) }
         ensures new { IfOk result (λ old. memory_view self.new
-            ≡ root_exchanged (memory_view self.old) (root_view root) (option_map view old) (view new)) }
+            ≡ root_exchanged (memory_view self.old) (root_view root.now) (option_map view old) (view new)) }
     {
         match root {
-            Root::Frame { frame, variable } => Ok(self.exchange_local(frame, variable, new)),
+            Root::Frame { frame, variable } => Ok(self.exchange_local(*frame, *variable, new)),
             Root::Project { variable } => {
-                Ok(exchange_in_values(&mut self.shared, variable as usize, new))
+                Ok(exchange_in_values(&mut self.shared, *variable as usize, new))
             }
             Root::Instance { object, field } => Ok(exchange_in_objects(
                 &mut self.objects,
-                object as usize,
-                field as usize,
+                *object as usize,
+                *field as usize,
                 new,
             )),
-            Root::Block { frame, header } => self.exchange_block(alloc, frame, header, new),
-            Root::Object { reference } => Ok(Some(Value::Object(reference))),
+            Root::Block { frame, header } => self.exchange_block(alloc, *frame, *header, new),
+            Root::Object { reference } => Ok(Some(Value::Object(*reference))),
+            Root::Item { value } => Ok(Some(copy_value(alloc, value)?)),
         }
     }
 
@@ -74,7 +76,7 @@ impl Memory {
         ensures new { IfOk result (λ old. memory_view self.new
             ≡ root_exchanged (memory_view self.old) (in_block frame header) (option_map view old) (view new)) }
     {
-        let old = match self.root_value(Root::Block { frame, header }, &new) {
+        let old = match self.block_value(frame, header) {
             Some(value) => copy_value(alloc, value)?,
             None => return Ok(None),
         };

@@ -178,7 +178,7 @@ impl Memory {
     {
         let steps = path.plain_steps(alloc)?;
         let object = path.root.object_value();
-        let Some(root) = self.root_value(path.root, &object) else {
+        let Some(root) = self.root_value(&path.root, &object) else {
             return Err(OUT_OF_RANGE);
         };
         bound_inside(is_upper, dimension, root, steps.as_slice())

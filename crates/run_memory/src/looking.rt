@@ -3,7 +3,8 @@ ghost use Rattle.std.specs.Prelude.{◌≡◌, option_map, slice_get, map, IfOk}
 ghost use Rattle.arrays_udt.specs.Paths.{path_value};
 ghost use Rattle.vba_values.specs.View.{view};
 ghost use Rattle.bound_project.specs.View.{variable_view};
-ghost use Rattle.vba_meaning.specs.Memory.{found, frame_at, number_of, object_at, path_of, top, value_in, value_kept};
+ghost use Rattle.vba_meaning.specs.Memory.{found, frame_at, number_of, object_at, path_of, root_value, top, value_in, value_in_item, value_kept};
+ghost use Rattle.vba_meaning.specs.Paths.{in_block};
 ghost use Rattle.run_memory.specs.Looks.{frame_or, root_or};
 ghost use Rattle.run_memory.specs.View.{frame_view, kept_at_view, kept_view, memory_view, path_view, root_view, slot_view};
 
@@ -14,7 +15,7 @@ use arrays_udt::{PathStep, has_path, path_read};
 use bound_project::{Storage, Variable};
 use std::alloc::Global;
 use vba_base::NoMemory;
-use vba_values::{ObjRef, Value};
+use vba_values::{ObjRef, Value, copy_value};
 
 impl Memory {
     /// The frame with so many below it.
@@ -31,28 +32,36 @@ impl Memory {
         caller_at(&self.callers, number)
     }
 
-    /// The value of a variable or a block, or this object.
-    pub fn root_value<'a>(&'a self, root: Root, object: &'a Value) -> Option<&'a Value>
-        ensures { option_map (λ value. view value.now) result ≡ root_or (memory_view self.now) (root_view root) (view object.now) }
+    /// The value of a variable or a block, or an item, or this object.
+    pub fn root_value<'a>(&'a self, root: &'a Root, object: &'a Value) -> Option<&'a Value>
+        ensures { option_map (λ value. view value.now) result ≡ root_or (memory_view self.now) (root_view root.now) (view object.now) }
     {
         match root {
-            Root::Frame { frame, variable } => self.frame_at(frame)?.value_of(variable),
-            Root::Project { variable } => self.shared.get(variable as usize),
+            Root::Frame { frame, variable } => self.frame_at(*frame)?.value_of(*variable),
+            Root::Project { variable } => self.shared.get(*variable as usize),
             Root::Instance {
                 object: number,
                 field,
-            } => self.instance_value(number, field),
-            Root::Block { frame, header } => self.frame_at(frame)?.value_kept(header),
+            } => self.instance_value(*number, *field as usize),
+            Root::Block { frame, header } => self.block_value(*frame, *header),
             Root::Object { .. } => Some(object),
+            Root::Item { value } => Some(value),
         }
     }
 
-    /// The value of a variable of a counted object.
-    fn instance_value(&self, object: u32, field: u32) -> Option<&Value>
+    /// The value that a block of a frame keeps.
+    pub fn block_value(&self, frame: usize, header: u32) -> Option<&Value>
+        ensures { option_map (λ value. view value.now) result ≡ root_value (memory_view self.now) (in_block frame header) }
+    {
+        self.frame_at(frame)?.value_kept(header)
+    }
+
+    /// The value of a variable of a counted object; of a Collection an item.
+    pub fn instance_value(&self, object: u32, field: usize) -> Option<&Value>
         ensures { option_map (λ value. view value.now) result ≡ slice_get (object_at (memory_view self.now) object).fields field }
     {
         match self.objects.get(object as usize) {
-            Some(Some(object)) => object.fields.get(field as usize),
+            Some(Some(object)) => object.fields.get(field),
             _ => None,
         }
     }
@@ -161,6 +170,17 @@ fn kept_in(keeps: &[(u32, Kept)], header: u32) -> Option<&Kept>
         } else {
             kept_in(keeps, header)
         },
+    }
+}
+
+/// A copy of the value at a path's steps inside an item of a Collection.
+pub fn value_in_item(alloc: Global, item: &Value, path: &Path) -> Result<Value, NoMemory>
+    ensures { IfOk result (λ value. view value ≡ value_in_item (view item.now) (path_view path.now).steps) }
+{
+    let steps = path.plain_steps(alloc)?;
+    match inner_value(item, steps.as_slice()) {
+        Some(value) => Ok(copy_value(alloc, value)?),
+        None => Ok(Value::Empty),
     }
 }
 

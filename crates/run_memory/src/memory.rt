@@ -25,11 +25,12 @@ impl Drop for RunError {
     }
 }
 
-/// A counted object.
+/// A counted object. The fields of a Collection are its items, each of which may have a key, folded.
 pub struct Object {
     pub class: u32,
     pub is_told: bool,
     pub fields: Vec<Value>,
+    pub keys: Vec<Option<Units>>,
 }
 
 impl Drop for Object {
@@ -38,6 +39,7 @@ impl Drop for Object {
             class: _class,
             is_told: _is_told,
             fields: _fields,
+            keys: _keys,
         } = self;
     }
 }

@@ -5,7 +5,7 @@ ghost use Rattle.vba_values.specs.Types.{declared};
 ghost use Rattle.vba_values.specs.View.{view};
 ghost use Rattle.vba_meaning.specs.Memory.{Memory as PlainMemory, root_value};
 ghost use Rattle.vba_meaning.specs.Objects.{made_at};
-ghost use Rattle.vba_meaning.specs.Paths.{any_moves, element_path, field_path, in_fields, is_below, leads_through, object_path, plain_steps, same_root};
+ghost use Rattle.vba_meaning.specs.Paths.{any_moves, element_path, field_path, in_fields, is_below, item_path, leads_through, object_path, plain_steps, same_root};
 ghost use Rattle.run_memory.specs.Looks.{root_or};
 ghost use Rattle.run_memory.specs.View.{path_view, root_view, step_view};
 
@@ -13,18 +13,44 @@ use arrays_udt::PathStep;
 use bound_project::DeclaredType;
 use std::alloc::Global;
 use vba_base::NoMemory;
-use vba_values::{ObjRef, VType, Value, copy_type};
+use vba_values::{ObjRef, VType, Value, copy_type, copy_value};
 
 /// Where a path begins: a variable of a frame, whose number is that of the frames below it, or of the project; a variable
-/// of a counted object, by the object's number; the value that a With block of a frame keeps; or an object that an index
-/// gave, which no variable has.
-#[derive(Clone, Copy)]
+/// of a counted object, by the object's number; the value that a With block of a frame keeps; or an object or an item of
+/// a Collection that an index gave, which no variable has.
 pub enum Root {
     Frame { frame: usize, variable: u32 },
     Project { variable: u32 },
     Instance { object: u32, field: u32 },
     Block { frame: usize, header: u32 },
     Object { reference: ObjRef },
+    Item { value: Value },
+}
+
+impl Drop for Root {
+    fn drop(self) {
+        match self {
+            Root::Frame {
+                frame: _frame,
+                variable: _variable,
+            } => {}
+            Root::Project {
+                variable: _variable,
+            } => {}
+            Root::Instance {
+                object: _object,
+                field: _field,
+            } => {}
+            Root::Block {
+                frame: _frame,
+                header: _header,
+            } => {}
+            Root::Object {
+                reference: _reference,
+            } => {}
+            Root::Item { value: _value } => {}
+        }
+    }
 }
 
 /// A step, and whether it leads into an array that can be replaced: one that isn't declared with bounds.
@@ -59,15 +85,45 @@ impl Drop for Path {
 
 impl Root {
     /// The object that a path begins at; of other paths Empty.
-    pub fn object_value(self) -> Value
-        ensures { (m : PlainMemory) → root_or m (root_view self) (view result) ≡ root_value m (root_view self) }
+    pub fn object_value(&self) -> Value
+        ensures { (m : PlainMemory) → root_or m (root_view self.now) (view result) ≡ root_value m (root_view self.now) }
     {
         match self {
-            Root::Object { reference } => Value::Object(reference),
+            Root::Object { reference } => Value::Object(*reference),
             Root::Frame { .. }
             | Root::Project { .. }
             | Root::Instance { .. }
-            | Root::Block { .. } => Value::Empty,
+            | Root::Block { .. }
+            | Root::Item { .. } => Value::Empty,
+        }
+    }
+
+    /// A copy.
+    fn copy(&self, alloc: Global) -> Result<Root, NoMemory>
+        ensures { IfOk result (λ copy. root_view copy ≡ root_view self.now) }
+    {
+        match self {
+            Root::Frame { frame, variable } => Ok(Root::Frame {
+                frame: *frame,
+                variable: *variable,
+            }),
+            Root::Project { variable } => Ok(Root::Project {
+                variable: *variable,
+            }),
+            Root::Instance { object, field } => Ok(Root::Instance {
+                object: *object,
+                field: *field,
+            }),
+            Root::Block { frame, header } => Ok(Root::Block {
+                frame: *frame,
+                header: *header,
+            }),
+            Root::Object { reference } => Ok(Root::Object {
+                reference: *reference,
+            }),
+            Root::Item { value } => Ok(Root::Item {
+                value: copy_value(alloc, value)?,
+            }),
         }
     }
 }
@@ -79,6 +135,19 @@ impl Path {
     {
         Path {
             root: Root::Object { reference },
+            steps: Vec::new(alloc),
+            of: VType::Variant,
+            is_bounded: false,
+            makes: None,
+        }
+    }
+
+    /// Where an item of a Collection is.
+    pub fn of_item(alloc: Global, value: Value) -> Path
+        ensures { path_view result ≡ item_path (view value) }
+    {
+        Path {
+            root: Root::Item { value },
             steps: Vec::new(alloc),
             of: VType::Variant,
             is_bounded: false,
@@ -121,7 +190,7 @@ impl Path {
         let steps = Vec::from_slice(alloc, self.steps.as_slice())?;
         let of = copy_type(alloc, &self.of)?;
         Ok(Path {
-            root: self.root,
+            root: self.root.copy(alloc)?,
             steps,
             of,
             is_bounded: self.is_bounded,
@@ -188,13 +257,13 @@ impl Path {
     pub fn is_below(&self, place: &Path) -> bool
         ensures { result ≡ is_below (path_view self.now) (path_view place.now) }
     {
-        same_root(self.root, place.root)
+        same_root(&self.root, &place.root)
             && leads_through(self.steps.as_slice(), place.steps.as_slice())
     }
 }
 
-fn same_root(left: Root, right: Root) -> bool
-    ensures { result ≡ same_root (root_view left) (root_view right) }
+fn same_root(left: &Root, right: &Root) -> bool
+    ensures { result ≡ same_root (root_view left.now) (root_view right.now) }
 {
     match (left, right) {
         (

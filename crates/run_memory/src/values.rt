@@ -5,7 +5,7 @@ ghost use Rattle.vba_values.specs.Types.{declared};
 ghost use Rattle.vba_values.specs.View.{view};
 ghost use Rattle.bound_project.specs.View.{declared_view};
 ghost use Rattle.vba_meaning.specs.Memory.{Memory as PlainMemory};
-ghost use Rattle.vba_meaning.specs.Effects.{class_of, condition, fitted, is_area, is_true, operated, operated_alone, plain, plain_reference, set_object, set_reference, takes_object};
+ghost use Rattle.vba_meaning.specs.Effects.{class_of, condition, fitted, is_area, is_collection, is_true, operated, operated_alone, plain, plain_reference, set_object, set_reference, takes_object};
 ghost use Rattle.run_memory.specs.Acts.{Acts};
 ghost use Rattle.run_memory.specs.View.{memory_view};
 
@@ -88,6 +88,13 @@ impl Memory {
         }
     }
 
+    /// Whether an object is a Collection.
+    pub fn is_collection(&self, reference: ObjRef) -> bool
+        ensures { result ≡ is_collection reference (memory_view self.now) }
+    {
+        matches!(reference, ObjRef::Heap(_)) && self.class_of(reference) == 0
+    }
+
     /// Whether Set lets a variable of this type have an object that isn't Nothing ([MS-VBAL] 5.4.3.9).
     pub fn takes_object(&self, of: &VType, reference: ObjRef) -> bool
         ensures { result ≡ takes_object (declared of.now) reference (memory_view self.now) }
@@ -96,9 +103,7 @@ impl Memory {
             VType::Class(number) => {
                 matches!(reference, ObjRef::Heap(_)) && self.class_of(reference) == *number
             }
-            VType::Collection => {
-                matches!(reference, ObjRef::Heap(_)) && self.class_of(reference) == 0
-            }
+            VType::Collection => self.is_collection(reference),
             VType::Worksheet => matches!(reference, ObjRef::Host(HostRef::Sheet { sheet: _ })),
             VType::Range => is_area(reference),
             VType::Boolean
@@ -167,7 +172,7 @@ impl Memory {
         }
     }
 
-    /// An object as an operand. Collections aren't built: a counted object is answered as want of memory.
+    /// An object as an operand; Item of a Collection must have an argument (449).
     pub fn plain_reference(&self, alloc: Global, reference: ObjRef) -> Result<Value, OrMemory<Bad>>
         ensures { Acts view result (memory_view self.now) (plain_reference reference (memory_view self.now)) }
     {
@@ -184,7 +189,9 @@ impl Memory {
                 },
             ) => self.value_in_area(alloc, area_in(sheet, top, left, rows, columns)),
             ObjRef::Host(HostRef::Sheets) => Err(OrMemory::Fault(Bad::Raise(449))),
-            ObjRef::Heap(_) => Err(OrMemory::NoMemory),
+            ObjRef::Heap(_) if self.is_collection(reference) => {
+                Err(OrMemory::Fault(Bad::Raise(449)))
+            }
             _ => Err(OrMemory::Fault(Bad::Raise(438))),
         }
     }

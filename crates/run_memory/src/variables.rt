@@ -36,7 +36,7 @@ impl Memory {
     {
         let steps = path.plain_steps(alloc)?;
         let object = path.root.object_value();
-        let Some(root) = self.root_value(path.root, &object) else {
+        let Some(root) = self.root_value(&path.root, &object) else {
             return Ok(None);
         };
         copy_inner(alloc, root, steps.as_slice())
@@ -48,7 +48,7 @@ impl Memory {
     {
         let steps = path.plain_steps(alloc)?;
         let object = path.root.object_value();
-        let Some(root) = self.root_value(path.root, &object) else {
+        let Some(root) = self.root_value(&path.root, &object) else {
             return Ok(None);
         };
         Ok(inner_object(root, steps.as_slice()))
@@ -60,20 +60,20 @@ impl Memory {
     {
         let steps = path.plain_steps(alloc)?;
         let object = path.root.object_value();
-        let Some(root) = self.root_value(path.root, &object) else {
+        let Some(root) = self.root_value(&path.root, &object) else {
             return Ok(None);
         };
         Ok(inner_parts(root, steps.as_slice()))
     }
 
     /// Whether a value may be replaced: there is one (9), and no frame holds a path through an array there (10). An object
-    /// that an index gave has no place (438).
+    /// and an item that an index gave have no place (438).
     pub fn replaceable(&self, alloc: Global, path: &Path) -> Result<(), OrMemory<Bad>>
         ensures acts { Acts (λ done. value_or_empty (value_at (memory_view self.now) (path_view path.now))) result
             (memory_view self.now) (replaceable (path_view path.now) (memory_view self.now)) }
         ensures there { OnOk result (IsSome (value_at (memory_view self.now) (path_view path.now))) }
     {
-        if let Root::Object { .. } = path.root {
+        if matches!(path.root, Root::Object { .. } | Root::Item { .. }) {
             return Err(OrMemory::Fault(Bad::Raise(438)));
         }
         match self.parts_at(alloc, path)? {
@@ -108,26 +108,26 @@ impl Memory {
     {
         let steps = path.plain_steps(alloc)?;
         if steps.is_empty() {
-            let Some(old) = self.exchange(alloc, path.root, new)? else {
+            let Some(old) = self.exchange(alloc, &path.root, new)? else {
                 unreachable!();
             };
             return Ok(old);
         }
-        self.exchange_inside(alloc, path.root, steps.as_slice(), new)
+        self.exchange_inside(alloc, &path.root, steps.as_slice(), new)
     }
 
     #[tactic(auto, using(crate::proofs::Roots::root_again))]
     fn exchange_inside(
         &mut self,
         alloc: Global,
-        root: Root,
+        root: &Root,
         steps: &[PathStep],
         new: Value,
     ) -> Result<Value, NoMemory>
-        requires { IsSome (inner_or_none (root_value (memory_view self.old) (root_view root)) steps.now) }
-        ensures old { IfOk result (λ old. inner_or_none (root_value (memory_view self.old) (root_view root)) steps.now ≡ Some (view old)) }
+        requires { IsSome (inner_or_none (root_value (memory_view self.old) (root_view root.now)) steps.now) }
+        ensures old { IfOk result (λ old. inner_or_none (root_value (memory_view self.old) (root_view root.now)) steps.now ≡ Some (view old)) }
         ensures new { OnOk result (memory_view self.new
-            ≡ inside_exchanged (memory_view self.old) (root_view root) (root_value (memory_view self.old) (root_view root)) steps.now (view new)) }
+            ≡ inside_exchanged (memory_view self.old) (root_view root.now) (root_value (memory_view self.old) (root_view root.now)) steps.now (view new)) }
     {
         let Some(mut whole) = self.exchange(alloc, root, Value::Empty)? else {
             unreachable!();

@@ -1,6 +1,6 @@
 -- Classes by their numbers, and their new objects.
 use Rattle.std.proofs.Common.{◌≡◌, ℕ, zero, suc, ◌-◌, ◌<◌, ◌≤◌, List, [], ◌∷◌, length, get_or, map, refl, ap, sym, ◌∙◌, arith}
-use Rattle.std.specs.Prelude.{option_map, Bool, false, None, slice_index_or, ◌==◌}
+use Rattle.std.specs.Prelude.{option_map, Bool, false, Option, None, slice_index_or, ◌==◌}
 use Rattle.std.proofs.Math.Dec.{eqb-suc-zero}
 use Rattle.vba_values.specs.Val.{Val}
 use Rattle.bound_project.specs.declared.declarations.Class.{Class as RustClass}
@@ -43,13 +43,13 @@ no_with_events : (d : RustDeclarations) (c : ℕ) → (class_at (declarations_vi
 no_with_events d zero = refl
 no_with_events d (suc c) = none_in d.classes.items c
 
-by_class : (d : RustDeclarations) (c : ℕ) (told : Bool) (fs : List Val) → told ≡ (c == 0) → fs ≡ first_values (declarations_view d) (class_at (declarations_view d) c).fields
-    → let b : Object = record { class = c; told = told; fields = fs; keys = []; set_numbers = map (λ i. (i, None)) (class_at (declarations_view d) c).with_events } in b ≡ new_instance (declarations_view d) c
-by_class d zero told fs e f = rw (e, f) refl
-by_class d (suc c) told fs e f = let g : told ≡ false = e ∙ eqb-suc-zero c in rw (g, f) refl
+by_class : (d : RustDeclarations) (c : ℕ) (told : Bool) (fs : List Val) (ks : List (Option (List ℕ))) → told ≡ (c == 0) → fs ≡ first_values (declarations_view d) (class_at (declarations_view d) c).fields → ks ≡ []
+    → let b : Object = record { class = c; told = told; fields = fs; keys = ks; set_numbers = map (λ i. (i, None)) (class_at (declarations_view d) c).with_events } in b ≡ new_instance (declarations_view d) c
+by_class d zero told fs ks e f g = rw (e, f, g) refl
+by_class d (suc c) told fs ks e f g = let h : told ≡ false = e ∙ eqb-suc-zero c in rw (h, f, g) refl
 
--- a new object of a class, by its fields
-pub new_by : (d : RustDeclarations) (c : ℕ) (told : Bool) (fs : List Val) → told ≡ (c == 0) → fs ≡ first_values (declarations_view d) (class_at (declarations_view d) c).fields
-    → let b : Object = record { class = c; told = told; fields = fs; keys = []; set_numbers = [] } in b ≡ new_instance (declarations_view d) c
-new_by d c told fs e f =
-    ap (λ (is : List ℕ). let b : Object = record { class = c; told = told; fields = fs; keys = []; set_numbers = map (λ i. (i, None)) is } in b) (sym (no_with_events d c)) ∙ by_class d c told fs e f
+-- a new object of a class, by its fields; it has no keys
+pub new_by : (d : RustDeclarations) (c : ℕ) (told : Bool) (fs : List Val) (ks : List (Option (List ℕ))) → told ≡ (c == 0) → fs ≡ first_values (declarations_view d) (class_at (declarations_view d) c).fields → ks ≡ []
+    → let b : Object = record { class = c; told = told; fields = fs; keys = ks; set_numbers = [] } in b ≡ new_instance (declarations_view d) c
+new_by d c told fs ks e f g =
+    ap (λ (is : List ℕ). let b : Object = record { class = c; told = told; fields = fs; keys = ks; set_numbers = map (λ i. (i, None)) is } in b) (sym (no_with_events d c)) ∙ by_class d c told fs ks e f g

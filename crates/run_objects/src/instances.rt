@@ -29,6 +29,7 @@ fn new_instance(alloc: Global, declared: &Declarations, class: u32) -> Result<Ob
         class,
         is_told: class == 0,
         fields,
+        keys: Vec::new(alloc),
     })
 }
 

@@ -15,7 +15,7 @@ pub returns : goal.returns
 returns c =
     let by = by_name_view c.args.names in
     let n = c.args.names.before in
-    let parameters = c.in-Some.parameters.now in
+    let parameters = c.names_of_member-parameters.result.now in
     let xs : List (List ℕ) = map (λ w. w.now) parameters in
     let slots = c.args.slots.now in
     let order = names_of c.args.names.constants.now c.given_order-order.result.now in
@@ -28,5 +28,5 @@ returns c =
     ∙ ap (λ (l : List Slot). values_named xs n (drop n xs) (given_names xs by) (values l)) c.split_slots.ensures.behind in
     let made : values c.split_slots.result.0.now ++ values c.in_ok-given.given.items ≡ in_parameter_order (view c.args.base.now) c.args.name.now by (values slots) =
     ap (λ (l : List Slot). values l ++ values c.in_ok-given.given.items) c.split_slots.ensures.before ∙ ap (λ (l : List Val). values (take n slots) ++ l) given
-    ∙ ordered (view c.args.base.now) c.args.name.now by xs slots c.in-Some.ensures.names in
+    ∙ ordered (view c.args.base.now) c.args.name.now by xs slots c.names_of_member-parameters.ensures.names in
     IfOk-weaker c.with_copies.result _ _ (λ all h. h ∙ made) c.with_copies.ensures

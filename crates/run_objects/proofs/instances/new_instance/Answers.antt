@@ -6,5 +6,6 @@ use Rattle.run_objects.proofs.instances.new_instance.Goals as goal
 
 pub returns : goal.returns
 returns c =
-    new_by c.args.declared.now c.args.class _ _ refl
+    new_by c.args.declared.now c.args.class _ _ _ refl
     (c.in_ok-fields.ensures ∙ ap (first_values (declarations_view c.args.declared.now)) c.fields_of.ensures)
+    c.new.ensures.items
