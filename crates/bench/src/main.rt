@@ -8,7 +8,6 @@ mod conditions;
 mod expressions;
 mod lexing;
 mod links;
-mod machine;
 mod modules;
 mod operators;
 mod sheets;
@@ -20,7 +19,6 @@ use conditions::bench_conditions;
 use expressions::bench_expressions;
 use lexing::bench_lex;
 use links::bench_links;
-use machine::{Pattern, bench_machine, bench_pattern};
 use modules::{bench_modules, bench_places};
 use operators::bench_operators;
 use sheets::bench_sheets;
@@ -57,11 +55,6 @@ fn main(rt: HostRuntime) -> io::Result<ExitCode> {
         "operators" => bench_operators(&rt, size)?,
         "arrays" => bench_arrays(&rt, size)?,
         "links" => bench_links(&rt, size)?,
-        "machine" => bench_machine(&rt, size)?,
-        "calls" => bench_pattern(&rt, Pattern::Calls, size)?,
-        "scans" => bench_pattern(&rt, Pattern::Scans, size)?,
-        "errors" => bench_pattern(&rt, Pattern::Errors, size)?,
-        "members" => bench_pattern(&rt, Pattern::Cells, size)?,
         "modules" => bench_modules(&rt, size)?,
         "places" if size <= MOST_PLACES => bench_places(&rt, size)?,
         "cells" if size <= MOST_CELLS => bench_cells(&rt, size)?,
@@ -74,9 +67,8 @@ fn main(rt: HostRuntime) -> io::Result<ExitCode> {
 fn usage(rt: &impl Eprint) -> io::Result<ExitCode> {
     eprintln!(rt; "bench: usage: SUBJECT SIZE")?;
     eprintln!(rt;
-        "lex, conditions, expressions, operators, arrays, links, machine, modules: SIZE at most {MOST}"
+        "lex, conditions, expressions, operators, arrays, links, modules: SIZE at most {MOST}"
     )?;
-    eprintln!(rt; "calls, scans, errors, members, which machine does too: SIZE at most {MOST}")?;
     eprintln!(rt; "cells: SIZE at most {MOST_CELLS}; sheets: SIZE at most {MOST_ROWS}")?;
     eprintln!(rt; "places: SIZE at most {MOST_PLACES}")?;
     Ok(ExitCode::from(2))

@@ -6,14 +6,14 @@ use Rattle.vba_module.specs.Parts.{Part, label, statement, whole_line, place_of}
 use Rattle.vba_tree.specs.Tree.{procedure_header}
 use Rattle.bound_project.specs.Project.{Body}
 use Rattle.bound_project.specs.Drafts.{Drafted}
-use Rattle.bound_actions.specs.binder.specs.Options.{from_two, or_else}
-use Rattle.bound_actions.specs.binder.specs.Declarations.{Written}
-use Rattle.bound_actions.specs.binder.specs.Scopes.{Outside, Space, Scope}
-use Rattle.bound_actions.specs.binder.specs.Blocks.{blocks_in}
-use Rattle.bound_actions.specs.binder.specs.Names.{scope_of}
-use Rattle.bound_actions.specs.binder.specs.Constants.{home}
-use Rattle.bound_actions.specs.bound_forms.specs.Bind.{around_of, body_with, bodies_of, all_bodies, is_built_part, place_unless, left_in_body, left_in_parts, left_in_space, left_in_spaces}
-use Rattle.bound_actions.specs.binder.specs.Projects.{numbered, no_space}
+use Rattle.binder.specs.Options.{from_two, or_else}
+use Rattle.binder.specs.Declarations.{Written}
+use Rattle.binder.specs.Scopes.{Outside, Space, Scope}
+use Rattle.binder.specs.Blocks.{blocks_in}
+use Rattle.binder.specs.Names.{scope_of}
+use Rattle.binder.specs.Constants.{home}
+use Rattle.bound_names.specs.bound_members.specs.bound_calls.specs.bound_forms.specs.Bind.{around_of, body_with, bodies_of, all_bodies, is_built_part, place_unless, left_in_body, left_in_parts, left_in_space, left_in_spaces}
+use Rattle.binder.specs.Projects.{numbered, no_space}
 use Rattle.statement_nodes.specs.Walks.{BodyAdded}
 use Rattle.bind_project.specs.Modules.{is_header, with_bodies, IsFront, ProcedureAdded, PartsWalked, PartsAdded, SpaceAdded, SpacesWalked, SpacesAdded}
 

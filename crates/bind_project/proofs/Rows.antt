@@ -1,19 +1,19 @@
 -- The rows of a project tell of its procedures what its modules say.
 use Rattle.std.proofs.Common.{◌≡◌, ◌<◌, ℕ, zero, suc, ◌+◌, length, true, List, [], ◌∷◌, drop, refl, ◌∙◌, sym, ap, subst, add-one, arith}
 use Rattle.std.specs.Prelude.{map, Some, None, slice_get, slice_index_or}
-use Rattle.bound_actions.specs.binder.specs.Declarations.{Written}
-use Rattle.bound_actions.specs.binder.specs.Scopes.{Space, Scope}
-use Rattle.bound_actions.specs.binder.specs.Names.{locals_of}
-use Rattle.bound_actions.specs.binder.specs.Storage.{first_static}
-use Rattle.bound_actions.specs.binder.specs.Projects.{numbered}
-use Rattle.bound_actions.specs.bound_forms.specs.Bind.{is_built_part}
+use Rattle.binder.specs.Declarations.{Written}
+use Rattle.binder.specs.Scopes.{Space, Scope}
+use Rattle.binder.specs.Names.{locals_of}
+use Rattle.binder.specs.Storage.{first_static}
+use Rattle.binder.specs.Projects.{numbered}
+use Rattle.bound_names.specs.bound_members.specs.bound_calls.specs.bound_forms.specs.Bind.{is_built_part}
 use Rattle.bound_project.specs.Drafts.{Drafted}
 use Rattle.vba_module.specs.Parts.{Part}
 use Rattle.bind_project.specs.Modules.{is_header, ProcedureAdded, PartsWalked}
 use Rattle.bind_project.proofs.ByModule.{header_walked}
-use Rattle.bound_actions.specs.constant_values.specs.Rounds.{AreNumbered, IsPlaced}
-use Rattle.bound_actions.specs.project_tables.specs.declared.rows.ProcedureRow.{ProcedureRow}
-use Rattle.bound_actions.specs.project_tables.specs.Rows.{Row, row_of, row_view, HaveValues, AreRowsOf}
+use Rattle.bound_names.specs.bound_members.specs.bound_calls.specs.bound_declarations.specs.constant_values.specs.Rounds.{AreNumbered, IsPlaced}
+use Rattle.bound_names.specs.project_tables.specs.declared.rows.ProcedureRow.{ProcedureRow}
+use Rattle.bound_names.specs.project_tables.specs.Rows.{Row, row_of, row_view, HaveValues, AreRowsOf}
 use Rattle.bind_project.specs.Procedures.{numbered_view, RowFits, RowsFit, AllPlaced}
 
 abbrev by_number : Row → ℕ × Written

@@ -3,10 +3,10 @@ use Rattle.std.proofs.Common.{◌≡◌, ℕ, List, [], ◌++◌, ◌∙◌, sym
 use Rattle.std.specs.Prelude.{Some, None, is_some, option_map}
 use Rattle.bound_project.specs.Project.{Declarations, Project}
 use Rattle.bound_project.specs.Drafts.{Drafted}
-use Rattle.bound_actions.specs.binder.specs.Scopes.{Outside, Space}
-use Rattle.bound_actions.specs.binder.specs.Names.{scope_of}
-use Rattle.bound_actions.specs.binder.specs.Projects.{Startup, no_space, startup_number, declarations_of}
-use Rattle.bound_actions.specs.bound_forms.specs.Bind.{all_bodies, project_with, left_in_spaces}
+use Rattle.binder.specs.Scopes.{Outside, Space}
+use Rattle.binder.specs.Names.{scope_of}
+use Rattle.binder.specs.Projects.{Startup, no_space, startup_number, declarations_of}
+use Rattle.bound_names.specs.bound_members.specs.bound_calls.specs.bound_forms.specs.Bind.{all_bodies, project_with, left_in_spaces}
 use Rattle.bind_project.specs.Bound.{Runs}
 use Rattle.bind_project.specs.Modules.{SpacesAdded}
 

@@ -5,11 +5,11 @@ use Rattle.vba_tree.specs.Tree.{procedure_header}
 use Rattle.vba_module.specs.Parts.{Part, whole_line}
 use Rattle.bound_project.specs.Project.{Body}
 use Rattle.bound_project.specs.Drafts.{Drafted}
-use Rattle.bound_actions.specs.binder.specs.Declarations.{Written}
-use Rattle.bound_actions.specs.binder.specs.Scopes.{Outside, Space, Scope}
-use Rattle.bound_actions.specs.bound_forms.specs.Bind.{around_of, bound_body, bodies_of, all_bodies, left_in_body, left_in_parts, left_in_space, left_in_spaces}
-use Rattle.bound_actions.specs.binder.specs.Projects.{numbered, no_space}
-use Rattle.bound_actions.specs.binder.specs.Names.{scope_of}
+use Rattle.binder.specs.Declarations.{Written}
+use Rattle.binder.specs.Scopes.{Outside, Space, Scope}
+use Rattle.bound_names.specs.bound_members.specs.bound_calls.specs.bound_forms.specs.Bind.{around_of, bound_body, bodies_of, all_bodies, left_in_body, left_in_parts, left_in_space, left_in_spaces}
+use Rattle.binder.specs.Projects.{numbered, no_space}
+use Rattle.binder.specs.Names.{scope_of}
 
 -- bodies before others
 abbrev pub with_bodies : List Body → Option (List Body) → Option (List Body)

@@ -1,12 +1,12 @@
 -- Serves the code: the procedures of a module, by their rows.
 use Rattle.std.specs.Prelude.{◌≡◌, ℕ, List, [], ◌∷◌, map, Some, slice_get}
-use Rattle.bound_actions.specs.binder.specs.Declarations.{Written}
-use Rattle.bound_actions.specs.binder.specs.Scopes.{Space, Scope}
-use Rattle.bound_actions.specs.binder.specs.Names.{locals_of, scope_in}
-use Rattle.bound_actions.specs.binder.specs.Storage.{first_static}
-use Rattle.bound_actions.specs.constant_values.specs.Tables.{AreOwnValues}
-use Rattle.bound_actions.specs.declared_names.specs.View.{local_view, written_view}
-use Rattle.bound_actions.specs.project_tables.specs.declared.rows.ProcedureRow.{ProcedureRow}
+use Rattle.binder.specs.Declarations.{Written}
+use Rattle.binder.specs.Scopes.{Space, Scope}
+use Rattle.binder.specs.Names.{locals_of, scope_in}
+use Rattle.binder.specs.Storage.{first_static}
+use Rattle.bound_names.specs.bound_members.specs.bound_calls.specs.bound_declarations.specs.constant_values.specs.Tables.{AreOwnValues}
+use Rattle.bound_names.specs.bound_members.specs.bound_calls.specs.bound_declarations.specs.constant_values.specs.declared_names.specs.View.{local_view, written_view}
+use Rattle.bound_names.specs.project_tables.specs.declared.rows.ProcedureRow.{ProcedureRow}
 
 -- a procedure by the number of its entry
 abbrev pub numbered_view : ProcedureRow → ℕ × Written

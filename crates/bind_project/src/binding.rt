@@ -2,23 +2,23 @@
 
 ghost use Rattle.std.specs.Prelude.{◌≡◌, Some, None, IfOk, map};
 ghost use Rattle.bind_project.specs.Bound.{IsBound, Runs};
-ghost use Rattle.bound_actions.specs.binder.specs.Projects as declaring;
-ghost use Rattle.bound_actions.specs.bound_forms.specs.Bind as plain;
-ghost use Rattle.bound_actions.specs.binder.specs.Names.{scope_of};
+ghost use Rattle.binder.specs.Projects as declaring;
+ghost use Rattle.bound_names.specs.bound_members.specs.bound_calls.specs.bound_forms.specs.Bind as plain;
+ghost use Rattle.binder.specs.Names.{scope_of};
 ghost use Rattle.bound_project.specs.Bodies.{Fits, project_view};
 ghost use Rattle.bound_project.specs.DraftView.{draft_view};
 ghost use Rattle.bound_project.specs.View.{declarations_view};
-ghost use Rattle.bound_actions.specs.constant_values.specs.Rounds.{AreNumbered};
-ghost use Rattle.bound_actions.specs.declared_names.specs.Outside.{the_outside};
-ghost use Rattle.bound_actions.specs.declared_names.specs.View.{space_view};
-ghost use Rattle.bound_actions.specs.project_tables.specs.Rows.{AreRows};
-ghost use Rattle.bound_actions.specs.project_tables.specs.Signed.{AreSignatures};
-ghost use Rattle.bound_actions.specs.project_tables.specs.Startups.{startup_view};
+ghost use Rattle.bound_names.specs.bound_members.specs.bound_calls.specs.bound_declarations.specs.constant_values.specs.Rounds.{AreNumbered};
+ghost use Rattle.bound_names.specs.bound_members.specs.bound_calls.specs.bound_declarations.specs.constant_values.specs.declared_names.specs.Outside.{the_outside};
+ghost use Rattle.bound_names.specs.bound_members.specs.bound_calls.specs.bound_declarations.specs.constant_values.specs.declared_names.specs.View.{space_view};
+ghost use Rattle.bound_names.specs.project_tables.specs.Rows.{AreRows};
+ghost use Rattle.bound_names.specs.project_tables.specs.Signed.{AreSignatures};
+ghost use Rattle.bound_names.specs.project_tables.specs.Startups.{startup_view};
 
 use crate::bound::Bound;
 use crate::spaces::{bind_spaces, front};
-use bound_actions::declared_names::Space;
-use bound_actions::project_tables::{
+use bound_names::bound_members::bound_calls::bound_declarations::constant_values::declared_names::Space;
+use bound_names::project_tables::{
     Rows, Signatures, Startup, declarations, project_rows, project_signatures, startup_number,
 };
 use bound_project::{Declarations, Draft, Project};

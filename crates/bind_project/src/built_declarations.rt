@@ -1,16 +1,15 @@
-//! Declarations of types that run: no Collections, no types that the profile hasn't, no events, and no arrays declared As
-//! New.
+//! Declarations of types that run: no types that the profile hasn't, no events, and no arrays declared As New.
 
 ghost use Rattle.std.specs.Prelude.{◌≡◌, IfOk, option_map};
 ghost use Rattle.std.specs.List.{list_all};
-ghost use Rattle.bound_actions.specs.bound_forms.specs.Bind as plain;
-ghost use Rattle.bound_project.specs.View.{declared_view, element_view};
-ghost use Rattle.bound_actions.specs.declared_names.specs.View.{scope_view, type_meant_view};
+ghost use Rattle.bound_names.specs.bound_members.specs.bound_calls.specs.bound_forms.specs.Bind as plain;
+ghost use Rattle.bound_names.specs.bound_members.specs.bound_calls.specs.bound_declarations.specs.constant_values.specs.declared_names.specs.View.{scope_view, type_meant_view};
 ghost use Rattle.vba_module.specs.Headers.{all_of, parameters_of};
 ghost use Rattle.vba_tree.specs.View.{listed_view, declared_type_view, type_clause_view, new_type_clause_view, variable_view, parameter_view, parameters_view, result_type_view};
 
-use bound_actions::declared_names::{Scope, TypeMeant, type_meant};
-use bound_project::{DeclaredType, ElementType};
+use bound_names::bound_members::bound_calls::bound_declarations::constant_values::declared_names::{
+    Scope, TypeMeant, type_meant,
+};
 use vba_base::NoMemory;
 use vba_lexer::TypeSuffix;
 use vba_tree::{
@@ -18,42 +17,11 @@ use vba_tree::{
     TypeClause, Variable,
 };
 
-fn is_built_element(of: ElementType) -> bool
-    ensures { result ≡ plain.is_built_type (element_view of) }
-{
-    match of {
-        ElementType::Collection => false,
-        ElementType::Class(_)
-        | ElementType::Object
-        | ElementType::Worksheet
-        | ElementType::Range
-        | ElementType::Boolean
-        | ElementType::Byte
-        | ElementType::Integer
-        | ElementType::Long
-        | ElementType::LongLong
-        | ElementType::Currency
-        | ElementType::Text
-        | ElementType::FixedText(_)
-        | ElementType::Variant
-        | ElementType::UserType(_) => true,
-    }
-}
-
-fn is_built_type(of: DeclaredType) -> bool
-    ensures { result ≡ plain.is_built_type (declared_view of) }
-{
-    match of {
-        DeclaredType::Plain(of) => is_built_element(of),
-        DeclaredType::ArrayOf(of) => is_built_element(of),
-    }
-}
-
 fn is_built_meant(meant: Option<TypeMeant>) -> bool
     ensures { result ≡ plain.is_built_meant (option_map type_meant_view meant) }
 {
     match meant {
-        Some(TypeMeant::Known(of)) => is_built_type(of),
+        Some(TypeMeant::Known(_)) => true,
         Some(TypeMeant::OfHost) => true,
         Some(TypeMeant::LeftOut) => false,
         None => false,

@@ -2,19 +2,19 @@
 
 ghost use Rattle.std.specs.Prelude.{◌≡◌, ◌&&◌, IfOk, option_map, is_some, not};
 ghost use Rattle.std.specs.List.{list_all};
-ghost use Rattle.bound_actions.specs.bound_forms.specs.Bind as plain;
-ghost use Rattle.bound_actions.specs.declared_names.specs.View.{scope_view};
+ghost use Rattle.bound_names.specs.bound_members.specs.bound_calls.specs.bound_forms.specs.Bind as plain;
+ghost use Rattle.bound_names.specs.bound_members.specs.bound_calls.specs.bound_declarations.specs.constant_values.specs.declared_names.specs.View.{scope_view};
 ghost use Rattle.module_parts.specs.View.{part_view};
 ghost use Rattle.vba_module.specs.Headers.{parameters_of};
 ghost use Rattle.vba_module.specs.Parts as parts;
 ghost use Rattle.vba_tree.specs.View.{parameters_view, result_type_view, statement_view, view, listed_view};
-ghost use Rattle.bound_actions.specs.binder.specs.ClassTables as classes;
+ghost use Rattle.binder.specs.ClassTables as classes;
 
 use crate::built_declarations::{
     are_built_parameters, are_built_variables, is_built_result, is_built_suffix, is_built_written,
 };
-use bound_actions::declared_names::Scope;
-use bound_actions::project_tables::{Mark, attribute_name};
+use bound_names::bound_members::bound_calls::bound_declarations::constant_values::declared_names::Scope;
+use bound_names::project_tables::{Mark, attribute_name};
 use module_parts::Part;
 use vba_base::NoMemory;
 use vba_tree::{AttributeLine, LineTree, ProcedureHeader, SimpleStatement, Statement};

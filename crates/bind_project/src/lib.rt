@@ -15,7 +15,4 @@ mod walk;
 
 pub use binding::{bind, startup_fault};
 pub use bound::Bound;
-pub use bound_actions::project_tables::Startup;
-
-// What stands below, for the crates above.
-pub use bound_actions::{binder, bound_forms, constant_values, declared_names, project_tables};
+pub use bound_names::project_tables::Startup;

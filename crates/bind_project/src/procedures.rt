@@ -5,20 +5,22 @@ ghost use Rattle.bind_project.specs.Homes.{HomeStands};
 ghost use Rattle.bind_project.specs.Modules.{IsFront, ProcedureAdded};
 ghost use Rattle.bind_project.specs.Procedures.{RowFits, numbered_view};
 ghost use Rattle.bound_lines.specs.Round.{around_view};
-ghost use Rattle.bound_actions.specs.bound_forms.specs.Bind as plain;
+ghost use Rattle.bound_names.specs.bound_members.specs.bound_calls.specs.bound_forms.specs.Bind as plain;
 ghost use Rattle.bound_project.specs.DraftView.{draft_view};
-ghost use Rattle.bound_actions.specs.bound_names.specs.View.{EnvStands, env_view};
-ghost use Rattle.bound_actions.specs.declared_names.specs.View.{scope_view};
+ghost use Rattle.bound_names.specs.View.{EnvStands, env_view};
+ghost use Rattle.bound_names.specs.bound_members.specs.bound_calls.specs.bound_declarations.specs.constant_values.specs.declared_names.specs.View.{scope_view};
 
 use crate::home::Home;
 use crate::walk::bind_body;
-use bound_actions::bound_names::Env;
-use bound_actions::constant_values::constants_in;
-use bound_actions::declared_names::{Scope, has_class};
-use bound_actions::project_tables::ProcedureRow;
-use bound_actions::statement_numbers::{blocks_in, body_count};
 use bound_lines::Around;
+use bound_names::Env;
+use bound_names::bound_members::bound_calls::bound_declarations::constant_values::constants_in;
+use bound_names::bound_members::bound_calls::bound_declarations::constant_values::declared_names::{
+    Scope, has_class,
+};
+use bound_names::project_tables::ProcedureRow;
 use bound_project::Draft;
+use statement_nodes::statement_numbers::{blocks_in, body_count};
 use std::alloc::Global;
 use vba_base::{NoMemory, OrMemory, Place};
 
@@ -42,6 +44,7 @@ fn env_of<'a>(home: Home<'a>, row: &'a ProcedureRow<'a>) -> Env<'a>
         first: row.first,
         compare: scope.here.source.compare(),
         has_class: has_class(scope.spaces),
+        has_new: home.has_new,
     }
 }
 

@@ -4,19 +4,22 @@ ghost use Rattle.std.specs.Prelude.{◌≡◌, OnOk, map};
 ghost use Rattle.bind_project.specs.Homes.{HomeStands};
 ghost use Rattle.bind_project.specs.Modules as modules;
 ghost use Rattle.bind_project.specs.Modules.{IsFront, SpaceAdded, SpacesAdded};
-ghost use Rattle.bound_actions.specs.binder.specs.Projects as declaring;
+ghost use Rattle.binder.specs.Projects as declaring;
 ghost use Rattle.bound_project.specs.DraftView.{draft_view};
-ghost use Rattle.bound_actions.specs.constant_values.specs.Rounds.{AreNumbered};
-ghost use Rattle.bound_actions.specs.declared_names.specs.Outside.{the_outside};
-ghost use Rattle.bound_actions.specs.declared_names.specs.View.{scope_view, space_view};
-ghost use Rattle.bound_actions.specs.project_tables.specs.Rows.{AreRows, AreRowsOf};
+ghost use Rattle.bound_names.specs.bound_members.specs.bound_calls.specs.bound_declarations.specs.constant_values.specs.Rounds.{AreNumbered};
+ghost use Rattle.bound_names.specs.bound_members.specs.bound_calls.specs.bound_declarations.specs.constant_values.specs.declared_names.specs.Outside.{the_outside};
+ghost use Rattle.bound_names.specs.bound_members.specs.bound_calls.specs.bound_declarations.specs.constant_values.specs.declared_names.specs.View.{scope_view, space_view};
+ghost use Rattle.bound_names.specs.project_tables.specs.Rows.{AreRows, AreRowsOf};
 ghost use Rattle.bound_project.specs.View.{declarations_view};
-ghost use Rattle.bound_actions.specs.project_tables.specs.Signed.{AreSignatures, whole_scope};
+ghost use Rattle.bound_names.specs.project_tables.specs.Signed.{AreSignatures, whole_scope};
 
 use crate::home::Home;
 use crate::modules::bind_parts;
-use bound_actions::declared_names::{Scope, Space};
-use bound_actions::project_tables::{ProcedureRow, Rows, Signatures};
+use bound_names::bound_members::bound_calls::bound_declarations::constant_values::declared_names::{
+    Scope, Space,
+};
+use bound_names::bound_members::bound_calls::bound_declarations::has_new;
+use bound_names::project_tables::{ProcedureRow, Rows, Signatures};
 use bound_project::{Declarations, Draft};
 use std::alloc::Global;
 use vba_base::{OrMemory, Place};
@@ -68,6 +71,7 @@ pub(crate) fn bind_spaces<'a>(
     ensures { OnOk result (SpacesAdded the_outside (map space_view spaces.now) (draft_view draft.old) (draft_view draft.new)) }
 {
     let values = &rows.values;
+    let has_new = has_new(&*spaces);
     let mut waiting = rows.of.as_slice();
     let mut left = spaces;
     'spaces: while let [here, behind @ ..] = left {
@@ -84,6 +88,7 @@ pub(crate) fn bind_spaces<'a>(
             values,
             signatures: &*signatures,
             declared: &*declared,
+            has_new,
         };
         bind_space(alloc, draft, home, of_here.as_slice())?;
         waiting = others;

@@ -3,20 +3,20 @@
 ghost use Rattle.std.specs.Prelude.{◌≡◌, ℕ, [], OnOk};
 ghost use Rattle.bound_lines.specs.Round.{StandsAt, around_view};
 ghost use Rattle.statement_nodes.specs.Walks.{Added, BodyAdded, PartAdded, statements_of};
-ghost use Rattle.bound_actions.specs.binder.specs.Blocks.{next_number};
+ghost use Rattle.binder.specs.Blocks.{next_number};
 ghost use Rattle.bound_project.specs.DraftView.{draft_view};
-ghost use Rattle.bound_actions.specs.bound_names.specs.View.{EnvStands};
+ghost use Rattle.bound_names.specs.View.{EnvStands};
 ghost use Rattle.module_parts.specs.View.{part_view};
-ghost use Rattle.bound_actions.specs.statement_numbers.specs.View.{standing_view};
+ghost use Rattle.statement_nodes.specs.statement_numbers.specs.View.{standing_view};
 
 use crate::built_parts::is_built_part;
 use crate::single_line_ifs::bind_statement;
 use crate::statements::bind_simple;
-use bound_actions::bound_declarations::NotYet;
-use bound_actions::statement_numbers::{Standing, Walk};
 use bound_lines::{Around, around_at};
+use bound_names::bound_members::bound_calls::bound_declarations::NotYet;
 use bound_project::Draft;
 use module_parts::{Part, place_of};
+use statement_nodes::statement_numbers::{Standing, Walk};
 use std::alloc::Global;
 use vba_base::{OrMemory, Place};
 use vba_tree::Statement;

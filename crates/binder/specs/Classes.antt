@@ -3,7 +3,9 @@ use Rattle.std.specs.Prelude.{ℕ, ◌==◌, Bool, true, false, ◌&&◌, ◌||�
 use Rattle.std.specs.List.{list_any}
 use Rattle.vba_values.specs.Types.{Declared}
 use Rattle.vba_values.specs.Types as type
-use Rattle.vba_tree.specs.Tree.{Variable, NewTypeClause, Parameter}
+use Rattle.vba_tree.specs.Tree.{Variable, NewTypeClause, Parameter, Simple, variables, Stmt, simple, if_then, if_else, Stmts, nothing, one, gap, more}
+use Rattle.vba_module.specs.Parts.{Part, statement}
+use Rattle.vba_module.specs.Headers.{all_of}
 use Rattle.vba_words.specs.declared.identifier.Identifier.{Identifier}
 use Rattle.binder.specs.Declarations.{What, a_variable, a_procedure, Entry}
 use Rattle.binder.specs.Scopes.{Space, Scope, is_named, first_at, is_same, seen_from}
@@ -54,10 +56,16 @@ abbrev pub class_in : Declared → Option ℕ
 class_in (type.class number) = Some number
 class_in other = None
 
+-- the class of which New makes objects of a type: that of Collection is 0
+abbrev pub made_in : Declared → Option ℕ
+made_in (type.class number) = Some number
+made_in type.collection = Some 0
+made_in other = None
+
 -- the class of which an object is made for a variable of a type, by its clause
 abbrev pub made_by : Option NewTypeClause → Declared → Option ℕ
 made_by None of = None
-made_by (Some c) of = if is_some c.new_word then class_in of else None
+made_by (Some c) of = if is_some c.new_word then made_in of else None
 
 abbrev pub made_class : Scope → Variable → Option ℕ
 made_class s v = made_by v.type_clause (declared_variable s v).of
@@ -66,9 +74,38 @@ made_class s v = made_by v.type_clause (declared_variable s v).of
 abbrev pub can_hold_object : Declared → Bool
 can_hold_object of = is_object of || is_variant of
 
--- what a parameter of a type leads to may be declared As New, in a project with a class
+-- whether a project declares a variable As New
+abbrev pub is_new_clause : Option NewTypeClause → Bool
+is_new_clause None = false
+is_new_clause (Some c) = is_some c.new_word
+
+abbrev pub makes_variables : Simple → Bool
+makes_variables (variables word token vs) = list_any (λ (v : Variable). is_new_clause v.type_clause) (all_of vs)
+makes_variables s = false
+
+-- a statement, with those inside a single-line If
+abbrev mutual
+  pub statement_makes : Stmt → Bool
+  statement_makes (simple s) = makes_variables s
+  statement_makes (if_then if_word e then_word ss) = list_makes ss
+  statement_makes (if_else if_word e then_word ss else_word es) = list_makes ss || list_makes es
+
+  pub list_makes : Stmts → Bool
+  list_makes nothing = false
+  list_makes (one s) = statement_makes s
+  list_makes (gap before colon) = list_makes before
+  list_makes (more before colon s) = list_makes before || statement_makes s
+
+abbrev pub declares_new : Part → Bool
+declares_new (statement s) = statement_makes s
+declares_new part = false
+
+abbrev pub has_new : List Space → Bool
+has_new spaces = list_any (λ (o : Space). list_any declares_new o.source.parts) spaces
+
+-- what a parameter of a type leads to may be declared As New, in a project that declares a variable so
 abbrev pub made_through : (has : Bool) → Parameter → Declared → Bool
 made_through has p of = has && (not (is_by_val p.passing) && can_hold_object of)
 
 abbrev pub may_be_made : Scope → Parameter → Bool
-may_be_made s p = made_through (has_class s.spaces) p (parameter_type s p)
+may_be_made s p = made_through (has_new s.spaces) p (parameter_type s p)

@@ -9,20 +9,20 @@ use Rattle.vba_expression.specs.declared.node.ExpressionNode.TheVariants as node
 use Rattle.vba_expression.specs.Nodes.{behind_node}
 use Rattle.bound_project.specs.Pieces.{Piece, Tables}
 use Rattle.bound_project.specs.Drafts.{Drafted}
-use Rattle.bound_members.specs.binder.specs.Declarations.{What, a_variable, a_constant, an_enum, a_member, a_type, an_event, a_procedure, Entry}
-use Rattle.bound_members.specs.binder.specs.Scopes.{Space, Scope, Qualifier, module_qualifier, enum_qualifier, library_qualifier, of_module, plainly, before_dot, counts, declares, behind, as_qualifier, first_at, is_named, qualifier_of, seen_from, enum_behind}
-use Rattle.bound_members.specs.bound_forms.specs.Terms.{Env}
-use Rattle.bound_members.specs.bound_forms.specs.Terms as plain
-use Rattle.bound_members.specs.bound_forms.specs.ExpressionsBound.{term_of, meant_term, member_of, behind_term, from_zero, place_told}
-use Rattle.bound_members.specs.bound_calls.specs.declared.term.Dotted.{Dotted}
-use Rattle.bound_members.specs.bound_calls.specs.declared.term.Term.{Term}
-use Rattle.bound_members.specs.bound_calls.specs.declared.term.Tree.{Tree}
-use Rattle.bound_members.specs.bound_calls.specs.declared.term.Item.{Item}
-use Rattle.bound_members.specs.bound_calls.specs.declared.term.Item.TheVariants as item
-use Rattle.bound_members.specs.bound_calls.specs.Standing.{TermStands, TreeStands, QualifierStands, LeafStands, AllNamed}
+use Rattle.binder.specs.Declarations.{What, a_variable, a_constant, an_enum, a_member, a_type, an_event, a_procedure, Entry}
+use Rattle.binder.specs.Scopes.{Space, Scope, Qualifier, module_qualifier, enum_qualifier, library_qualifier, of_module, plainly, before_dot, counts, declares, behind, as_qualifier, first_at, is_named, qualifier_of, seen_from, enum_behind}
+use Rattle.bound_names.specs.bound_members.specs.bound_calls.specs.bound_forms.specs.Terms.{Env}
+use Rattle.bound_names.specs.bound_members.specs.bound_calls.specs.bound_forms.specs.Terms as plain
+use Rattle.bound_names.specs.bound_members.specs.bound_calls.specs.bound_forms.specs.ExpressionsBound.{term_of, meant_term, member_of, behind_term, from_zero, place_told}
+use Rattle.bound_names.specs.bound_members.specs.bound_calls.specs.declared.term.Dotted.{Dotted}
+use Rattle.bound_names.specs.bound_members.specs.bound_calls.specs.declared.term.Term.{Term}
+use Rattle.bound_names.specs.bound_members.specs.bound_calls.specs.declared.term.Tree.{Tree}
+use Rattle.bound_names.specs.bound_members.specs.bound_calls.specs.declared.term.Item.{Item}
+use Rattle.bound_names.specs.bound_members.specs.bound_calls.specs.declared.term.Item.TheVariants as item
+use Rattle.bound_names.specs.bound_members.specs.bound_calls.specs.Standing.{TermStands, TreeStands, QualifierStands, LeafStands, AllNamed}
 use Rattle.bound_accesses.specs.Qualified.{IsQualifier, MakesMember, dotted_view, looked_up}
-use Rattle.bound_members.specs.bound_calls.specs.Steps.{MakesLeaf, Goes}
-use Rattle.bound_members.specs.bound_calls.proofs.Steps.{goes_made}
+use Rattle.bound_names.specs.bound_members.specs.bound_calls.specs.Steps.{MakesLeaf, Goes}
+use Rattle.bound_names.specs.bound_members.specs.bound_calls.proofs.Steps.{goes_made}
 
 -- an expression that is a name
 pub named_base : (base : Expr) (x : Identifier) → name_in base ≡ Some x → base ≡ name x

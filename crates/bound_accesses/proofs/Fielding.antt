@@ -19,51 +19,52 @@ use Rattle.bound_project.specs.declared.declarations.Declarations.{Declarations}
 use Rattle.bound_project.specs.declared.node.Node.{Node}
 use Rattle.bound_project.specs.declared.node.NodeKind.{NodeKind}
 use Rattle.bound_project.specs.declared.node.NodeKind.TheVariants as kinds
-use Rattle.bound_project.specs.Project.{Declaration, UserType, nowhere}
+use Rattle.bound_project.specs.Project.{Declaration, UserType}
 use Rattle.bound_project.specs.Project as project
 use Rattle.bound_project.specs.View.{declared_view, declarations_view, user_type_view}
-use Rattle.bound_project.specs.Expressions.{host_member, host_object, load, no_exprs, Lvalue, field, field_value, kept_place, call, element_value, expr, in_order, load_made, method, new_object, no_args}
+use Rattle.bound_project.specs.Expressions.{host_member, host_object, load, no_exprs, Lvalue, field, field_value, kept_place}
 use Rattle.bound_project.specs.Expressions as bound
-use Rattle.bound_project.specs.Pieces.{Piece, Tables, expr_of, name_in, put, put_kind, an_expr, arguments_off, exprs_off, order_in}
+use Rattle.bound_project.specs.Pieces.{Piece, Tables, expr_of, name_in, put, put_kind}
 use Rattle.bound_project.specs.Drafts.{Drafted}
-use Rattle.bound_members.specs.binder.specs.Projects.{declarations_of}
-use Rattle.bound_members.specs.binder.specs.Constants.{home}
-use Rattle.bound_members.specs.binder.specs.Scopes.{Space, Qualifier, qualifier_of, enum_behind}
-use Rattle.bound_members.specs.binder.specs.Storage.{types_from, types_of_space, user_types, has_bounds}
-use Rattle.bound_members.specs.bound_forms.specs.Terms.{Env, Within, a_place as a_place_term, a_value, no_term, expression_of, read_of, routine_term}
-use Rattle.bound_members.specs.bound_forms.specs.Terms as terms
-use Rattle.bound_members.specs.bound_forms.specs.ExpressionsBound.{bare_call, behind_term, err_member, field_named, field_of_place, field_of_value, kept_member, member_of, node_or, object_member, sheets_value, unknown_member, term_of, with_field, given_as, typed_term, place_told, class_member, host_behind, is_instance_type, new_term}
-use Rattle.bound_members.specs.binder.specs.Types.{meant_type, type_meant}
-use Rattle.bound_members.specs.declared_names.specs.Outside.{the_outside}
-use Rattle.bound_members.specs.declared_names.specs.View.{scope_view}
-use Rattle.bound_members.specs.declared_names.specs.declared.scope.Scope.{Scope as ScopeHere}
+use Rattle.binder.specs.Projects.{declarations_of}
+use Rattle.binder.specs.Constants.{home}
+use Rattle.binder.specs.Scopes.{Space, Qualifier, qualifier_of, enum_behind}
+use Rattle.binder.specs.Storage.{types_from, types_of_space, user_types, has_bounds}
+use Rattle.bound_names.specs.bound_members.specs.bound_calls.specs.bound_forms.specs.Terms.{Env, Within, a_place as a_place_term, a_value, no_term, expression_of, read_of, routine_term}
+use Rattle.bound_names.specs.bound_members.specs.bound_calls.specs.bound_forms.specs.Terms as terms
+use Rattle.bound_names.specs.bound_members.specs.bound_calls.specs.bound_forms.specs.ExpressionsBound.{bare_call, behind_term, err_member, field_named, field_of_place, field_of_value, kept_member, member_of, node_or, object_member, sheets_value, unknown_member, term_of, with_field, given_as, typed_term, place_told, class_member, host_behind, is_instance_type, new_term}
+use Rattle.binder.specs.Types.{meant_type, type_meant}
+use Rattle.bound_names.specs.bound_members.specs.bound_calls.specs.bound_declarations.specs.constant_values.specs.declared_names.specs.Outside.{the_outside}
+use Rattle.bound_names.specs.bound_members.specs.bound_calls.specs.bound_declarations.specs.constant_values.specs.declared_names.specs.View.{scope_view}
+use Rattle.bound_names.specs.bound_members.specs.bound_calls.specs.bound_declarations.specs.constant_values.specs.declared_names.specs.declared.scope.Scope.{Scope as ScopeHere}
 use Rattle.bound_names.specs.project_tables.specs.Signed.{whole_scope}
 use Rattle.bound_accesses.specs.declared.fields.Field.{Field}
-use Rattle.bound_members.specs.bound_calls.specs.declared.term.Ending.{Ending}
-use Rattle.bound_members.specs.bound_calls.specs.declared.term.HostMember.{HostMember}
-use Rattle.bound_members.specs.bound_calls.specs.declared.term.Routine.{Routine}
-use Rattle.bound_members.specs.bound_calls.specs.declared.term.Term.{Term}
-use Rattle.bound_members.specs.bound_calls.specs.declared.term.Term.TheVariants as term
-use Rattle.bound_members.specs.bound_calls.specs.declared.term.Tree.{Tree}
-use Rattle.bound_members.specs.bound_calls.specs.declared.term.Item.{Item}
-use Rattle.bound_members.specs.bound_calls.specs.declared.term.Item.TheVariants as items
-use Rattle.bound_members.specs.bound_calls.specs.Calls.{node_of}
-use Rattle.bound_accesses.specs.Fields.{FieldFound, FieldIs, FieldOrNone, KeepsField, LacksField, MakesBehind, MakesField, MakesFieldValue, PlacesField, ValueOrNone, place_found, user_type_in, value_found, is_named_object}
-use Rattle.bound_accesses.specs.Items.{FindsBehindPlace, FindsBehindValue, found_term, may_be_class}
+use Rattle.bound_names.specs.bound_members.specs.bound_calls.specs.declared.term.Ending.{Ending}
+use Rattle.bound_names.specs.bound_members.specs.bound_calls.specs.declared.term.HostMember.{HostMember}
+use Rattle.bound_names.specs.bound_members.specs.bound_calls.specs.declared.term.Routine.{Routine}
+use Rattle.bound_names.specs.bound_members.specs.bound_calls.specs.declared.term.Term.{Term}
+use Rattle.bound_names.specs.bound_members.specs.bound_calls.specs.declared.term.Term.TheVariants as term
+use Rattle.bound_names.specs.bound_members.specs.bound_calls.specs.declared.term.Tree.{Tree}
+use Rattle.bound_names.specs.bound_members.specs.bound_calls.specs.declared.term.Item.{Item}
+use Rattle.bound_names.specs.bound_members.specs.bound_calls.specs.declared.term.Item.TheVariants as items
+use Rattle.bound_names.specs.bound_members.specs.bound_calls.specs.Calls.{node_of}
+use Rattle.bound_accesses.specs.Fields.{FieldFound, FieldIs, FieldOrNone, KeepsField, LacksField, MakesBehind, MakesField, MakesFieldValue, PlacesField, ValueOrNone, place_found, user_type_in, value_found}
+use Rattle.bound_accesses.specs.Items.{FindsBehindPlace, FindsBehindValue, found_term, is_before_dot, may_be_class}
 use Rattle.bound_names.specs.ClassMembers.{MakesMemberOf, unknown_term}
 use Rattle.bound_accesses.specs.Qualified.{IsQualifier, MakesMember, names_sheets}
-use Rattle.bound_members.specs.bound_calls.specs.Standing.{TermStands, TreeStands, Stands, Base, ValueEnds}
-use Rattle.bound_members.specs.bound_calls.specs.Steps.{Goes, MakesLeaf}
-use Rattle.bound_members.specs.bound_calls.specs.Taking.{CallsRoutine, PushesSheet, ReadsMember, read_kind}
-use Rattle.bound_members.specs.bound_calls.proofs.Growing.{grown_same, grown_twice, grown_pieces, all_named, stands_grows}
-use Rattle.bound_members.specs.bound_calls.proofs.Taking.{sheet_stands, read_ends}
+use Rattle.bound_names.specs.bound_members.specs.bound_calls.specs.Standing.{TermStands, TreeStands, Stands, Base, ValueEnds}
+use Rattle.bound_names.specs.bound_members.specs.bound_calls.specs.Steps.{Goes, MakesLeaf}
+use Rattle.bound_names.specs.bound_members.specs.bound_calls.specs.Taking.{CallsRoutine, PushesSheet, ReadsMember, read_kind}
+use Rattle.bound_names.specs.bound_members.specs.bound_calls.proofs.Growing.{grown_same, grown_twice, grown_pieces, all_named, stands_grows}
+use Rattle.bound_names.specs.bound_members.specs.bound_calls.proofs.Taking.{sheet_stands, read_ends}
 use Rattle.bound_accesses.proofs.Dotted.{looked, made_tree}
 use Rattle.bound_names.proofs.UnknownTerms.{unknown_stands}
-use Rattle.bound_accesses.proofs.ItemTerms.{one_more, place_read, read_stands}
+use Rattle.bound_accesses.proofs.ItemTerms.{hosted, one_more, place_read, read_stands}
+use Rattle.bound_accesses.proofs.Tested.{no_class_made}
 use Rattle.vba_values.specs.declared.object.HostRef.{HostRef}
-use Rattle.bound_members.specs.binder.specs.Classes.{class_in, has_class}
-use Rattle.bound_members.specs.binder.specs.Declarations.{Written}
-use Rattle.bound_members.specs.bound_calls.proofs.LastNodes.{found_passes, object_found_passes, place_passes, value_found_passes, value_passes}
+use Rattle.binder.specs.Classes.{class_in, has_class}
+use Rattle.binder.specs.Declarations.{Written}
+use Rattle.bound_names.specs.bound_members.specs.bound_calls.proofs.LastNodes.{any_node}
 
 -- ---- the fields of user types
 
@@ -310,14 +311,14 @@ behind_object_place env place dot at bounded lends makes f d e found none class 
 }
 
 pub behind_object_value : (env : Env) (place dot : Place) (v : Ending) (f : Identifier) (d e : Drafted) (found : Option HostMember) → user_type_in v.of ≡ None → class_in (declared_view v.of) ≡ None
-    → FindsBehindValue env place v f.name d e found → MakesBehind env place dot (term.Value v) f d e (found_term found dot)
-behind_object_value env place dot v f d e found none class h = record {
+    → is_before_dot v.kind ≡ true → FindsBehindValue env place v f.name d e found → MakesBehind env place dot (term.Value v) f d e (found_term found dot)
+behind_object_value env place dot v f d e found none class before h = record {
   grown = h.grown;
   named = h.named dot;
   stands = λ z below k.
       let A : terms.Term → Type 0 = λ (w : terms.Term). TermStands env e.tables (found_term found dot) w e.pieces below in
       subst A (sym (ap (λ (w : terms.Term). member_of env place dot w f) k.is ∙ no_type_value env place dot k.made v.of f none class)) (h.stands dot k.made below k.ends);
-  there = λ z below k. ap (λ (w : terms.Term). may_be_class w) k.is ∙ h.there k.made below k.ends;
+  there = λ z below k. ap (λ (w : terms.Term). may_be_class w) k.is ∙ no_class_made d.tables any_node v.kind k.made d.pieces below before (k.ends any_node) (declared_view v.of);
 }
 
 -- ---- behind an object of a class
@@ -369,34 +370,9 @@ keeps_member env header of lends class f place d b c e y is known one two m =
       stands = subst A (sym is) (subst B (sym member) (g.stands made d.pieces refl));
     }) m
 
--- what isn't New is none
-named_on_top : List Piece → Bool
-named_on_top (an_expr (expr (new_object class) place of operand) ∷ st) = false
-named_on_top st = true
-
-kind_named : (t : Tables) (n : Node) (k : NodeKind) (st : List Piece) → is_named_object k ≡ true → named_on_top (put_kind t n k st) ≡ true
-unfolding named_on_top
-kind_named t n kinds.Load st h = place_passes named_on_top refl (λ x. expr_of n (load x)) (λ x rest. refl) st
-kind_named t n kinds.LoadMade st h = place_passes named_on_top refl (λ x. expr_of n (load_made x)) (λ x rest. refl) st
-kind_named t n kinds.This st h = refl
-kind_named t n (kinds.ElementValue count) st h = value_found_passes named_on_top refl (λ e es. expr_of n (element_value e es)) (λ e es rest. refl) (exprs_off count st no_exprs)
-kind_named t n (kinds.FieldValue i) st h = value_passes named_on_top refl (λ e. expr_of n (field_value e i)) (λ e rest. refl) st
-kind_named t n (kinds.Call p count) st h = found_passes named_on_top refl (λ args. expr_of n (call p args)) (λ args rest. refl) (arguments_off count st no_args)
-kind_named t n (kinds.CallInOrder p count order) st h = found_passes named_on_top refl (λ args. expr_of n (call p (in_order (order_in t order) args))) (λ args rest. refl) (arguments_off count st no_args)
-kind_named t n (kinds.Method p count) st h = object_found_passes named_on_top refl (λ e args. expr_of n (method e p args)) (λ e args rest. refl) (arguments_off count st no_args)
-kind_named t n (kinds.MethodInOrder p count order) st h =
-    object_found_passes named_on_top refl (λ e args. expr_of n (method e p (in_order (order_in t order) args))) (λ e args rest. refl) (arguments_off count st no_args)
-kind_named t n k st h = let e : false ≡ true = h in absurd cc
-
-named_none : (made : bound.Node) (class : ℕ) (place : Place) (of operand : Declared) (st : List Piece) → named_on_top (an_expr (expr made place of operand) ∷ st) ≡ true → may_be_class (a_value made (type.class class)) ≡ false
-unfolding named_on_top
-named_none (new_object n) class place of operand st h = let e : false ≡ true = h in absurd cc
-named_none (host_object r) class place of operand st h = refl
-named_none made class place of operand st h = refl
-
-pub behind_class_value : (env : Env) (place dot : Place) (v : Ending) (class : ℕ) (f : Identifier) (d b e : Drafted) (y : Term) → class_in (declared_view v.of) ≡ Some class → is_named_object v.kind ≡ true
+pub behind_class_value : (env : Env) (place dot : Place) (v : Ending) (class : ℕ) (f : Identifier) (d b e : Drafted) (y : Term) → class_in (declared_view v.of) ≡ Some class → is_before_dot v.kind ≡ true
     → b ≡ record d { pieces = put d.tables (node_of v.kind place v.of) d.pieces } → MakesMemberOf env dot class f b e y → MakesBehind env place dot (term.Value v) f d e y
-behind_class_value env place dot v class f d b e y is named one m =
+behind_class_value env place dot v class f d b e y is before one m =
     let n = node_of v.kind place v.of in
     let b1 : Drafted = record d { pieces = put d.tables n d.pieces } in
     let P : Drafted → Type 0 = λ (z : Drafted). MakesMemberOf env dot class f z e y → MakesBehind env place dot (term.Value v) f d e y in
@@ -410,9 +386,7 @@ behind_class_value env place dot v class f d b e y is named one m =
           ap (λ (w : terms.Term). member_of env place dot w f) k.is ∙ ap (λ (u : Declared). field_of_value env place dot k.made u f) (class_is (declared_view v.of) class is)
           ∙ ap (λ (u : Declared). class_member env dot (expression_of k.made place u) class f) (sym (class_is (declared_view v.of) class is)) in
           subst A (sym member) (g.stands made below (k.ends n));
-      there = λ z below k.
-          ap (λ (w : terms.Term). may_be_class w) k.is ∙ ap (λ (u : Declared). may_be_class (a_value k.made u)) (class_is (declared_view v.of) class is)
-          ∙ named_none k.made class n.place (declared_view n.of) (declared_view n.operand) below (sym (ap named_on_top (k.ends n)) ∙ kind_named d.tables n v.kind d.pieces named);
+      there = λ z below k. ap (λ (w : terms.Term). may_be_class w) k.is ∙ no_class_made d.tables n v.kind k.made d.pieces below before (k.ends n) (declared_view v.of);
     }) m
 
 -- a member that is read
@@ -424,12 +398,6 @@ never true true = refl
 never true false = refl
 never false b = refl
 
--- what a member of an object of the host gives is no object of a class
-host_hosted : (env : Env) (place dot : Place) (e : bound.Expr) (word : List ℕ) (es : bound.Exprs) (of : Declared) (fold : List ℕ)
-    → host_behind env place dot (host_member e word es) of fold ≡ object_member place dot (host_member e word es) of fold
-host_hosted env place dot e word es of fold =
-    ap (λ (b : Bool). if b then no_term else object_member place dot (host_member e word es) of fold) (never (has_class env.scope.spaces) (is_instance_type (host_member e word es) of))
-
 pub behind_member : (env : Env) (place dot : Place) (read : HostMember) (v : Ending) (f : Identifier) (d b e : Drafted) (found : Option HostMember) → ReadsMember read d b v → FindsBehindValue env place v f.name b e found
     → MakesBehind env place dot (term.HostMember read) f d e (found_term found dot)
 behind_member env place dot read v f d b e found r h = record {
@@ -440,7 +408,7 @@ behind_member env place dot read v f d b e found r h = record {
       let T : DeclaredType → terms.Term = λ (of : DeclaredType). object_member place dot node (declared_view of) f.name in
       let A : terms.Term → Type 0 = λ (w : terms.Term). TermStands env e.tables (found_term found dot) w e.pieces below in
       subst A (sym (ap (λ (w : terms.Term). member_of env place dot w f) k.is ∙ read_when (read.least == 0) (T read.of) (ap (λ (n : ℕ). n == 0) r.least_is) ∙ ap T (sym r.of_is)))
-      (subst A (host_hosted env place dot k.object (name_in d.tables read.name) no_exprs (declared_view v.of) f.name) (h.stands dot node below (r.ends k.object below k.on_top)));
+      (subst A (hosted env place dot node (declared_view v.of) f.name (h.none node below (r.ends k.object below k.on_top))) (h.stands dot node below (r.ends k.object below k.on_top)));
   there = λ z below k. ap (λ (w : terms.Term). may_be_class w) k.is;
 }
 
@@ -459,9 +427,6 @@ workbook_made n made ps below h = let e : host_object host.Workbook ≡ made = c
 
 workbook_below : (n : Node) (made : bound.Node) (ps below : List Piece) → expr_of n (host_object host.Workbook) ∷ ps ≡ expr_of n made ∷ below → ps ≡ below
 workbook_below n made ps below h = cc
-
-any_node : Node
-any_node = record { kind = kinds.NotGiven; place = nowhere; of = Plain element.Variant; operand = Plain element.Variant }
 
 sheets_of : (place dot : Place) (of : Declared) (f : Identifier) → names_sheets f ≡ true → object_member place dot (host_object host.Workbook) of f.name ≡ sheets_value
 sheets_of place dot of f h = ap (λ (b : Bool). if b then sheets_value else unknown_member dot (expression_of (host_object host.Workbook) place of)) h
@@ -566,6 +531,7 @@ typed_class (Some e) of = refl
 
 new_class : (of : Declared) → may_be_class (new_term of) ≡ true
 new_class (type.class number) = refl
+new_class type.collection = refl
 new_class of = refl
 
 dotted_base : (env : Env) (base : Expr) (dot : Token) (f : Identifier) → may_be_class (term_of env base) ≡ false → behind_dot base dot f ≡ member base dot f

@@ -3,40 +3,38 @@ use Rattle.std.proofs.Common.{◌≡◌, ℕ, Bool, true, false, List, ◌∷◌
 use Rattle.std.specs.Prelude.{codes, option_map, unwrap_or, if◌then◌else◌}
 use Rattle.vba_base.specs.declared.place.Place.{Place}
 use Rattle.vba_values.specs.Types.{Declared}
-use Rattle.vba_values.specs.Types as type
 use Rattle.bound_project.specs.declared.declared_type.DeclaredType.{DeclaredType}
 use Rattle.bound_project.specs.declared.node.NodeKind.{NodeKind}
 use Rattle.bound_project.specs.View.{declared_view}
-use Rattle.bound_project.specs.Expressions.{is_type, Lvalue, new_object}
+use Rattle.bound_project.specs.Expressions.{Lvalue}
 use Rattle.bound_project.specs.Expressions as bound
 use Rattle.bound_project.specs.Pieces.{Piece, Tables, an_expr, put}
 use Rattle.bound_project.specs.Drafts.{Drafted}
-use Rattle.bound_members.specs.bound_forms.specs.Terms.{Env, a_value, expression_of, no_term, read_of, routine_term}
-use Rattle.bound_members.specs.bound_forms.specs.Terms as plain
-use Rattle.bound_members.specs.binder.specs.Types.{is_object}
-use Rattle.bound_members.specs.bound_forms.specs.ExpressionsBound.{HostKind, host_kind, is_host_type, item_of, kind_by_type, member_of_kind, member_of_other, object_member, unknown_member, host_behind, may_be_instance}
-use Rattle.bound_members.specs.bound_calls.specs.declared.term.Ending.{Ending}
-use Rattle.bound_members.specs.bound_calls.specs.declared.term.HostMember.{HostMember}
-use Rattle.bound_members.specs.bound_calls.specs.declared.term.Term.{Term}
-use Rattle.bound_members.specs.bound_calls.specs.declared.term.Term.TheVariants as term
-use Rattle.bound_members.specs.bound_calls.specs.Calls.{node_of}
-use Rattle.bound_members.specs.bound_calls.specs.Standing.{Grown, TermNamed, TermStands, PlaceEnds}
-use Rattle.bound_members.specs.bound_calls.specs.Taking.{PushesSheet, read_kind}
-use Rattle.bound_members.specs.bound_calls.proofs.Growing.{grown_same, grown_pieces, grown_twice}
-use Rattle.bound_members.specs.bound_calls.proofs.LastNodes.{any_node}
-use Rattle.bound_members.specs.bound_calls.proofs.Taking.{named_still, sheet_stands, read_ends}
-use Rattle.bound_members.specs.bound_calls.proofs.TypedNodes.{typed_made}
-use Rattle.bound_members.specs.declared.kinds.HostKind as declared
-use Rattle.bound_members.specs.Kinds.{EndingOfKind, kind_view}
-use Rattle.bound_members.specs.Members.{Finds}
-use Rattle.bound_accesses.specs.Items.{FindsBehindPlace, FindsBehindValue, LacksMembers, MakesItem, MakesPlaceItem, MakesValueItem, ValueLacks, found_term, is_host_term, may_be_class}
+use Rattle.bound_names.specs.bound_members.specs.bound_calls.specs.bound_forms.specs.Terms.{Env, a_value, expression_of, no_term, read_of, routine_term}
+use Rattle.bound_names.specs.bound_members.specs.bound_calls.specs.bound_forms.specs.Terms as plain
+use Rattle.binder.specs.Types.{is_object}
+use Rattle.bound_names.specs.bound_members.specs.bound_calls.specs.bound_forms.specs.ExpressionsBound.{HostKind, host_kind, is_host_type, item_of, kind_by_type, member_of_kind, member_of_other, object_member, unknown_member, host_behind, may_be_instance}
+use Rattle.bound_names.specs.bound_members.specs.bound_calls.specs.declared.term.Ending.{Ending}
+use Rattle.bound_names.specs.bound_members.specs.bound_calls.specs.declared.term.HostMember.{HostMember}
+use Rattle.bound_names.specs.bound_members.specs.bound_calls.specs.declared.term.Term.{Term}
+use Rattle.bound_names.specs.bound_members.specs.bound_calls.specs.declared.term.Term.TheVariants as term
+use Rattle.bound_names.specs.bound_members.specs.bound_calls.specs.Calls.{node_of}
+use Rattle.bound_names.specs.bound_members.specs.bound_calls.specs.Standing.{Grown, TermNamed, TermStands, PlaceEnds}
+use Rattle.bound_names.specs.bound_members.specs.bound_calls.specs.Taking.{PushesSheet, read_kind}
+use Rattle.bound_names.specs.bound_members.specs.bound_calls.proofs.Growing.{grown_same, grown_pieces, grown_twice}
+use Rattle.bound_names.specs.bound_members.specs.bound_calls.proofs.LastNodes.{any_node}
+use Rattle.bound_names.specs.bound_members.specs.bound_calls.proofs.Taking.{named_still, sheet_stands, read_ends}
+use Rattle.bound_names.specs.bound_members.specs.bound_calls.proofs.TypedNodes.{typed_made}
+use Rattle.bound_names.specs.bound_members.specs.declared.kinds.HostKind as declared
+use Rattle.bound_names.specs.bound_members.specs.Kinds.{EndingOfKind, kind_view}
+use Rattle.bound_names.specs.bound_members.specs.Members.{Finds}
+use Rattle.bound_accesses.specs.Items.{FindsBehindPlace, FindsBehindValue, LacksMembers, MakesItem, MakesPlaceItem, MakesValueItem, ValueLacks, found_term, is_host_term}
 use Rattle.bound_names.proofs.UnknownTerms.{unknown_stands}
-use Rattle.bound_accesses.proofs.Tested.{no_test_made}
-use Rattle.bound_members.specs.binder.specs.Classes.{has_class}
-use Rattle.bound_members.specs.binder.specs.Declarations.{Written}
-use Rattle.bound_members.specs.binder.specs.Scopes.{Space}
-use Rattle.bound_members.specs.declared_names.specs.View.{space_view, written_view}
-use Rattle.bound_members.specs.bound_calls.specs.References.{NoInstance}
+use Rattle.binder.specs.Classes.{has_class}
+use Rattle.binder.specs.Declarations.{Written}
+use Rattle.binder.specs.Scopes.{Space}
+use Rattle.bound_names.specs.bound_members.specs.bound_calls.specs.bound_declarations.specs.constant_values.specs.declared_names.specs.View.{space_view, written_view}
+use Rattle.bound_names.specs.bound_members.specs.bound_calls.specs.References.{NoInstance}
 
 -- an object of a kind that is known
 pub of_kind : (place dot : Place) (node : bound.Node) (of : Declared) (fold : List ℕ) (k : HostKind) → host_kind node of ≡ Some k → object_member place dot node of fold ≡ member_of_kind k dot (expression_of node place of) fold
@@ -86,13 +84,13 @@ pub read_stands : (makes : Bool) (place : Place) (at : Ending) (d : Drafted) (x 
 read_stands makes place at d x below ends =
     read_ends makes d.tables x (one_more d at.kind at.of place).pieces below (ends (node_of at.kind place at.of)) (node_of (read_kind makes) place at.of)
 
-no_read : (env : Env) (has makes : Bool) (place : Place) (at : Ending) (d : Drafted) (x : Lvalue) (below : List Piece) → has_class env.scope.spaces ≡ has → NoInstance has (record { kind = read_kind makes; of = at.of })
+no_read : (env : Env) (has makes : Bool) (place : Place) (at : Ending) (d : Drafted) (x : Lvalue) (below : List Piece) → has_class env.scope.spaces ≡ has → NoInstance has d.tables (record { kind = read_kind makes; of = at.of })
     → PlaceEnds d.tables at.kind x d.pieces below → may_be_instance env (expression_of (read_of makes x) place (declared_view at.of)) ≡ false
 no_read env has makes place at d x below known none ends =
-    none env d.tables (read_of makes x) place (one_more d at.kind at.of place).pieces below known (read_ends makes d.tables x (one_more d at.kind at.of place).pieces below (ends (node_of at.kind place at.of)))
+    none env (read_of makes x) place (one_more d at.kind at.of place).pieces below known (read_ends makes d.tables x (one_more d at.kind at.of place).pieces below (ends (node_of at.kind place at.of)))
 
 pub behind_place : (env : Env) (has : Bool) (place : Place) (at : Ending) (makes : Bool) (fold : List ℕ) (k : declared.HostKind) (d b c e : Drafted) (found : Option HostMember) → has_class env.scope.spaces ≡ has
-    → NoInstance has (record { kind = read_kind makes; of = at.of }) → kind_by_type (declared_view at.of) ≡ Some (kind_view k) → b ≡ one_more d at.kind at.of place
+    → NoInstance has d.tables (record { kind = read_kind makes; of = at.of }) → kind_by_type (declared_view at.of) ≡ Some (kind_view k) → b ≡ one_more d at.kind at.of place
     → c ≡ one_more b (read_kind makes) at.of place → Finds k fold c e found → FindsBehindPlace env place at makes fold d e found
 behind_place env has place at makes fold k d b c e found known none h one two f =
     let b1 = one_more d at.kind at.of place in
@@ -114,7 +112,7 @@ other_unknown place dot node of fold h o =
     ap (λ (z : Option HostKind). unwrap_or (option_map (λ (k : HostKind). member_of_kind k dot e fold) z) (member_of_other dot e)) h ∙ ap (λ (b : Bool). if b then no_term else unknown_member dot e) o
 
 pub behind_other : (env : Env) (has : Bool) (place : Place) (at : Ending) (makes : Bool) (fold : List ℕ) (d b c : Drafted) (found : Option HostMember) → has_class env.scope.spaces ≡ has
-    → NoInstance has (record { kind = read_kind makes; of = at.of }) → kind_by_type (declared_view at.of) ≡ None → LacksMembers at.of found → b ≡ one_more d at.kind at.of place
+    → NoInstance has d.tables (record { kind = read_kind makes; of = at.of }) → kind_by_type (declared_view at.of) ≡ None → LacksMembers at.of found → b ≡ one_more d at.kind at.of place
     → c ≡ one_more b (read_kind makes) at.of place → FindsBehindPlace env place at makes fold d c found
 behind_other env has place at makes fold d b c found known none h lacks one two =
     let b1 = one_more d at.kind at.of place in
@@ -133,13 +131,8 @@ behind_other env has place at makes fold d b c found known none h lacks one two 
           (read_stands makes place at d x below ends);
     }))
 
--- an object of a kind isn't what TypeOf gives
-kind_is_none : (made : bound.Node) (of : Declared) (k : HostKind) → host_kind made of ≡ Some k → may_be_class (a_value made of) ≡ false
-kind_is_none (is_type e u) type.boolean k h = let e : None ≡ Some k = h in absurd cc
-kind_is_none (new_object c) (type.class number) k h = let e : None ≡ Some k = h in absurd cc
-kind_is_none made of k h = refl
-
-pub behind_value : (env : Env) (has : Bool) (place : Place) (ending : Ending) (fold : List ℕ) (k : declared.HostKind) (d b e : Drafted) (found : Option HostMember) → has_class env.scope.spaces ≡ has → NoInstance has ending
+-- the object that a value gives
+pub behind_value : (env : Env) (has : Bool) (place : Place) (ending : Ending) (fold : List ℕ) (k : declared.HostKind) (d b e : Drafted) (found : Option HostMember) → has_class env.scope.spaces ≡ has → NoInstance has d.tables ending
     → EndingOfKind ending k → b ≡ one_more d ending.kind ending.of place → Finds k fold b e found → FindsBehindValue env place ending fold d e found
 behind_value env has place ending fold k d b e found known none h one f =
     let b1 = one_more d ending.kind ending.of place in
@@ -148,13 +141,13 @@ behind_value env has place ending fold k d b e found known none h one f =
       grown = grown_twice d b1 e (grown_pieces d b1.pieces) (found_grown k fold b1 e found g);
       named = λ dot. found_named k fold b1 e found dot g;
       stands = λ dot made below ends.
-          found_stands env k fold b1 e found place dot made (declared_view ending.of) below g (h d.tables made d.pieces below ends) (none env d.tables made place d.pieces below known ends)
+          found_stands env k fold b1 e found place dot made (declared_view ending.of) below g (h d.tables made d.pieces below ends) (none env made place d.pieces below known ends)
           (ends (node_of ending.kind place ending.of));
-      there = λ made below ends. kind_is_none made (declared_view ending.of) (kind_view k) (h d.tables made d.pieces below ends);
+      none = λ made below ends. none env made place d.pieces below known ends;
     }) f
 
 -- a value of no object's type
-pub behind_other_value : (env : Env) (has : Bool) (place : Place) (ending : Ending) (fold : List ℕ) (d b : Drafted) (found : Option HostMember) → has_class env.scope.spaces ≡ has → NoInstance has ending → ValueLacks ending found
+pub behind_other_value : (env : Env) (has : Bool) (place : Place) (ending : Ending) (fold : List ℕ) (d b : Drafted) (found : Option HostMember) → has_class env.scope.spaces ≡ has → NoInstance has d.tables ending → ValueLacks ending found
     → b ≡ one_more d ending.kind ending.of place → FindsBehindValue env place ending fold d b found
 behind_other_value env has place ending fold d b found known none lacks one =
     let b1 = one_more d ending.kind ending.of place in
@@ -167,9 +160,9 @@ behind_other_value env has place ending fold d b found known none lacks one =
       stands = λ dot made below ends.
           let no_kind : host_kind made of ≡ None = typed_made d.tables any_node ending.kind made d.pieces below lacks.typed (ends any_node) of ∙ lacks.no_kind in
           unknown_stands env d.tables dot (expression_of made place of) (host_behind env place dot made of fold) b1.pieces below
-          (hosted env place dot made of fold (none env d.tables made place d.pieces below known ends) ∙ other_unknown place dot made of fold no_kind lacks.lacks.no_object)
+          (hosted env place dot made of fold (none env made place d.pieces below known ends) ∙ other_unknown place dot made of fold no_kind lacks.lacks.no_object)
           (ends (node_of ending.kind place ending.of));
-      there = λ made below ends. no_test_made d.tables any_node ending.kind made d.pieces below lacks.typed lacks.no_test (ends any_node) of lacks.lacks.no_object;
+      none = λ made below ends. none env made place d.pieces below known ends;
     }))
 
 -- ---- before brackets

@@ -15,17 +15,17 @@ use Rattle.bound_project.specs.declared.node.NodeKind.TheVariants as kinds
 use Rattle.bound_project.specs.View.{declared_view}
 use Rattle.bound_project.specs.Expressions as bound
 use Rattle.bound_project.specs.Pieces.{Piece, Tables}
-use Rattle.bound_members.specs.bound_forms.specs.Terms.{Env, expression_of, read_of}
-use Rattle.bound_members.specs.binder.specs.Classes.{has_class}
-use Rattle.bound_members.specs.bound_forms.specs.Terms as plain
-use Rattle.bound_members.specs.bound_forms.specs.ExpressionsBound.{host_behind, is_instance_type, may_be_instance, host_kind, is_host_type, item_of, kind_by_type, sheet, unknown_member}
-use Rattle.bound_members.specs.bound_calls.specs.declared.term.Ending.{Ending}
-use Rattle.bound_members.specs.bound_calls.specs.declared.term.Term.{Term}
-use Rattle.bound_members.specs.bound_calls.specs.declared.term.Term.TheVariants as term
-use Rattle.bound_members.specs.bound_calls.specs.References.{is_typed_kind}
-use Rattle.bound_members.specs.bound_calls.specs.Standing.{TermStands, ValueEnds, ValueStands}
-use Rattle.bound_members.specs.bound_calls.proofs.LastNodes.{any_node}
-use Rattle.bound_members.specs.bound_calls.proofs.TypedNodes.{object_made, typed_made}
+use Rattle.bound_names.specs.bound_members.specs.bound_calls.specs.bound_forms.specs.Terms.{Env, expression_of, read_of}
+use Rattle.binder.specs.Classes.{has_class}
+use Rattle.bound_names.specs.bound_members.specs.bound_calls.specs.bound_forms.specs.Terms as plain
+use Rattle.bound_names.specs.bound_members.specs.bound_calls.specs.bound_forms.specs.ExpressionsBound.{host_behind, is_instance_type, may_be_instance, host_kind, is_host_type, item_of, kind_by_type, sheet, unknown_member}
+use Rattle.bound_names.specs.bound_members.specs.bound_calls.specs.declared.term.Ending.{Ending}
+use Rattle.bound_names.specs.bound_members.specs.bound_calls.specs.declared.term.Term.{Term}
+use Rattle.bound_names.specs.bound_members.specs.bound_calls.specs.declared.term.Term.TheVariants as term
+use Rattle.bound_names.specs.bound_members.specs.bound_calls.specs.References.{is_typed_kind}
+use Rattle.bound_names.specs.bound_members.specs.bound_calls.specs.Standing.{TermStands, ValueEnds, ValueStands}
+use Rattle.bound_names.specs.bound_members.specs.bound_calls.proofs.LastNodes.{any_node}
+use Rattle.bound_names.specs.bound_members.specs.bound_calls.proofs.TypedNodes.{object_made, typed_made}
 use Rattle.bound_accesses.specs.Items.{LacksItem, is_bare, is_host_term, is_sheet, lacks_item, takes_item}
 use Rattle.bound_accesses.proofs.ItemTerms.{hosted, item_place, item_value, of_kind, read_kind_of}
 

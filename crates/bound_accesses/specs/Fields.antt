@@ -1,5 +1,5 @@
 -- Serves the code: fields of user types, and what a With block keeps.
-use Rattle.std.specs.Prelude.{◌≡◌, ℕ, Bool, true, false, List, ◌∷◌, Option, Some, None, bytes_eq}
+use Rattle.std.specs.Prelude.{◌≡◌, ℕ, Bool, false, List, ◌∷◌, Option, Some, None, bytes_eq}
 use Rattle.vba_base.specs.declared.place.Place.{Place}
 use Rattle.vba_words.specs.declared.identifier.Identifier.{Identifier}
 use Rattle.bound_project.specs.declared.declared_type.DeclaredType.{DeclaredType}
@@ -12,17 +12,16 @@ use Rattle.bound_project.specs.Expressions as expressions
 use Rattle.bound_project.specs.Project.{Declaration}
 use Rattle.bound_project.specs.Pieces.{Piece, Tables, an_expr, a_place}
 use Rattle.bound_project.specs.Drafts.{Drafted}
-use Rattle.bound_members.specs.bound_forms.specs.Terms.{Env, expression_of, read_of}
-use Rattle.bound_members.specs.bound_forms.specs.Terms as plain
-use Rattle.bound_members.specs.bound_forms.specs.ExpressionsBound.{field_of_place, field_of_value, kept_member, member_of, unknown_member}
-use Rattle.bound_members.specs.binder.specs.Storage.{has_bounds}
+use Rattle.bound_names.specs.bound_members.specs.bound_calls.specs.bound_forms.specs.Terms.{Env, expression_of, read_of}
+use Rattle.bound_names.specs.bound_members.specs.bound_calls.specs.bound_forms.specs.Terms as plain
+use Rattle.bound_names.specs.bound_members.specs.bound_calls.specs.bound_forms.specs.ExpressionsBound.{field_of_place, field_of_value, kept_member, member_of, unknown_member}
+use Rattle.binder.specs.Storage.{has_bounds}
 use Rattle.bound_accesses.specs.declared.fields.Field.{Field}
 use Rattle.bound_accesses.specs.Items.{may_be_class}
-use Rattle.bound_members.specs.bound_calls.specs.declared.term.Term.{Term}
-use Rattle.bound_members.specs.bound_calls.specs.declared.term.Term.TheVariants as term
-use Rattle.bound_members.specs.bound_calls.specs.declared.term.Ending.{Ending}
-use Rattle.bound_members.specs.bound_calls.specs.Standing.{PlaceEnds, TermStands, TermNamed, Grown}
-use Rattle.bound_project.specs.declared.node.NodeKind.{NodeKind}
+use Rattle.bound_names.specs.bound_members.specs.bound_calls.specs.declared.term.Term.{Term}
+use Rattle.bound_names.specs.bound_members.specs.bound_calls.specs.declared.term.Term.TheVariants as term
+use Rattle.bound_names.specs.bound_members.specs.bound_calls.specs.declared.term.Ending.{Ending}
+use Rattle.bound_names.specs.bound_members.specs.bound_calls.specs.Standing.{PlaceEnds, TermStands, TermNamed, Grown}
 
 -- the number of the user type that a type is
 abbrev pub user_type_in : DeclaredType → Option ℕ
@@ -94,16 +93,3 @@ pub record MakesBehind (env : Env) (place dot : Place) (x : Term) (f : Identifie
   pub named : TermNamed e.tables y
   pub stands : (z : plain.Term) (below : List Piece) → TermStands env d.tables x z d.pieces below → TermStands env e.tables y (member_of env place dot z f) e.pieces below
   pub there : (z : plain.Term) (below : List Piece) → TermStands env d.tables x z d.pieces below → may_be_class z ≡ false
-
--- the last nodes of what has an object and isn't New
-abbrev pub is_named_object : NodeKind → Bool
-is_named_object kinds.Load = true
-is_named_object kinds.LoadMade = true
-is_named_object kinds.This = true
-is_named_object (kinds.ElementValue count) = true
-is_named_object (kinds.FieldValue i) = true
-is_named_object (kinds.Call p count) = true
-is_named_object (kinds.CallInOrder p count order) = true
-is_named_object (kinds.Method p count) = true
-is_named_object (kinds.MethodInOrder p count order) = true
-is_named_object k = false

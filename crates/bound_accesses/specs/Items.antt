@@ -13,46 +13,48 @@ use Rattle.bound_project.specs.Expressions.{is_type, new_object, Lvalue}
 use Rattle.bound_project.specs.Expressions as bound
 use Rattle.bound_project.specs.Pieces.{Piece}
 use Rattle.bound_project.specs.Drafts.{Drafted}
-use Rattle.bound_members.specs.bound_forms.specs.Terms.{Env, a_value, no_term, read_of}
-use Rattle.bound_members.specs.bound_forms.specs.Terms as plain
-use Rattle.bound_members.specs.binder.specs.Types.{is_object}
-use Rattle.bound_members.specs.bound_forms.specs.ExpressionsBound.{is_host_type, item_of, kind_by_type, unknown_member, host_behind}
-use Rattle.bound_members.specs.bound_calls.specs.declared.term.Ending.{Ending}
-use Rattle.bound_members.specs.bound_calls.specs.declared.term.HostMember.{HostMember}
-use Rattle.bound_members.specs.bound_calls.specs.declared.term.Term.{Term}
-use Rattle.bound_members.specs.bound_calls.specs.declared.term.Term.TheVariants as term
-use Rattle.bound_members.specs.bound_calls.specs.References.{is_typed_kind}
-use Rattle.bound_members.specs.bound_calls.specs.Standing.{PlaceEnds, ValueEnds, TermNamed, TermStands, Grown}
+use Rattle.bound_names.specs.bound_members.specs.bound_calls.specs.bound_forms.specs.Terms.{Env, a_value, expression_of, no_term, read_of}
+use Rattle.bound_names.specs.bound_members.specs.bound_calls.specs.bound_forms.specs.Terms as plain
+use Rattle.binder.specs.Types.{is_object}
+use Rattle.bound_names.specs.bound_members.specs.bound_calls.specs.bound_forms.specs.ExpressionsBound.{is_host_type, item_of, kind_by_type, may_be_instance, unknown_member, host_behind}
+use Rattle.bound_names.specs.bound_members.specs.bound_calls.specs.declared.term.Ending.{Ending}
+use Rattle.bound_names.specs.bound_members.specs.bound_calls.specs.declared.term.HostMember.{HostMember}
+use Rattle.bound_names.specs.bound_members.specs.bound_calls.specs.declared.term.Term.{Term}
+use Rattle.bound_names.specs.bound_members.specs.bound_calls.specs.declared.term.Term.TheVariants as term
+use Rattle.bound_names.specs.bound_members.specs.bound_calls.specs.References.{is_typed_kind}
+use Rattle.bound_names.specs.bound_members.specs.bound_calls.specs.Standing.{PlaceEnds, ValueEnds, TermNamed, TermStands, Grown}
 use Rattle.bound_names.specs.ClassMembers.{unknown_term}
 
 abbrev pub found_term : Option HostMember → (dot : Place) → Term
 found_term None dot = unknown_term dot
 found_term (Some m) dot = term.HostMember m
 
--- whether a term is what New and TypeOf are, whose class a dot behind them belongs to: none, a new object, or whether an
--- object is of a type
+-- whether a term is what New and TypeOf are, whose class a dot behind them belongs to: none, a new object or Collection, or
+-- whether an object is of a type
 abbrev pub may_be_class : plain.Term → Bool
 may_be_class no_term = true
 may_be_class (a_value (is_type e of) type.boolean) = true
 may_be_class (a_value (new_object c) (type.class number)) = true
+may_be_class (a_value (new_object c) type.collection) = true
 may_be_class t = false
 
--- whether a node is the last one of what TypeOf gives
-abbrev pub is_test : NodeKind → Bool
-is_test (kinds.IsType of) = true
-is_test kind = false
+-- whether a node is the last one of a value behind which a dot may stand: of none that New or TypeOf gives
+abbrev pub is_before_dot : NodeKind → Bool
+is_before_dot (kinds.HostObject reference) = true
+is_before_dot (kinds.NewObject c) = false
+is_before_dot (kinds.IsType of) = false
+is_before_dot kind = is_typed_kind kind
 
 -- a type is no object's, so what has it has no members
 pub record LacksMembers (of : DeclaredType) (found : Option HostMember) : Type 0 where
   pub none : found ≡ None
   pub no_object : is_object (declared_view of) ≡ false
 
--- the same of a value, by its last node and its type; that isn't what TypeOf gives
+-- the same of a value, by its last node and its type
 pub record ValueLacks (e : Ending) (found : Option HostMember) : Type 0 where
   pub lacks : LacksMembers e.of found
   pub no_kind : kind_by_type (declared_view e.of) ≡ None
   pub typed : is_typed_kind e.kind ≡ true
-  pub no_test : is_test e.kind ≡ false
 
 -- a member of the object at a place, and of the object that a value gives, which are pushed and are none of a class; or that
 -- there is none
@@ -67,7 +69,7 @@ pub record FindsBehindValue (env : Env) (place : Place) (ending : Ending) (fold 
   pub named : (dot : Place) → TermNamed e.tables (found_term found dot)
   pub stands : (dot : Place) (made : bound.Node) (below : List Piece) → ValueEnds d.tables ending.kind made d.pieces below
       → TermStands env e.tables (found_term found dot) (host_behind env place dot made (declared_view ending.of) fold) e.pieces below
-  pub there : (made : bound.Node) (below : List Piece) → ValueEnds d.tables ending.kind made d.pieces below → may_be_class (a_value made (declared_view ending.of)) ≡ false
+  pub none : (made : bound.Node) (below : List Piece) → ValueEnds d.tables ending.kind made d.pieces below → may_be_instance env (expression_of made place (declared_view ending.of)) ≡ false
 
 -- whether a term is an object, behind which brackets take a member
 abbrev pub is_host_term : Term → Bool

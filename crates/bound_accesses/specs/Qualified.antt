@@ -4,13 +4,13 @@ use Rattle.vba_words.specs.declared.identifier.Identifier.{Identifier}
 use Rattle.vba_lexer.specs.declared.token.Token.{Token}
 use Rattle.vba_expression.specs.Tree.{Expr}
 use Rattle.vba_expression.specs.Reader.{behind_dot}
-use Rattle.bound_members.specs.binder.specs.Scopes.{Scope, Qualifier, before_dot, declares, as_qualifier, enum_behind}
-use Rattle.bound_members.specs.bound_forms.specs.Terms.{Env}
+use Rattle.binder.specs.Scopes.{Scope, Qualifier, before_dot, declares, as_qualifier, enum_behind}
+use Rattle.bound_names.specs.bound_members.specs.bound_calls.specs.bound_forms.specs.Terms.{Env}
 use Rattle.bound_project.specs.Pieces.{Piece}
 use Rattle.bound_project.specs.Drafts.{Drafted}
-use Rattle.bound_members.specs.bound_calls.specs.declared.term.Dotted.{Dotted}
-use Rattle.bound_members.specs.bound_calls.specs.declared.term.Tree.{Tree}
-use Rattle.bound_members.specs.bound_calls.specs.Standing.{TermNamed, TreeStands, Grown}
+use Rattle.bound_names.specs.bound_members.specs.bound_calls.specs.declared.term.Dotted.{Dotted}
+use Rattle.bound_names.specs.bound_members.specs.bound_calls.specs.declared.term.Tree.{Tree}
+use Rattle.bound_names.specs.bound_members.specs.bound_calls.specs.Standing.{TermNamed, TreeStands, Grown}
 
 -- whether a name behind the workbook is its sheets
 abbrev pub names_sheets : Identifier → Bool

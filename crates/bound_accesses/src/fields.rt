@@ -6,20 +6,20 @@ ghost use Rattle.vba_expression.specs.Nodes.{behind_node};
 ghost use Rattle.bound_project.specs.DraftView.{draft_view};
 ghost use Rattle.bound_project.specs.Drafts.{NodeNamed};
 ghost use Rattle.bound_project.specs.View.{declaration_view, declared_view, user_type_view};
-ghost use Rattle.bound_members.specs.binder.specs.Storage as stored;
-ghost use Rattle.bound_members.specs.bound_forms.specs.ExpressionsBound as bound;
-ghost use Rattle.bound_members.specs.binder.specs.Scopes.{first_at};
+ghost use Rattle.binder.specs.Storage as stored;
+ghost use Rattle.bound_names.specs.bound_members.specs.bound_calls.specs.bound_forms.specs.ExpressionsBound as bound;
+ghost use Rattle.binder.specs.Scopes.{first_at};
 ghost use Rattle.bound_accesses.specs.Fields.{FieldIs, FieldOrNone, KeepsField, MakesBehind, PlacesField, ValueOrNone, is_field_named, place_found, user_type_in, value_found};
-ghost use Rattle.bound_members.specs.bound_calls.specs.Standing.{AllNamed};
-ghost use Rattle.bound_members.specs.bound_calls.specs.Steps.{Goes};
+ghost use Rattle.bound_names.specs.bound_members.specs.bound_calls.specs.Standing.{AllNamed};
+ghost use Rattle.bound_names.specs.bound_members.specs.bound_calls.specs.Steps.{Goes};
 ghost use Rattle.bound_names.specs.View.{EnvStands, env_view, within_view};
-ghost use Rattle.bound_members.specs.binder.specs.Classes as classes;
+ghost use Rattle.binder.specs.Classes as classes;
 
 use crate::items::{behind_object_place, found_term};
-use bound_members::bound_calls::{
+use bound_names::bound_members::bound_calls::bound_declarations::{NotYet, class_in};
+use bound_names::bound_members::bound_calls::{
     Ending, Item, Term, Tree, push_node, put_item, read_kind, settle,
 };
-use bound_members::bound_declarations::{NotYet, class_in};
 use bound_names::{Env, Within, class_member, folded, unknown_term};
 use bound_project::{Declaration, DeclaredType, Draft, ElementType, NodeKind, UserType};
 use std::alloc::Global;

@@ -3,17 +3,17 @@
 ghost use Rattle.std.specs.Prelude.{◌≡◌, true, IfOk};
 ghost use Rattle.bound_project.specs.DraftView.{draft_view};
 ghost use Rattle.bound_project.specs.Drafts.{NodeNamed};
-ghost use Rattle.bound_accesses.specs.Items.{FindsBehindPlace, FindsBehindValue, LacksMembers, MakesItem, MakesPlaceItem, MakesValueItem, ValueLacks, found_term, is_bare, is_host_term, is_sheet, is_test, lacks_item, takes_item};
-ghost use Rattle.bound_members.specs.bound_calls.specs.Standing.{TermNamed};
+ghost use Rattle.bound_accesses.specs.Items.{FindsBehindPlace, FindsBehindValue, LacksMembers, MakesItem, MakesPlaceItem, MakesValueItem, ValueLacks, found_term, is_bare, is_host_term, is_sheet, lacks_item, takes_item};
+ghost use Rattle.bound_names.specs.bound_members.specs.bound_calls.specs.Standing.{TermNamed};
 ghost use Rattle.bound_names.specs.View.{env_view};
 
-use bound_members::bound_calls::{
+use bound_names::bound_members::bound_calls::bound_declarations::NotYet;
+use bound_names::bound_members::bound_calls::bound_declarations::constant_values::declared_names::is_object;
+use bound_names::bound_members::bound_calls::{
     Ending, HostMember, Term, is_host_type, is_typed_kind, may_be_instance, push_node, push_sheet,
     read_kind,
 };
-use bound_members::bound_declarations::NotYet;
-use bound_members::declared_names::is_object;
-use bound_members::{find_member, kind_of_ending, kind_of_type};
+use bound_names::bound_members::{find_member, kind_of_ending, kind_of_type};
 use bound_names::{Env, unknown_term};
 use bound_project::{DeclaredType, Draft, ElementType, NodeKind};
 use std::alloc::Global;
@@ -67,7 +67,7 @@ pub fn behind_object_place<'a>(
         kind: read_kind(makes),
         of: at.of,
     };
-    if may_be_instance(env.has_class, read) {
+    if may_be_instance(env.has_class, draft, read) {
         return Err(OrMemory::Fault(NotYet));
     }
     push_node(draft, at.kind, at.of, place)?;
@@ -78,24 +78,10 @@ pub fn behind_object_place<'a>(
     }
 }
 
-/// Is a node the last one of what TypeOf gives?
-fn is_test(kind: NodeKind) -> bool
-    ensures { result ≡ is_test kind }
-{
-    match kind {
-        NodeKind::IsType(_) => true,
-        _ => false,
-    }
-}
-
-/// A value of no object's type has no members. What TypeOf gives isn't looked at: a dot behind that belongs to the
-/// class.
+/// A value of no object's type has no members.
 fn behind_other_value(ending: Ending) -> Result<Option<HostMember>, OrMemory<NotYet>>
     ensures { IfOk result (λ found. ValueLacks ending found) }
 {
-    if is_test(ending.kind) {
-        return Err(OrMemory::Fault(NotYet));
-    }
     if !is_typed_kind(ending.kind) {
         return Err(OrMemory::Fault(NotYet));
     }
@@ -116,7 +102,7 @@ pub fn behind_object_value<'a>(
     requires { NodeNamed (draft_view draft.old).tables ending.kind }
     ensures { IfOk result (λ found. FindsBehindValue (env_view env.entry) place ending name (draft_view draft.old) (draft_view draft.new) found) }
 {
-    if may_be_instance(env.has_class, ending) {
+    if may_be_instance(env.has_class, draft, ending) {
         return Err(OrMemory::Fault(NotYet));
     }
     push_node(draft, ending.kind, ending.of, place)?;

@@ -8,3 +8,6 @@ mod members;
 pub use fields::step_with_member;
 pub use items::{item_member, item_term, lacks_item, takes_item};
 pub use members::step_member;
+
+// What stands below, for the crates above.
+pub use bound_names;

@@ -1,4 +1,4 @@
-ghost use Rattle.std.specs.Prelude.{◌≡◌, ◌<◌, length, Bool, OnOk, IfOk, None, Some, option_map, reverse};
+ghost use Rattle.std.specs.Prelude.{◌≡◌, ◌<◌, length, Bool, OnOk, IfOk, None, Some, option_map, reverse, true};
 ghost use Rattle.vba_expression.specs.declared.node.ExpressionNode.TheVariants as node;
 ghost use Rattle.vba_expression.specs.Nodes.{behind_node};
 ghost use Rattle.vba_lexer.specs.declared.token.Token.{Token};
@@ -8,27 +8,30 @@ ghost use Rattle.bound_project.specs.Drafts.{Drafted, NodeNamed};
 ghost use Rattle.bound_project.specs.declared.node.NodeKind.TheVariants as node_kind;
 ghost use Rattle.bound_project.specs.Expressions.{err_value, no_exprs};
 ghost use Rattle.bound_project.specs.View.{element_view, member_view, declared_view};
-ghost use Rattle.bound_members.specs.bound_forms.specs.ExpressionsBound as bound;
-ghost use Rattle.bound_members.specs.binder.specs.Scopes as scopes;
-ghost use Rattle.bound_members.specs.bound_forms.specs.Terms as plain;
-ghost use Rattle.bound_members.specs.constant_values.specs.Rounds.{IsPlace};
-ghost use Rattle.bound_members.specs.declared_names.specs.View.{qualifier_view, scope_view};
+ghost use Rattle.bound_names.specs.bound_members.specs.bound_calls.specs.bound_forms.specs.ExpressionsBound as bound;
+ghost use Rattle.binder.specs.Scopes as scopes;
+ghost use Rattle.bound_names.specs.bound_members.specs.bound_calls.specs.bound_forms.specs.Terms as plain;
+ghost use Rattle.bound_names.specs.bound_members.specs.bound_calls.specs.bound_declarations.specs.constant_values.specs.Rounds.{IsPlace};
+ghost use Rattle.bound_names.specs.bound_members.specs.bound_calls.specs.bound_declarations.specs.constant_values.specs.declared_names.specs.View.{qualifier_view, scope_view};
 ghost use Rattle.bound_accesses.specs.Qualified.{IsQualifier, MakesMember, dotted_view, looked_up, names_sheets};
-ghost use Rattle.bound_accesses.specs.Fields.{MakesBehind, user_type_in, is_named_object};
-ghost use Rattle.bound_members.specs.bound_calls.specs.Standing.{AllNamed, TermNamed};
-ghost use Rattle.bound_members.specs.bound_calls.specs.Steps.{Goes, MakesLeaf};
+ghost use Rattle.bound_accesses.specs.Fields.{MakesBehind, user_type_in};
+ghost use Rattle.bound_accesses.specs.Items.{is_before_dot};
+ghost use Rattle.bound_names.specs.bound_members.specs.bound_calls.specs.Standing.{AllNamed, TermNamed};
+ghost use Rattle.bound_names.specs.bound_members.specs.bound_calls.specs.Steps.{Goes, MakesLeaf};
 ghost use Rattle.bound_names.specs.View.{EnvStands, env_view};
-ghost use Rattle.bound_members.specs.binder.specs.Classes as classes;
+ghost use Rattle.binder.specs.Classes as classes;
 
 use crate::fields::{field_behind, field_of_value, user_type};
 use crate::items::{behind_object_place, behind_object_value, found_term};
-use bound_members::bound_calls::{
-    Dotted, Ending, HostMember, Item, Routine, Term, Tree, member_ending, push_node, push_sheet,
-    put_item, read_kind, routine_ending, take_item,
+use bound_names::bound_members::bound_calls::bound_declarations::constant_values::declared_names::{
+    Qualifier, Use, as_qualifier, behind, declares, enum_behind,
 };
-use bound_members::bound_declarations::{NotYet, class_in};
-use bound_members::declared_names::{Qualifier, Use, as_qualifier, behind, declares, enum_behind};
-use bound_members::is_word;
+use bound_names::bound_members::bound_calls::bound_declarations::{NotYet, class_in};
+use bound_names::bound_members::bound_calls::{
+    Dotted, Ending, HostMember, Item, Routine, Term, Tree, is_typed_kind, member_ending, push_node,
+    push_sheet, put_item, read_kind, routine_ending, take_item,
+};
+use bound_names::bound_members::is_word;
 use bound_names::{
     Env, class_member, folded, from_zero, is_either, meant_term, sheets_value, unknown_term,
 };
@@ -266,6 +269,7 @@ fn behind_object<'a>(
     requires named { NodeNamed (draft_view draft.old).tables ending.kind }
     requires other { user_type_in ending.of ≡ None }
     requires class { classes.class_in (declared_view ending.of) ≡ None }
+    requires before { is_before_dot ending.kind ≡ true }
     ensures { IfOk result (λ term. MakesBehind (env_view env.entry) place dot (Term.Value ending) member.now (draft_view draft.old) (draft_view draft.new) term) }
 {
     if let NodeKind::HostObject(reference) = ending.kind
@@ -278,21 +282,16 @@ fn behind_object<'a>(
     Ok(found_term(found, dot))
 }
 
-/// Is a node the last one of what has an object and isn't New?
-fn is_named_object(kind: NodeKind) -> bool
-    ensures { result ≡ is_named_object kind }
+/// Is a node the last one of a value behind which a dot may stand? Behind what New and TypeOf give it belongs to the
+/// class.
+fn is_before_dot(kind: NodeKind) -> bool
+    ensures { result ≡ is_before_dot kind }
 {
     match kind {
-        NodeKind::Load => true,
-        NodeKind::LoadMade => true,
-        NodeKind::This => true,
-        NodeKind::ElementValue { .. } => true,
-        NodeKind::FieldValue { .. } => true,
-        NodeKind::Call { .. } => true,
-        NodeKind::CallInOrder { .. } => true,
-        NodeKind::Method { .. } => true,
-        NodeKind::MethodInOrder { .. } => true,
-        _ => false,
+        NodeKind::HostObject(_) => true,
+        NodeKind::NewObject { .. } => false,
+        NodeKind::IsType(_) => false,
+        _ => is_typed_kind(kind),
     }
 }
 
@@ -309,11 +308,9 @@ fn behind_class_value<'a>(
     requires env { EnvStands env }
     requires named { NodeNamed (draft_view draft.old).tables ending.kind }
     requires class { classes.class_in (declared_view ending.of) ≡ Some class }
+    requires before { is_before_dot ending.kind ≡ true }
     ensures { IfOk result (λ term. MakesBehind (env_view env.entry) place dot (Term.Value ending) member.now (draft_view draft.old) (draft_view draft.new) term) }
 {
-    if !is_named_object(ending.kind) {
-        return Err(OrMemory::Fault(NotYet));
-    }
     push_node(draft, ending.kind, ending.of, place)?;
     class_member(draft, env, place, dot, class, member)
 }
@@ -331,6 +328,7 @@ fn behind_plain_value<'a>(
     requires env { EnvStands env }
     requires named { NodeNamed (draft_view draft.old).tables ending.kind }
     requires class { classes.class_in (declared_view ending.of) ≡ None }
+    requires before { is_before_dot ending.kind ≡ true }
     ensures { IfOk result (λ term. MakesBehind (env_view env.entry) place dot (Term.Value ending) member.now (draft_view draft.old) (draft_view draft.new) term) }
 {
     match user_type(ending.of) {
@@ -353,6 +351,9 @@ fn behind_value<'a>(
     requires named { NodeNamed (draft_view draft.old).tables ending.kind }
     ensures { IfOk result (λ term. MakesBehind (env_view env.entry) place dot (Term.Value ending) member.now (draft_view draft.old) (draft_view draft.new) term) }
 {
+    if !is_before_dot(ending.kind) {
+        return Err(OrMemory::Fault(NotYet));
+    }
     match class_in(ending.of) {
         Some(class) => behind_class_value(draft, env, place, dot, ending, class, member),
         None => behind_plain_value(alloc, draft, env, place, dot, ending, member),

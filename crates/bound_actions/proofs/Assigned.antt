@@ -17,32 +17,32 @@ use Rattle.bound_project.specs.Statements.{Action}
 use Rattle.bound_project.specs.View.{declared_view, parameter_view}
 use Rattle.bound_project.specs.Pieces.{Piece, Tables, an_expr}
 use Rattle.bound_project.specs.Drafts.{Drafted}
-use Rattle.bound_terms.specs.binder.specs.Classes.{has_class}
-use Rattle.bound_terms.specs.binder.specs.Declarations.{Written}
-use Rattle.bound_terms.specs.binder.specs.Options.{or_else}
-use Rattle.bound_terms.specs.binder.specs.Scopes.{Space}
-use Rattle.bound_terms.specs.binder.specs.Signatures.{parameters_in, setter, writer}
-use Rattle.bound_terms.specs.binder.specs.Storage.{procedure_number}
-use Rattle.bound_terms.specs.binder.specs.Types.{is_object}
-use Rattle.bound_terms.specs.bound_forms.specs.Terms.{Env, Given, routine_term, takes}
-use Rattle.bound_terms.specs.bound_forms.specs.Terms as plain
-use Rattle.bound_terms.specs.bound_forms.specs.ExpressionsBound.{argument_of, behind_base, callee, givens, indexed, item_of, unknown_member, term_of, place_told}
-use Rattle.bound_terms.specs.bound_forms.specs.StatementsBound.{assigned, broken_target, given_behind, is_no_target, is_param_array, is_sub, is_variant_place, property_given, set_by, takes_value, target_before, untaken as not_taken}
-use Rattle.bound_terms.specs.declared_names.specs.View.{space_view, written_view}
-use Rattle.bound_terms.specs.bound_calls.specs.declared.term.Property.{Property}
-use Rattle.bound_terms.specs.bound_calls.specs.declared.term.Receiver.{Receiver}
-use Rattle.bound_terms.specs.bound_calls.specs.declared.term.Term.{Term}
-use Rattle.bound_terms.specs.bound_calls.specs.declared.term.Term.TheVariants as term
-use Rattle.bound_terms.specs.bound_calls.specs.declared.term.Tree.{Tree}
-use Rattle.bound_terms.specs.bound_calls.specs.Calls.{PassesRest, PushesReceiver}
-use Rattle.bound_terms.specs.bound_calls.specs.Standing.{IsReceiver, PropertyStands, ReceiverStands, TermStands}
-use Rattle.bound_terms.specs.bound_calls.specs.Steps.{Leaves}
-use Rattle.bound_terms.specs.bound_calls.proofs.Growing.{grown_twice}
-use Rattle.bound_terms.specs.bound_calls.proofs.Reading.{given_whole, let_whole}
-use Rattle.bound_terms.specs.bound_calls.proofs.Refusing.{refused}
-use Rattle.bound_terms.specs.bound_names.specs.declared.properties.Part.TheVariants as part
-use Rattle.bound_terms.specs.bound_names.specs.declared.properties.Writer.{Writer}
-use Rattle.bound_terms.specs.bound_names.specs.Callee.{CalleeIs, IsWriter, NoWriter, Unwritten, WriterOf, property_in}
+use Rattle.declared_names.specs.binder.specs.Classes.{has_class}
+use Rattle.declared_names.specs.binder.specs.Declarations.{Written}
+use Rattle.declared_names.specs.binder.specs.Options.{or_else}
+use Rattle.declared_names.specs.binder.specs.Scopes.{Space}
+use Rattle.declared_names.specs.binder.specs.Signatures.{parameters_in, setter, writer}
+use Rattle.declared_names.specs.binder.specs.Storage.{procedure_number}
+use Rattle.declared_names.specs.binder.specs.Types.{is_object}
+use Rattle.bound_terms.specs.bound_accesses.specs.bound_names.specs.bound_members.specs.bound_calls.specs.bound_forms.specs.Terms.{Env, Given, routine_term, takes}
+use Rattle.bound_terms.specs.bound_accesses.specs.bound_names.specs.bound_members.specs.bound_calls.specs.bound_forms.specs.Terms as plain
+use Rattle.bound_terms.specs.bound_accesses.specs.bound_names.specs.bound_members.specs.bound_calls.specs.bound_forms.specs.ExpressionsBound.{argument_of, behind_base, callee, givens, indexed, item_of, unknown_member, term_of, place_told}
+use Rattle.bound_terms.specs.bound_accesses.specs.bound_names.specs.bound_members.specs.bound_calls.specs.bound_forms.specs.StatementsBound.{assigned, broken_target, given_behind, is_no_target, is_param_array, is_sub, is_variant_place, property_given, set_by, takes_value, target_before, untaken as not_taken}
+use Rattle.declared_names.specs.View.{space_view, written_view}
+use Rattle.bound_terms.specs.bound_accesses.specs.bound_names.specs.bound_members.specs.bound_calls.specs.declared.term.Property.{Property}
+use Rattle.bound_terms.specs.bound_accesses.specs.bound_names.specs.bound_members.specs.bound_calls.specs.declared.term.Receiver.{Receiver}
+use Rattle.bound_terms.specs.bound_accesses.specs.bound_names.specs.bound_members.specs.bound_calls.specs.declared.term.Term.{Term}
+use Rattle.bound_terms.specs.bound_accesses.specs.bound_names.specs.bound_members.specs.bound_calls.specs.declared.term.Term.TheVariants as term
+use Rattle.bound_terms.specs.bound_accesses.specs.bound_names.specs.bound_members.specs.bound_calls.specs.declared.term.Tree.{Tree}
+use Rattle.bound_terms.specs.bound_accesses.specs.bound_names.specs.bound_members.specs.bound_calls.specs.Calls.{PassesRest, PushesReceiver}
+use Rattle.bound_terms.specs.bound_accesses.specs.bound_names.specs.bound_members.specs.bound_calls.specs.Standing.{IsReceiver, PropertyStands, ReceiverStands, TermStands}
+use Rattle.bound_terms.specs.bound_accesses.specs.bound_names.specs.bound_members.specs.bound_calls.specs.Steps.{Leaves}
+use Rattle.bound_terms.specs.bound_accesses.specs.bound_names.specs.bound_members.specs.bound_calls.proofs.Growing.{grown_twice}
+use Rattle.bound_terms.specs.bound_accesses.specs.bound_names.specs.bound_members.specs.bound_calls.proofs.Reading.{given_whole, let_whole}
+use Rattle.bound_terms.specs.bound_accesses.specs.bound_names.specs.bound_members.specs.bound_calls.proofs.Refusing.{refused}
+use Rattle.bound_terms.specs.bound_accesses.specs.bound_names.specs.declared.properties.Part.TheVariants as part
+use Rattle.bound_terms.specs.bound_accesses.specs.bound_names.specs.declared.properties.Writer.{Writer}
+use Rattle.bound_terms.specs.bound_accesses.specs.bound_names.specs.Callee.{CalleeIs, IsWriter, NoWriter, Unwritten, WriterOf, property_in}
 use Rattle.bound_terms.specs.bound_accesses.specs.Items.{is_host_term, lacks_item, takes_item}
 use Rattle.bound_terms.specs.bound_accesses.proofs.ItemTerms.{same_item}
 use Rattle.bound_terms.specs.bound_accesses.proofs.Lacking.{no_host, no_item}

@@ -5,15 +5,15 @@ use Rattle.vba_expression.specs.declared.node.ExpressionNode.{ExpressionNode}
 use Rattle.bound_project.specs.declared.statement.ActionKind.{ActionKind}
 use Rattle.bound_project.specs.Pieces.{Piece}
 use Rattle.bound_project.specs.Drafts.{Drafted}
-use Rattle.bound_terms.specs.bound_forms.specs.Terms.{Env, Given}
-use Rattle.bound_terms.specs.bound_forms.specs.ExpressionsBound.{callee, givens, term_of}
-use Rattle.bound_terms.specs.bound_forms.specs.StatementsBound.{called_term}
-use Rattle.bound_terms.specs.bound_calls.specs.declared.term.Term.{Term}
-use Rattle.bound_terms.specs.bound_calls.specs.declared.term.Tree.{Tree}
-use Rattle.bound_terms.specs.bound_calls.specs.Standing.{TermStands}
+use Rattle.bound_terms.specs.bound_accesses.specs.bound_names.specs.bound_members.specs.bound_calls.specs.bound_forms.specs.Terms.{Env, Given}
+use Rattle.bound_terms.specs.bound_accesses.specs.bound_names.specs.bound_members.specs.bound_calls.specs.bound_forms.specs.ExpressionsBound.{callee, givens, term_of}
+use Rattle.bound_terms.specs.bound_accesses.specs.bound_names.specs.bound_members.specs.bound_calls.specs.bound_forms.specs.StatementsBound.{called_term}
+use Rattle.bound_terms.specs.bound_accesses.specs.bound_names.specs.bound_members.specs.bound_calls.specs.declared.term.Term.{Term}
+use Rattle.bound_terms.specs.bound_accesses.specs.bound_names.specs.bound_members.specs.bound_calls.specs.declared.term.Tree.{Tree}
+use Rattle.bound_terms.specs.bound_accesses.specs.bound_names.specs.bound_members.specs.bound_calls.specs.Standing.{TermStands}
 use Rattle.statement_terms.specs.Called.{args_on, ActionIs, Acts, ActsOn, CallsTree, CallsTreeOn}
-use Rattle.bound_terms.specs.bound_names.specs.Callee.{CalleeIs}
-use Rattle.bound_terms.specs.bound_calls.proofs.Growing.{grown_twice}
+use Rattle.bound_terms.specs.bound_accesses.specs.bound_names.specs.Callee.{CalleeIs}
+use Rattle.bound_terms.specs.bound_accesses.specs.bound_names.specs.bound_members.specs.bound_calls.proofs.Growing.{grown_twice}
 
 -- ---- expressions that are called
 

@@ -9,29 +9,29 @@ use Rattle.bound_project.specs.Expressions as bound
 use Rattle.bound_project.specs.Pieces.{Piece, an_expr}
 use Rattle.bound_project.specs.Statements.{Action}
 use Rattle.bound_project.specs.View.{declared_view}
-use Rattle.bound_terms.specs.binder.specs.Classes.{has_class}
-use Rattle.bound_terms.specs.binder.specs.Declarations.{Written}
-use Rattle.bound_terms.specs.binder.specs.Scopes.{Space}
-use Rattle.bound_terms.specs.binder.specs.Signatures.{writer}
-use Rattle.bound_terms.specs.binder.specs.Storage.{gives_value}
-use Rattle.bound_terms.specs.declared_names.specs.View.{space_view, written_view}
-use Rattle.bound_terms.specs.bound_forms.specs.Terms.{Env, a_value, routine_term}
-use Rattle.bound_terms.specs.bound_forms.specs.Terms as plain
-use Rattle.bound_terms.specs.bound_forms.specs.ExpressionsBound.{indexed, term_of}
-use Rattle.bound_terms.specs.bound_forms.specs.StatementsBound.{assigned, is_no_target, let_to, takes_value, value_written}
-use Rattle.bound_terms.specs.bound_calls.specs.declared.term.Ending.{Ending}
-use Rattle.bound_terms.specs.bound_calls.specs.declared.term.Property.{Property}
-use Rattle.bound_terms.specs.bound_calls.specs.declared.term.Routine.{Routine}
-use Rattle.bound_terms.specs.bound_calls.specs.declared.term.Term.{Term}
-use Rattle.bound_terms.specs.bound_calls.specs.declared.term.Term.TheVariants as term
-use Rattle.bound_terms.specs.bound_calls.specs.declared.term.Tree.{Tree}
-use Rattle.bound_terms.specs.bound_calls.specs.Standing.{PropertyStands, RoutineIs, RoutineStands, TermStands, TreeStands}
-use Rattle.bound_terms.specs.bound_calls.specs.Steps.{Leaves}
-use Rattle.bound_terms.specs.bound_calls.specs.Taking.{CallsAt}
-use Rattle.bound_terms.specs.bound_calls.proofs.Growing.{grown_twice}
-use Rattle.bound_terms.specs.bound_names.specs.declared.properties.Part.TheVariants as part
-use Rattle.bound_terms.specs.bound_names.specs.declared.properties.Writer.{Writer}
-use Rattle.bound_terms.specs.bound_names.specs.Callee.{NoWriter, Unwritten, WriterOf}
+use Rattle.declared_names.specs.binder.specs.Classes.{has_class}
+use Rattle.declared_names.specs.binder.specs.Declarations.{Written}
+use Rattle.declared_names.specs.binder.specs.Scopes.{Space}
+use Rattle.declared_names.specs.binder.specs.Signatures.{writer}
+use Rattle.declared_names.specs.binder.specs.Storage.{gives_value}
+use Rattle.declared_names.specs.View.{space_view, written_view}
+use Rattle.bound_terms.specs.bound_accesses.specs.bound_names.specs.bound_members.specs.bound_calls.specs.bound_forms.specs.Terms.{Env, a_value, routine_term}
+use Rattle.bound_terms.specs.bound_accesses.specs.bound_names.specs.bound_members.specs.bound_calls.specs.bound_forms.specs.Terms as plain
+use Rattle.bound_terms.specs.bound_accesses.specs.bound_names.specs.bound_members.specs.bound_calls.specs.bound_forms.specs.ExpressionsBound.{indexed, term_of}
+use Rattle.bound_terms.specs.bound_accesses.specs.bound_names.specs.bound_members.specs.bound_calls.specs.bound_forms.specs.StatementsBound.{assigned, is_no_target, let_to, takes_value, value_written}
+use Rattle.bound_terms.specs.bound_accesses.specs.bound_names.specs.bound_members.specs.bound_calls.specs.declared.term.Ending.{Ending}
+use Rattle.bound_terms.specs.bound_accesses.specs.bound_names.specs.bound_members.specs.bound_calls.specs.declared.term.Property.{Property}
+use Rattle.bound_terms.specs.bound_accesses.specs.bound_names.specs.bound_members.specs.bound_calls.specs.declared.term.Routine.{Routine}
+use Rattle.bound_terms.specs.bound_accesses.specs.bound_names.specs.bound_members.specs.bound_calls.specs.declared.term.Term.{Term}
+use Rattle.bound_terms.specs.bound_accesses.specs.bound_names.specs.bound_members.specs.bound_calls.specs.declared.term.Term.TheVariants as term
+use Rattle.bound_terms.specs.bound_accesses.specs.bound_names.specs.bound_members.specs.bound_calls.specs.declared.term.Tree.{Tree}
+use Rattle.bound_terms.specs.bound_accesses.specs.bound_names.specs.bound_members.specs.bound_calls.specs.Standing.{PropertyStands, RoutineIs, RoutineStands, TermStands, TreeStands}
+use Rattle.bound_terms.specs.bound_accesses.specs.bound_names.specs.bound_members.specs.bound_calls.specs.Steps.{Leaves}
+use Rattle.bound_terms.specs.bound_accesses.specs.bound_names.specs.bound_members.specs.bound_calls.specs.Taking.{CallsAt}
+use Rattle.bound_terms.specs.bound_accesses.specs.bound_names.specs.bound_members.specs.bound_calls.proofs.Growing.{grown_twice}
+use Rattle.bound_terms.specs.bound_accesses.specs.bound_names.specs.declared.properties.Part.TheVariants as part
+use Rattle.bound_terms.specs.bound_accesses.specs.bound_names.specs.declared.properties.Writer.{Writer}
+use Rattle.bound_terms.specs.bound_accesses.specs.bound_names.specs.Callee.{NoWriter, Unwritten, WriterOf}
 use Rattle.statement_terms.specs.Called.{ActionIs, AssignsTo, GoesThere, IsBare}
 use Rattle.statement_terms.specs.Members.{AssignsTerm, AssignsTree}
 use Rattle.statement_terms.proofs.Assigned.{bare_assigned, bare_given, property_of}

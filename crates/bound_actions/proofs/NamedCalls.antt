@@ -15,23 +15,23 @@ use Rattle.bound_project.specs.View.{parameter_view}
 use Rattle.bound_project.specs.Pieces.{Piece, Tables}
 use Rattle.bound_project.specs.Project as project
 use Rattle.bound_project.specs.Drafts.{Drafted}
-use Rattle.bound_terms.specs.bound_forms.specs.Terms.{Env, Given}
-use Rattle.bound_terms.specs.bound_forms.specs.ExpressionsBound.{givens, indexed}
-use Rattle.bound_terms.specs.bound_calls.specs.declared.term.Ending.{Ending}
-use Rattle.bound_terms.specs.bound_calls.specs.declared.term.Item.{Item}
-use Rattle.bound_terms.specs.bound_calls.specs.declared.term.Item.TheVariants as item
-use Rattle.bound_terms.specs.bound_calls.specs.declared.term.Term.TheVariants as term
-use Rattle.bound_terms.specs.bound_calls.specs.declared.term.Passed.{Passed}
-use Rattle.bound_terms.specs.bound_calls.specs.declared.term.Routine.{Routine}
+use Rattle.bound_terms.specs.bound_accesses.specs.bound_names.specs.bound_members.specs.bound_calls.specs.bound_forms.specs.Terms.{Env, Given}
+use Rattle.bound_terms.specs.bound_accesses.specs.bound_names.specs.bound_members.specs.bound_calls.specs.bound_forms.specs.ExpressionsBound.{givens, indexed}
+use Rattle.bound_terms.specs.bound_accesses.specs.bound_names.specs.bound_members.specs.bound_calls.specs.declared.term.Ending.{Ending}
+use Rattle.bound_terms.specs.bound_accesses.specs.bound_names.specs.bound_members.specs.bound_calls.specs.declared.term.Item.{Item}
+use Rattle.bound_terms.specs.bound_accesses.specs.bound_names.specs.bound_members.specs.bound_calls.specs.declared.term.Item.TheVariants as item
+use Rattle.bound_terms.specs.bound_accesses.specs.bound_names.specs.bound_members.specs.bound_calls.specs.declared.term.Term.TheVariants as term
+use Rattle.bound_terms.specs.bound_accesses.specs.bound_names.specs.bound_members.specs.bound_calls.specs.declared.term.Passed.{Passed}
+use Rattle.bound_terms.specs.bound_accesses.specs.bound_names.specs.bound_members.specs.bound_calls.specs.declared.term.Routine.{Routine}
 use Rattle.statement_terms.specs.Called.{ActsOn, args_on}
-use Rattle.bound_terms.specs.bound_calls.specs.Calls.{PushesReceiver}
-use Rattle.bound_terms.specs.bound_calls.specs.Steps.{Goes}
-use Rattle.bound_terms.specs.bound_calls.specs.InOrder.{with_named}
+use Rattle.bound_terms.specs.bound_accesses.specs.bound_names.specs.bound_members.specs.bound_calls.specs.Calls.{PushesReceiver}
+use Rattle.bound_terms.specs.bound_accesses.specs.bound_names.specs.bound_members.specs.bound_calls.specs.Steps.{Goes}
+use Rattle.bound_terms.specs.bound_accesses.specs.bound_names.specs.bound_members.specs.bound_calls.specs.InOrder.{with_named}
 use Rattle.statement_terms.specs.NamedCalls.{PushesValues, ReadsNamed, ValuesPassed}
 use Rattle.bound_actions.specs.NamedCalls.{ReadsWritten}
-use Rattle.bound_terms.specs.bound_calls.specs.Standing.{Base, PassedStands, Stands, ValueStands}
+use Rattle.bound_terms.specs.bound_accesses.specs.bound_names.specs.bound_members.specs.bound_calls.specs.Standing.{Base, PassedStands, Stands, ValueStands}
 use Rattle.statement_terms.specs.Assigning.{GivenPushed}
-use Rattle.bound_terms.specs.bound_calls.proofs.Growing.{grown_twice}
+use Rattle.bound_terms.specs.bound_accesses.specs.bound_names.specs.bound_members.specs.bound_calls.proofs.Growing.{grown_twice}
 use Rattle.bound_terms.specs.bound_operands.specs.Gathering.{EndsGathered, with_gathered}
 use Rattle.bound_terms.specs.bound_operands.proofs.ParamArrays.{called_gathered, gathering, ungathered}
 use Rattle.statement_terms.proofs.Called.{routine_called}

@@ -18,33 +18,33 @@ use Rattle.bound_project.specs.Drafts.{Drafted}
 use Rattle.bound_project.specs.Expressions.{no_exprs}
 use Rattle.bound_project.specs.Expressions as bound
 use Rattle.bound_project.specs.Pieces.{Piece, Tables}
-use Rattle.bound_terms.specs.binder.specs.Declarations.{Own, Written, a_parameter}
-use Rattle.bound_terms.specs.binder.specs.Declarations as declared
-use Rattle.bound_terms.specs.binder.specs.Scopes.{Meant, Scope, Space, declares, of_procedure, plainly}
-use Rattle.bound_terms.specs.binder.specs.Scopes as scopes
-use Rattle.bound_terms.specs.binder.specs.Signatures.{is_get, is_property, procedure_with, reader}
-use Rattle.bound_terms.specs.binder.specs.Storage.{gives_value}
-use Rattle.bound_terms.specs.declared_names.specs.View.{meant_view, own_view, space_view, written_view}
-use Rattle.bound_terms.specs.declared_names.specs.declared.local.Local.{Local}
-use Rattle.bound_terms.specs.declared_names.specs.declared.local.Own.{Own as OwnHere}
-use Rattle.bound_terms.specs.declared_names.specs.declared.local.Own.TheVariants as own
-use Rattle.bound_terms.specs.declared_names.specs.declared.scope.Meant.{Meant as MeantHere}
-use Rattle.bound_terms.specs.declared_names.specs.declared.scope.Meant.TheVariants as meant
-use Rattle.bound_terms.specs.bound_forms.specs.Terms.{Env, a_routine, routine_term}
-use Rattle.bound_terms.specs.bound_forms.specs.Terms as plain
-use Rattle.bound_terms.specs.bound_forms.specs.ExpressionsBound.{callee, item_of, meant_term, own_term, place_told, term_of}
-use Rattle.bound_terms.specs.bound_forms.specs.StatementsBound.{broken_target, is_given_with, is_no_target, is_param_array, is_sub, is_variant_place, takes_value, target_of_call, written_to}
-use Rattle.bound_terms.specs.bound_calls.specs.declared.term.Property.{Property}
-use Rattle.bound_terms.specs.bound_calls.specs.declared.term.Receiver.{Receiver}
-use Rattle.bound_terms.specs.bound_calls.specs.declared.term.Receiver.TheVariants as receiver
-use Rattle.bound_terms.specs.bound_calls.specs.declared.term.Routine.{Routine}
-use Rattle.bound_terms.specs.bound_calls.specs.declared.term.Term.{Term}
-use Rattle.bound_terms.specs.bound_calls.specs.declared.term.Term.TheVariants as term
-use Rattle.bound_terms.specs.bound_calls.specs.declared.term.Tree.{Tree}
-use Rattle.bound_terms.specs.bound_calls.specs.Standing.{IsReceiver, LeafStands, ReceiverStands, TermStands, TreeStands}
-use Rattle.bound_terms.specs.bound_calls.specs.Steps.{Leaves}
-use Rattle.bound_terms.specs.bound_calls.proofs.Growing.{grown_twice}
-use Rattle.bound_terms.specs.bound_names.specs.Callee.{CalleeIs}
+use Rattle.declared_names.specs.binder.specs.Declarations.{Own, Written, a_parameter}
+use Rattle.declared_names.specs.binder.specs.Declarations as declared
+use Rattle.declared_names.specs.binder.specs.Scopes.{Meant, Scope, Space, declares, of_procedure, plainly}
+use Rattle.declared_names.specs.binder.specs.Scopes as scopes
+use Rattle.declared_names.specs.binder.specs.Signatures.{is_get, is_property, procedure_with, reader}
+use Rattle.declared_names.specs.binder.specs.Storage.{gives_value}
+use Rattle.declared_names.specs.View.{meant_view, own_view, space_view, written_view}
+use Rattle.declared_names.specs.declared.local.Local.{Local}
+use Rattle.declared_names.specs.declared.local.Own.{Own as OwnHere}
+use Rattle.declared_names.specs.declared.local.Own.TheVariants as own
+use Rattle.declared_names.specs.declared.scope.Meant.{Meant as MeantHere}
+use Rattle.declared_names.specs.declared.scope.Meant.TheVariants as meant
+use Rattle.bound_terms.specs.bound_accesses.specs.bound_names.specs.bound_members.specs.bound_calls.specs.bound_forms.specs.Terms.{Env, a_routine, routine_term}
+use Rattle.bound_terms.specs.bound_accesses.specs.bound_names.specs.bound_members.specs.bound_calls.specs.bound_forms.specs.Terms as plain
+use Rattle.bound_terms.specs.bound_accesses.specs.bound_names.specs.bound_members.specs.bound_calls.specs.bound_forms.specs.ExpressionsBound.{callee, item_of, meant_term, own_term, place_told, term_of}
+use Rattle.bound_terms.specs.bound_accesses.specs.bound_names.specs.bound_members.specs.bound_calls.specs.bound_forms.specs.StatementsBound.{broken_target, is_given_with, is_no_target, is_param_array, is_sub, is_variant_place, takes_value, target_of_call, written_to}
+use Rattle.bound_terms.specs.bound_accesses.specs.bound_names.specs.bound_members.specs.bound_calls.specs.declared.term.Property.{Property}
+use Rattle.bound_terms.specs.bound_accesses.specs.bound_names.specs.bound_members.specs.bound_calls.specs.declared.term.Receiver.{Receiver}
+use Rattle.bound_terms.specs.bound_accesses.specs.bound_names.specs.bound_members.specs.bound_calls.specs.declared.term.Receiver.TheVariants as receiver
+use Rattle.bound_terms.specs.bound_accesses.specs.bound_names.specs.bound_members.specs.bound_calls.specs.declared.term.Routine.{Routine}
+use Rattle.bound_terms.specs.bound_accesses.specs.bound_names.specs.bound_members.specs.bound_calls.specs.declared.term.Term.{Term}
+use Rattle.bound_terms.specs.bound_accesses.specs.bound_names.specs.bound_members.specs.bound_calls.specs.declared.term.Term.TheVariants as term
+use Rattle.bound_terms.specs.bound_accesses.specs.bound_names.specs.bound_members.specs.bound_calls.specs.declared.term.Tree.{Tree}
+use Rattle.bound_terms.specs.bound_accesses.specs.bound_names.specs.bound_members.specs.bound_calls.specs.Standing.{IsReceiver, LeafStands, ReceiverStands, TermStands, TreeStands}
+use Rattle.bound_terms.specs.bound_accesses.specs.bound_names.specs.bound_members.specs.bound_calls.specs.Steps.{Leaves}
+use Rattle.bound_terms.specs.bound_accesses.specs.bound_names.specs.bound_members.specs.bound_calls.proofs.Growing.{grown_twice}
+use Rattle.bound_terms.specs.bound_accesses.specs.bound_names.specs.Callee.{CalleeIs}
 use Rattle.statement_terms.specs.declared.trees.Split.{Split}
 use Rattle.statement_terms.specs.Called.{AssignsTo, IsBare, LeavesAlone, SplitAt}
 use Rattle.statement_terms.specs.Heights.{AddsOne}

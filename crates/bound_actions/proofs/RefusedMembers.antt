@@ -18,23 +18,23 @@ use Rattle.bound_project.specs.Lists.{above, exprs_of}
 use Rattle.bound_project.specs.Pieces.{Piece, an_expr}
 use Rattle.bound_project.specs.Statements.{Action}
 use Rattle.bound_project.specs.Statements as to
-use Rattle.bound_terms.specs.binder.specs.Options.{from_two, or_else}
-use Rattle.bound_terms.specs.bound_forms.specs.Terms.{Env, Given, a_host_member, broken_value, has_names}
-use Rattle.bound_terms.specs.bound_forms.specs.Terms as plain
-use Rattle.bound_terms.specs.bound_forms.specs.ExpressionsBound.{argument_of, arguments_rule, callee, givens, host_arguments, if_there, indexed, item_of, may_be_instance, member_takes, names_taken, place_told, takes_arguments, term_of, variant_arguments}
-use Rattle.bound_terms.specs.bound_forms.specs.StatementsBound.{arguments_written, broken_target, fits_written, has_written_default, is_written_member, member_written, named_written, target_before, unwritten_rule, written_rule}
-use Rattle.bound_terms.specs.bound_calls.specs.declared.term.HostMember.{HostMember}
-use Rattle.bound_terms.specs.bound_calls.specs.declared.term.Refuser.TheVariants as refuser
-use Rattle.bound_terms.specs.bound_calls.specs.declared.term.Shape.{Shape}
-use Rattle.bound_terms.specs.bound_calls.specs.declared.term.Term.{Term}
-use Rattle.bound_terms.specs.bound_calls.specs.declared.term.Term.TheVariants as term
-use Rattle.bound_terms.specs.bound_calls.specs.Shapes.{AreShaped, shape_given, shapes_given}
-use Rattle.bound_terms.specs.bound_calls.specs.Standing.{HostMemberStands, TermStands, ValueStands, member_is, refused_rule}
-use Rattle.bound_terms.specs.bound_calls.specs.Taking.{broken_ending}
-use Rattle.bound_terms.specs.bound_calls.proofs.Growing.{grown_twice}
-use Rattle.bound_terms.specs.bound_calls.proofs.Growing as growing
-use Rattle.bound_terms.specs.bound_calls.proofs.Shaping.{member_same, rule_shaped, shapes_long}
-use Rattle.bound_terms.specs.bound_members.proofs.Naming.{given_listed, given_long}
+use Rattle.declared_names.specs.binder.specs.Options.{from_two, or_else}
+use Rattle.bound_terms.specs.bound_accesses.specs.bound_names.specs.bound_members.specs.bound_calls.specs.bound_forms.specs.Terms.{Env, Given, a_host_member, broken_value, has_names}
+use Rattle.bound_terms.specs.bound_accesses.specs.bound_names.specs.bound_members.specs.bound_calls.specs.bound_forms.specs.Terms as plain
+use Rattle.bound_terms.specs.bound_accesses.specs.bound_names.specs.bound_members.specs.bound_calls.specs.bound_forms.specs.ExpressionsBound.{argument_of, arguments_rule, callee, givens, host_arguments, if_there, indexed, item_of, may_be_instance, member_takes, names_taken, place_told, takes_arguments, term_of, variant_arguments}
+use Rattle.bound_terms.specs.bound_accesses.specs.bound_names.specs.bound_members.specs.bound_calls.specs.bound_forms.specs.StatementsBound.{arguments_written, broken_target, fits_written, has_written_default, is_written_member, member_written, named_written, target_before, unwritten_rule, written_rule}
+use Rattle.bound_terms.specs.bound_accesses.specs.bound_names.specs.bound_members.specs.bound_calls.specs.declared.term.HostMember.{HostMember}
+use Rattle.bound_terms.specs.bound_accesses.specs.bound_names.specs.bound_members.specs.bound_calls.specs.declared.term.Refuser.TheVariants as refuser
+use Rattle.bound_terms.specs.bound_accesses.specs.bound_names.specs.bound_members.specs.bound_calls.specs.declared.term.Shape.{Shape}
+use Rattle.bound_terms.specs.bound_accesses.specs.bound_names.specs.bound_members.specs.bound_calls.specs.declared.term.Term.{Term}
+use Rattle.bound_terms.specs.bound_accesses.specs.bound_names.specs.bound_members.specs.bound_calls.specs.declared.term.Term.TheVariants as term
+use Rattle.bound_terms.specs.bound_accesses.specs.bound_names.specs.bound_members.specs.bound_calls.specs.Shapes.{AreShaped, shape_given, shapes_given}
+use Rattle.bound_terms.specs.bound_accesses.specs.bound_names.specs.bound_members.specs.bound_calls.specs.Standing.{HostMemberStands, TermStands, ValueStands, member_is, refused_rule}
+use Rattle.bound_terms.specs.bound_accesses.specs.bound_names.specs.bound_members.specs.bound_calls.specs.Taking.{broken_ending}
+use Rattle.bound_terms.specs.bound_accesses.specs.bound_names.specs.bound_members.specs.bound_calls.proofs.Growing.{grown_twice}
+use Rattle.bound_terms.specs.bound_accesses.specs.bound_names.specs.bound_members.specs.bound_calls.proofs.Growing as growing
+use Rattle.bound_terms.specs.bound_accesses.specs.bound_names.specs.bound_members.specs.bound_calls.proofs.Shaping.{member_same, rule_shaped, shapes_long}
+use Rattle.bound_terms.specs.bound_accesses.specs.bound_names.specs.bound_members.proofs.Naming.{given_listed, given_long}
 use Rattle.bound_terms.specs.bound_accesses.specs.Items.{MakesItem}
 use Rattle.bound_terms.specs.bound_operands.proofs.Untaking.{marked_ends}
 use Rattle.bound_terms.proofs.Refused.{member_refused}
@@ -83,8 +83,8 @@ either false none = refl
 -- nothing is written by names that aren't taken
 by_none : (env : Env) (place : Place) (object : bound.Expr) (m : plain.HostMember) (gs : List Given) (value : bound.Expr) → has_names gs ≡ true → names_taken m gs ≡ None → arguments_written env place object m gs value ≡ None
 by_none env place object m gs value names none =
-    let plainly : Option Action = option_map (λ es. to.assign_member object m.name es value) (host_arguments env gs) in
-    let by : Option bound.ByName → Option Action = λ o. option_map (λ node. to.assign_default (plain.expression_of node place m.of) value) (from_two (λ how es. bound.named_member object m.name how es) o (host_arguments env gs)) in
+    let plainly : Option Action = option_map (λ es. to.assign_member object m.name es value) (host_arguments env m gs) in
+    let by : Option bound.ByName → Option Action = λ o. option_map (λ node. to.assign_default (plain.expression_of node place m.of) value) (from_two (λ how es. bound.named_member object m.name how es) o (host_arguments env m gs)) in
     ap (λ (b : Bool). if b then named_written env place object m gs value else plainly) names ∙ ap (λ (o : Option bound.ByName). if bytes_eq m.name (codes "raise") then None else by o) none ∙ either (bytes_eq m.name (codes "raise")) None
 
 -- ---- what isn't written

@@ -23,30 +23,30 @@ use Rattle.bound_project.specs.Project.{Parameter}
 use Rattle.bound_project.specs.Statements.{Action, evaluate}
 use Rattle.bound_project.specs.Statements as to
 use Rattle.bound_project.specs.View.{declared_view}
-use Rattle.bound_terms.specs.binder.specs.Options.{or_else}
-use Rattle.bound_terms.specs.bound_forms.specs.Terms.{Env, Given, bound_arguments, broken_rule, takes}
-use Rattle.bound_terms.specs.bound_forms.specs.Terms as plain
-use Rattle.bound_terms.specs.bound_forms.specs.ExpressionsBound.{argument_of, behind_base, givens, indexed, place_told, variant_arguments}
-use Rattle.bound_terms.specs.bound_forms.specs.StatementsBound.{broken_target, called_term, is_given_with, is_no_target, is_sub, object_set, property_given, raise_parameters, target_of_call, untaken, written_to}
-use Rattle.bound_terms.specs.bound_calls.specs.declared.term.Ending.{Ending}
-use Rattle.bound_terms.specs.bound_calls.specs.declared.term.Item.{Item}
-use Rattle.bound_terms.specs.bound_calls.specs.declared.term.Item.TheVariants as item
-use Rattle.bound_terms.specs.bound_calls.specs.declared.term.Receiver.{Receiver}
-use Rattle.bound_terms.specs.bound_calls.specs.declared.term.Receiver.TheVariants as receiver
-use Rattle.bound_terms.specs.bound_calls.specs.declared.term.Routine.{Routine}
-use Rattle.bound_terms.specs.bound_calls.specs.declared.term.Shape.{Shape}
-use Rattle.bound_terms.specs.bound_calls.specs.declared.term.Term.TheVariants as term
-use Rattle.bound_terms.specs.bound_calls.specs.declared.term.Tree.{Tree}
-use Rattle.bound_terms.specs.bound_calls.specs.Calls.{node_of}
-use Rattle.bound_terms.specs.bound_calls.specs.Shapes.{AreShaped, IsShaped, shapes_given, with_shapes}
-use Rattle.bound_terms.specs.bound_calls.specs.Standing.{AllGiven, Base, GivenIs, IsReceiver, ReceiverStands, RoutineStands, Stands, behind_values}
-use Rattle.bound_terms.specs.bound_calls.specs.Steps.{Goes, Leaves}
-use Rattle.bound_terms.specs.bound_calls.specs.Taking.{CallsAt, broken_ending}
-use Rattle.bound_terms.specs.bound_calls.proofs.CallSteps.{above_both}
-use Rattle.bound_terms.specs.bound_calls.proofs.Growing.{grown_pieces, grown_twice}
-use Rattle.bound_terms.specs.bound_calls.proofs.Refusing.{refused}
-use Rattle.bound_terms.specs.bound_calls.proofs.Shaping.{takes_shaped}
-use Rattle.bound_terms.specs.bound_members.proofs.Naming.{given_listed, given_long}
+use Rattle.declared_names.specs.binder.specs.Options.{or_else}
+use Rattle.bound_terms.specs.bound_accesses.specs.bound_names.specs.bound_members.specs.bound_calls.specs.bound_forms.specs.Terms.{Env, Given, bound_arguments, broken_rule, takes}
+use Rattle.bound_terms.specs.bound_accesses.specs.bound_names.specs.bound_members.specs.bound_calls.specs.bound_forms.specs.Terms as plain
+use Rattle.bound_terms.specs.bound_accesses.specs.bound_names.specs.bound_members.specs.bound_calls.specs.bound_forms.specs.ExpressionsBound.{argument_of, behind_base, givens, indexed, place_told, variant_arguments}
+use Rattle.bound_terms.specs.bound_accesses.specs.bound_names.specs.bound_members.specs.bound_calls.specs.bound_forms.specs.StatementsBound.{broken_target, called_term, is_given_with, is_no_target, is_sub, object_set, property_given, raise_parameters, target_of_call, untaken, written_to}
+use Rattle.bound_terms.specs.bound_accesses.specs.bound_names.specs.bound_members.specs.bound_calls.specs.declared.term.Ending.{Ending}
+use Rattle.bound_terms.specs.bound_accesses.specs.bound_names.specs.bound_members.specs.bound_calls.specs.declared.term.Item.{Item}
+use Rattle.bound_terms.specs.bound_accesses.specs.bound_names.specs.bound_members.specs.bound_calls.specs.declared.term.Item.TheVariants as item
+use Rattle.bound_terms.specs.bound_accesses.specs.bound_names.specs.bound_members.specs.bound_calls.specs.declared.term.Receiver.{Receiver}
+use Rattle.bound_terms.specs.bound_accesses.specs.bound_names.specs.bound_members.specs.bound_calls.specs.declared.term.Receiver.TheVariants as receiver
+use Rattle.bound_terms.specs.bound_accesses.specs.bound_names.specs.bound_members.specs.bound_calls.specs.declared.term.Routine.{Routine}
+use Rattle.bound_terms.specs.bound_accesses.specs.bound_names.specs.bound_members.specs.bound_calls.specs.declared.term.Shape.{Shape}
+use Rattle.bound_terms.specs.bound_accesses.specs.bound_names.specs.bound_members.specs.bound_calls.specs.declared.term.Term.TheVariants as term
+use Rattle.bound_terms.specs.bound_accesses.specs.bound_names.specs.bound_members.specs.bound_calls.specs.declared.term.Tree.{Tree}
+use Rattle.bound_terms.specs.bound_accesses.specs.bound_names.specs.bound_members.specs.bound_calls.specs.Calls.{node_of}
+use Rattle.bound_terms.specs.bound_accesses.specs.bound_names.specs.bound_members.specs.bound_calls.specs.Shapes.{AreShaped, IsShaped, shapes_given, with_shapes}
+use Rattle.bound_terms.specs.bound_accesses.specs.bound_names.specs.bound_members.specs.bound_calls.specs.Standing.{AllGiven, Base, GivenIs, IsReceiver, ReceiverStands, RoutineStands, Stands, behind_values}
+use Rattle.bound_terms.specs.bound_accesses.specs.bound_names.specs.bound_members.specs.bound_calls.specs.Steps.{Goes, Leaves}
+use Rattle.bound_terms.specs.bound_accesses.specs.bound_names.specs.bound_members.specs.bound_calls.specs.Taking.{CallsAt, broken_ending}
+use Rattle.bound_terms.specs.bound_accesses.specs.bound_names.specs.bound_members.specs.bound_calls.proofs.CallSteps.{above_both}
+use Rattle.bound_terms.specs.bound_accesses.specs.bound_names.specs.bound_members.specs.bound_calls.proofs.Growing.{grown_pieces, grown_twice}
+use Rattle.bound_terms.specs.bound_accesses.specs.bound_names.specs.bound_members.specs.bound_calls.proofs.Refusing.{refused}
+use Rattle.bound_terms.specs.bound_accesses.specs.bound_names.specs.bound_members.specs.bound_calls.proofs.Shaping.{takes_shaped}
+use Rattle.bound_terms.specs.bound_accesses.specs.bound_names.specs.bound_members.proofs.Naming.{given_listed, given_long}
 use Rattle.statement_terms.specs.declared.assigning.PropertyLet.{PropertyLet}
 use Rattle.statement_terms.specs.Called.{ActsOn, AssignsTo, LetsWith, args_on, let_with}
 use Rattle.statement_terms.specs.Setting.{SetsTerm, SetsTo}

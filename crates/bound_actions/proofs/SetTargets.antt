@@ -15,27 +15,27 @@ use Rattle.bound_project.specs.Expressions.{no_exprs}
 use Rattle.bound_project.specs.Expressions as bound
 use Rattle.bound_project.specs.Pieces.{Piece, Tables, an_expr}
 use Rattle.bound_project.specs.Statements.{Action}
-use Rattle.bound_terms.specs.binder.specs.Declarations.{Written}
-use Rattle.bound_terms.specs.binder.specs.Options.{or_else}
-use Rattle.bound_terms.specs.binder.specs.Scopes.{Space}
-use Rattle.bound_terms.specs.binder.specs.Signatures.{is_property}
-use Rattle.bound_terms.specs.declared_names.specs.View.{space_view, written_view}
-use Rattle.bound_terms.specs.bound_forms.specs.Terms.{Env, Given, a_host_member, a_method, a_routine, no_term, routine_term}
-use Rattle.bound_terms.specs.bound_forms.specs.Terms as plain
-use Rattle.bound_terms.specs.bound_forms.specs.ExpressionsBound.{callee, givens, indexed, item_of, term_of, place_told}
-use Rattle.bound_terms.specs.bound_forms.specs.StatementsBound.{broken_target, given_behind, is_sub, object_set, set_by, set_target, set_to, target_before}
-use Rattle.bound_terms.specs.bound_calls.specs.declared.term.HostMember.{HostMember}
-use Rattle.bound_terms.specs.bound_calls.specs.declared.term.Property.{Property}
-use Rattle.bound_terms.specs.bound_calls.specs.declared.term.Routine.{Routine}
-use Rattle.bound_terms.specs.bound_calls.specs.declared.term.Term.{Term}
-use Rattle.bound_terms.specs.bound_calls.specs.declared.term.Term.TheVariants as term
-use Rattle.bound_terms.specs.bound_calls.specs.declared.term.Tree.{Tree}
-use Rattle.bound_terms.specs.bound_calls.specs.Standing.{HostMemberStands, PropertyStands, RoutineStands, TermStands, member_is}
-use Rattle.bound_terms.specs.bound_calls.specs.Steps.{Leaves}
-use Rattle.bound_terms.specs.bound_calls.proofs.Growing.{grown_twice}
-use Rattle.bound_terms.specs.bound_names.specs.declared.properties.Part.TheVariants as part
-use Rattle.bound_terms.specs.bound_names.specs.declared.properties.Writer.{Writer}
-use Rattle.bound_terms.specs.bound_names.specs.Callee.{CalleeIs, NoWriter, Unwritten, WriterOf}
+use Rattle.declared_names.specs.binder.specs.Declarations.{Written}
+use Rattle.declared_names.specs.binder.specs.Options.{or_else}
+use Rattle.declared_names.specs.binder.specs.Scopes.{Space}
+use Rattle.declared_names.specs.binder.specs.Signatures.{is_property}
+use Rattle.declared_names.specs.View.{space_view, written_view}
+use Rattle.bound_terms.specs.bound_accesses.specs.bound_names.specs.bound_members.specs.bound_calls.specs.bound_forms.specs.Terms.{Env, Given, a_host_member, a_method, a_routine, no_term, routine_term}
+use Rattle.bound_terms.specs.bound_accesses.specs.bound_names.specs.bound_members.specs.bound_calls.specs.bound_forms.specs.Terms as plain
+use Rattle.bound_terms.specs.bound_accesses.specs.bound_names.specs.bound_members.specs.bound_calls.specs.bound_forms.specs.ExpressionsBound.{callee, givens, indexed, item_of, term_of, place_told}
+use Rattle.bound_terms.specs.bound_accesses.specs.bound_names.specs.bound_members.specs.bound_calls.specs.bound_forms.specs.StatementsBound.{broken_target, given_behind, is_sub, object_set, set_by, set_target, set_to, target_before}
+use Rattle.bound_terms.specs.bound_accesses.specs.bound_names.specs.bound_members.specs.bound_calls.specs.declared.term.HostMember.{HostMember}
+use Rattle.bound_terms.specs.bound_accesses.specs.bound_names.specs.bound_members.specs.bound_calls.specs.declared.term.Property.{Property}
+use Rattle.bound_terms.specs.bound_accesses.specs.bound_names.specs.bound_members.specs.bound_calls.specs.declared.term.Routine.{Routine}
+use Rattle.bound_terms.specs.bound_accesses.specs.bound_names.specs.bound_members.specs.bound_calls.specs.declared.term.Term.{Term}
+use Rattle.bound_terms.specs.bound_accesses.specs.bound_names.specs.bound_members.specs.bound_calls.specs.declared.term.Term.TheVariants as term
+use Rattle.bound_terms.specs.bound_accesses.specs.bound_names.specs.bound_members.specs.bound_calls.specs.declared.term.Tree.{Tree}
+use Rattle.bound_terms.specs.bound_accesses.specs.bound_names.specs.bound_members.specs.bound_calls.specs.Standing.{HostMemberStands, PropertyStands, RoutineStands, TermStands, member_is}
+use Rattle.bound_terms.specs.bound_accesses.specs.bound_names.specs.bound_members.specs.bound_calls.specs.Steps.{Leaves}
+use Rattle.bound_terms.specs.bound_accesses.specs.bound_names.specs.bound_members.specs.bound_calls.proofs.Growing.{grown_twice}
+use Rattle.bound_terms.specs.bound_accesses.specs.bound_names.specs.declared.properties.Part.TheVariants as part
+use Rattle.bound_terms.specs.bound_accesses.specs.bound_names.specs.declared.properties.Writer.{Writer}
+use Rattle.bound_terms.specs.bound_accesses.specs.bound_names.specs.Callee.{CalleeIs, NoWriter, Unwritten, WriterOf}
 use Rattle.bound_terms.specs.bound_accesses.specs.Items.{MakesItem, is_host_term, lacks_item, takes_item}
 use Rattle.bound_terms.specs.bound_accesses.proofs.ItemTerms.{same_item}
 use Rattle.bound_terms.specs.bound_accesses.proofs.Lacking.{no_host, no_item}

@@ -7,23 +7,23 @@ use Rattle.vba_expression.specs.declared.node.ExpressionNode.{ExpressionNode}
 use Rattle.bound_project.specs.Drafts.{Drafted}
 use Rattle.bound_project.specs.Expressions as bound
 use Rattle.bound_project.specs.Pieces.{Piece}
-use Rattle.bound_terms.specs.binder.specs.Declarations.{Written}
-use Rattle.bound_terms.specs.binder.specs.Scopes.{Space}
-use Rattle.bound_terms.specs.bound_forms.specs.Terms.{Env, routine_term}
-use Rattle.bound_terms.specs.bound_forms.specs.Terms as plain
-use Rattle.bound_terms.specs.bound_forms.specs.ExpressionsBound.{callee, item_of, place_told, term_of}
-use Rattle.bound_terms.specs.bound_forms.specs.StatementsBound.{takes_value, target_before, target_term}
-use Rattle.bound_terms.specs.declared_names.specs.View.{space_view, written_view}
-use Rattle.bound_terms.specs.bound_names.specs.declared.properties.Part.TheVariants as part
-use Rattle.bound_terms.specs.bound_names.specs.declared.properties.Writer.{Writer}
-use Rattle.bound_terms.specs.bound_names.specs.Callee.{CalleeIs, NoWriter, WriterOf}
+use Rattle.declared_names.specs.binder.specs.Declarations.{Written}
+use Rattle.declared_names.specs.binder.specs.Scopes.{Space}
+use Rattle.bound_terms.specs.bound_accesses.specs.bound_names.specs.bound_members.specs.bound_calls.specs.bound_forms.specs.Terms.{Env, routine_term}
+use Rattle.bound_terms.specs.bound_accesses.specs.bound_names.specs.bound_members.specs.bound_calls.specs.bound_forms.specs.Terms as plain
+use Rattle.bound_terms.specs.bound_accesses.specs.bound_names.specs.bound_members.specs.bound_calls.specs.bound_forms.specs.ExpressionsBound.{callee, item_of, place_told, term_of}
+use Rattle.bound_terms.specs.bound_accesses.specs.bound_names.specs.bound_members.specs.bound_calls.specs.bound_forms.specs.StatementsBound.{takes_value, target_before, target_term}
+use Rattle.declared_names.specs.View.{space_view, written_view}
+use Rattle.bound_terms.specs.bound_accesses.specs.bound_names.specs.declared.properties.Part.TheVariants as part
+use Rattle.bound_terms.specs.bound_accesses.specs.bound_names.specs.declared.properties.Writer.{Writer}
+use Rattle.bound_terms.specs.bound_accesses.specs.bound_names.specs.Callee.{CalleeIs, NoWriter, WriterOf}
 use Rattle.bound_terms.specs.bound_accesses.specs.Items.{MakesItem, takes_item}
-use Rattle.bound_terms.specs.bound_calls.specs.declared.term.HostMember.{HostMember}
-use Rattle.bound_terms.specs.bound_calls.specs.declared.term.Term.{Term}
-use Rattle.bound_terms.specs.bound_calls.specs.declared.term.Term.TheVariants as term
-use Rattle.bound_terms.specs.bound_calls.specs.declared.term.Tree.{Tree}
-use Rattle.bound_terms.specs.bound_calls.specs.Standing.{TermStands}
-use Rattle.bound_terms.specs.bound_calls.specs.Steps.{Leaves}
+use Rattle.bound_terms.specs.bound_accesses.specs.bound_names.specs.bound_members.specs.bound_calls.specs.declared.term.HostMember.{HostMember}
+use Rattle.bound_terms.specs.bound_accesses.specs.bound_names.specs.bound_members.specs.bound_calls.specs.declared.term.Term.{Term}
+use Rattle.bound_terms.specs.bound_accesses.specs.bound_names.specs.bound_members.specs.bound_calls.specs.declared.term.Term.TheVariants as term
+use Rattle.bound_terms.specs.bound_accesses.specs.bound_names.specs.bound_members.specs.bound_calls.specs.declared.term.Tree.{Tree}
+use Rattle.bound_terms.specs.bound_accesses.specs.bound_names.specs.bound_members.specs.bound_calls.specs.Standing.{TermStands}
+use Rattle.bound_terms.specs.bound_accesses.specs.bound_names.specs.bound_members.specs.bound_calls.specs.Steps.{Leaves}
 use Rattle.statement_terms.specs.declared.trees.Split.{Split}
 use Rattle.statement_terms.specs.declared.takers.Taker.{Taker}
 use Rattle.statement_terms.specs.Called.{Continues, IsBare, LeavesAlone, SplitAt}

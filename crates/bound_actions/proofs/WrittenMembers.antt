@@ -8,16 +8,16 @@ use Rattle.vba_expression.specs.declared.node.ExpressionNode.{ExpressionNode}
 use Rattle.vba_expression.specs.declared.node.ExpressionNode.TheVariants as node
 use Rattle.bound_project.specs.declared.statement.ActionKind.{ActionKind}
 use Rattle.bound_project.specs.Drafts.{Drafted}
-use Rattle.bound_terms.specs.bound_forms.specs.Terms.{Env}
-use Rattle.bound_terms.specs.bound_forms.specs.ExpressionsBound.{callee, item_of, term_of}
-use Rattle.bound_terms.specs.bound_calls.specs.declared.term.HostMember.{HostMember}
-use Rattle.bound_terms.specs.bound_calls.specs.declared.term.MemberCall.{MemberCall}
-use Rattle.bound_terms.specs.bound_calls.specs.declared.term.Item.{Item}
-use Rattle.bound_terms.specs.bound_calls.specs.declared.term.Term.{Term}
-use Rattle.bound_terms.specs.bound_calls.specs.declared.term.Term.TheVariants as term
-use Rattle.bound_terms.specs.bound_calls.specs.Standing.{TermStands, on_pieces}
-use Rattle.bound_terms.specs.bound_calls.proofs.Growing.{grown_twice}
-use Rattle.bound_terms.specs.bound_members.specs.MemberCalls.{OpensMember}
+use Rattle.bound_terms.specs.bound_accesses.specs.bound_names.specs.bound_members.specs.bound_calls.specs.bound_forms.specs.Terms.{Env}
+use Rattle.bound_terms.specs.bound_accesses.specs.bound_names.specs.bound_members.specs.bound_calls.specs.bound_forms.specs.ExpressionsBound.{callee, item_of, term_of}
+use Rattle.bound_terms.specs.bound_accesses.specs.bound_names.specs.bound_members.specs.bound_calls.specs.declared.term.HostMember.{HostMember}
+use Rattle.bound_terms.specs.bound_accesses.specs.bound_names.specs.bound_members.specs.bound_calls.specs.declared.term.MemberCall.{MemberCall}
+use Rattle.bound_terms.specs.bound_accesses.specs.bound_names.specs.bound_members.specs.bound_calls.specs.declared.term.Item.{Item}
+use Rattle.bound_terms.specs.bound_accesses.specs.bound_names.specs.bound_members.specs.bound_calls.specs.declared.term.Term.{Term}
+use Rattle.bound_terms.specs.bound_accesses.specs.bound_names.specs.bound_members.specs.bound_calls.specs.declared.term.Term.TheVariants as term
+use Rattle.bound_terms.specs.bound_accesses.specs.bound_names.specs.bound_members.specs.bound_calls.specs.Standing.{TermStands, on_pieces}
+use Rattle.bound_terms.specs.bound_accesses.specs.bound_names.specs.bound_members.specs.bound_calls.proofs.Growing.{grown_twice}
+use Rattle.bound_terms.specs.bound_accesses.specs.bound_names.specs.bound_members.specs.MemberCalls.{OpensMember}
 use Rattle.bound_terms.specs.bound_accesses.specs.Items.{MakesItem}
 use Rattle.statement_terms.specs.Members.{AssignsItem, GivesMember, ReadsOnto, WritesCall}
 use Rattle.statement_terms.proofs.NodeTrees.{behind_push}

@@ -9,27 +9,27 @@ use Rattle.bound_project.specs.Drafts.{ActionNamed, Drafted}
 use Rattle.bound_project.specs.Expressions.{no_exprs}
 use Rattle.bound_project.specs.Expressions as bound
 use Rattle.bound_project.specs.Pieces.{Piece, Tables, an_expr}
-use Rattle.bound_terms.specs.binder.specs.Scopes.{declares, plainly}
-use Rattle.bound_terms.specs.bound_forms.specs.Terms.{Env, a_host_member}
-use Rattle.bound_terms.specs.bound_forms.specs.Terms as plain
-use Rattle.bound_terms.specs.bound_forms.specs.StatementsBound.{assigned_to, broken_target, is_given_with, is_no_target, takes_value}
-use Rattle.bound_terms.specs.bound_calls.specs.declared.term.Receiver.{Receiver}
-use Rattle.bound_terms.specs.bound_calls.specs.declared.term.Receiver.TheVariants as receiver
-use Rattle.bound_terms.specs.bound_calls.specs.declared.term.Term.{Term}
-use Rattle.bound_terms.specs.bound_calls.specs.declared.term.Tree.{Tree}
-use Rattle.bound_terms.specs.bound_calls.specs.Standing.{Grown, TermStands, TreeStands}
-use Rattle.bound_terms.specs.bound_names.specs.Callee.{NoWriter}
+use Rattle.declared_names.specs.binder.specs.Scopes.{declares, plainly}
+use Rattle.bound_terms.specs.bound_accesses.specs.bound_names.specs.bound_members.specs.bound_calls.specs.bound_forms.specs.Terms.{Env, a_host_member}
+use Rattle.bound_terms.specs.bound_accesses.specs.bound_names.specs.bound_members.specs.bound_calls.specs.bound_forms.specs.Terms as plain
+use Rattle.bound_terms.specs.bound_accesses.specs.bound_names.specs.bound_members.specs.bound_calls.specs.bound_forms.specs.StatementsBound.{assigned_to, broken_target, is_given_with, is_no_target, takes_value}
+use Rattle.bound_terms.specs.bound_accesses.specs.bound_names.specs.bound_members.specs.bound_calls.specs.declared.term.Receiver.{Receiver}
+use Rattle.bound_terms.specs.bound_accesses.specs.bound_names.specs.bound_members.specs.bound_calls.specs.declared.term.Receiver.TheVariants as receiver
+use Rattle.bound_terms.specs.bound_accesses.specs.bound_names.specs.bound_members.specs.bound_calls.specs.declared.term.Term.{Term}
+use Rattle.bound_terms.specs.bound_accesses.specs.bound_names.specs.bound_members.specs.bound_calls.specs.declared.term.Tree.{Tree}
+use Rattle.bound_terms.specs.bound_accesses.specs.bound_names.specs.bound_members.specs.bound_calls.specs.Standing.{Grown, TermStands, TreeStands}
+use Rattle.bound_terms.specs.bound_accesses.specs.bound_names.specs.Callee.{NoWriter}
 use Rattle.bound_project.specs.declared.declarations.Parameter.{Parameter}
 use Rattle.bound_project.specs.View.{declared_view, parameter_view}
-use Rattle.bound_terms.specs.binder.specs.Signatures.{parameters_in}
-use Rattle.bound_terms.specs.binder.specs.Storage.{procedure_number}
-use Rattle.bound_terms.specs.binder.specs.Types.{is_object}
-use Rattle.bound_terms.specs.bound_names.specs.declared.properties.Part.{Part}
-use Rattle.bound_terms.specs.bound_names.specs.declared.properties.Writer.{Writer}
-use Rattle.bound_terms.specs.declared_names.specs.View.{space_view, written_view}
+use Rattle.declared_names.specs.binder.specs.Signatures.{parameters_in}
+use Rattle.declared_names.specs.binder.specs.Storage.{procedure_number}
+use Rattle.declared_names.specs.binder.specs.Types.{is_object}
+use Rattle.bound_terms.specs.bound_accesses.specs.bound_names.specs.declared.properties.Part.{Part}
+use Rattle.bound_terms.specs.bound_accesses.specs.bound_names.specs.declared.properties.Writer.{Writer}
+use Rattle.declared_names.specs.View.{space_view, written_view}
 use Rattle.statement_terms.specs.declared.assigning.PropertyLet.{PropertyLet}
-use Rattle.bound_terms.specs.binder.specs.Classes.{has_class}
-use Rattle.bound_terms.specs.bound_names.specs.declared.properties.Part.TheVariants as part
+use Rattle.declared_names.specs.binder.specs.Classes.{has_class}
+use Rattle.bound_terms.specs.bound_accesses.specs.bound_names.specs.declared.properties.Part.TheVariants as part
 use Rattle.statement_terms.specs.Called.{GoesThere, ActionIs, IsBare}
 use Rattle.bound_actions.specs.NoTargets.{means_list}
 

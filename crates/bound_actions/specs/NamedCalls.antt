@@ -4,11 +4,11 @@ use Rattle.vba_expression.specs.Nodes as nodes
 use Rattle.vba_expression.specs.declared.node.ExpressionNode.{ExpressionNode}
 use Rattle.bound_project.specs.Project.{Parameter}
 use Rattle.bound_project.specs.Drafts.{Drafted}
-use Rattle.bound_terms.specs.bound_forms.specs.Terms.{Env}
-use Rattle.bound_terms.specs.bound_calls.specs.declared.term.Passed.{Passed}
-use Rattle.bound_terms.specs.bound_calls.specs.InOrder.{with_named}
-use Rattle.bound_terms.specs.bound_calls.specs.Standing.{Grown, Stands}
-use Rattle.bound_terms.specs.bound_calls.specs.declared.term.Item.TheVariants as item
+use Rattle.bound_terms.specs.bound_accesses.specs.bound_names.specs.bound_members.specs.bound_calls.specs.bound_forms.specs.Terms.{Env}
+use Rattle.bound_terms.specs.bound_accesses.specs.bound_names.specs.bound_members.specs.bound_calls.specs.declared.term.Passed.{Passed}
+use Rattle.bound_terms.specs.bound_accesses.specs.bound_names.specs.bound_members.specs.bound_calls.specs.InOrder.{with_named}
+use Rattle.bound_terms.specs.bound_accesses.specs.bound_names.specs.bound_members.specs.bound_calls.specs.Standing.{Grown, Stands}
+use Rattle.bound_terms.specs.bound_accesses.specs.bound_names.specs.bound_members.specs.bound_calls.specs.declared.term.Item.TheVariants as item
 use Rattle.bound_terms.specs.bound_operands.specs.Gathering.{with_gathered}
 use Rattle.statement_terms.specs.Called.{Framed, args_on}
 

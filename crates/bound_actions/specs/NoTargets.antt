@@ -9,19 +9,19 @@ use Rattle.bound_project.specs.Drafts.{ActionNamed, Drafted}
 use Rattle.bound_project.specs.Expressions.{no_exprs}
 use Rattle.bound_project.specs.Expressions as bound
 use Rattle.bound_project.specs.Pieces.{Piece, Tables, an_expr}
-use Rattle.bound_terms.specs.binder.specs.Declarations.{Own, a_parameter}
-use Rattle.bound_terms.specs.binder.specs.Scopes.{Meant, of_procedure}
-use Rattle.bound_terms.specs.binder.specs.Signatures.{is_property}
-use Rattle.bound_terms.specs.binder.specs.Storage.{gives_value}
-use Rattle.bound_terms.specs.bound_forms.specs.Terms.{Env, a_method, a_routine}
-use Rattle.bound_terms.specs.bound_forms.specs.Terms as plain
-use Rattle.bound_terms.specs.bound_forms.specs.ExpressionsBound.{indexed}
-use Rattle.bound_terms.specs.bound_forms.specs.StatementsBound.{broken_target, is_sub, set_to}
-use Rattle.bound_terms.specs.bound_calls.specs.declared.term.Receiver.{Receiver}
-use Rattle.bound_terms.specs.bound_calls.specs.declared.term.Receiver.TheVariants as receiver
-use Rattle.bound_terms.specs.bound_calls.specs.declared.term.Routine.{Routine}
-use Rattle.bound_terms.specs.bound_calls.specs.declared.term.Term.{Term}
-use Rattle.bound_terms.specs.bound_calls.specs.Standing.{Grown, RoutineStands, TermStands}
+use Rattle.declared_names.specs.binder.specs.Declarations.{Own, a_parameter}
+use Rattle.declared_names.specs.binder.specs.Scopes.{Meant, of_procedure}
+use Rattle.declared_names.specs.binder.specs.Signatures.{is_property}
+use Rattle.declared_names.specs.binder.specs.Storage.{gives_value}
+use Rattle.bound_terms.specs.bound_accesses.specs.bound_names.specs.bound_members.specs.bound_calls.specs.bound_forms.specs.Terms.{Env, a_method, a_routine}
+use Rattle.bound_terms.specs.bound_accesses.specs.bound_names.specs.bound_members.specs.bound_calls.specs.bound_forms.specs.Terms as plain
+use Rattle.bound_terms.specs.bound_accesses.specs.bound_names.specs.bound_members.specs.bound_calls.specs.bound_forms.specs.ExpressionsBound.{indexed}
+use Rattle.bound_terms.specs.bound_accesses.specs.bound_names.specs.bound_members.specs.bound_calls.specs.bound_forms.specs.StatementsBound.{broken_target, is_sub, set_to}
+use Rattle.bound_terms.specs.bound_accesses.specs.bound_names.specs.bound_members.specs.bound_calls.specs.declared.term.Receiver.{Receiver}
+use Rattle.bound_terms.specs.bound_accesses.specs.bound_names.specs.bound_members.specs.bound_calls.specs.declared.term.Receiver.TheVariants as receiver
+use Rattle.bound_terms.specs.bound_accesses.specs.bound_names.specs.bound_members.specs.bound_calls.specs.declared.term.Routine.{Routine}
+use Rattle.bound_terms.specs.bound_accesses.specs.bound_names.specs.bound_members.specs.bound_calls.specs.declared.term.Term.{Term}
+use Rattle.bound_terms.specs.bound_accesses.specs.bound_names.specs.bound_members.specs.bound_calls.specs.Standing.{Grown, RoutineStands, TermStands}
 use Rattle.statement_terms.specs.Called.{ActionIs}
 
 -- whether a procedure, by what it is called of, is a Sub of no object: it gives no value and is no property

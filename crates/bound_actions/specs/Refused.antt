@@ -7,11 +7,11 @@ use Rattle.bound_project.specs.declared.statement.ActionKind.{ActionKind}
 use Rattle.bound_project.specs.Drafts.{ActionNamed, Drafted}
 use Rattle.bound_project.specs.Expressions as bound
 use Rattle.bound_project.specs.Pieces.{an_expr}
-use Rattle.bound_terms.specs.bound_forms.specs.Terms.{Env, a_host_member}
-use Rattle.bound_terms.specs.bound_forms.specs.ExpressionsBound.{givens, indexed}
-use Rattle.bound_terms.specs.bound_forms.specs.StatementsBound.{member_written, set_to}
-use Rattle.bound_terms.specs.bound_calls.specs.declared.term.HostMember.{HostMember}
-use Rattle.bound_terms.specs.bound_calls.specs.Standing.{Grown, member_is}
+use Rattle.bound_terms.specs.bound_accesses.specs.bound_names.specs.bound_members.specs.bound_calls.specs.bound_forms.specs.Terms.{Env, a_host_member}
+use Rattle.bound_terms.specs.bound_accesses.specs.bound_names.specs.bound_members.specs.bound_calls.specs.bound_forms.specs.ExpressionsBound.{givens, indexed}
+use Rattle.bound_terms.specs.bound_accesses.specs.bound_names.specs.bound_members.specs.bound_calls.specs.bound_forms.specs.StatementsBound.{member_written, set_to}
+use Rattle.bound_terms.specs.bound_accesses.specs.bound_names.specs.bound_members.specs.bound_calls.specs.declared.term.HostMember.{HostMember}
+use Rattle.bound_terms.specs.bound_accesses.specs.bound_names.specs.bound_members.specs.bound_calls.specs.Standing.{Grown, member_is}
 use Rattle.statement_terms.specs.Called.{ActionIs, Framed, args_on}
 
 -- a member of the object that was pushed is assigned the value below that, with arguments by their nodes, and breaks a rule

@@ -13,12 +13,12 @@ use Rattle.bound_project.specs.Lists.{above}
 use Rattle.bound_project.specs.Pieces.{Piece, Tables, an_expr}
 use Rattle.bound_project.specs.Project.{Parameter}
 use Rattle.bound_project.specs.Statements.{evaluate}
-use Rattle.bound_terms.specs.bound_forms.specs.Terms.{Env, Given, broken_rule}
-use Rattle.bound_terms.specs.bound_forms.specs.ExpressionsBound.{argument_of, givens}
-use Rattle.bound_terms.specs.bound_forms.specs.StatementsBound.{untaken}
-use Rattle.bound_terms.specs.bound_calls.specs.declared.term.Shape.{Shape}
-use Rattle.bound_terms.specs.bound_calls.specs.Shapes.{AreShaped}
-use Rattle.bound_terms.specs.bound_calls.specs.Standing.{AllGiven, Grown, behind_values}
+use Rattle.bound_terms.specs.bound_accesses.specs.bound_names.specs.bound_members.specs.bound_calls.specs.bound_forms.specs.Terms.{Env, Given, broken_rule}
+use Rattle.bound_terms.specs.bound_accesses.specs.bound_names.specs.bound_members.specs.bound_calls.specs.bound_forms.specs.ExpressionsBound.{argument_of, givens}
+use Rattle.bound_terms.specs.bound_accesses.specs.bound_names.specs.bound_members.specs.bound_calls.specs.bound_forms.specs.StatementsBound.{untaken}
+use Rattle.bound_terms.specs.bound_accesses.specs.bound_names.specs.bound_members.specs.bound_calls.specs.declared.term.Shape.{Shape}
+use Rattle.bound_terms.specs.bound_accesses.specs.bound_names.specs.bound_members.specs.bound_calls.specs.Shapes.{AreShaped}
+use Rattle.bound_terms.specs.bound_accesses.specs.bound_names.specs.bound_members.specs.bound_calls.specs.Standing.{AllGiven, Grown, behind_values}
 use Rattle.statement_terms.specs.Called.{Framed, args_on}
 
 -- arguments of these shapes were pushed, each as a Variant takes it

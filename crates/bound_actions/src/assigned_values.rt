@@ -3,17 +3,17 @@
 ghost use Rattle.std.specs.Prelude.{◌≡◌, true, false, Bool, IfOk};
 ghost use Rattle.vba_expression.specs.View.{view as expression_view};
 ghost use Rattle.bound_project.specs.DraftView.{draft_view};
-ghost use Rattle.bound_terms.specs.bound_forms.specs.StatementsBound as plain;
+ghost use Rattle.bound_terms.specs.bound_accesses.specs.bound_names.specs.bound_members.specs.bound_calls.specs.bound_forms.specs.StatementsBound as plain;
 ghost use Rattle.statement_terms.specs.Assigning.{PushesFor, ValueFor, is_plain};
-ghost use Rattle.bound_terms.specs.bound_calls.specs.Standing.{TermNamed};
-ghost use Rattle.bound_terms.specs.bound_names.specs.View.{EnvStands, env_view};
+ghost use Rattle.bound_terms.specs.bound_accesses.specs.bound_names.specs.bound_members.specs.bound_calls.specs.Standing.{TermNamed};
+ghost use Rattle.bound_terms.specs.bound_accesses.specs.bound_names.specs.View.{EnvStands, env_view};
 
 use crate::assigning::assign_to;
 use crate::takers::taker_in;
 use bound_project::{DeclaredType, Draft};
-use bound_terms::bound_calls::Tree;
-use bound_terms::bound_declarations::NotYet;
-use bound_terms::bound_names::Env;
+use bound_terms::bound_accesses::bound_names::Env;
+use bound_terms::bound_accesses::bound_names::bound_members::bound_calls::Tree;
+use bound_terms::bound_accesses::bound_names::bound_members::bound_calls::bound_declarations::NotYet;
 use bound_terms::{push_value, tree_of};
 use statement_terms::{is_plain, mark_taken, may_break, push_assigned};
 use std::alloc::Global;

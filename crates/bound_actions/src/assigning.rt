@@ -6,14 +6,14 @@ ghost use Rattle.vba_expression.specs.Nodes.{tree_in};
 ghost use Rattle.bound_project.specs.DraftView.{draft_view};
 ghost use Rattle.bound_project.specs.View.{declared_view, parameter_view};
 ghost use Rattle.statement_terms.specs.Called.{AssignsTo, IsBare, Lets, LetsOn, LetsTaken, LetsWith, SplitAt, is_method};
-ghost use Rattle.bound_terms.specs.binder.specs.Types as types;
+ghost use Rattle.declared_names.specs.binder.specs.Types as types;
 ghost use Rattle.bound_actions.specs.Assigning.{AssignsOther, GivesProperty, RefusesNone, part_for};
-ghost use Rattle.bound_terms.specs.bound_calls.specs.Standing.{TermNamed};
-ghost use Rattle.bound_terms.specs.bound_names.specs.Callee.{IsWriter};
+ghost use Rattle.bound_terms.specs.bound_accesses.specs.bound_names.specs.bound_members.specs.bound_calls.specs.Standing.{TermNamed};
+ghost use Rattle.bound_terms.specs.bound_accesses.specs.bound_names.specs.Callee.{IsWriter};
 ghost use Rattle.bound_terms.specs.bound_accesses.specs.Items.{lacks_item};
 ghost use Rattle.statement_terms.specs.Targets.{is_variant_term};
-ghost use Rattle.bound_terms.specs.bound_names.specs.View.{EnvStands, env_view};
-ghost use Rattle.bound_terms.specs.declared_names.specs.View.{scope_view};
+ghost use Rattle.bound_terms.specs.bound_accesses.specs.bound_names.specs.View.{EnvStands, env_view};
+ghost use Rattle.declared_names.specs.View.{scope_view};
 
 use crate::member_targets::assign_item;
 use crate::no_targets::{has_let, is_no_target, is_sub, refuse_target};
@@ -21,16 +21,18 @@ use crate::statement_calls::read_named;
 use crate::trees::{continue_tree, nodes_tree};
 use crate::untaken::refuse_arguments;
 use bound_project::{ActionKind, DeclaredType, Draft, Parameter};
-use bound_terms::bound_accesses::{lacks_item, takes_item};
-use bound_terms::bound_calls::{
-    Receiver, Term, Tree, called_ending, count_of, pass_rest, push_in_order, push_receiver, takes,
-    takes_none,
+use bound_terms::bound_accesses::bound_names::bound_members::bound_calls::bound_declarations::{
+    NotYet, gives_value, procedure_number,
 };
-use bound_terms::bound_declarations::{NotYet, gives_value, procedure_number};
-use bound_terms::bound_members::shapes_ahead;
-use bound_terms::bound_names::{Env, Writer, callee_term, writer_of};
-use bound_terms::declared_names::is_object;
-use bound_terms::{bound_calls, tree_of};
+use bound_terms::bound_accesses::bound_names::bound_members::bound_calls::{
+    Receiver, Term, Tree, called_ending, count_of, pass_rest, push_broken, push_in_order,
+    push_receiver, takes, takes_none,
+};
+use bound_terms::bound_accesses::bound_names::bound_members::shapes_ahead;
+use bound_terms::bound_accesses::bound_names::{Env, Writer, callee_term, writer_of};
+use bound_terms::bound_accesses::{lacks_item, takes_item};
+use bound_terms::tree_of;
+use declared_names::is_object;
 use statement_terms::{
     Assignment, PropertyLet, Split, adds_one, as_given, as_operand, assign_indexed, assign_tree,
     assign_value, ends_bare, is_variant_term, ordered_kind, property_kind, push_rest, split_call,
@@ -147,7 +149,7 @@ fn refuse_none(
     let Receiver::Module = property.receiver else {
         return Err(OrMemory::Fault(NotYet));
     };
-    bound_calls::push_broken(draft, 25, place, 1)?;
+    push_broken(draft, 25, place, 1)?;
     Ok(ActionKind::Evaluate)
 }
 

@@ -16,10 +16,3 @@ mod untaken;
 
 pub use actions::{bind_assignment, bind_call, bind_call_place};
 pub use setting::bind_set;
-
-// What stands below, for the crates above.
-pub use bound_terms::{
-    binder, bound_declarations, bound_forms, bound_names, constant_values, declared_names,
-    project_tables,
-};
-pub use statement_terms::statement_numbers;

@@ -4,17 +4,19 @@ ghost use Rattle.std.specs.Prelude.{◌<◌, IfOk, length};
 ghost use Rattle.bound_project.specs.DraftView.{draft_view};
 ghost use Rattle.statement_terms.specs.Members.{AssignsItem, ReadsOnto};
 ghost use Rattle.bound_actions.specs.Refused.{RefusesWritten};
-ghost use Rattle.bound_terms.specs.bound_calls.specs.declared.term.Term.TheVariants as term;
-ghost use Rattle.bound_terms.specs.bound_calls.specs.Standing.{MemberNamed, TermNamed};
-ghost use Rattle.bound_terms.specs.bound_names.specs.View.{EnvStands, env_view};
+ghost use Rattle.bound_terms.specs.bound_accesses.specs.bound_names.specs.bound_members.specs.bound_calls.specs.declared.term.Term.TheVariants as term;
+ghost use Rattle.bound_terms.specs.bound_accesses.specs.bound_names.specs.bound_members.specs.bound_calls.specs.Standing.{MemberNamed, TermNamed};
+ghost use Rattle.bound_terms.specs.bound_accesses.specs.bound_names.specs.View.{EnvStands, env_view};
 
 use crate::untaken::read_untaken;
 use bound_project::{ActionKind, Draft};
+use bound_terms::bound_accesses::bound_names::Env;
+use bound_terms::bound_accesses::bound_names::bound_members::bound_calls::bound_declarations::NotYet;
+use bound_terms::bound_accesses::bound_names::bound_members::bound_calls::{
+    HostMember, Item, MemberCall, Term, put_item, take_item,
+};
+use bound_terms::bound_accesses::bound_names::bound_members::{open_member, shapes_ahead};
 use bound_terms::bound_accesses::item_member;
-use bound_terms::bound_calls::{HostMember, Item, MemberCall, Term, put_item, take_item};
-use bound_terms::bound_declarations::NotYet;
-use bound_terms::bound_members::{open_member, shapes_ahead};
-use bound_terms::bound_names::Env;
 use bound_terms::bound_operands::count_shapes;
 use bound_terms::run;
 use statement_terms::{write_broken, write_call, written_rule};

@@ -2,16 +2,20 @@
 
 ghost use Rattle.std.specs.Prelude.{◌≡◌, Some, IfOk, option_map};
 ghost use Rattle.bound_project.specs.DraftView.{draft_view};
-ghost use Rattle.bound_terms.specs.declared_names.specs.View.{meant_view, own_view, written_view};
-ghost use Rattle.bound_terms.specs.bound_names.specs.View.{env_view};
+ghost use Rattle.declared_names.specs.View.{meant_view, own_view, written_view};
+ghost use Rattle.bound_terms.specs.bound_accesses.specs.bound_names.specs.View.{env_view};
 ghost use Rattle.bound_actions.specs.Assigning.{IsNoTarget, TakesLet, named_list};
 ghost use Rattle.bound_actions.specs.NoTargets.{IsSub, RefusesTarget, is_module_sub, means_list, owns_list};
 
 use bound_project::{ActionKind, Draft};
-use bound_terms::bound_calls::{Receiver, Routine, Term, Tree, push_broken};
-use bound_terms::bound_declarations::{gives_value, is_property};
-use bound_terms::bound_names::{Env, writer_of};
-use bound_terms::declared_names::{Meant, Own, Use, declares};
+use bound_terms::bound_accesses::bound_names::bound_members::bound_calls::bound_declarations::{
+    gives_value, is_property,
+};
+use bound_terms::bound_accesses::bound_names::bound_members::bound_calls::{
+    Receiver, Routine, Term, Tree, push_broken,
+};
+use bound_terms::bound_accesses::bound_names::{Env, writer_of};
+use declared_names::{Meant, Own, Use, declares};
 use vba_base::{NoMemory, Place};
 
 /// Is a procedure a Sub of no object: does it give no value, and is it no property?

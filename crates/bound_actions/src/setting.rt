@@ -4,26 +4,28 @@ ghost use Rattle.std.specs.Prelude.{◌≡◌, ◌<◌, [], IfOk, length, option
 ghost use Rattle.vba_expression.specs.View.{view as expression_view};
 ghost use Rattle.vba_expression.specs.Nodes.{tree_in};
 ghost use Rattle.bound_project.specs.DraftView.{draft_view};
-ghost use Rattle.bound_terms.specs.bound_forms.specs.ExpressionsBound.{bound_as_given};
-ghost use Rattle.bound_terms.specs.bound_forms.specs.StatementsBound as plain;
+ghost use Rattle.bound_terms.specs.bound_accesses.specs.bound_names.specs.bound_members.specs.bound_calls.specs.bound_forms.specs.ExpressionsBound.{bound_as_given};
+ghost use Rattle.bound_terms.specs.bound_accesses.specs.bound_names.specs.bound_members.specs.bound_calls.specs.bound_forms.specs.StatementsBound as plain;
 ghost use Rattle.statement_terms.specs.statement_nodes.specs.Pushed.{ActionStands};
 ghost use Rattle.statement_terms.specs.Called.{IsBare, SplitAt};
 ghost use Rattle.statement_terms.specs.Setting.{SetsTo};
 ghost use Rattle.bound_actions.specs.NoTargets.{IsProperty, SetsRoutine};
 ghost use Rattle.bound_actions.specs.Refused.{RefusesSet};
-ghost use Rattle.bound_terms.specs.bound_names.specs.View.{EnvStands, env_view};
+ghost use Rattle.bound_terms.specs.bound_accesses.specs.bound_names.specs.View.{EnvStands, env_view};
 
 use crate::assigning::{let_bare, let_given};
 use crate::no_targets::{is_sub, refuse_target};
 use crate::trees::{continue_tree, nodes_tree};
 use crate::untaken::read_untaken;
 use bound_project::{ActionKind, Draft};
-use bound_terms::bound_accesses::{item_member, takes_item};
-use bound_terms::bound_calls::{
+use bound_terms::bound_accesses::bound_names::bound_members::bound_calls::bound_declarations::{
+    NotYet, is_property,
+};
+use bound_terms::bound_accesses::bound_names::bound_members::bound_calls::{
     HostMember, Refuser, Routine, Term, broken_ending, called_ending, sum,
 };
-use bound_terms::bound_declarations::{NotYet, is_property};
-use bound_terms::bound_names::{Env, callee_term, setter_of};
+use bound_terms::bound_accesses::bound_names::{Env, callee_term, setter_of};
+use bound_terms::bound_accesses::{item_member, takes_item};
 use bound_terms::bound_operands::{count_shapes, refused_rule};
 use bound_terms::{bind_given, tree_of};
 use statement_terms::{

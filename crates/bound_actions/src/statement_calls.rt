@@ -6,19 +6,19 @@ ghost use Rattle.bound_project.specs.View.{parameter_view};
 ghost use Rattle.statement_terms.specs.Called.{ActsOn, CallsTree, CallsTreeOn, PassesAll, Reads};
 ghost use Rattle.statement_terms.specs.NamedCalls.{PushesValues, ReadsNamed};
 ghost use Rattle.bound_actions.specs.NamedCalls.{ReadsWritten};
-ghost use Rattle.bound_terms.specs.bound_calls.specs.Standing.{TermNamed};
-ghost use Rattle.bound_terms.specs.bound_names.specs.View.{EnvStands, env_view};
-ghost use Rattle.bound_terms.specs.bound_calls.specs.declared.term.Term.TheVariants as term;
+ghost use Rattle.bound_terms.specs.bound_accesses.specs.bound_names.specs.bound_members.specs.bound_calls.specs.Standing.{TermNamed};
+ghost use Rattle.bound_terms.specs.bound_accesses.specs.bound_names.specs.View.{EnvStands, env_view};
+ghost use Rattle.bound_terms.specs.bound_accesses.specs.bound_names.specs.bound_members.specs.bound_calls.specs.declared.term.Term.TheVariants as term;
 
 use crate::indexed_calls::call_indexed;
 use crate::raising::{raise, raise_number};
 use bound_project::{ActionKind, Draft, Parameter};
-use bound_terms::bound_calls::{
+use bound_terms::bound_accesses::bound_names::bound_members::bound_calls::bound_declarations::NotYet;
+use bound_terms::bound_accesses::bound_names::bound_members::bound_calls::{
     Item, Passed, Routine, Term, Tree, push_receiver, put_item, take_item, take_numbers, takes,
 };
-use bound_terms::bound_declarations::NotYet;
-use bound_terms::bound_members::shapes_ahead;
-use bound_terms::bound_names::{Env, callee_term};
+use bound_terms::bound_accesses::bound_names::bound_members::shapes_ahead;
+use bound_terms::bound_accesses::bound_names::{Env, callee_term};
 use bound_terms::bound_operands::{gathered_ending, take_gathered};
 use bound_terms::{indexes_value, run};
 use statement_terms::{are_none, bare_term, push_given, push_rest, push_term};

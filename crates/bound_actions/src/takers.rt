@@ -3,17 +3,17 @@
 ghost use Rattle.std.specs.Prelude.{IfOk};
 ghost use Rattle.vba_expression.specs.View.{view as expression_view};
 ghost use Rattle.vba_expression.specs.Nodes.{tree_in};
-ghost use Rattle.bound_terms.specs.bound_forms.specs.StatementsBound as plain;
+ghost use Rattle.bound_terms.specs.bound_accesses.specs.bound_names.specs.bound_members.specs.bound_calls.specs.bound_forms.specs.StatementsBound as plain;
 ghost use Rattle.statement_terms.specs.Called.{IsBare, SplitAt};
 ghost use Rattle.statement_terms.specs.Takers.{TakenBy};
-ghost use Rattle.bound_terms.specs.bound_names.specs.View.{EnvStands, env_view};
+ghost use Rattle.bound_terms.specs.bound_accesses.specs.bound_names.specs.View.{EnvStands, env_view};
 
 use crate::trees::{continue_tree, nodes_tree};
 use bound_project::Draft;
+use bound_terms::bound_accesses::bound_names::bound_members::bound_calls::Term;
+use bound_terms::bound_accesses::bound_names::bound_members::bound_calls::bound_declarations::NotYet;
+use bound_terms::bound_accesses::bound_names::{Env, callee_term, writer_of};
 use bound_terms::bound_accesses::{item_member, takes_item};
-use bound_terms::bound_calls::Term;
-use bound_terms::bound_declarations::NotYet;
-use bound_terms::bound_names::{Env, callee_term, writer_of};
 use bound_terms::tree_of;
 use statement_terms::{Split, Taker, adds_one, ends_bare, split_call, taker_of};
 use std::alloc::Global;

@@ -3,13 +3,15 @@
 ghost use Rattle.std.specs.Prelude.{IfOk};
 ghost use Rattle.bound_project.specs.DraftView.{draft_view};
 ghost use Rattle.statement_terms.specs.Called.{Continues, LeavesAlone};
-ghost use Rattle.bound_terms.specs.bound_calls.specs.Standing.{TermNamed};
-ghost use Rattle.bound_terms.specs.bound_names.specs.View.{EnvStands, env_view};
+ghost use Rattle.bound_terms.specs.bound_accesses.specs.bound_names.specs.bound_members.specs.bound_calls.specs.Standing.{TermNamed};
+ghost use Rattle.bound_terms.specs.bound_accesses.specs.bound_names.specs.View.{EnvStands, env_view};
 
 use bound_project::Draft;
-use bound_terms::bound_calls::{Item, Tree, put_item, take_item};
-use bound_terms::bound_declarations::NotYet;
-use bound_terms::bound_names::Env;
+use bound_terms::bound_accesses::bound_names::Env;
+use bound_terms::bound_accesses::bound_names::bound_members::bound_calls::bound_declarations::NotYet;
+use bound_terms::bound_accesses::bound_names::bound_members::bound_calls::{
+    Item, Tree, put_item, take_item,
+};
 use bound_terms::run;
 use std::alloc::Global;
 use vba_base::OrMemory;

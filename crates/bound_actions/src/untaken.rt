@@ -4,14 +4,14 @@ ghost use Rattle.std.specs.Prelude.{IfOk, map};
 ghost use Rattle.bound_project.specs.DraftView.{draft_view};
 ghost use Rattle.bound_project.specs.View.{parameter_view};
 ghost use Rattle.bound_actions.specs.Untaken.{ReadsUntaken, RefusesArguments};
-ghost use Rattle.bound_terms.specs.bound_names.specs.View.{EnvStands, env_view};
+ghost use Rattle.bound_terms.specs.bound_accesses.specs.bound_names.specs.View.{EnvStands, env_view};
 
 use bound_project::{ActionKind, Draft, Parameter};
-use bound_terms::bound_calls::{
+use bound_terms::bound_accesses::bound_names::Env;
+use bound_terms::bound_accesses::bound_names::bound_members::bound_calls::bound_declarations::NotYet;
+use bound_terms::bound_accesses::bound_names::bound_members::bound_calls::{
     Item, Shape, push_broken, put_item, sum, take_item, take_shapes, takes,
 };
-use bound_terms::bound_declarations::NotYet;
-use bound_terms::bound_names::Env;
 use bound_terms::bound_operands::count_shapes;
 use bound_terms::run;
 use std::alloc::Global;

@@ -22,7 +22,7 @@ use Rattle.bound_project.specs.Pieces.{Argument, place_lent, value_copied, defau
 use Rattle.bound_project.specs.Project as project
 use Rattle.bound_project.specs.Drafts.{Drafted, NodeNamed, with_constant}
 use Rattle.bound_project.proofs.Drafts.{constant_last}
-use Rattle.bound_declarations.specs.binder.specs.Types.{is_object}
+use Rattle.bound_declarations.specs.constant_values.specs.declared_names.specs.binder.specs.Types.{is_object}
 use Rattle.bound_forms.specs.Terms.{Env, Given, a_place, given_to, taken_by, by_reference, by_copy, is_lent_to, is_copied_to, other_rule, routine_term}
 use Rattle.bound_forms.specs.Terms as plain
 use Rattle.bound_forms.specs.ExpressionsBound.{argument_of, given_as, operand_of, taken_for, term_of, givens, place_told}
@@ -41,9 +41,9 @@ use Rattle.bound_calls.proofs.LastNodes.{any_node, found_passes}
 use Rattle.bound_calls.proofs.PlaceNodes.{no_item}
 use Rattle.bound_calls.proofs.Referring.{variant}
 use Rattle.bound_calls.proofs.Passing.{taken_push}
-use Rattle.bound_declarations.specs.binder.specs.Declarations.{Written}
-use Rattle.bound_declarations.specs.binder.specs.Scopes.{Space}
-use Rattle.bound_declarations.specs.declared_names.specs.View.{space_view, written_view}
+use Rattle.bound_declarations.specs.constant_values.specs.declared_names.specs.binder.specs.Declarations.{Written}
+use Rattle.bound_declarations.specs.constant_values.specs.declared_names.specs.binder.specs.Scopes.{Space}
+use Rattle.bound_declarations.specs.constant_values.specs.declared_names.specs.View.{space_view, written_view}
 
 -- a draft with one more node
 abbrev pub behind : NodeKind → Place → DeclaredType → Drafted → Drafted

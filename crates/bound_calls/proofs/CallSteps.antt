@@ -22,8 +22,8 @@ use Rattle.bound_project.specs.Project as project
 use Rattle.bound_project.specs.Drafts.{Drafted, NodeNamed}
 use Rattle.bound_project.proofs.Drafts.{Extends}
 use Rattle.vba_values.specs.Types.{Declared}
-use Rattle.bound_declarations.specs.binder.specs.Declarations.{Written}
-use Rattle.bound_declarations.specs.binder.specs.Scopes.{Space}
+use Rattle.bound_declarations.specs.constant_values.specs.declared_names.specs.binder.specs.Declarations.{Written}
+use Rattle.bound_declarations.specs.constant_values.specs.declared_names.specs.binder.specs.Scopes.{Space}
 use Rattle.bound_forms.specs.Terms.{Env, Given, routine_term}
 use Rattle.bound_forms.specs.Terms as plain_terms
 use Rattle.bound_forms.specs.ExpressionsBound.{taken_by_term, argument_of, call_with, callee, indexed, item_of, operand_of, term_of, givens, place_told, term_or, wrong_term, call_node}

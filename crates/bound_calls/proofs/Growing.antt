@@ -29,7 +29,7 @@ use Rattle.bound_calls.specs.declared.term.Refuser.TheVariants as refuser
 use Rattle.bound_calls.specs.declared.term.Untaken.{Untaken}
 use Rattle.bound_calls.specs.declared.term.Item.{Item}
 use Rattle.bound_calls.specs.declared.term.Item.TheVariants as item
-use Rattle.bound_calls.specs.Standing.{TermStands, TreeStands, MemberStands, NamesCame, UntakenStands, looked_for, member_is, names_told, refused_rule, Stands, TermNamed, AreNamed, ItemNamed, MemberNamed, RefuserNamed, AllNamed, Grown, Base}
+use Rattle.bound_calls.specs.Standing.{HostGiven, TermStands, TreeStands, MemberStands, NamesCame, UntakenStands, looked_for, member_is, names_told, refused_rule, Stands, TermNamed, AreNamed, ItemNamed, MemberNamed, RefuserNamed, AllNamed, Grown, Base}
 
 pub extends_same : (t : Tables) → Extends t t
 extends_same t = record {
@@ -164,12 +164,13 @@ looked_same t u e name (Some by) given object h k =
 pub member_grows : (env : Env) (t u : Tables) → Extends t u → (x : MemberCall) → MemberNamed t x → (tree : Expr) (args : Args) (ps below : List Piece) → MemberStands env t x tree args ps below → MemberStands env u x tree args ps below
 member_grows env t u e x k tree args ps below h =
     let N : List (List ℕ) → Type 0 = λ (names : List (List ℕ)). NamesCame names x.named (givens env args) in
+    let V : terms.HostMember → Type 0 = λ (m : terms.HostMember). HostGiven 0 env m (givens env args) h.made in
     record {
       object = h.object;
       is = h.is ∙ ap (λ z. a_host_member h.object z) (member_same t u e x.member k.0);
       place_is = h.place_is;
       made = h.made;
-      values = h.values;
+      values = subst V (member_same t u e x.member k.0) h.values;
       names = subst N (sym (told_same t u e x.names k.1)) h.names;
       written_is = h.written_is;
       count_is = h.count_is;

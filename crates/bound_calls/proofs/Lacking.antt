@@ -9,10 +9,10 @@ use Rattle.bound_project.specs.Expressions as bound
 use Rattle.bound_project.specs.Pieces.{Piece, expr_of}
 use Rattle.bound_project.specs.Project as project
 use Rattle.bound_project.specs.Drafts.{Drafted}
-use Rattle.bound_declarations.specs.binder.specs.Declarations.{Written}
-use Rattle.bound_declarations.specs.binder.specs.Options.{or_else}
-use Rattle.bound_declarations.specs.binder.specs.Scopes.{Space}
-use Rattle.bound_declarations.specs.binder.specs.Signatures.{parameters_in}
+use Rattle.bound_declarations.specs.constant_values.specs.declared_names.specs.binder.specs.Declarations.{Written}
+use Rattle.bound_declarations.specs.constant_values.specs.declared_names.specs.binder.specs.Options.{or_else}
+use Rattle.bound_declarations.specs.constant_values.specs.declared_names.specs.binder.specs.Scopes.{Space}
+use Rattle.bound_declarations.specs.constant_values.specs.declared_names.specs.binder.specs.Signatures.{parameters_in}
 use Rattle.bound_forms.specs.Terms.{Env, a_routine, a_value, routine_term, value_in, bound_arguments, broken_value, may_lack, no_term, takes, typed_value}
 use Rattle.bound_forms.specs.Terms as plain
 use Rattle.bound_forms.specs.ExpressionsBound.{lacking_call, bare_call, call_value, if_there, indexed, term_or, value_of, without_arguments, wrong_call, wrong_term}

@@ -11,7 +11,7 @@ use Rattle.bound_project.specs.Expressions as bound
 use Rattle.bound_project.specs.Pieces.{Piece, nothing, an_expr, a_place, a_member, a_named_member, an_argument, a_value_shown, a_zone, a_test_begun, a_test_is, a_test_range, a_resize, an_erased, Tables, arguments_off, as_operand, expr_of, exprs_off, is_member, is_named_member, misfit, by_name_in, name_in, of_both, of_found, of_member, of_member_found, of_named, of_named_found, of_place, of_value, of_value_found, order_in, put_kind, an_object, of_object, of_object_found}
 use Rattle.bound_project.specs.Project.{nowhere}
 use Rattle.bound_project.specs.View.{base_view, declared_view}
-use Rattle.bound_declarations.specs.binder.specs.Constants.{is_variant}
+use Rattle.bound_declarations.specs.constant_values.specs.declared_names.specs.binder.specs.Constants.{is_variant}
 use Rattle.bound_forms.specs.ExpressionsBound.{may_be_object, may_give_object, is_instance_type, is_of_host}
 use Rattle.bound_calls.specs.declared.term.Ending.{Ending}
 use Rattle.bound_calls.specs.References.{EndingGives, kind_gives, NoInstance, instance_at, is_of_host_kind, may_be_instance_by, unknown_may}
@@ -272,18 +272,18 @@ host_on_top : List Piece → Bool
 host_on_top (an_expr (expr made place of operand) ∷ st) = is_of_host made
 host_on_top st = true
 
-host_kept : (t : Tables) (k : NodeKind) (st : List Piece) → is_of_host_kind k ≡ true → host_on_top (put_kind t any_node k st) ≡ true
+host_kept : (t : Tables) (k : NodeKind) (st : List Piece) → is_of_host_kind t k ≡ true → host_on_top (put_kind t any_node k st) ≡ true
 unfolding host_on_top
 host_kept t (node.Constant i) st h = refl
 host_kept t (node.HostObject reference) st h = refl
 host_kept t (node.HostMember i count) st h =
-    member_found_passes host_on_top refl (name_in t i) (λ e es. expr_of any_node (host_member e (name_in t i) es)) (λ e es rest. refl) (exprs_off count st no_exprs)
+    member_found_passes host_on_top refl (name_in t i) (λ e es. expr_of any_node (host_member e (name_in t i) es)) (λ e es rest. h) (exprs_off count st no_exprs)
 host_kept t (node.NamedMember i by count) st h =
-    named_found_passes host_on_top refl (name_in t i) (by_name_in t by) (λ e es. expr_of any_node (named_member e (name_in t i) (by_name_in t by) es)) (λ e es rest. refl) (exprs_off count st no_exprs)
+    named_found_passes host_on_top refl (name_in t i) (by_name_in t by) (λ e es. expr_of any_node (named_member e (name_in t i) (by_name_in t by) es)) (λ e es rest. h) (exprs_off count st no_exprs)
 host_kept t (node.Marked broken count) st h = found_passes host_on_top refl (λ es. expr_of any_node (marked broken es)) (λ es rest. refl) (exprs_off count st no_exprs)
 host_kept t k st h = let e : false ≡ true = h in absurd cc
 
-of_host : (t : Tables) (k : NodeKind) (made : bound.Node) (ps below : List Piece) → is_of_host_kind k ≡ true → put_kind t any_node k ps ≡ expr_of any_node made ∷ below → is_of_host made ≡ true
+of_host : (t : Tables) (k : NodeKind) (made : bound.Node) (ps below : List Piece) → is_of_host_kind t k ≡ true → put_kind t any_node k ps ≡ expr_of any_node made ∷ below → is_of_host made ≡ true
 unfolding host_on_top
 of_host t k made ps below h e = sym (ap host_on_top e) ∙ host_kept t k ps h
 
@@ -309,9 +309,9 @@ either_no false w p q h f g = ap (λ b. b && not q) (f refl)
 either_no true true p q h f g = ap (λ b. p && not b) (g refl) ∙ last_no p
 either_no true false p q h f g = let e : true ≡ false = h in absurd cc
 
-pub no_instance : (has : Bool) (e : Ending) → may_be_instance_by has e ≡ false → NoInstance has e
-no_instance false e h = λ env t made place ps below is ends. ap (λ b. b && (is_instance_type made (declared_view e.of) && not (is_of_host made))) is
-no_instance true e h = λ env t made place ps below is ends.
+pub no_instance : (has : Bool) (t : Tables) (e : Ending) → may_be_instance_by has t e ≡ false → NoInstance has t e
+no_instance false t e h = λ env made place ps below is ends. ap (λ b. b && (is_instance_type made (declared_view e.of) && not (is_of_host made))) is
+no_instance true t e h = λ env made place ps below is ends.
     ap (λ b. b && (is_instance_type made (declared_view e.of) && not (is_of_host made))) is
-    ∙ either_no (instance_at e.kind e.of) (is_of_host_kind e.kind) (is_instance_type made (declared_view e.of)) (is_of_host made) h
+    ∙ either_no (instance_at e.kind e.of) (is_of_host_kind t e.kind) (is_instance_type made (declared_view e.of)) (is_of_host made) h
     (λ no. no_instance_at e.kind e.of no t made ps below (ends any_node)) (λ yes. of_host t e.kind made ps below yes (ends any_node))

@@ -23,14 +23,14 @@ use Rattle.bound_project.specs.Pieces.{Argument, Piece, Tables, an_argument, arg
 use Rattle.bound_project.specs.Project as project
 use Rattle.bound_project.specs.Drafts.{Drafted, NodeNamed}
 use Rattle.bound_project.proofs.Drafts.{order_extends}
-use Rattle.bound_declarations.specs.binder.specs.Constants.{home}
-use Rattle.bound_declarations.specs.binder.specs.Declarations.{Written}
-use Rattle.bound_declarations.specs.binder.specs.Names.{scope_in}
-use Rattle.bound_declarations.specs.binder.specs.Scopes.{Scope, Space}
-use Rattle.bound_declarations.specs.binder.specs.Storage.{bound_parameters, procedure_number}
+use Rattle.bound_declarations.specs.constant_values.specs.declared_names.specs.binder.specs.Constants.{home}
+use Rattle.bound_declarations.specs.constant_values.specs.declared_names.specs.binder.specs.Declarations.{Written}
+use Rattle.bound_declarations.specs.constant_values.specs.declared_names.specs.binder.specs.Names.{scope_in}
+use Rattle.bound_declarations.specs.constant_values.specs.declared_names.specs.binder.specs.Scopes.{Scope, Space}
+use Rattle.bound_declarations.specs.constant_values.specs.declared_names.specs.binder.specs.Storage.{bound_parameters, procedure_number}
 use Rattle.bound_forms.specs.Terms.{Env, Given, a_value, bound_arguments, parameter_named}
 use Rattle.bound_forms.specs.Terms as plain_terms
-use Rattle.bound_declarations.specs.binder.specs.Signatures.{is_get, reader, parameters_in, call_type}
+use Rattle.bound_declarations.specs.constant_values.specs.declared_names.specs.binder.specs.Signatures.{is_get, reader, parameters_in, call_type}
 use Rattle.bound_forms.specs.ExpressionsBound.{call_value, call_with, if_there, indexes_value, indexed_value, node_or, numbers_of, argument_of, callee, indexed, operand_of, term_of, givens, place_told, term_or, wrong_term, call_node}
 use Rattle.bound_calls.specs.declared.term.Ending.{Ending}
 use Rattle.bound_calls.specs.declared.term.Routine.{Routine}

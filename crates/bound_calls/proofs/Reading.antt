@@ -8,16 +8,16 @@ use Rattle.bound_project.specs.Expressions as bound
 use Rattle.bound_project.specs.Pieces.{Argument}
 use Rattle.bound_project.specs.Project as project
 use Rattle.bound_project.specs.Statements.{Action}
-use Rattle.bound_declarations.specs.binder.specs.Declarations.{Written}
-use Rattle.bound_declarations.specs.binder.specs.Options.{or_else}
-use Rattle.bound_declarations.specs.binder.specs.Types.{is_object}
-use Rattle.bound_declarations.specs.binder.specs.Scopes.{Space, Scope}
-use Rattle.bound_declarations.specs.binder.specs.Constants.{home}
-use Rattle.bound_declarations.specs.binder.specs.Names.{scope_in}
-use Rattle.bound_declarations.specs.binder.specs.Storage.{bound_parameters, parameters_of, procedure_number}
+use Rattle.bound_declarations.specs.constant_values.specs.declared_names.specs.binder.specs.Declarations.{Written}
+use Rattle.bound_declarations.specs.constant_values.specs.declared_names.specs.binder.specs.Options.{or_else}
+use Rattle.bound_declarations.specs.constant_values.specs.declared_names.specs.binder.specs.Types.{is_object}
+use Rattle.bound_declarations.specs.constant_values.specs.declared_names.specs.binder.specs.Scopes.{Space, Scope}
+use Rattle.bound_declarations.specs.constant_values.specs.declared_names.specs.binder.specs.Constants.{home}
+use Rattle.bound_declarations.specs.constant_values.specs.declared_names.specs.binder.specs.Names.{scope_in}
+use Rattle.bound_declarations.specs.constant_values.specs.declared_names.specs.binder.specs.Storage.{bound_parameters, parameters_of, procedure_number}
 use Rattle.bound_forms.specs.Terms.{Env, Given, routine_term, a_value, bound_arguments}
 use Rattle.bound_forms.specs.Terms as plain
-use Rattle.bound_declarations.specs.binder.specs.Signatures.{is_get, reader, parameters_in, call_type, writer}
+use Rattle.bound_declarations.specs.constant_values.specs.declared_names.specs.binder.specs.Signatures.{is_get, reader, parameters_in, call_type, writer}
 use Rattle.bound_forms.specs.ExpressionsBound.{behind_base, call_node, call_value, call_with, if_there, indexes_value, indexed_value, node_or, numbers_of, argument_of}
 use Rattle.bound_forms.specs.StatementsBound.{given_behind, property_given, assigned, broken_target, let_to, untaken}
 use Rattle.bound_calls.specs.Passing.{AllTaken}

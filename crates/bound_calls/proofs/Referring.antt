@@ -18,16 +18,16 @@ use Rattle.bound_project.specs.Expressions.{err_value, err_number, host_object, 
 use Rattle.bound_project.specs.Expressions as bound
 use Rattle.bound_project.specs.Pieces.{Piece, Tables, an_expr, name_in, of_value, expr_of, put}
 use Rattle.bound_project.specs.Drafts.{Drafted, NodeNamed}
-use Rattle.bound_declarations.specs.binder.specs.Options.{or_else}
-use Rattle.bound_declarations.specs.binder.specs.Types.{is_object}
-use Rattle.bound_declarations.specs.binder.specs.Declarations.{Written}
-use Rattle.bound_declarations.specs.binder.specs.Scopes.{Space}
-use Rattle.bound_declarations.specs.binder.specs.Storage.{procedure_number}
-use Rattle.bound_declarations.specs.binder.specs.Constants.{is_variant}
+use Rattle.bound_declarations.specs.constant_values.specs.declared_names.specs.binder.specs.Options.{or_else}
+use Rattle.bound_declarations.specs.constant_values.specs.declared_names.specs.binder.specs.Types.{is_object}
+use Rattle.bound_declarations.specs.constant_values.specs.declared_names.specs.binder.specs.Declarations.{Written}
+use Rattle.bound_declarations.specs.constant_values.specs.declared_names.specs.binder.specs.Scopes.{Space}
+use Rattle.bound_declarations.specs.constant_values.specs.declared_names.specs.binder.specs.Storage.{procedure_number}
+use Rattle.bound_declarations.specs.constant_values.specs.declared_names.specs.binder.specs.Constants.{is_variant}
 use Rattle.bound_forms.specs.Terms.{Env, a_value, bound_arguments, broken_rule, expression_of, may_lack, typed_value, routine_term, read_of, value_in}
 use Rattle.bound_forms.specs.Terms as plain
 use Rattle.bound_forms.specs.ExpressionsBound.{lacking_call, has_default, default_rule, host_kind, bare_call, call_value, if_there, has_object, plain_operand, if_any, given_way, default_value, typed_reference, value_of, operand_of, reference_of, given_as, term_of, place_told, call_node, is_reference_type}
-use Rattle.bound_declarations.specs.binder.specs.Signatures.{call_type, parameters_in}
+use Rattle.bound_declarations.specs.constant_values.specs.declared_names.specs.binder.specs.Signatures.{call_type, parameters_in}
 use Rattle.bound_calls.specs.declared.term.Ending.{Ending}
 use Rattle.bound_calls.specs.declared.term.HostMember.{HostMember}
 use Rattle.bound_calls.specs.declared.term.Routine.{Routine}

@@ -26,7 +26,7 @@ use Rattle.bound_project.specs.Expressions.{constant, same}
 use Rattle.bound_project.specs.Pieces.{Piece, Tables, an_expr, expr_of, of_both}
 use Rattle.bound_project.specs.Drafts.{Drafted}
 use Rattle.bound_project.proofs.Drafts.{constant_last}
-use Rattle.bound_declarations.specs.binder.specs.Constants.{compare_in, operator_kind, value_type}
+use Rattle.bound_declarations.specs.constant_values.specs.declared_names.specs.binder.specs.Constants.{compare_in, operator_kind, value_type}
 use Rattle.bound_forms.specs.Terms.{Env, a_value, expression_of}
 use Rattle.bound_forms.specs.Terms as plain
 use Rattle.bound_forms.specs.ExpressionsBound.{term_of, value_of, operand_of, reference_of, given_as, as_value, binary_term, same_term, if_there, value_term, literal_term, bound_value, bound_operand, place_told}

@@ -16,15 +16,15 @@ use Rattle.bound_project.specs.Expressions as bound
 use Rattle.bound_project.specs.Pieces.{Piece, Tables, a_member, an_expr, exprs_off, name_in, of_member_found, of_place, of_value, expr_of, put, put_kind, a_place}
 use Rattle.bound_project.proofs.Lists.{member_put}
 use Rattle.bound_project.specs.Drafts.{Drafted, NodeNamed}
-use Rattle.bound_declarations.specs.binder.specs.Options.{or_else}
-use Rattle.bound_declarations.specs.binder.specs.Types.{is_object}
-use Rattle.bound_declarations.specs.binder.specs.Declarations.{Written}
-use Rattle.bound_declarations.specs.binder.specs.Scopes.{Space}
+use Rattle.bound_declarations.specs.constant_values.specs.declared_names.specs.binder.specs.Options.{or_else}
+use Rattle.bound_declarations.specs.constant_values.specs.declared_names.specs.binder.specs.Types.{is_object}
+use Rattle.bound_declarations.specs.constant_values.specs.declared_names.specs.binder.specs.Declarations.{Written}
+use Rattle.bound_declarations.specs.constant_values.specs.declared_names.specs.binder.specs.Scopes.{Space}
 use Rattle.bound_forms.specs.Terms.{Env, a_host_member, bound_arguments, broken_rule, expression_of, no_term, typed_value, routine_term, read_of, value_in}
 use Rattle.bound_forms.specs.Terms as plain
 use Rattle.bound_forms.specs.ExpressionsBound.{lacking_call, bare_call, call_value, if_there, plain_operand, without_arguments, value_of, reference_of, default_value, operand_of}
-use Rattle.bound_declarations.specs.binder.specs.Signatures.{parameters_in, reader}
-use Rattle.bound_declarations.specs.declared_names.specs.View.{space_view, written_view}
+use Rattle.bound_declarations.specs.constant_values.specs.declared_names.specs.binder.specs.Signatures.{parameters_in, reader}
+use Rattle.bound_declarations.specs.constant_values.specs.declared_names.specs.View.{space_view, written_view}
 use Rattle.bound_calls.specs.declared.term.Ending.{Ending}
 use Rattle.bound_calls.specs.declared.term.HostMember.{HostMember}
 use Rattle.bound_calls.specs.declared.term.Routine.{Routine}

@@ -17,8 +17,8 @@ use Rattle.bound_project.specs.Lists.{above}
 use Rattle.bound_project.specs.Pieces.{Argument, place_lent, value_copied, Piece, an_argument, an_expr}
 use Rattle.bound_project.specs.Project as project
 use Rattle.bound_project.specs.Drafts.{Drafted}
-use Rattle.bound_declarations.specs.binder.specs.Constants.{is_variant}
-use Rattle.bound_declarations.specs.binder.specs.Types.{is_object}
+use Rattle.bound_declarations.specs.constant_values.specs.declared_names.specs.binder.specs.Constants.{is_variant}
+use Rattle.bound_declarations.specs.constant_values.specs.declared_names.specs.binder.specs.Types.{is_object}
 use Rattle.bound_forms.specs.Terms.{Env, Given, given_to, of_other_type}
 use Rattle.bound_forms.specs.ExpressionsBound.{argument_of, taken_for, term_of, place_told}
 use Rattle.bound_calls.specs.declared.term.Ending.{Ending}

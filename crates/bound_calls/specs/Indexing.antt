@@ -23,7 +23,7 @@ use Rattle.bound_calls.specs.declared.term.Indexed.{Indexed}
 use Rattle.bound_calls.specs.declared.term.Item.{Item}
 use Rattle.bound_calls.specs.declared.term.Item.TheVariants as item
 use Rattle.bound_calls.specs.Standing.{PlaceEnds, TermStands, TermNamed, TreeStands, IndexedStands, Stands, ItemNamed, AllNamed, Grown, Base}
-use Rattle.bound_declarations.specs.binder.specs.Classes.{has_class}
+use Rattle.bound_declarations.specs.constant_values.specs.declared_names.specs.binder.specs.Classes.{has_class}
 
 -- nodes that are part of another place
 abbrev pub is_part : NodeKind → Bool

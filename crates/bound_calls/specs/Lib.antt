@@ -1,8 +1,5 @@
-pub use Rattle.bound_declarations
 pub use Rattle.bound_forms
-pub use Rattle.bound_declarations.specs.binder
-pub use Rattle.bound_declarations.specs.constant_values
-pub use Rattle.bound_declarations.specs.declared_names
+pub use Rattle.bound_declarations
 pub mod Standing
 pub mod Taking
 pub mod References

@@ -8,12 +8,12 @@ use Rattle.bound_project.specs.declared.node.NodeKind.{NodeKind}
 use Rattle.bound_project.specs.declared.node.NodeKind.TheVariants as node
 use Rattle.bound_project.specs.View.{declared_view, parameter_view}
 use Rattle.bound_project.specs.Expressions as bound
-use Rattle.bound_project.specs.Pieces.{Piece, Tables, an_expr}
+use Rattle.bound_project.specs.Pieces.{Piece, Tables, an_expr, name_in}
 use Rattle.bound_project.specs.Drafts.{Drafted, NodeNamed}
-use Rattle.bound_declarations.specs.binder.specs.Constants.{is_variant}
+use Rattle.bound_declarations.specs.constant_values.specs.declared_names.specs.binder.specs.Constants.{is_variant}
 use Rattle.bound_forms.specs.Terms.{Env, expression_of, may_lack}
 use Rattle.bound_forms.specs.Terms as plain
-use Rattle.bound_forms.specs.ExpressionsBound.{may_give_object, has_object, if_any, host_kind, default_rule, reference_of, given_as, term_of, place_told, has_default, is_reference_type, may_be_instance}
+use Rattle.bound_forms.specs.ExpressionsBound.{may_give_object, has_object, if_any, host_kind, default_rule, reference_of, given_as, term_of, place_told, has_default, is_item_name, is_reference_type, may_be_instance}
 use Rattle.bound_calls.specs.declared.term.Ending.{Ending}
 use Rattle.bound_calls.specs.declared.term.Routine.{Routine}
 use Rattle.bound_calls.specs.declared.term.Term.{Term}
@@ -22,7 +22,7 @@ use Rattle.bound_calls.specs.declared.term.Tree.{Tree}
 use Rattle.bound_calls.specs.Standing.{ValueEnds, TermStands, TreeStands, EndingIs, PushedIs, Grown}
 use Rattle.bound_project.specs.declared.declared_type.DeclaredType.TheVariants.{Plain}
 use Rattle.bound_project.specs.declared.declared_type.ElementType.TheVariants as element
-use Rattle.bound_declarations.specs.binder.specs.Classes.{has_class}
+use Rattle.bound_declarations.specs.constant_values.specs.declared_names.specs.binder.specs.Classes.{has_class}
 
 -- a type of what is taken as a reference, or of what may be an object
 abbrev pub is_referring : DeclaredType → Bool
@@ -84,14 +84,14 @@ kind_gives kind = None
 abbrev pub EndingGives : Ending → Bool → Type 0
 EndingGives e gives = (t : Tables) (made : bound.Node) (ps below : List Piece) → ValueEnds t e.kind made ps below → has_object made (declared_view e.of) ≡ gives
 
--- what a node gives is an object of the host, or Nothing, or breaks a rule
-abbrev pub is_of_host_kind : NodeKind → Bool
-is_of_host_kind (node.Constant i) = true
-is_of_host_kind (node.HostObject reference) = true
-is_of_host_kind (node.HostMember i count) = true
-is_of_host_kind (node.NamedMember i by count) = true
-is_of_host_kind (node.Marked broken count) = true
-is_of_host_kind kind = false
+-- what a node gives is an object of the host, but for an item, or Nothing, or breaks a rule
+abbrev pub is_of_host_kind : Tables → NodeKind → Bool
+is_of_host_kind t (node.Constant i) = true
+is_of_host_kind t (node.HostObject reference) = true
+is_of_host_kind t (node.HostMember i count) = not (is_item_name (name_in t i))
+is_of_host_kind t (node.NamedMember i by count) = not (is_item_name (name_in t i))
+is_of_host_kind t (node.Marked broken count) = true
+is_of_host_kind t kind = false
 
 -- whether a value may be an object of a class, by its last node and its type; where that isn't known it may
 abbrev pub unknown_may : Option Bool → Bool
@@ -104,12 +104,12 @@ instance_at kind (Plain (element.Class number)) = true
 instance_at kind (Plain element.Variant) = unknown_may (kind_gives kind)
 instance_at kind of = false
 
-abbrev pub may_be_instance_by : (has : Bool) → Ending → Bool
-may_be_instance_by has e = has && (instance_at e.kind e.of && not (is_of_host_kind e.kind))
+abbrev pub may_be_instance_by : (has : Bool) → Tables → Ending → Bool
+may_be_instance_by has t e = has && (instance_at e.kind e.of && not (is_of_host_kind t e.kind))
 
 -- no value whose last node isn't pushed is an object of a class, in a project with a class or without
-abbrev pub NoInstance : (has : Bool) → Ending → Type 0
-NoInstance has e = (env : Env) (t : Tables) (made : bound.Node) (place : Place) (ps below : List Piece) → has_class env.scope.spaces ≡ has → ValueEnds t e.kind made ps below
+abbrev pub NoInstance : (has : Bool) → Tables → Ending → Type 0
+NoInstance has t e = (env : Env) (made : bound.Node) (place : Place) (ps below : List Piece) → has_class env.scope.spaces ≡ has → ValueEnds t e.kind made ps below
     → may_be_instance env (expression_of made place (declared_view e.of)) ≡ false
 
 -- the last nodes of values, but for those of the objects that are always there

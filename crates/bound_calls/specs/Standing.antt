@@ -24,16 +24,16 @@ use Rattle.bound_project.specs.Pieces as piece
 use Rattle.bound_project.specs.Project.{Parameter, nowhere}
 use Rattle.bound_project.specs.Drafts.{Drafted, NamesNamed, NodeNamed}
 use Rattle.bound_project.proofs.Drafts.{Extends}
-use Rattle.bound_declarations.specs.binder.specs.Declarations.{Written}
-use Rattle.bound_declarations.specs.declared_names.specs.View.{space_view, written_view}
-use Rattle.bound_declarations.specs.binder.specs.Options.{from_two}
-use Rattle.bound_declarations.specs.binder.specs.Scopes.{Space, qualifier_of}
-use Rattle.bound_declarations.specs.binder.specs.Constants.{compare_in}
-use Rattle.bound_declarations.specs.binder.specs.Storage.{procedure_number}
+use Rattle.bound_declarations.specs.constant_values.specs.declared_names.specs.binder.specs.Declarations.{Written}
+use Rattle.bound_declarations.specs.constant_values.specs.declared_names.specs.View.{space_view, written_view}
+use Rattle.bound_declarations.specs.constant_values.specs.declared_names.specs.binder.specs.Options.{from_two}
+use Rattle.bound_declarations.specs.constant_values.specs.declared_names.specs.binder.specs.Scopes.{Space, qualifier_of}
+use Rattle.bound_declarations.specs.constant_values.specs.declared_names.specs.binder.specs.Constants.{compare_in}
+use Rattle.bound_declarations.specs.constant_values.specs.declared_names.specs.binder.specs.Storage.{procedure_number}
 use Rattle.bound_forms.specs.Terms.{Env, Given, routine_term, a_place, a_value, a_function, a_host_member, err_object, err_raise, err_clear, error_word, no_term, expression_of, listed_values, parameter_named, taken_by, takes, read_of}
 use Rattle.bound_forms.specs.Terms as plain
-use Rattle.bound_declarations.specs.binder.specs.Signatures.{reader, parameters_in, call_type}
-use Rattle.bound_forms.specs.ExpressionsBound.{callee, item_of, element_place, argument_of, arguments_rule, may_index, member_takes, wrong_arguments, first_given, function_values, givens, indexed, is_wrong, numbers_of, term_of, operand_of, reference_of, place_told, indexed_type, host_given}
+use Rattle.bound_declarations.specs.constant_values.specs.declared_names.specs.binder.specs.Signatures.{reader, parameters_in, call_type}
+use Rattle.bound_forms.specs.ExpressionsBound.{callee, item_of, element_place, argument_of, arguments_rule, may_index, member_takes, wrong_arguments, first_given, function_values, givens, indexed, is_wrong, numbers_of, term_of, operand_of, reference_of, place_told, indexed_type, host_arguments_from}
 use Rattle.bound_calls.specs.declared.term.Dotted.{Dotted}
 use Rattle.bound_calls.specs.declared.term.Ending.{Ending}
 use Rattle.bound_calls.specs.declared.term.Property.{Property}
@@ -342,6 +342,15 @@ AllGiven value [] [] = Unit {0}
 AllGiven value (g ∷ gs) (e ∷ es) = GivenIs value g e × AllGiven value gs es
 AllGiven value gs es = ⊥
 
+-- the same of arguments of a member, by their numbers
+pub record HostIs (i : ℕ) (env : Env) (m : plain.HostMember) (g : Given) (e : bound.Expr) : Type 0 where
+  pub is : (gs : List Given) → host_arguments_from i env m (g ∷ gs) ≡ from_two also (Some e) (host_arguments_from (suc i) env m gs)
+
+abbrev pub HostGiven : (i : ℕ) → Env → plain.HostMember → List Given → List bound.Expr → Type 0
+HostGiven i env m [] [] = Unit {0}
+HostGiven i env m (g ∷ gs) (e ∷ es) = HostIs i env m g e × HostGiven (suc i) env m gs es
+HostGiven i env m gs es = ⊥
+
 -- the names that arguments are to have, where some are to have names
 abbrev pub names_told : Tables → Option ArgumentNames → List (List ℕ)
 names_told t None = []
@@ -370,7 +379,7 @@ pub record MemberStands (env : Env) (t : Tables) (x : MemberCall) (e : Expr) (ar
   pub is : item_of env (place_told e) (callee env e (term_of env e)) ≡ a_host_member object (member_is t x.member)
   pub place_is : x.place ≡ place_told e
   pub made : List bound.Expr
-  pub values : AllGiven (host_given env) (givens env args) made
+  pub values : HostGiven 0 env (member_is t x.member) (givens env args) made
   pub names : NamesCame (names_told t x.names) x.named (givens env args)
   pub written_is : (more : List bound.Expr) → given_count (exprs_of (made ++ more)) ≡ x.written + given_count (exprs_of more)
   pub count_is : x.count ≡ length made

@@ -11,7 +11,7 @@ use Rattle.bound_project.specs.declared.declared_type.DeclaredType.{DeclaredType
 use Rattle.bound_project.specs.Expressions as bound
 use Rattle.bound_project.specs.Pieces.{Piece, Tables}
 use Rattle.bound_project.specs.Drafts.{Drafted, with_constant}
-use Rattle.bound_declarations.specs.binder.specs.Constants.{operator_kind, unary_kind, compare_in}
+use Rattle.bound_declarations.specs.constant_values.specs.declared_names.specs.binder.specs.Constants.{operator_kind, unary_kind, compare_in}
 use Rattle.bound_forms.specs.Terms.{Env}
 use Rattle.bound_forms.specs.Terms as plain
 use Rattle.bound_forms.specs.ExpressionsBound.{term_of, value_of, operand_of, unary_term, binary_term, place_told}

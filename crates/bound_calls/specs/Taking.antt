@@ -13,9 +13,9 @@ use Rattle.bound_project.specs.Project.{nowhere}
 use Rattle.vba_values.specs.Types as type
 use Rattle.bound_project.specs.Pieces.{Piece, Tables, an_expr, name_in}
 use Rattle.bound_project.specs.Drafts.{Drafted, NodeNamed}
-use Rattle.bound_declarations.specs.binder.specs.Declarations.{Written}
-use Rattle.bound_declarations.specs.binder.specs.Scopes.{Space}
-use Rattle.bound_declarations.specs.binder.specs.Types.{is_object}
+use Rattle.bound_declarations.specs.constant_values.specs.declared_names.specs.binder.specs.Declarations.{Written}
+use Rattle.bound_declarations.specs.constant_values.specs.declared_names.specs.binder.specs.Scopes.{Space}
+use Rattle.bound_declarations.specs.constant_values.specs.declared_names.specs.binder.specs.Types.{is_object}
 use Rattle.bound_forms.specs.Terms.{Env, typed_value, routine_term, read_of}
 use Rattle.bound_forms.specs.Terms as plain
 use Rattle.bound_forms.specs.ExpressionsBound.{bare_call, indexed, value_of}

@@ -23,8 +23,8 @@ pub use constants::{constant_number, value_term};
 pub use given::{is_same_declared, is_user_type, mark_given};
 pub use orders::{named_ending, order_number, push_in_order, take_numbers};
 pub use references::{
-    given_ending, has_object, is_host_type, is_reference_type, is_typed_kind, may_be_instance,
-    may_refer, push_given, push_if_any, push_operand, push_reference, refers,
+    given_ending, has_object, is_host_type, is_item_name, is_reference_type, is_typed_kind,
+    may_be_instance, may_refer, push_given, push_if_any, push_operand, push_reference, refers,
 };
 pub use shapes::{broken_ending, has_names, push_broken, take_shapes, takes, takes_none};
 pub use stack::{put_item, settle, take_item};
@@ -39,5 +39,4 @@ pub use term::{
 
 // What stands below, for the crates above.
 pub use bound_declarations;
-pub use bound_declarations::{binder, constant_values, declared_names};
 pub use bound_forms;

@@ -5,8 +5,8 @@ ghost use Rattle.std.specs.Prelude.{◌≡◌, ◌≢◌, ◌||◌, IfOk, IfSome
 ghost use Rattle.bound_project.specs.DraftView.{draft_view};
 ghost use Rattle.bound_project.specs.Drafts.{NodeNamed};
 ghost use Rattle.bound_project.specs.View.{declared_view};
-ghost use Rattle.bound_declarations.specs.binder.specs.Types.{is_object};
-ghost use Rattle.bound_forms.specs.ExpressionsBound.{default_rule, if_any, is_host_type, kind_by_type, kind_of_object, may_give_object, plain_operand, has_default, is_reference_type};
+ghost use Rattle.bound_declarations.specs.constant_values.specs.declared_names.specs.binder.specs.Types.{is_object};
+ghost use Rattle.bound_forms.specs.ExpressionsBound.{default_rule, if_any, is_host_type, is_item_name, kind_by_type, kind_of_object, may_give_object, plain_operand, has_default, is_reference_type};
 ghost use Rattle.bound_calls.specs.References.{DefaultBreaks, EndingGives, PushesAs, PushesGiven, PushesIfAny, PushesReference, TakesGiven, TakesReference, gives_way, default_node, is_referring, is_typed_kind, kind_gives, may_refer, refers, instance_at, is_of_host_kind, may_be_instance_by, unknown_may};
 ghost use Rattle.bound_calls.specs.Standing.{TermNamed};
 ghost use Rattle.bound_calls.specs.Steps.{PushesOperand};
@@ -17,19 +17,20 @@ use crate::shapes::takes_none;
 use crate::take::{member_ending, push_node, push_sheet, read_kind, value_ending};
 use crate::term::{Ending, Term, Tree};
 use bound_declarations::NotYet;
-use bound_declarations::declared_names::is_object;
+use bound_declarations::constant_values::declared_names::{is_object, is_word};
 use bound_project::{DeclaredType, Draft, ElementType, ErrMember, NodeKind};
 use std::alloc::Global;
 use vba_base::{NoMemory, OrMemory, Place, Refusal};
 use vba_lib::LibraryFunction;
 use vba_values::HostRef;
 
-/// Is a type one of those whose values are taken as references: Object, Worksheet, Range?
+/// Is a type one of those whose values are taken as references: Object, Collection, Worksheet, Range?
 pub fn is_host_type(of: DeclaredType) -> bool
     ensures { result ≡ is_host_type (declared_view of) }
 {
     match of {
         DeclaredType::Plain(ElementType::Object) => true,
+        DeclaredType::Plain(ElementType::Collection) => true,
         DeclaredType::Plain(ElementType::Worksheet) => true,
         DeclaredType::Plain(ElementType::Range) => true,
         _ => false,
@@ -53,15 +54,22 @@ fn is_referring(of: DeclaredType) -> bool
     is_reference_type(of) || is_variant(of)
 }
 
-/// Is what a node gives an object of the host, or Nothing, or does it break a rule?
-fn is_of_host(kind: NodeKind) -> bool
-    ensures { result ≡ is_of_host_kind kind }
+/// Is a folded name that of Item?
+pub fn is_item_name(name: &[u16]) -> bool
+    ensures { result ≡ is_item_name name.now }
+{
+    is_word(name, b"item")
+}
+
+/// Is what a node gives an object of the host, or Nothing, or does it break a rule? An item may be one of a Collection.
+fn is_of_host(draft: &Draft, kind: NodeKind) -> bool
+    ensures { result ≡ is_of_host_kind (draft_view draft.now).tables kind }
 {
     match kind {
         NodeKind::Constant { .. } => true,
         NodeKind::HostObject(_) => true,
-        NodeKind::HostMember { .. } => true,
-        NodeKind::NamedMember { .. } => true,
+        NodeKind::HostMember { name, .. } => !is_item_name(draft.name(name)),
+        NodeKind::NamedMember { name, .. } => !is_item_name(draft.name(name)),
         NodeKind::Marked { .. } => true,
         _ => false,
     }
@@ -89,11 +97,11 @@ fn instance_at(kind: NodeKind, of: DeclaredType) -> bool
     }
 }
 
-/// May there be an object of a class in the run, in a project with classes or without?
-pub fn may_be_instance(has_class: bool, ending: Ending) -> bool
-    ensures { result ≡ may_be_instance_by has_class ending }
+/// May there be an object of a class in the run, in a project with classes or without? The draft names the members.
+pub fn may_be_instance(has_class: bool, draft: &Draft, ending: Ending) -> bool
+    ensures { result ≡ may_be_instance_by has_class (draft_view draft.now).tables ending }
 {
-    has_class && (instance_at(ending.kind, ending.of) && !is_of_host(ending.kind))
+    has_class && (instance_at(ending.kind, ending.of) && !is_of_host(draft, ending.kind))
 }
 
 /// Is a term taken as a reference, and no value? What lacks arguments that it needs is none.
@@ -148,12 +156,13 @@ fn object_rule(reference: HostRef) -> Option<u8>
     }
 }
 
-/// The same of an object of a type: a sheet has no default member.
+/// The same of an object of a type: a sheet has no default member, and that of a Collection needs an argument.
 fn type_rule(of: DeclaredType) -> Option<u8>
     ensures { result ≡ default_rule (kind_by_type (declared_view of)) }
 {
     match of {
         DeclaredType::Plain(ElementType::Worksheet) => Some(34),
+        DeclaredType::Plain(ElementType::Collection) => Some(25),
         _ => None,
     }
 }

@@ -11,7 +11,7 @@ use crate::calls::bare_call;
 use crate::shapes::broken_ending;
 use crate::term::{Ending, HostMember, Term};
 use bound_declarations::NotYet;
-use bound_declarations::declared_names::is_object;
+use bound_declarations::constant_values::declared_names::is_object;
 use bound_project::{DeclaredType, Draft, ElementType, Node, NodeKind};
 use std::alloc::Global;
 use vba_base::{NoMemory, OrMemory, Place};

@@ -1,4 +1,4 @@
-use bound_declarations::declared_names::{Space, Written};
+use bound_declarations::constant_values::declared_names::{Space, Written};
 use bound_project::{ArgumentNames, DeclaredType, NodeKind, Parameter, Variable};
 use vba_base::Place;
 use vba_lib::LibraryFunction;

@@ -2,9 +2,9 @@
 use Rattle.std.proofs.Common.{◌≡◌, ℕ, suc, arith, ◌==◌, Bool, true, false, ◌&&◌, List, [], ◌∷◌, ◌++◌, append_assoc, length, map, refl, sym, ap, ◌∙◌}
 use Rattle.std.specs.Prelude.{if◌then◌else◌}
 use Rattle.std.proofs.lemmas.List.{map-append}
-use Rattle.binder.specs.Declarations.{Entry, Own, the_result, a_parameter, a_local, a_local_constant, an_array, undeclared, Local}
-use Rattle.binder.specs.Scopes.{Scope}
-use Rattle.binder.specs.Storage.{declarations_if, module_declarations, types_of_space, bound_parameter, bound_parameters}
+use Rattle.constant_values.specs.declared_names.specs.binder.specs.Declarations.{Entry, Own, the_result, a_parameter, a_local, a_local_constant, an_array, undeclared, Local}
+use Rattle.constant_values.specs.declared_names.specs.binder.specs.Scopes.{Scope}
+use Rattle.constant_values.specs.declared_names.specs.binder.specs.Storage.{declarations_if, module_declarations, types_of_space, bound_parameter, bound_parameters}
 use Rattle.bound_declarations.specs.Parameters.{next_items}
 use Rattle.bound_project.specs.Project as project
 use Rattle.bound_project.specs.View.{declaration_view, parameter_view, user_type_view}

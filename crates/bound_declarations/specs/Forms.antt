@@ -6,10 +6,10 @@ use Rattle.vba_values.specs.declared.value.Bound.{Bound}
 use Rattle.vba_words.specs.declared.identifier.Identifier.{Identifier}
 use Rattle.vba_tree.specs.Tree.{TypeClause}
 use Rattle.bound_project.specs.Project.{Declaration, UserType}
-use Rattle.binder.specs.Sources.{spelled}
-use Rattle.binder.specs.Declarations.{FieldWritten}
-use Rattle.binder.specs.Scopes.{Scope}
-use Rattle.binder.specs.Storage.{declared_field, plain_clause_type}
+use Rattle.constant_values.specs.declared_names.specs.binder.specs.Sources.{spelled}
+use Rattle.constant_values.specs.declared_names.specs.binder.specs.Declarations.{FieldWritten}
+use Rattle.constant_values.specs.declared_names.specs.binder.specs.Scopes.{Scope}
+use Rattle.constant_values.specs.declared_names.specs.binder.specs.Storage.{declared_field, plain_clause_type}
 
 -- a name as it is declared
 abbrev pub declared_as : Scope → Identifier → Declared → List Bound → Declaration

@@ -1,7 +1,7 @@
 -- Serves the code: where names of a procedure are kept.
 use Rattle.std.specs.Prelude.{Bool}
-use Rattle.binder.specs.Declarations.{Local}
-use Rattle.binder.specs.Storage.{is_framed, is_static, is_parameter}
+use Rattle.constant_values.specs.declared_names.specs.binder.specs.Declarations.{Local}
+use Rattle.constant_values.specs.declared_names.specs.binder.specs.Storage.{is_framed, is_static, is_parameter}
 use Rattle.bound_declarations.specs.declared.kept.Kept.{Kept}
 use Rattle.bound_declarations.specs.declared.kept.Kept.TheVariants as kept
 

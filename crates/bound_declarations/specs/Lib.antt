@@ -1,16 +1,6 @@
-pub use Rattle.binder
-pub use Rattle.bound_project
 pub use Rattle.constant_values
-pub use Rattle.declared_names
-pub use Rattle.module_parts
-pub use Rattle.vba_base
-pub use Rattle.vba_expression
-pub use Rattle.vba_lexer
-pub use Rattle.vba_module
-pub use Rattle.vba_tree
-pub use Rattle.vba_values
-pub use Rattle.vba_words
 pub mod Forms
 pub mod Kept
+pub mod NewWords
 pub mod Parameters
 pub mod Whole

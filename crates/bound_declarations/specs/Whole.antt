@@ -1,9 +1,9 @@
 -- Serves the code: a procedure as it is bound, by its own scope.
-use Rattle.binder.specs.Sources.{spelled}
-use Rattle.binder.specs.Declarations.{Written}
-use Rattle.binder.specs.Scopes.{Scope}
-use Rattle.binder.specs.Storage.{kind_of, declared_result, declarations_if, is_framed}
-use Rattle.binder.specs.Storage as storage
+use Rattle.constant_values.specs.declared_names.specs.binder.specs.Sources.{spelled}
+use Rattle.constant_values.specs.declared_names.specs.binder.specs.Declarations.{Written}
+use Rattle.constant_values.specs.declared_names.specs.binder.specs.Scopes.{Scope}
+use Rattle.constant_values.specs.declared_names.specs.binder.specs.Storage.{kind_of, declared_result, declarations_if, is_framed}
+use Rattle.constant_values.specs.declared_names.specs.binder.specs.Storage as storage
 use Rattle.bound_project.specs.Project.{Procedure}
 
 -- the scope has the names of the procedure

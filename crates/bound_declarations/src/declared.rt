@@ -1,13 +1,13 @@
 //! Variables and results as they are declared.
 
 ghost use Rattle.std.specs.Prelude.{◌≡◌, [], IfOk, option_map};
-ghost use Rattle.binder.specs.Storage.{has_bounds};
-ghost use Rattle.binder.specs.Storage as storage;
+ghost use Rattle.constant_values.specs.declared_names.specs.binder.specs.Storage.{has_bounds};
+ghost use Rattle.constant_values.specs.declared_names.specs.binder.specs.Storage as storage;
 ghost use Rattle.bound_declarations.specs.Forms.{declared_as, redimmed_as};
 ghost use Rattle.bound_project.specs.Project as project;
 ghost use Rattle.bound_project.specs.View.{declaration_view, declared_view};
 ghost use Rattle.constant_values.specs.Tables.{AreConstants};
-ghost use Rattle.declared_names.specs.View.{local_view, scope_view, written_view};
+ghost use Rattle.constant_values.specs.declared_names.specs.View.{local_view, scope_view, written_view};
 ghost use Rattle.said_parts.specs.View.{field_view};
 ghost use Rattle.vba_tree.specs.View.{type_clause_view, variable_view};
 
@@ -15,8 +15,8 @@ use crate::kinds::gives_value;
 use crate::not_yet::NotYet;
 use crate::types::{arrayed, new_clause_type, result_type};
 use bound_project::{Declaration, DeclaredType, ElementType, Spelled};
+use constant_values::declared_names::{Local, Own, Scope, Written, spelled};
 use constant_values::{Constants, clause_type, known_bounds, written_type};
-use declared_names::{Local, Own, Scope, Written, spelled};
 use std::alloc::Global;
 use vba_base::{NoMemory, OrMemory, Place, Units, name_of};
 use vba_tree::{TypeClause, TypeMember, Variable};

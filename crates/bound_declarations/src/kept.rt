@@ -1,11 +1,11 @@
 //! The names of a procedure, by where they are kept.
 
 ghost use Rattle.std.specs.Prelude.{◌≡◌, ◌+◌, IfOk, map, take};
-ghost use Rattle.binder.specs.Types.{counted};
+ghost use Rattle.constant_values.specs.declared_names.specs.binder.specs.Types.{counted};
 ghost use Rattle.bound_declarations.specs.Kept.{is_kept};
-ghost use Rattle.declared_names.specs.View.{local_view};
+ghost use Rattle.constant_values.specs.declared_names.specs.View.{local_view};
 
-use declared_names::{Local, Own};
+use constant_values::declared_names::{Local, Own};
 use vba_base::NoMemory;
 
 /// Which names of a procedure: its own variables that are of its frame, those that are static, or its parameters.

@@ -1,8 +1,8 @@
 //! The kinds of procedures.
 
 ghost use Rattle.std.specs.Prelude.{◌≡◌};
-ghost use Rattle.binder.specs.Signatures as signatures;
-ghost use Rattle.binder.specs.Storage as storage;
+ghost use Rattle.constant_values.specs.declared_names.specs.binder.specs.Signatures as signatures;
+ghost use Rattle.constant_values.specs.declared_names.specs.binder.specs.Storage as storage;
 ghost use Rattle.bound_project.specs.View.{kind_view};
 
 use bound_project::ProcedureKind;

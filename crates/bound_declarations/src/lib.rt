@@ -7,6 +7,7 @@ mod kept;
 mod kinds;
 mod lists;
 mod made;
+mod new_words;
 mod not_yet;
 mod numbers;
 mod parameters;
@@ -21,7 +22,8 @@ pub use declared::{
 pub use kept::{Kept, count_before, count_kept, first_locals, is_kept, sum};
 pub use kinds::{gives_value, is_by_val, is_property, is_set, kind_of, takes_value};
 pub use lists::{kept_declarations, module_variables};
-pub use made::{class_in, made_by, made_through};
+pub use made::{class_in, made_by, made_in, made_through};
+pub use new_words::has_new;
 pub use not_yet::NotYet;
 pub use numbers::procedure_number;
 pub use parameters::parameters_of;
@@ -31,15 +33,4 @@ pub use types::{arrayed, parameter_type, result_type};
 pub use user_types::module_types;
 
 // What stands below, for the crates above.
-pub use binder;
-pub use bound_project;
 pub use constant_values;
-pub use declared_names;
-pub use module_parts;
-pub use vba_base;
-pub use vba_expression;
-pub use vba_lexer;
-pub use vba_module;
-pub use vba_tree;
-pub use vba_values;
-pub use vba_words;

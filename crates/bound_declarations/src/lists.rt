@@ -1,18 +1,18 @@
 //! The variables of procedures and modules.
 
 ghost use Rattle.std.specs.Prelude.{◌≡◌, [], ◌∷◌, ◌++◌, map, OnOk};
-ghost use Rattle.binder.specs.Storage as storage;
+ghost use Rattle.constant_values.specs.declared_names.specs.binder.specs.Storage as storage;
 ghost use Rattle.bound_declarations.specs.Kept.{is_kept};
 ghost use Rattle.bound_project.specs.View.{declaration_view};
 ghost use Rattle.constant_values.specs.Tables.{AreConstants};
-ghost use Rattle.declared_names.specs.View.{entry_view, local_view, scope_view};
+ghost use Rattle.constant_values.specs.declared_names.specs.View.{entry_view, local_view, scope_view};
 
 use crate::declared::{declared_variable, own_declaration};
 use crate::kept::{Kept, is_kept};
 use crate::not_yet::NotYet;
 use bound_project::Declaration;
 use constant_values::Constants;
-use declared_names::{Entry, Local, What};
+use constant_values::declared_names::{Entry, Local, What};
 use std::alloc::Global;
 use vba_base::{NoMemory, OrMemory};
 

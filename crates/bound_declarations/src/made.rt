@@ -1,14 +1,14 @@
 //! Variables declared As New, and parameters that may lead to one ([MS-VBAL] 2.5.1).
 
 ghost use Rattle.std.specs.Prelude.{◌≡◌, option_map};
-ghost use Rattle.binder.specs.Classes as classes;
+ghost use Rattle.constant_values.specs.declared_names.specs.binder.specs.Classes as classes;
 ghost use Rattle.bound_project.specs.View.{declared_view};
 ghost use Rattle.vba_tree.specs.View.{new_type_clause_view, parameter_view};
 
 use crate::kinds::is_by_val;
 use bound_project::{DeclaredType, ElementType};
+use constant_values::declared_names::is_object;
 use constant_values::is_variant;
-use declared_names::is_object;
 use vba_tree::{NewTypeClause, Parameter};
 
 /// The number of the class that a type is.
@@ -21,6 +21,17 @@ pub fn class_in(of: DeclaredType) -> Option<u32>
     }
 }
 
+/// The class of which New makes objects of a type: that of Collection is 0.
+pub fn made_in(of: DeclaredType) -> Option<u32>
+    ensures { result ≡ classes.made_in (declared_view of) }
+{
+    match of {
+        DeclaredType::Plain(ElementType::Class(number)) => Some(number),
+        DeclaredType::Plain(ElementType::Collection) => Some(0),
+        _ => None,
+    }
+}
+
 /// The class of which an object is made for a variable of a type, by its clause.
 pub fn made_by(clause: &Option<NewTypeClause>, of: DeclaredType) -> Option<u32>
     ensures { result ≡ classes.made_by (option_map new_type_clause_view clause.now) (declared_view of) }
@@ -29,7 +40,7 @@ pub fn made_by(clause: &Option<NewTypeClause>, of: DeclaredType) -> Option<u32>
         None => None,
         Some(clause) => match clause.new_word {
             None => None,
-            Some(_) => class_in(of),
+            Some(_) => made_in(of),
         },
     }
 }
@@ -41,9 +52,9 @@ fn can_hold_object(of: DeclaredType) -> bool
     is_object(of) || is_variant(of)
 }
 
-/// May what a parameter of a type leads to be declared As New, in a project with classes or without?
-pub fn made_through(has_class: bool, parameter: &Parameter, of: DeclaredType) -> bool
-    ensures { result ≡ classes.made_through has_class (parameter_view parameter.now) (declared_view of) }
+/// May what a parameter of a type leads to be declared As New, in a project that declares a variable so or doesn't?
+pub fn made_through(has_new: bool, parameter: &Parameter, of: DeclaredType) -> bool
+    ensures { result ≡ classes.made_through has_new (parameter_view parameter.now) (declared_view of) }
 {
-    has_class && (!is_by_val(parameter.passing) && can_hold_object(of))
+    has_new && (!is_by_val(parameter.passing) && can_hold_object(of))
 }

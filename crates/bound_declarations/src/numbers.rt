@@ -1,10 +1,10 @@
 //! The numbers of procedures.
 
 ghost use Rattle.std.specs.Prelude.{◌≡◌, IfOk};
-ghost use Rattle.binder.specs.Storage as storage;
-ghost use Rattle.declared_names.specs.View.{scope_view, space_view};
+ghost use Rattle.constant_values.specs.declared_names.specs.binder.specs.Storage as storage;
+ghost use Rattle.constant_values.specs.declared_names.specs.View.{scope_view, space_view};
 
-use declared_names::{Counted, Scope, Space, entries_before};
+use constant_values::declared_names::{Counted, Scope, Space, entries_before};
 use vba_base::NoMemory;
 
 /// A procedure's number in the project, by its entry.

@@ -1,12 +1,12 @@
 //! Procedures and modules as they are bound.
 
 ghost use Rattle.std.specs.Prelude.{◌≡◌, map, IfOk};
-ghost use Rattle.binder.specs.Projects as projects;
-ghost use Rattle.binder.specs.Storage as storage;
+ghost use Rattle.constant_values.specs.declared_names.specs.binder.specs.Projects as projects;
+ghost use Rattle.constant_values.specs.declared_names.specs.binder.specs.Storage as storage;
 ghost use Rattle.bound_declarations.specs.Whole.{procedure_in};
 ghost use Rattle.bound_project.specs.View.{declaration_view, module_view, procedure_view, spelled_view};
 ghost use Rattle.constant_values.specs.Tables.{AreConstants};
-ghost use Rattle.declared_names.specs.View.{scope_view, space_view, written_view};
+ghost use Rattle.constant_values.specs.declared_names.specs.View.{scope_view, space_view, written_view};
 
 use crate::declared::declared_result;
 use crate::kept::Kept;
@@ -16,7 +16,7 @@ use crate::not_yet::NotYet;
 use crate::parameters::parameters_of;
 use bound_project::{Declaration, Module, Procedure, Spelled};
 use constant_values::Constants;
-use declared_names::{Scope, Space, Written, spelled};
+use constant_values::declared_names::{Scope, Space, Written, spelled};
 use std::alloc::Global;
 use vba_base::{NoMemory, OrMemory};
 

@@ -1,14 +1,14 @@
 //! Where the names of a procedure are kept.
 
 ghost use Rattle.std.specs.Prelude.{◌≡◌, suc, IfOk};
-ghost use Rattle.binder.specs.Storage as storage;
+ghost use Rattle.constant_values.specs.declared_names.specs.binder.specs.Storage as storage;
 ghost use Rattle.bound_project.specs.Expressions as expressions;
 ghost use Rattle.bound_project.specs.View.{storage_view};
-ghost use Rattle.declared_names.specs.View.{own_view, scope_view};
+ghost use Rattle.constant_values.specs.declared_names.specs.View.{own_view, scope_view};
 
 use crate::kept::{Kept, count_before, count_kept, sum};
 use bound_project::Storage;
-use declared_names::{Own, Scope};
+use constant_values::declared_names::{Own, Scope};
 use vba_base::NoMemory;
 
 /// A variable of the frame, behind the result and so many others.

@@ -1,18 +1,18 @@
 //! The types of declarations ([MS-VBAL] 5.2.3.1).
 
 ghost use Rattle.std.specs.Prelude.{◌≡◌, IfOk, option_map};
-ghost use Rattle.binder.specs.Constants.{known_length};
-ghost use Rattle.binder.specs.Storage as storage;
-ghost use Rattle.binder.specs.Types as types;
+ghost use Rattle.constant_values.specs.declared_names.specs.binder.specs.Constants.{known_length};
+ghost use Rattle.constant_values.specs.declared_names.specs.binder.specs.Storage as storage;
+ghost use Rattle.constant_values.specs.declared_names.specs.binder.specs.Types as types;
 ghost use Rattle.bound_project.specs.View.{declared_view};
 ghost use Rattle.constant_values.specs.Tables.{AreConstants};
-ghost use Rattle.declared_names.specs.View.{scope_view, written_view};
+ghost use Rattle.constant_values.specs.declared_names.specs.View.{scope_view, written_view};
 ghost use Rattle.vba_tree.specs.View.{declared_type_view, new_type_clause_view, parameter_view, type_clause_view};
 
 use crate::not_yet::NotYet;
 use bound_project::DeclaredType;
+use constant_values::declared_names::{Scope, Written, named_type, suffix_type};
 use constant_values::{Constants, written_type};
-use declared_names::{Scope, Written, named_type, suffix_type};
 use std::alloc::Global;
 use vba_base::OrMemory;
 use vba_lexer::TypeSuffix;

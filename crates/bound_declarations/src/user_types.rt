@@ -1,14 +1,14 @@
 //! The Types of modules.
 
 ghost use Rattle.std.specs.Prelude.{◌≡◌, [], ◌∷◌, ◌++◌, map, IfOk, OnOk};
-ghost use Rattle.binder.specs.Declarations.{fields_in};
-ghost use Rattle.binder.specs.Storage as storage;
+ghost use Rattle.constant_values.specs.declared_names.specs.binder.specs.Declarations.{fields_in};
+ghost use Rattle.constant_values.specs.declared_names.specs.binder.specs.Storage as storage;
 ghost use Rattle.bound_declarations.specs.Forms.{type_as};
 ghost use Rattle.bound_project.specs.View.{declaration_view, user_type_view};
 ghost use Rattle.constant_values.specs.Tables.{AreConstants};
-ghost use Rattle.declared_names.specs.Range.{range_items};
-ghost use Rattle.declared_names.specs.View.{entry_view, scope_view};
-ghost use Rattle.module_parts.specs.View.{parts_view};
+ghost use Rattle.constant_values.specs.declared_names.specs.Range.{range_items};
+ghost use Rattle.constant_values.specs.declared_names.specs.View.{entry_view, scope_view};
+ghost use Rattle.constant_values.specs.declared_names.specs.module_parts.specs.View.{parts_view};
 ghost use Rattle.said_parts.specs.View.{field_view};
 
 use crate::declared::declared_field;
@@ -16,7 +16,7 @@ use crate::lists::push_declaration;
 use crate::not_yet::NotYet;
 use bound_project::{Declaration, UserType};
 use constant_values::Constants;
-use declared_names::{Entry, PartRange, What, spelled};
+use constant_values::declared_names::{Entry, PartRange, What, spelled};
 use said_parts::fields_of;
 use std::alloc::Global;
 use vba_base::{NoMemory, OrMemory};

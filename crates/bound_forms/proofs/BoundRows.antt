@@ -81,8 +81,8 @@ by_reference : bound_to (codes "Dim g As Long\nSub Main()\nDebug.Print F(g, (g))
 unfolding bound_to folded caseless digits
 by_reference = refl
 
--- where binding stops: a variable of an object type
-left_variable : ran_all (of_one (codes "Sub Main()\nDebug.Print 1\nDim o As Collection\nEnd Sub")) ≡ left_at 1 3 1
+-- where binding stops: an array that is declared As New
+left_variable : ran_all (of_one (codes "Sub Main()\nDebug.Print 1\nDim o(1) As New Collection\nEnd Sub")) ≡ left_at 1 3 1
 unfolding ran_all folded caseless digits
 left_variable = refl
 
@@ -90,6 +90,16 @@ left_variable = refl
 class_bound : ran_all ((false, codes "Sub Main()\nEnd Sub") ∷ (true, codes "\nDim x") ∷ []) ≡ ends []
 unfolding ran_all folded caseless digits
 class_bound = refl
+
+-- a Collection with keys, and its items by number and key; one that a parameter makes, walked by position
+collection_run : ran_all (of_one (codes "Sub Main()\nDim c As New Collection\nc.Add 7, \"K\"\nc.Add 8, , 1\nDebug.Print c(1); c(\"k\"); c.Count\nEnd Sub")) ≡ ends (Printed (codes " 8  7  2 ") true ∷ [])
+unfolding ran_all folded caseless digits
+collection_run = refl
+
+collection_walked : ran_all (of_one (codes "Sub Main()\nDim c As New Collection\nPut c\nFor Each x In c\nDebug.Print x;\nNext\nEnd Sub\nSub Put(o)\no.Add Key:=\"a\", Item:=5\no.Add o(\"A\") + 1\nEnd Sub"))
+    ≡ ends (Printed (codes " 5 ") false ∷ Printed (codes " 6 ") false ∷ [])
+unfolding ran_all folded caseless digits
+collection_walked = refl
 
 -- functions of the library; behind VBA an Array counts from 0
 library_called : ran_all (of_one (codes "Sub Main()\nDebug.Print Left$(\"abc\", 2); Left(\"xyz\", 1)\nEnd Sub")) ≡ ends (Printed (codes "abx") true ∷ [])

@@ -43,15 +43,10 @@ body_with parts statements = record { statements = statements; blocks = blocks_i
 abbrev pub bound_body : Scope → ℕ × Written → Option Body
 bound_body s p = let a = around_of s p in option_map (body_with a.parts) (all_statements a a.parts)
 
--- ---- what isn't built: Collections, events, enumerators, arrays declared As New, and types that the profile hasn't
-
-abbrev pub is_built_type : Declared → Bool
-is_built_type (type.array_of of) = is_built_type of
-is_built_type type.collection = false
-is_built_type of = true
+-- ---- what isn't built: events, enumerators, arrays declared As New, and types that the profile hasn't
 
 abbrev pub is_built_meant : Option TypeMeant → Bool
-is_built_meant (Some (known of)) = is_built_type of
+is_built_meant (Some (known of)) = true
 is_built_meant (Some of_host) = true
 is_built_meant other = false
 

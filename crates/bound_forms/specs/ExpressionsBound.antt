@@ -1,5 +1,6 @@
 -- Expressions as terms ([MS-VBAL] 5.6).
 use Rattle.std.specs.Prelude.{ℕ, zero, suc, ◌==◌, Bool, true, false, ◌&&◌, ◌||◌, not, pos, List, [], ◌∷◌, ◌++◌, length, codes, Option, Some, None, is_some, option_map, option_and_then, bytes_eq, if◌then◌else◌, unwrap_or, nat_le, slice_index_or}
+use Rattle.std.specs.List.{list_any}
 use Rattle.vba_base.specs.declared.place.Place.{Place}
 use Rattle.vba_values.specs.declared.types.OpKind.{OpKind}
 use Rattle.vba_values.specs.StaticTypes.{static_of}
@@ -70,12 +71,16 @@ may_be_object (bound.library f text_form es compare base) = may_give_object f
 may_be_object (marked broken es) = true
 may_be_object node = false
 
--- what the host gives is no object of a class, and neither is Nothing, nor what breaks a rule
+-- what the host gives is no object of a class, but for an item, which may be one of a Collection; neither is Nothing, nor
+-- what breaks a rule
+abbrev pub is_item_name : (name : List ℕ) → Bool
+is_item_name word = bytes_eq word (codes "item")
+
 abbrev pub is_of_host : Node → Bool
 is_of_host (constant v) = true
 is_of_host (host_object reference) = true
-is_of_host (host_member e member_name es) = true
-is_of_host (named_member e member_name by es) = true
+is_of_host (host_member e member_name es) = not (is_item_name member_name)
+is_of_host (named_member e member_name by es) = not (is_item_name member_name)
 is_of_host (marked broken es) = true
 is_of_host node = false
 
@@ -182,9 +187,10 @@ value_of env t place = or_else (value_with (bare_call env) t place) (without_arg
 
 -- ---- objects of the host ([MS-VBAL] 5.6.12)
 
--- the types of objects that are taken as references: Object, and those of sheets and ranges
+-- the types of objects that are taken as references: Object, Collection, and those of sheets and ranges
 abbrev pub is_host_type : Declared → Bool
 is_host_type type.object = true
+is_host_type type.collection = true
 is_host_type type.worksheet = true
 is_host_type type.range = true
 is_host_type other = false
@@ -219,9 +225,11 @@ pub data HostKind : Type 0 where
   sheets : HostKind
   sheet : HostKind
   area : HostKind
+  collection : HostKind
   any_object : HostKind
 
 abbrev pub kind_by_type : Declared → Option HostKind
+kind_by_type type.collection = Some collection
 kind_by_type type.worksheet = Some sheet
 kind_by_type type.range = Some area
 kind_by_type type.object = Some any_object
@@ -239,12 +247,13 @@ host_kind (host_object reference) of = kind_of_object reference
 host_kind node of = kind_by_type of
 
 -- the rule that is broken where an object gives way to the value of its default member: a sheet, the workbook and
--- Application have none, S34; that of Worksheets needs an argument, S25
+-- Application have none, S34; that of Worksheets and of a Collection needs an argument, S25
 abbrev pub default_rule : Option HostKind → Option ℕ
 default_rule (Some application) = Some 34
 default_rule (Some workbook) = Some 34
 default_rule (Some sheet) = Some 34
 default_rule (Some sheets) = Some 25
+default_rule (Some collection) = Some 25
 default_rule kind = None
 
 -- an object that gives way to the value of its default member, or what breaks a rule
@@ -308,6 +317,12 @@ area_members =
     ∷ member_with (codes "offset") type.range 2 2 ∷ member_with (codes "resize") type.range 2 2 ∷ member_with (codes "clearcontents") type.variant 0 0
     ∷ member_with (codes "worksheet") type.worksheet 0 0 ∷ member_with (codes "parent") type.worksheet 0 0 ∷ []
 
+-- the hidden [_NewEnum] gives the Collection itself
+abbrev pub collection_members : List HostMember
+collection_members =
+    member_with (codes "add") type.variant 1 4 ∷ member_with (codes "count") type.long 0 0 ∷ member_with (codes "item") type.variant 1 1
+    ∷ member_with (codes "remove") type.variant 1 1 ∷ member_with (codes "_newenum") type.collection 0 0 ∷ []
+
 abbrev pub listed_member : List HostMember → List ℕ → Option HostMember
 listed_member [] fold = None
 listed_member (m ∷ ms) fold = if bytes_eq fold m.name then Some (record m { name = fold }) else listed_member ms fold
@@ -319,6 +334,7 @@ member_in workbook fold = None
 member_in sheets fold = listed_member sheets_members fold
 member_in sheet fold = listed_member sheet_members fold
 member_in area fold = listed_member area_members fold
+member_in collection fold = listed_member collection_members fold
 member_in any_object fold = Some (record { name = fold; of = type.variant; least = 0; greatest = None })
 
 abbrev pub sheets_value : Term
@@ -524,12 +540,32 @@ function_called env place f text_form base gs = if_there (option_map (function_v
 abbrev pub variant_arguments : Env → List Given → Option Exprs
 variant_arguments env gs = listed_values (argument_of env type.variant) gs
 
--- the arguments of a member, which are no objects of classes
-abbrev pub host_given : Env → Term → Place → Option bound.Expr
-host_given env t place = option_and_then (λ e. if may_be_instance env e then None else Some e) (argument_of env type.variant t place)
+-- Add of a Collection, and the item that it is given: its first argument, or the one of that name
+abbrev pub is_add : HostMember → Bool
+is_add m = at m.greatest
+  where
+    at : Option ℕ → Bool
+    at None = false
+    at (Some greatest) = greatest == 4
 
-abbrev pub host_arguments : Env → List Given → Option Exprs
-host_arguments env gs = listed_values (host_given env) gs
+abbrev pub is_item_given : (place : ℕ) → (name : Option (List ℕ)) → Bool
+is_item_given i None = i == 0
+is_item_given i (Some word) = is_item_name word
+
+-- the arguments of a member, which are no objects of classes, but for the item that a Collection is given
+abbrev pub host_given : (any : Bool) → Env → Term → Place → Option bound.Expr
+host_given any env t place = option_and_then (λ e. if not any && may_be_instance env e then None else Some e) (argument_of env type.variant t place)
+
+abbrev pub host_arguments_from : (place : ℕ) → Env → HostMember → List Given → Option Exprs
+host_arguments_from i env m [] = Some no_exprs
+host_arguments_from i env m (g ∷ gs) = from_two also (at g.term) (host_arguments_from (suc i) env m gs)
+  where
+    at : Option Term → Option bound.Expr
+    at None = Some (expression_of bound.not_given g.place type.variant)
+    at (Some t) = host_given (is_add m && is_item_given i g.name) env t g.place
+
+abbrev pub host_arguments : Env → HostMember → List Given → Option Exprs
+host_arguments env m gs = host_arguments_from 0 env m gs
 
 -- whether a member takes so many arguments: Cells both numbers or none; behind one that takes none they index what it
 -- gives
@@ -547,29 +583,34 @@ takes_arguments m count = at m.greatest
     at (Some greatest) = nat_le m.least count && (nat_le count greatest && not (m.least == 0 && count == 1))
 
 -- the names that parameters of a member have, by the greatest number of its arguments: of a sheet's Range the first one's
--- alone, and of what takes two numbers both
+-- alone, of what takes two numbers both, and four of Add of a Collection
 abbrev pub known_parameters : (fold : List ℕ) → (greatest : Option ℕ) → List (List ℕ)
 known_parameters fold None = []
 known_parameters fold (Some greatest) =
     if greatest == 1 then codes "index" ∷ []
     else if greatest == 2 && bytes_eq fold (codes "range") then codes "address" ∷ []
     else if greatest == 2 then codes "r" ∷ codes "c" ∷ []
+    else if greatest == 4 then codes "item" ∷ codes "key" ∷ codes "before" ∷ codes "after" ∷ []
     else []
+
+-- Add of a Collection is given an item
+abbrev pub has_item : HostMember → ByName → Bool
+has_item m by = not (is_add m) || (not (by.before == 0) || list_any is_item_name by.names)
 
 -- whether a member has parameters of these names, no one given twice; of one that is found in the run the run decides
 abbrev pub takes_names : HostMember → ByName → Bool
-takes_names m by = not (is_some m.greatest) || is_some (parameters_given (known_parameters m.name m.greatest) by.before by.names)
+takes_names m by = not (is_some m.greatest) || (is_some (parameters_given (known_parameters m.name m.greatest) by.before by.names) && has_item m by)
 
 -- how the arguments of a member are named
 abbrev pub names_taken : HostMember → List Given → Option ByName
 names_taken m gs = option_and_then (λ by. if takes_names m by then Some by else None) (given_by_name gs)
 
 abbrev pub named_called : Env → bound.Expr → HostMember → List Given → Option Node
-named_called env e m gs = from_two (λ by es. named_member e m.name by es) (names_taken m gs) (host_arguments env gs)
+named_called env e m gs = from_two (λ by es. named_member e m.name by es) (names_taken m gs) (host_arguments env m gs)
 
 -- a member with arguments, of which the last ones may have names
 abbrev pub member_called : Env → bound.Expr → HostMember → List Given → Option Node
-member_called env e m gs = if has_names gs then named_called env e m gs else option_map (λ es. host_member e m.name es) (host_arguments env gs)
+member_called env e m gs = if has_names gs then named_called env e m gs else option_map (λ es. host_member e m.name es) (host_arguments env m gs)
 
 abbrev pub host_called : Env → bound.Expr → HostMember → List Given → Term
 host_called env e m gs = if takes_arguments m (length gs) then if_there (option_map (λ node. a_value node m.of) (member_called env e m gs)) else no_term
@@ -790,9 +831,10 @@ value_term (bound.expr node place of operand) = a_value node of
 abbrev pub as_value : Env → Term → Place → Term
 as_value env t place = if_there (option_map value_term (given_as env t place))
 
--- a new object of a class; a Collection isn't built
+-- a new object of a class, or a new Collection
 abbrev pub new_term : Declared → Term
 new_term (type.class number) = a_value (new_object number) (type.class number)
+new_term type.collection = a_value (new_object 0) type.collection
 new_term other = no_term
 
 abbrev pub literal_term : Val → Term

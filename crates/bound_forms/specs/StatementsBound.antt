@@ -36,7 +36,7 @@ use Rattle.binder.specs.Types.{written_type, is_object}
 use Rattle.binder.specs.Numbering.{count, count_list, simple_count, here, an_arm, behind_block, behind_kind, Opened, Standing, sought_behind}
 use Rattle.bound_forms.specs.Terms.{Within, Env, HostMember, Term, a_place, a_value, a_routine, a_host_member, err_object, err_raise, err_clear, error_word, no_term, expression_of, broken_rule, is_user_type, given_to, Given, bound_arguments, has_names, takes, a_method, read_of, routine_term}
 use Rattle.binder.specs.Signatures.{is_property, writer, parameters_in, setter}
-use Rattle.bound_forms.specs.ExpressionsBound.{bare_call, HostKind, sheets, host_kind, default_rule, member_takes, arguments_rule, given_as, argument_of, has_object, mark_members, item_of, host_arguments, named_called, takes_arguments, indexed, callee, term_of, givens, bound_as_given, bound_operand, place_told, may_be_instance, behind_base, variant_arguments}
+use Rattle.bound_forms.specs.ExpressionsBound.{bare_call, HostKind, sheets, collection, is_item_name, host_kind, default_rule, member_takes, arguments_rule, given_as, argument_of, has_object, mark_members, item_of, host_arguments, named_called, takes_arguments, indexed, callee, term_of, givens, bound_as_given, bound_operand, place_told, may_be_instance, behind_base, variant_arguments}
 use Rattle.binder.specs.Blocks.{label_number, next_number, header_of}
 use Rattle.vba_values.specs.declared.types.OpKind.TheVariants as op
 use Rattle.vba_values.specs.declared.types.WholeKind.TheVariants as kind
@@ -173,10 +173,11 @@ has_written_default type.object = true
 has_written_default type.variant = true
 has_written_default other = false
 
--- the rule that such an assignment breaks before the run: Worksheets has a default member that can't be written, S27; the
--- others without one are S34
+-- the rule that such an assignment breaks before the run: Worksheets and a Collection have a default member that can't be
+-- written, S27; the others without one are S34
 abbrev pub write_rule : Option HostKind → Option ℕ
 write_rule (Some sheets) = Some 27
+write_rule (Some collection) = Some 27
 write_rule kind = default_rule kind
 
 -- that of an object of a class isn't built
@@ -187,11 +188,12 @@ written_or_broken env None place target of v = if has_written_default of && not 
 abbrev pub default_written : Env → Place → Node → Declared → bound.Expr → Option Action
 default_written env place node of v = written_or_broken env (write_rule (host_kind node of)) place (expression_of node place of) of v
 
--- a member of an object is written: one that can be, or the default member of the object that it gives; of an object of an
--- unknown kind the run decides
+-- a member of an object is written: one that can be, or the default member of the object that it gives, as of an item of
+-- a Collection; of an object of an unknown kind the run decides
 abbrev pub is_written_member : HostMember → Bool
 is_written_member m =
-    not (is_some m.greatest) || bytes_eq m.name (codes "value") || (is_object m.of && has_written_default m.of) || list_any (λ (w : HostMember). bytes_eq m.name w.name) mark_members
+    not (is_some m.greatest) || bytes_eq m.name (codes "value") || (is_object m.of && has_written_default m.of) || is_item_name m.name
+    || list_any (λ (w : HostMember). bytes_eq m.name w.name) mark_members
 
 -- arguments behind a member that takes none would index its value, of which nothing is kept
 abbrev pub fits_written : HostMember → List Given → Bool
@@ -206,7 +208,7 @@ named_written env place e m gs v =
 
 abbrev pub arguments_written : Env → Place → bound.Expr → HostMember → List Given → bound.Expr → Option Action
 arguments_written env place e m gs v =
-    if has_names gs then named_written env place e m gs v else option_map (λ es. to.assign_member e m.name es v) (host_arguments env gs)
+    if has_names gs then named_written env place e m gs v else option_map (λ es. to.assign_member e m.name es v) (host_arguments env m gs)
 
 -- the rule that an assignment to another member breaks: S27, but S34 where it gives a sheet; and before that what its
 -- arguments break

@@ -6,22 +6,22 @@ use Rattle.bound_project.specs.declared.node.NodeKind.{NodeKind}
 use Rattle.bound_project.specs.View.{declared_view}
 use Rattle.bound_project.specs.Drafts.{Drafted}
 use Rattle.bound_project.specs.Expressions as bound
-use Rattle.bound_terms.specs.binder.specs.Declarations.{Written}
-use Rattle.bound_terms.specs.binder.specs.Scopes.{Space}
-use Rattle.bound_terms.specs.bound_forms.specs.Terms.{Env}
-use Rattle.bound_terms.specs.bound_forms.specs.Terms as terms
-use Rattle.bound_terms.specs.bound_forms.specs.ExpressionsBound.{bare_call, term_of}
-use Rattle.bound_terms.specs.bound_forms.specs.StatementsBound.{keeps, settled}
-use Rattle.bound_terms.specs.bound_names.specs.declared.env.Within.{Within}
-use Rattle.bound_terms.specs.bound_calls.specs.declared.term.Ending.{Ending}
-use Rattle.bound_terms.specs.bound_calls.specs.declared.term.HostMember.{HostMember}
-use Rattle.bound_terms.specs.bound_calls.specs.declared.term.Routine.{Routine}
-use Rattle.bound_terms.specs.bound_calls.specs.declared.term.Term.TheVariants as term
-use Rattle.bound_terms.specs.bound_calls.specs.declared.term.Tree.{Tree}
+use Rattle.constant_values.specs.declared_names.specs.binder.specs.Declarations.{Written}
+use Rattle.constant_values.specs.declared_names.specs.binder.specs.Scopes.{Space}
+use Rattle.bound_terms.specs.bound_accesses.specs.bound_names.specs.bound_members.specs.bound_calls.specs.bound_forms.specs.Terms.{Env}
+use Rattle.bound_terms.specs.bound_accesses.specs.bound_names.specs.bound_members.specs.bound_calls.specs.bound_forms.specs.Terms as terms
+use Rattle.bound_terms.specs.bound_accesses.specs.bound_names.specs.bound_members.specs.bound_calls.specs.bound_forms.specs.ExpressionsBound.{bare_call, term_of}
+use Rattle.bound_terms.specs.bound_accesses.specs.bound_names.specs.bound_members.specs.bound_calls.specs.bound_forms.specs.StatementsBound.{keeps, settled}
+use Rattle.bound_terms.specs.bound_accesses.specs.bound_names.specs.declared.env.Within.{Within}
+use Rattle.bound_terms.specs.bound_accesses.specs.bound_names.specs.bound_members.specs.bound_calls.specs.declared.term.Ending.{Ending}
+use Rattle.bound_terms.specs.bound_accesses.specs.bound_names.specs.bound_members.specs.bound_calls.specs.declared.term.HostMember.{HostMember}
+use Rattle.bound_terms.specs.bound_accesses.specs.bound_names.specs.bound_members.specs.bound_calls.specs.declared.term.Routine.{Routine}
+use Rattle.bound_terms.specs.bound_accesses.specs.bound_names.specs.bound_members.specs.bound_calls.specs.declared.term.Term.TheVariants as term
+use Rattle.bound_terms.specs.bound_accesses.specs.bound_names.specs.bound_members.specs.bound_calls.specs.declared.term.Tree.{Tree}
 use Rattle.bound_lines.specs.Kept.{Keeps}
-use Rattle.bound_terms.specs.bound_calls.specs.Steps.{Leaves}
-use Rattle.bound_terms.specs.bound_calls.specs.Taking.{CallsRoutine}
-use Rattle.bound_terms.specs.bound_names.specs.View.{within_view}
+use Rattle.bound_terms.specs.bound_accesses.specs.bound_names.specs.bound_members.specs.bound_calls.specs.Steps.{Leaves}
+use Rattle.bound_terms.specs.bound_accesses.specs.bound_names.specs.bound_members.specs.bound_calls.specs.Taking.{CallsRoutine}
+use Rattle.bound_terms.specs.bound_accesses.specs.bound_names.specs.View.{within_view}
 
 -- ---- what With keeps
 

@@ -4,21 +4,21 @@ use Rattle.std.proofs.lemmas.List.{take_rest}
 use Rattle.std.specs.Prelude.{map, Option, Some, None}
 use mathlib.Core.List.{reverse_aux}
 use Rattle.vba_expression.specs.Tree.{Expr}
-use Rattle.module_parts.specs.View.{parts_view}
-use Rattle.module_parts.specs.declared.part.Part.{Part}
-use Rattle.bound_terms.specs.declared_names.specs.Range.{range_items}
-use Rattle.bound_terms.specs.bound_forms.specs.Bind.{around_of}
-use Rattle.bound_terms.specs.binder.specs.Declarations.{Written}
-use Rattle.bound_terms.specs.binder.specs.Scopes.{Scope}
-use Rattle.bound_terms.specs.binder.specs.Numbering as numbering
-use Rattle.bound_terms.specs.binder.specs.Numbering.{standings_in, body_count}
-use Rattle.bound_terms.specs.bound_forms.specs.Terms.{Within, Env, Term, a_routine}
-use Rattle.bound_terms.specs.bound_forms.specs.ExpressionsBound.{term_of}
-use Rattle.bound_terms.specs.bound_forms.specs.StatementsBound.{settled, keeps, with_object, with_or, within}
-use Rattle.statement_terms.specs.statement_numbers.specs.declared.opened.Opened.{Opened}
-use Rattle.statement_terms.specs.statement_numbers.specs.View.{part_at, opened_view, stack_view}
-use Rattle.bound_terms.specs.bound_names.specs.declared.env.Env.{Env as EnvHere}
-use Rattle.bound_terms.specs.bound_names.specs.View.{EnvStands, env_view}
+use Rattle.constant_values.specs.declared_names.specs.module_parts.specs.View.{parts_view}
+use Rattle.constant_values.specs.declared_names.specs.module_parts.specs.declared.part.Part.{Part}
+use Rattle.constant_values.specs.declared_names.specs.Range.{range_items}
+use Rattle.bound_terms.specs.bound_accesses.specs.bound_names.specs.bound_members.specs.bound_calls.specs.bound_forms.specs.Bind.{around_of}
+use Rattle.constant_values.specs.declared_names.specs.binder.specs.Declarations.{Written}
+use Rattle.constant_values.specs.declared_names.specs.binder.specs.Scopes.{Scope}
+use Rattle.constant_values.specs.declared_names.specs.binder.specs.Numbering as numbering
+use Rattle.constant_values.specs.declared_names.specs.binder.specs.Numbering.{standings_in, body_count}
+use Rattle.bound_terms.specs.bound_accesses.specs.bound_names.specs.bound_members.specs.bound_calls.specs.bound_forms.specs.Terms.{Within, Env, Term, a_routine}
+use Rattle.bound_terms.specs.bound_accesses.specs.bound_names.specs.bound_members.specs.bound_calls.specs.bound_forms.specs.ExpressionsBound.{term_of}
+use Rattle.bound_terms.specs.bound_accesses.specs.bound_names.specs.bound_members.specs.bound_calls.specs.bound_forms.specs.StatementsBound.{settled, keeps, with_object, with_or, within}
+use Rattle.statement_nodes.specs.statement_numbers.specs.declared.opened.Opened.{Opened}
+use Rattle.statement_nodes.specs.statement_numbers.specs.View.{part_at, opened_view, stack_view}
+use Rattle.bound_terms.specs.bound_accesses.specs.bound_names.specs.declared.env.Env.{Env as EnvHere}
+use Rattle.bound_terms.specs.bound_accesses.specs.bound_names.specs.View.{EnvStands, env_view}
 use Rattle.bound_lines.specs.declared.around.Around.{Around}
 use Rattle.bound_lines.specs.Round.{around_view, within_blocks, Inside}
 

@@ -1,16 +1,16 @@
 -- Serves the code: the procedure round a statement, and where the statement stands in it.
 use Rattle.std.specs.Prelude.{◌≡◌, List, [], ◌∷◌, Option, None}
-use Rattle.module_parts.specs.View.{parts_view}
-use Rattle.module_parts.specs.declared.part.Part.{Part}
-use Rattle.bound_terms.specs.declared_names.specs.Range.{range_items}
-use Rattle.bound_terms.specs.binder.specs.Numbering.{Standing, standings_in}
-use Rattle.bound_terms.specs.bound_forms.specs.Terms.{Within}
-use Rattle.bound_terms.specs.bound_forms.specs.Terms as terms
-use Rattle.bound_terms.specs.bound_forms.specs.StatementsBound as plain
-use Rattle.statement_terms.specs.statement_numbers.specs.declared.opened.Opened.{Opened}
-use Rattle.statement_terms.specs.statement_numbers.specs.View.{part_at, stack_view}
-use Rattle.bound_terms.specs.bound_names.specs.declared.env.Env.{Env}
-use Rattle.bound_terms.specs.bound_names.specs.View.{EnvStands, env_view}
+use Rattle.constant_values.specs.declared_names.specs.module_parts.specs.View.{parts_view}
+use Rattle.constant_values.specs.declared_names.specs.module_parts.specs.declared.part.Part.{Part}
+use Rattle.constant_values.specs.declared_names.specs.Range.{range_items}
+use Rattle.constant_values.specs.declared_names.specs.binder.specs.Numbering.{Standing, standings_in}
+use Rattle.bound_terms.specs.bound_accesses.specs.bound_names.specs.bound_members.specs.bound_calls.specs.bound_forms.specs.Terms.{Within}
+use Rattle.bound_terms.specs.bound_accesses.specs.bound_names.specs.bound_members.specs.bound_calls.specs.bound_forms.specs.Terms as terms
+use Rattle.bound_terms.specs.bound_accesses.specs.bound_names.specs.bound_members.specs.bound_calls.specs.bound_forms.specs.StatementsBound as plain
+use Rattle.statement_nodes.specs.statement_numbers.specs.declared.opened.Opened.{Opened}
+use Rattle.statement_nodes.specs.statement_numbers.specs.View.{part_at, stack_view}
+use Rattle.bound_terms.specs.bound_accesses.specs.bound_names.specs.declared.env.Env.{Env}
+use Rattle.bound_terms.specs.bound_accesses.specs.bound_names.specs.View.{EnvStands, env_view}
 use Rattle.bound_lines.specs.declared.around.Around.{Around}
 
 -- whatever With blocks stand round the statement

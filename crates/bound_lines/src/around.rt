@@ -1,5 +1,5 @@
-use bound_terms::bound_names::Env;
-use bound_terms::declared_names::PartRange;
+use bound_terms::bound_accesses::bound_names::Env;
+use constant_values::declared_names::PartRange;
 
 /// The procedure round a statement: its scope, its parts, and the number of its end.
 #[derive(Clone, Copy)]

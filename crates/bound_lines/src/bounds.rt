@@ -2,16 +2,16 @@
 
 ghost use Rattle.std.specs.Prelude.{◌∷◌, List, Option, Some, IfOk, map};
 ghost use Rattle.statement_nodes.specs.Reads.{Read};
-ghost use Rattle.bound_terms.specs.binder.specs.Constants.{place_of_expression};
-ghost use Rattle.bound_terms.specs.bound_forms.specs.ExpressionsBound.{bound_operand};
-ghost use Rattle.bound_terms.specs.binder.specs.Options.{from_two};
-ghost use Rattle.bound_terms.specs.binder.specs.Sources.{base_of};
-ghost use Rattle.bound_terms.specs.bound_forms.specs.StatementsBound as plain;
+ghost use Rattle.constant_values.specs.declared_names.specs.binder.specs.Constants.{place_of_expression};
+ghost use Rattle.bound_terms.specs.bound_accesses.specs.bound_names.specs.bound_members.specs.bound_calls.specs.bound_forms.specs.ExpressionsBound.{bound_operand};
+ghost use Rattle.constant_values.specs.declared_names.specs.binder.specs.Options.{from_two};
+ghost use Rattle.constant_values.specs.declared_names.specs.binder.specs.Sources.{base_of};
+ghost use Rattle.bound_terms.specs.bound_accesses.specs.bound_names.specs.bound_members.specs.bound_calls.specs.bound_forms.specs.StatementsBound as plain;
 ghost use Rattle.bound_project.specs.DraftView.{draft_view};
 ghost use Rattle.bound_project.specs.Drafts.{Drafted};
 ghost use Rattle.bound_project.specs.Expressions.{Exprs, also, no_exprs};
 ghost use Rattle.bound_project.specs.Pieces.{exprs_off};
-ghost use Rattle.bound_terms.specs.bound_names.specs.View.{EnvStands, env_view};
+ghost use Rattle.bound_terms.specs.bound_accesses.specs.bound_names.specs.View.{EnvStands, env_view};
 ghost use Rattle.vba_expression.specs.View.{view as expression_view};
 ghost use Rattle.vba_lexer.specs.declared.token.Token.{Token};
 ghost use Rattle.vba_module.specs.Headers.{all_of, items_of};
@@ -20,11 +20,11 @@ ghost use Rattle.vba_tree.specs.View.{dim_view, listed_view};
 
 use crate::values::push_operand;
 use bound_project::Draft;
-use bound_terms::bound_declarations::NotYet;
-use bound_terms::bound_names::Env;
-use module_parts::expression_place;
+use bound_terms::bound_accesses::bound_names::Env;
+use bound_terms::bound_accesses::bound_names::bound_members::bound_calls::bound_declarations::NotYet;
+use constant_values::declared_names::module_parts::expression_place;
 use statement_nodes::push_integer;
-use statement_terms::statement_numbers::plus;
+use statement_nodes::statement_numbers::plus;
 use std::alloc::Global;
 use vba_base::{NoMemory, OrMemory};
 use vba_expression::Expression;

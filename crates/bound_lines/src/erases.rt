@@ -2,7 +2,7 @@
 
 ghost use Rattle.std.specs.Prelude.{◌≡◌, [], ◌∷◌, List, Option, Some, IfOk, OnOk, option_map};
 ghost use Rattle.statement_nodes.specs.Reads.{ItemPushed, Read};
-ghost use Rattle.bound_terms.specs.bound_forms.specs.StatementsBound as plain;
+ghost use Rattle.bound_terms.specs.bound_accesses.specs.bound_names.specs.bound_members.specs.bound_calls.specs.bound_forms.specs.StatementsBound as plain;
 ghost use Rattle.bound_project.specs.DraftView.{draft_view};
 ghost use Rattle.bound_project.specs.Drafts.{Drafted};
 ghost use Rattle.bound_project.specs.Pieces as piece;
@@ -10,7 +10,7 @@ ghost use Rattle.bound_project.specs.Pieces.{arrays_off};
 ghost use Rattle.bound_project.specs.Statements as plain_to;
 ghost use Rattle.bound_project.specs.Statements.{Arrays, no_arrays};
 ghost use Rattle.statement_nodes.specs.Pushed.{ActionPushed};
-ghost use Rattle.bound_terms.specs.bound_names.specs.View.{EnvStands, env_view};
+ghost use Rattle.bound_terms.specs.bound_accesses.specs.bound_names.specs.View.{EnvStands, env_view};
 ghost use Rattle.vba_expression.specs.Tree.{Expr};
 ghost use Rattle.vba_expression.specs.View.{view as expression_view};
 ghost use Rattle.vba_module.specs.Headers.{all_of};
@@ -18,10 +18,10 @@ ghost use Rattle.vba_tree.specs.View.{listed_view};
 
 use crate::places::bind_place;
 use bound_project::{ActionKind, Draft, Node, NodeKind};
-use bound_terms::bound_declarations::NotYet;
-use bound_terms::bound_names::Env;
+use bound_terms::bound_accesses::bound_names::Env;
+use bound_terms::bound_accesses::bound_names::bound_members::bound_calls::bound_declarations::NotYet;
 use statement_nodes::blank_node;
-use statement_terms::statement_numbers::plus;
+use statement_nodes::statement_numbers::plus;
 use std::alloc::Global;
 use vba_base::{NoMemory, OrMemory};
 use vba_expression::Expression;

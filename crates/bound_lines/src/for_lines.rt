@@ -2,27 +2,27 @@
 
 ghost use Rattle.std.specs.Prelude.{◌≡◌, true, [], Some, IfOk, option_map};
 ghost use Rattle.statement_nodes.specs.Actions.{ForValues, ValuePushed, counted_in, done_alone, each_in, for_in, is_alone, next_in};
-ghost use Rattle.bound_terms.specs.bound_forms.specs.ExpressionsBound.{bound_operand};
-ghost use Rattle.bound_terms.specs.bound_forms.specs.StatementsBound as plain;
+ghost use Rattle.bound_terms.specs.bound_accesses.specs.bound_names.specs.bound_members.specs.bound_calls.specs.bound_forms.specs.ExpressionsBound.{bound_operand};
+ghost use Rattle.bound_terms.specs.bound_accesses.specs.bound_names.specs.bound_members.specs.bound_calls.specs.bound_forms.specs.StatementsBound as plain;
 ghost use Rattle.bound_project.specs.DraftView.{draft_view};
 ghost use Rattle.bound_project.specs.View.{variable_view};
 ghost use Rattle.statement_nodes.specs.Pushed.{ActionPushed};
-ghost use Rattle.bound_terms.specs.bound_names.specs.View.{EnvStands, env_view};
-ghost use Rattle.statement_terms.specs.statement_numbers.specs.View.{standing_view};
+ghost use Rattle.bound_terms.specs.bound_accesses.specs.bound_names.specs.View.{EnvStands, env_view};
+ghost use Rattle.statement_nodes.specs.statement_numbers.specs.View.{standing_view};
 ghost use Rattle.vba_expression.specs.View.{view as expression_view};
 ghost use Rattle.vba_tree.specs.View.{step_view};
 
 use crate::values::{counter_of, push_operand, push_told};
 use bound_project::{ActionKind, DeclaredType, Draft, ElementType, NodeKind, Variable};
-use bound_terms::bound_calls::push_node;
-use bound_terms::bound_declarations::NotYet;
-use bound_terms::bound_names::Env;
-use module_parts::{expression_place, place_of};
+use bound_terms::bound_accesses::bound_names::Env;
+use bound_terms::bound_accesses::bound_names::bound_members::bound_calls::bound_declarations::NotYet;
+use bound_terms::bound_accesses::bound_names::bound_members::bound_calls::push_node;
+use constant_values::declared_names::module_parts::{expression_place, place_of};
+use statement_nodes::statement_numbers::{Sought, Standing};
 use statement_nodes::{
     goes_over, innermost_block, is_counting, is_other_name, loop_name, mark, mark_walked,
     name_place, opening_line, push_integer, step_place,
 };
-use statement_terms::statement_numbers::{Sought, Standing};
 use std::alloc::Global;
 use vba_base::{OrMemory, Place, Refusal};
 use vba_expression::Expression;

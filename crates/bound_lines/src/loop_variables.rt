@@ -2,13 +2,13 @@
 
 ghost use Rattle.std.specs.Prelude.{◌≡◌, IfOk, option_map};
 ghost use Rattle.bound_project.specs.View.{variable_view};
-ghost use Rattle.bound_terms.specs.bound_forms.specs.StatementsBound as plain;
-ghost use Rattle.bound_terms.specs.bound_names.specs.View.{EnvStands, env_view};
+ghost use Rattle.bound_terms.specs.bound_accesses.specs.bound_names.specs.bound_members.specs.bound_calls.specs.bound_forms.specs.StatementsBound as plain;
+ghost use Rattle.bound_terms.specs.bound_accesses.specs.bound_names.specs.View.{EnvStands, env_view};
 
 use bound_project::Variable;
-use bound_terms::bound_declarations::NotYet;
-use bound_terms::bound_names::{Env, meant_variable};
-use bound_terms::declared_names::{Use, declares};
+use bound_terms::bound_accesses::bound_names::bound_members::bound_calls::bound_declarations::NotYet;
+use bound_terms::bound_accesses::bound_names::{Env, meant_variable};
+use constant_values::declared_names::{Use, declares};
 use statement_terms::variable_in;
 use std::alloc::Global;
 use vba_base::OrMemory;

@@ -4,20 +4,22 @@ ghost use Rattle.std.specs.Prelude.{◌≡◌, ◌&&◌, ◌||◌, [], not, IfOk
 ghost use Rattle.vba_expression.specs.View.{view as expression_view};
 ghost use Rattle.bound_project.specs.DraftView.{draft_view};
 ghost use Rattle.bound_project.specs.View.{declared_view};
-ghost use Rattle.bound_terms.specs.bound_forms.specs.ExpressionsBound.{term_of, place_told};
-ghost use Rattle.bound_terms.specs.bound_forms.specs.StatementsBound as plain;
+ghost use Rattle.bound_terms.specs.bound_accesses.specs.bound_names.specs.bound_members.specs.bound_calls.specs.bound_forms.specs.ExpressionsBound.{term_of, place_told};
+ghost use Rattle.bound_terms.specs.bound_accesses.specs.bound_names.specs.bound_members.specs.bound_calls.specs.bound_forms.specs.StatementsBound as plain;
 ghost use Rattle.statement_nodes.specs.Pushed.{ActionStands, PlacePushed};
 ghost use Rattle.statement_nodes.specs.Resizing.{ArrayTold};
 ghost use Rattle.bound_lines.specs.Kept.{Keeps};
 ghost use Rattle.statement_terms.specs.Kept.{is_of_object, lends};
 ghost use Rattle.statement_terms.specs.Terms.{may_be_object};
-ghost use Rattle.bound_terms.specs.bound_names.specs.View.{EnvStands, env_view, within_view};
+ghost use Rattle.bound_terms.specs.bound_accesses.specs.bound_names.specs.View.{EnvStands, env_view, within_view};
 
 use crate::values::Told;
 use bound_project::{ActionKind, DeclaredType, Draft, NodeKind};
-use bound_terms::bound_calls::{Ending, Routine, Term, push_given, push_node, routine_ending};
-use bound_terms::bound_declarations::NotYet;
-use bound_terms::bound_names::{Env, Within};
+use bound_terms::bound_accesses::bound_names::bound_members::bound_calls::bound_declarations::NotYet;
+use bound_terms::bound_accesses::bound_names::bound_members::bound_calls::{
+    Ending, Routine, Term, push_given, push_node, routine_ending,
+};
+use bound_terms::bound_accesses::bound_names::{Env, Within};
 use bound_terms::tree_of;
 use statement_terms::{may_be_object, place_ending, with_place};
 use std::alloc::Global;

@@ -3,19 +3,19 @@
 ghost use Rattle.std.specs.Prelude.{◌≡◌, true, IfOk, Some, option_map};
 ghost use Rattle.statement_nodes.specs.Actions.{done_alone, is_alone};
 ghost use Rattle.bound_lines.specs.Round.{around_view};
-ghost use Rattle.bound_terms.specs.binder.specs.Numbering.{behind_kind, sought_behind};
-ghost use Rattle.bound_terms.specs.binder.specs.Blocks as numbered;
-ghost use Rattle.bound_terms.specs.bound_forms.specs.StatementsBound as plain;
+ghost use Rattle.constant_values.specs.declared_names.specs.binder.specs.Numbering.{behind_kind, sought_behind};
+ghost use Rattle.constant_values.specs.declared_names.specs.binder.specs.Blocks as numbered;
+ghost use Rattle.bound_terms.specs.bound_accesses.specs.bound_names.specs.bound_members.specs.bound_calls.specs.bound_forms.specs.StatementsBound as plain;
 ghost use Rattle.bound_project.specs.Statements as plain_to;
-ghost use Rattle.statement_terms.specs.statement_numbers.specs.View.{standing_view};
+ghost use Rattle.statement_nodes.specs.statement_numbers.specs.View.{standing_view};
 ghost use Rattle.vba_module.specs.Blocks.{for_loop};
 
 use crate::around::Around;
 use bound_project::{ActionKind, Handling};
-use bound_terms::bound_declarations::NotYet;
-use module_parts::BlockKind;
+use bound_terms::bound_accesses::bound_names::bound_members::bound_calls::bound_declarations::NotYet;
+use constant_values::declared_names::module_parts::BlockKind;
 use statement_nodes::each_header;
-use statement_terms::statement_numbers::{Sought, Standing, label_number};
+use statement_nodes::statement_numbers::{Sought, Standing, label_number};
 use std::alloc::Global;
 use vba_base::{NoMemory, OrMemory};
 use vba_tree::{ErrorHandling, ExitKind, LabelName, ResumeTarget};

@@ -2,25 +2,25 @@
 
 ghost use Rattle.std.specs.Prelude.{◌≡◌, [], Option, Some, IfOk, OnOk, map, option_map};
 ghost use Rattle.statement_nodes.specs.Reads.{ItemPushed, Read};
-ghost use Rattle.bound_terms.specs.bound_forms.specs.ExpressionsBound.{bound_operand};
-ghost use Rattle.bound_terms.specs.binder.specs.Options.{from_two};
-ghost use Rattle.bound_terms.specs.bound_forms.specs.StatementsBound as plain;
+ghost use Rattle.bound_terms.specs.bound_accesses.specs.bound_names.specs.bound_members.specs.bound_calls.specs.bound_forms.specs.ExpressionsBound.{bound_operand};
+ghost use Rattle.constant_values.specs.declared_names.specs.binder.specs.Options.{from_two};
+ghost use Rattle.bound_terms.specs.bound_accesses.specs.bound_names.specs.bound_members.specs.bound_calls.specs.bound_forms.specs.StatementsBound as plain;
 ghost use Rattle.bound_project.specs.DraftView.{draft_view};
 ghost use Rattle.bound_project.specs.Drafts.{Drafted};
 ghost use Rattle.bound_project.specs.Expressions.{Prints, no_prints, shown};
 ghost use Rattle.bound_project.specs.Pieces.{prints_off};
 ghost use Rattle.bound_project.specs.Statements as plain_to;
 ghost use Rattle.statement_nodes.specs.Pushed.{ActionPushed};
-ghost use Rattle.bound_terms.specs.bound_names.specs.View.{EnvStands, env_view};
+ghost use Rattle.bound_terms.specs.bound_accesses.specs.bound_names.specs.View.{EnvStands, env_view};
 ghost use Rattle.vba_expression.specs.View.{view as expression_view};
 ghost use Rattle.vba_tree.specs.View.{print_item_view};
 
 use crate::values::push_operand;
 use bound_project::{ActionKind, Draft};
-use bound_terms::bound_declarations::NotYet;
-use bound_terms::bound_names::Env;
+use bound_terms::bound_accesses::bound_names::Env;
+use bound_terms::bound_accesses::bound_names::bound_members::bound_calls::bound_declarations::NotYet;
+use statement_nodes::statement_numbers::plus;
 use statement_nodes::{ends_line, push_mark, show};
-use statement_terms::statement_numbers::plus;
 use std::alloc::Global;
 use vba_base::OrMemory;
 use vba_expression::Expression;

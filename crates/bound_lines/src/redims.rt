@@ -2,7 +2,7 @@
 
 ghost use Rattle.std.specs.Prelude.{◌≡◌, [], ◌∷◌, List, Option, Some, IfOk, OnOk, map, option_map};
 ghost use Rattle.statement_nodes.specs.Reads.{ItemPushed, Read};
-ghost use Rattle.bound_terms.specs.bound_forms.specs.StatementsBound as plain;
+ghost use Rattle.bound_terms.specs.bound_accesses.specs.bound_names.specs.bound_members.specs.bound_calls.specs.bound_forms.specs.StatementsBound as plain;
 ghost use Rattle.bound_project.specs.DraftView.{draft_view};
 ghost use Rattle.bound_project.specs.Drafts.{Drafted};
 ghost use Rattle.bound_project.specs.Expressions.{no_exprs};
@@ -12,7 +12,7 @@ ghost use Rattle.bound_project.specs.Statements as plain_to;
 ghost use Rattle.bound_project.specs.Statements.{Resizes, no_resizes};
 ghost use Rattle.bound_project.specs.View.{declared_view};
 ghost use Rattle.statement_nodes.specs.Pushed.{ActionPushed};
-ghost use Rattle.bound_terms.specs.bound_names.specs.View.{EnvStands, env_view};
+ghost use Rattle.bound_terms.specs.bound_accesses.specs.bound_names.specs.View.{EnvStands, env_view};
 ghost use Rattle.vba_module.specs.Headers.{all_of, items_of};
 ghost use Rattle.vba_tree.specs.Tree as tree;
 ghost use Rattle.vba_tree.specs.View.{array_view, listed_view, type_clause_view};
@@ -20,11 +20,11 @@ ghost use Rattle.vba_tree.specs.View.{array_view, listed_view, type_clause_view}
 use crate::bounds::push_bounds;
 use crate::places::bind_array;
 use bound_project::{ActionKind, DeclaredType, Draft, Node, NodeKind};
-use bound_terms::bound_declarations::NotYet;
-use bound_terms::bound_names::Env;
-use bound_terms::constant_values::written_type;
+use bound_terms::bound_accesses::bound_names::Env;
+use bound_terms::bound_accesses::bound_names::bound_members::bound_calls::bound_declarations::NotYet;
+use constant_values::written_type;
+use statement_nodes::statement_numbers::plus;
 use statement_nodes::{blank_node, mark_bounds};
-use statement_terms::statement_numbers::plus;
 use std::alloc::Global;
 use vba_base::{NoMemory, OrMemory};
 use vba_tree::{Listed, Next, ReDimArray, TypeClause};

@@ -2,17 +2,17 @@
 
 ghost use Rattle.std.specs.Prelude.{◌≡◌, true, [], OnOk, option_map};
 ghost use Rattle.statement_nodes.specs.Walks.{Added};
-ghost use Rattle.bound_terms.specs.bound_forms.specs.ExpressionsBound.{bound_operand};
-ghost use Rattle.bound_terms.specs.bound_forms.specs.StatementsBound as plain;
+ghost use Rattle.bound_terms.specs.bound_accesses.specs.bound_names.specs.bound_members.specs.bound_calls.specs.bound_forms.specs.ExpressionsBound.{bound_operand};
+ghost use Rattle.bound_terms.specs.bound_accesses.specs.bound_names.specs.bound_members.specs.bound_calls.specs.bound_forms.specs.StatementsBound as plain;
 ghost use Rattle.bound_project.specs.DraftView.{draft_view};
 ghost use Rattle.bound_project.specs.Statements as plain_to;
-ghost use Rattle.bound_terms.specs.bound_names.specs.View.{EnvStands, env_view};
+ghost use Rattle.bound_terms.specs.bound_accesses.specs.bound_names.specs.View.{EnvStands, env_view};
 ghost use Rattle.vba_expression.specs.View.{view as expression_view};
 
 use crate::around::Around;
 use crate::lines::bind_test;
 use bound_project::Draft;
-use bound_terms::bound_declarations::NotYet;
+use bound_terms::bound_accesses::bound_names::bound_members::bound_calls::bound_declarations::NotYet;
 use statement_nodes::end_statement;
 use std::alloc::Global;
 use vba_base::{OrMemory, Place};

@@ -5,8 +5,8 @@ ghost use Rattle.statement_nodes.specs.Actions.{done_alone, is_alone, simple_in}
 ghost use Rattle.bound_lines.specs.Round.{around_view};
 ghost use Rattle.bound_project.specs.DraftView.{draft_view};
 ghost use Rattle.statement_nodes.specs.Pushed.{ActionPushed};
-ghost use Rattle.bound_terms.specs.bound_names.specs.View.{EnvStands, env_view};
-ghost use Rattle.statement_terms.specs.statement_numbers.specs.View.{standing_view};
+ghost use Rattle.bound_terms.specs.bound_accesses.specs.bound_names.specs.View.{EnvStands, env_view};
+ghost use Rattle.statement_nodes.specs.statement_numbers.specs.View.{standing_view};
 ghost use Rattle.vba_tree.specs.View.{simple_view};
 
 use crate::around::Around;
@@ -14,8 +14,8 @@ use crate::erases::bind_erase;
 use crate::plain_actions::{exit, go_sub, go_to, on_error, resume};
 use crate::redims::bind_redim;
 use bound_project::{ActionKind, Draft};
-use bound_terms::bound_declarations::NotYet;
-use statement_terms::statement_numbers::Standing;
+use bound_terms::bound_accesses::bound_names::bound_members::bound_calls::bound_declarations::NotYet;
+use statement_nodes::statement_numbers::Standing;
 use std::alloc::Global;
 use vba_base::OrMemory;
 use vba_tree::SimpleStatement;

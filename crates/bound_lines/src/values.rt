@@ -2,18 +2,18 @@
 
 ghost use Rattle.std.specs.Prelude.{◌≡◌, Some, IfOk};
 ghost use Rattle.statement_nodes.specs.Actions.{ToldPushed, ValuePushed};
-ghost use Rattle.bound_terms.specs.bound_forms.specs.ExpressionsBound as plain;
-ghost use Rattle.bound_terms.specs.bound_forms.specs.StatementsBound as statements;
+ghost use Rattle.bound_terms.specs.bound_accesses.specs.bound_names.specs.bound_members.specs.bound_calls.specs.bound_forms.specs.ExpressionsBound as plain;
+ghost use Rattle.bound_terms.specs.bound_accesses.specs.bound_names.specs.bound_members.specs.bound_calls.specs.bound_forms.specs.StatementsBound as statements;
 ghost use Rattle.bound_project.specs.DraftView.{draft_view};
 ghost use Rattle.bound_project.specs.View.{variable_view};
-ghost use Rattle.bound_terms.specs.bound_names.specs.View.{EnvStands, env_view};
+ghost use Rattle.bound_terms.specs.bound_accesses.specs.bound_names.specs.View.{EnvStands, env_view};
 ghost use Rattle.vba_expression.specs.View.{view as expression_view};
 
 use crate::loop_variables::loop_variable;
 use bound_project::{DeclaredType, Draft, Variable};
-use bound_terms::bound_calls::push_given as given_pushed;
-use bound_terms::bound_declarations::NotYet;
-use bound_terms::bound_names::Env;
+use bound_terms::bound_accesses::bound_names::Env;
+use bound_terms::bound_accesses::bound_names::bound_members::bound_calls::bound_declarations::NotYet;
+use bound_terms::bound_accesses::bound_names::bound_members::bound_calls::push_given as given_pushed;
 use bound_terms::{bind_given, bind_operand, tree_of};
 use std::alloc::Global;
 use vba_base::{OrMemory, Place};

@@ -2,17 +2,17 @@
 
 ghost use Rattle.std.specs.Prelude.{◌≡◌, [], IfOk, option_map};
 ghost use Rattle.bound_lines.specs.Round.{Inside, StandsAt, around_view};
-ghost use Rattle.bound_terms.specs.bound_forms.specs.StatementsBound as plain;
-ghost use Rattle.bound_terms.specs.bound_names.specs.View.{EnvStands, env_view, within_view};
-ghost use Rattle.statement_terms.specs.statement_numbers.specs.View.{part_at, standing_view};
+ghost use Rattle.bound_terms.specs.bound_accesses.specs.bound_names.specs.bound_members.specs.bound_calls.specs.bound_forms.specs.StatementsBound as plain;
+ghost use Rattle.bound_terms.specs.bound_accesses.specs.bound_names.specs.View.{EnvStands, env_view, within_view};
+ghost use Rattle.statement_nodes.specs.statement_numbers.specs.View.{part_at, standing_view};
 
 use crate::around::Around;
 use crate::places::kept_by;
-use bound_terms::bound_declarations::NotYet;
-use bound_terms::bound_names::{Env, Within};
-use module_parts::Part;
+use bound_terms::bound_accesses::bound_names::bound_members::bound_calls::bound_declarations::NotYet;
+use bound_terms::bound_accesses::bound_names::{Env, Within};
+use constant_values::declared_names::module_parts::Part;
 use statement_nodes::object_of;
-use statement_terms::statement_numbers::{Opened, Standing};
+use statement_nodes::statement_numbers::{Opened, Standing};
 use std::alloc::Global;
 use vba_base::OrMemory;
 
@@ -30,6 +30,7 @@ fn env_with<'a>(env: Env<'a>, within: Option<Within>) -> Env<'a>
         first: env.first,
         compare: env.compare,
         has_class: env.has_class,
+        has_new: env.has_new,
     }
 }
 

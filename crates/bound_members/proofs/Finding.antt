@@ -11,7 +11,7 @@ use Rattle.bound_project.proofs.Drafts.{constant_last}
 use Rattle.bound_project.specs.View.{element_view}
 use Rattle.bound_calls.specs.bound_forms.specs.Terms.{a_host_member}
 use Rattle.bound_calls.specs.bound_forms.specs.Terms as terms
-use Rattle.bound_calls.specs.bound_forms.specs.ExpressionsBound.{HostKind, application, workbook, sheets, sheet, area, any_object, member_in, member_of_kind, unknown_member}
+use Rattle.bound_calls.specs.bound_forms.specs.ExpressionsBound.{HostKind, application, workbook, sheets, sheet, area, collection, any_object, member_in, member_of_kind, unknown_member}
 use Rattle.bound_calls.specs.declared.term.HostMember.{HostMember}
 use Rattle.bound_calls.specs.Steps.{AddsConstant}
 use Rattle.bound_calls.proofs.Growing.{grown_constant}
@@ -26,6 +26,7 @@ of_kind workbook dot object fold m h = let e : None ≡ Some m = h in absurd cc
 of_kind sheets dot object fold m h = ap (λ (o : Option terms.HostMember). unwrap_or (option_map (λ x. a_host_member object x) o) (unknown_member dot object)) h
 of_kind sheet dot object fold m h = ap (λ (o : Option terms.HostMember). unwrap_or (option_map (λ x. a_host_member object x) o) (unknown_member dot object)) h
 of_kind area dot object fold m h = ap (λ (o : Option terms.HostMember). unwrap_or (option_map (λ x. a_host_member object x) o) (unknown_member dot object)) h
+of_kind collection dot object fold m h = ap (λ (o : Option terms.HostMember). unwrap_or (option_map (λ x. a_host_member object x) o) (unknown_member dot object)) h
 of_kind any_object dot object fold m h = ap (λ (o : Option terms.HostMember). unwrap_or (option_map (λ x. a_host_member object x) o) (unknown_member dot object)) h
 
 none_of_kind : (k : HostKind) (dot : Place) (object : bound.Expr) (fold : List ℕ) → is_workbook k ≡ false → member_in k fold ≡ None → member_of_kind k dot object fold ≡ unknown_member dot object
@@ -34,6 +35,7 @@ none_of_kind workbook dot object fold w h = let e : true ≡ false = w in absurd
 none_of_kind sheets dot object fold w h = ap (λ (o : Option terms.HostMember). unwrap_or (option_map (λ x. a_host_member object x) o) (unknown_member dot object)) h
 none_of_kind sheet dot object fold w h = ap (λ (o : Option terms.HostMember). unwrap_or (option_map (λ x. a_host_member object x) o) (unknown_member dot object)) h
 none_of_kind area dot object fold w h = ap (λ (o : Option terms.HostMember). unwrap_or (option_map (λ x. a_host_member object x) o) (unknown_member dot object)) h
+none_of_kind collection dot object fold w h = ap (λ (o : Option terms.HostMember). unwrap_or (option_map (λ x. a_host_member object x) o) (unknown_member dot object)) h
 none_of_kind any_object dot object fold w h = ap (λ (o : Option terms.HostMember). unwrap_or (option_map (λ x. a_host_member object x) o) (unknown_member dot object)) h
 
 pub finds_none : (k : declared.HostKind) (fold : List ℕ) (d : Drafted) → is_workbook (kind_view k) ≡ false → member_in (kind_view k) fold ≡ None → FindsNone k fold d d

@@ -7,7 +7,7 @@ use Rattle.bound_project.specs.Expressions as bound
 use Rattle.bound_project.specs.Lists.{above, exprs_of}
 use Rattle.bound_project.proofs.Lists.{exprs_are}
 use Rattle.bound_project.specs.Pieces.{Piece, an_expr, exprs_off}
-use Rattle.bound_calls.specs.binder.specs.Options.{from_two}
+use Rattle.bound_calls.specs.bound_declarations.specs.constant_values.specs.declared_names.specs.binder.specs.Options.{from_two}
 use Rattle.bound_calls.specs.bound_forms.specs.Terms.{Given, has_names, listed_values}
 use Rattle.bound_calls.specs.bound_forms.specs.Terms as terms
 use Rattle.bound_calls.specs.Standing.{NumberIs, AllNumbers, ValueIs, AllListed, missing_given, missing_value}

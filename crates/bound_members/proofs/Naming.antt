@@ -1,5 +1,5 @@
 -- Names of arguments: which ones came, and how arguments are given by them.
-use Rattle.std.proofs.Common.{◌≡◌, ◌≢◌, ℕ, zero, suc, ◌+◌, ◌≤◌, Bool, true, false, ◌||◌, List, [], ◌∷◌, ◌++◌, map, take, length, Option, Some, None, is_some, refl, sym, ap, subst, ◌∙◌, arith, append_assoc}
+use Rattle.std.proofs.Common.{◌≡◌, ◌≢◌, ℕ, zero, suc, ◌+◌, ◌≤◌, Bool, true, false, ◌&&◌, ◌||◌, List, [], ◌∷◌, ◌++◌, map, take, length, Option, Some, None, is_some, refl, sym, ap, subst, ◌∙◌, arith, append_assoc}
 use Rattle.std.proofs.lemmas.List.{map-append, length-map, take_all}
 use Rattle.std.proofs.lemmas.Slice.Eq.{bytes_eq-Decides}
 use Rattle.std.specs.Prelude.{option_map}
@@ -8,10 +8,11 @@ use Rattle.vba_base.specs.declared.place.Place.{Place}
 use Rattle.bound_project.specs.Expressions.{ByName, Exprs, also}
 use Rattle.bound_project.specs.Expressions as bound
 use Rattle.bound_project.specs.Lists.{exprs_of}
-use Rattle.bound_calls.specs.binder.specs.Options.{from_two}
-use Rattle.bound_calls.specs.bound_forms.specs.Terms.{Given, all_named, by_name_from, given_by_name, has_names, listed_values}
+use Rattle.bound_calls.specs.bound_declarations.specs.constant_values.specs.declared_names.specs.binder.specs.Options.{from_two}
+use Rattle.bound_calls.specs.bound_forms.specs.Terms.{Env, Given, all_named, by_name_from, given_by_name, has_names, listed_values}
 use Rattle.bound_calls.specs.bound_forms.specs.Terms as terms
-use Rattle.bound_calls.specs.Standing.{AllGiven, GivenIs, NamesCame, missing_given, missing_value, nameless}
+use Rattle.bound_calls.specs.bound_forms.specs.ExpressionsBound.{host_arguments_from, host_given, is_add, is_item_given}
+use Rattle.bound_calls.specs.Standing.{AllGiven, HostGiven, GivenIs, HostIs, NamesCame, missing_given, missing_value, nameless}
 use Rattle.bound_members.specs.Names.{is_next}
 
 -- ---- values that were pushed for arguments
@@ -39,6 +40,34 @@ given_long value [] [] h = refl
 given_long value [] (e ∷ es) h = absurd h
 given_long value (g ∷ gs) [] h = absurd h
 given_long value (g ∷ gs) (e ∷ es) h = omega (arith, given_long value gs es h.1)
+
+-- ---- the same of a member, by the numbers of the arguments
+
+pub host_is : (i : ℕ) (env : Env) (m : terms.HostMember) (name : Option (List ℕ)) (t : terms.Term) (place : Place) (e : bound.Expr) → host_given (is_add m && is_item_given i name) env t place ≡ Some e
+    → HostIs i env m (record { name = name; term = Some t; place = place }) e
+host_is i env m name t place e h = record { is = λ gs. ap (λ (o : Option bound.Expr). from_two also o (host_arguments_from (suc i) env m gs)) h }
+
+pub host_missing : (i : ℕ) (env : Env) (m : terms.HostMember) → HostIs i env m missing_given missing_value
+host_missing i env m = record { is = λ gs. refl }
+
+pub host_listed : (i : ℕ) (env : Env) (m : terms.HostMember) (gs : List Given) (es : List bound.Expr) → HostGiven i env m gs es → host_arguments_from i env m gs ≡ Some (exprs_of es)
+host_listed i env m [] [] h = refl
+host_listed i env m [] (e ∷ es) h = absurd h
+host_listed i env m (g ∷ gs) [] h = absurd h
+host_listed i env m (g ∷ gs) (e ∷ es) h = h.0.is gs ∙ ap (λ (o : Option Exprs). from_two also (Some e) o) (host_listed (suc i) env m gs es h.1)
+
+pub host_more : (i : ℕ) (env : Env) (m : terms.HostMember) (gs : List Given) (es : List bound.Expr) (g : Given) (e : bound.Expr) → HostGiven i env m gs es → ((j : ℕ) → j ≡ i + length gs → HostIs j env m g e)
+    → HostGiven i env m (gs ++ g ∷ []) (es ++ e ∷ [])
+host_more i env m [] [] g e h k = (let none : i ≡ i + 0 = omega arith in k i none, tt)
+host_more i env m [] (f ∷ es) g e h k = absurd h
+host_more i env m (f ∷ gs) [] g e h k = absurd h
+host_more i env m (f ∷ gs) (d ∷ es) g e h k = (h.0, host_more (suc i) env m gs es g e h.1 (λ j eq. let next : j ≡ i + suc (length gs) = omega (arith, eq) in k j next))
+
+pub host_long : (i : ℕ) (env : Env) (m : terms.HostMember) (gs : List Given) (es : List bound.Expr) → HostGiven i env m gs es → length gs ≡ length es
+host_long i env m [] [] h = refl
+host_long i env m [] (e ∷ es) h = absurd h
+host_long i env m (g ∷ gs) [] h = absurd h
+host_long i env m (g ∷ gs) (e ∷ es) h = omega (arith, host_long (suc i) env m gs es h.1)
 
 -- ---- names that came
 

@@ -16,6 +16,7 @@ kind_view kind.Workbook = plain.workbook
 kind_view kind.Sheets = plain.sheets
 kind_view kind.Sheet = plain.sheet
 kind_view kind.Area = plain.area
+kind_view kind.Collection = plain.collection
 kind_view kind.AnyObject = plain.any_object
 
 -- a value whose last node isn't pushed yet gives an object of this kind

@@ -1,9 +1,4 @@
 pub use Rattle.bound_calls
-pub use Rattle.bound_calls.specs.binder
-pub use Rattle.bound_calls.specs.bound_forms
-pub use Rattle.bound_calls.specs.bound_declarations
-pub use Rattle.bound_calls.specs.constant_values
-pub use Rattle.bound_calls.specs.declared_names
 pub mod Kinds
 pub mod Members
 pub mod MemberCalls

@@ -1,5 +1,5 @@
 -- Serves the code: calls of members.
-use Rattle.std.specs.Prelude.{◌≡◌, ◌≢◌, ℕ, suc, ◌+◌, length, Bool, true, List, [], ◌∷◌, ◌++◌, Option, Some, None}
+use Rattle.std.specs.Prelude.{◌≡◌, ◌≢◌, ◌&&◌, ℕ, suc, ◌+◌, length, Bool, true, List, [], ◌∷◌, ◌++◌, Option, Some, None}
 use Rattle.vba_base.specs.declared.place.Place.{Place}
 use Rattle.vba_expression.specs.Tree.{Expr, Args, no_args}
 use Rattle.vba_expression.specs.Nodes as nodes
@@ -16,7 +16,7 @@ use Rattle.bound_project.specs.Pieces.{Piece, Tables, an_expr, by_name_in, order
 use Rattle.bound_project.specs.Drafts.{Drafted, NodeNamed}
 use Rattle.bound_calls.specs.bound_forms.specs.Terms.{Env, Given}
 use Rattle.bound_calls.specs.bound_forms.specs.Terms as plain
-use Rattle.bound_calls.specs.bound_forms.specs.ExpressionsBound.{callee, givens, host_given, indexed, item_of, member_called, takes_names, term_of, place_told}
+use Rattle.bound_calls.specs.bound_forms.specs.ExpressionsBound.{callee, givens, host_given, indexed, is_add, is_item_given, item_of, member_called, takes_names, term_of, place_told}
 use Rattle.bound_calls.specs.declared.term.HostMember.{HostMember}
 use Rattle.bound_calls.specs.declared.term.Item.{Item}
 use Rattle.bound_calls.specs.declared.term.Item.TheVariants as item
@@ -26,7 +26,7 @@ use Rattle.bound_calls.specs.declared.term.Term.TheVariants as term
 use Rattle.bound_calls.specs.declared.term.Tree.{Tree}
 use Rattle.bound_calls.specs.References.{is_typed_kind}
 use Rattle.bound_calls.specs.Standing.{AllNamed, ItemNamed, MemberNamed, MemberStands, NamesCame, Stands, TermNamed, TermStands, TreeStands, ValueEnds, Base, Grown, member_is, names_told}
-use Rattle.bound_calls.specs.binder.specs.Classes.{has_class}
+use Rattle.bound_calls.specs.bound_declarations.specs.constant_values.specs.declared_names.specs.binder.specs.Classes.{has_class}
 
 -- the node that looks for a member
 abbrev pub there_kind : (name : ℕ) → Option ArgumentNames → (given : ℕ) → NodeKind
@@ -52,18 +52,18 @@ pub record WrittenIs (found : Option bound.Expr) (ps below : List Piece) : Type 
   pub counts : (rest : Exprs) → given_count (also made rest) ≡ suc (given_count rest)
   pub on_top : ps ≡ an_expr made ∷ below
 
--- an expression, no object of a class, in a project with a class or without
-pub record PushesWritten (has : Bool) (y : Tree) (d e : Drafted) : Type 0 where
+-- an expression, no object of a class unless any value can be given, in a project with a class or without
+pub record PushesWritten (has any : Bool) (y : Tree) (d e : Drafted) : Type 0 where
   pub grown : Grown d e
   pub stands : (env : Env) → has_class env.scope.spaces ≡ has → (tree : Expr) (below : List Piece) → TreeStands env d.tables y tree d.pieces below
-      → WrittenIs (host_given env (term_of env tree) (place_told tree)) e.pieces below
+      → WrittenIs (host_given any env (term_of env tree) (place_told tree)) e.pieces below
 
--- the expression on top, no object of a class, was pushed as one more value, so that so many of the values have names
-pub record AddsValue (has : Bool) (x : MemberCall) (y : Tree) (named : ℕ) (d e : Drafted) (z : MemberCall) : Type 0 where
+-- the expression on top was pushed so as one more value, so that so many of the values have names
+pub record AddsValue (has any : Bool) (x : MemberCall) (y : Tree) (named : ℕ) (d e : Drafted) (z : MemberCall) : Type 0 where
   pub grown : Grown d e
   pub is_named : MemberNamed e.tables z
-  pub stands : (env : Env) → has_class env.scope.spaces ≡ has → (a b : Expr) (name : Option (List ℕ)) (args more : Args) (ps below : List Piece) → TreeStands env d.tables y a d.pieces ps → MemberStands env d.tables x b args ps below
-      → givens env more ≡ givens env args ++ given_as_named env name a ∷ [] → NamesCame (names_told e.tables x.names) named (givens env more) → MemberStands env e.tables z b more e.pieces below
+  pub stands : (env : Env) → has_class env.scope.spaces ≡ has → (a b : Expr) (name : Option (List ℕ)) (args more : Args) (ps below : List Piece) → any ≡ (is_add (member_is d.tables x.member) && is_item_given x.count name)
+      → TreeStands env d.tables y a d.pieces ps → MemberStands env d.tables x b args ps below → givens env more ≡ givens env args ++ given_as_named env name a ∷ [] → NamesCame (names_told e.tables x.names) named (givens env more) → MemberStands env e.tables z b more e.pieces below
 
 -- the expression on top is one more argument, with a name
 pub record AddsNamed (has : Bool) (x : MemberCall) (y : Tree) (name : Identifier) (d e : Drafted) (z : MemberCall) : Type 0 where

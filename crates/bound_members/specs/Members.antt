@@ -6,7 +6,7 @@ use Rattle.bound_project.specs.Drafts.{Drafted}
 use Rattle.bound_project.specs.View.{element_view}
 use Rattle.bound_calls.specs.bound_forms.specs.Terms.{a_host_member}
 use Rattle.bound_calls.specs.bound_forms.specs.Terms as terms
-use Rattle.bound_calls.specs.bound_forms.specs.ExpressionsBound.{HostKind, application, workbook, sheets, sheet, area, any_object, mark_members, sheets_members, sheet_members, area_members, member_of_kind, unknown_member}
+use Rattle.bound_calls.specs.bound_forms.specs.ExpressionsBound.{HostKind, application, workbook, sheets, sheet, area, collection, any_object, mark_members, sheets_members, sheet_members, area_members, collection_members, member_of_kind, unknown_member}
 use Rattle.bound_calls.specs.declared.term.HostMember.{HostMember}
 use Rattle.bound_calls.specs.Standing.{Grown, member_is}
 use Rattle.bound_members.specs.declared.kinds.HostKind as declared
@@ -27,6 +27,7 @@ listed workbook = []
 listed sheets = sheets_members
 listed sheet = sheet_members
 listed area = area_members
+listed collection = collection_members
 listed any_object = []
 
 -- the workbook, whose sheets are found in another way

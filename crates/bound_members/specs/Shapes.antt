@@ -1,10 +1,11 @@
 -- Serves the code: arguments that members take, by their names.
-use Rattle.std.specs.Prelude.{ℕ, zero, suc, Bool, true, false, ◌||◌, List, [], ◌∷◌, Option, Some, None, is_some, if◌then◌else◌}
+use Rattle.std.specs.Prelude.{ℕ, zero, suc, Bool, true, false, ◌&&◌, ◌||◌, not, List, [], ◌∷◌, Option, Some, None, is_some, if◌then◌else◌}
+use Rattle.std.specs.List.{list_any}
 use Rattle.vba_values.specs.Types.{Declared}
 use Rattle.vba_values.specs.Types as type
 use Rattle.vba_meaning.specs.ByName.{given_once, is_parameter, parameter_named}
 use Rattle.bound_calls.specs.bound_forms.specs.Terms.{Given}
-use Rattle.bound_calls.specs.bound_forms.specs.ExpressionsBound.{known_parameters}
+use Rattle.bound_calls.specs.bound_forms.specs.ExpressionsBound.{is_item_name, known_parameters}
 
 -- whether a parameter is given one of these arguments by its name
 abbrev pub by_one : List (List ℕ) → (number : ℕ) → Option (List ℕ) → Bool
@@ -29,10 +30,25 @@ abbrev pub names_from : List (List ℕ) → (before : ℕ) → List Given → Bo
 names_from xs before [] = true
 names_from xs before (g ∷ gs) = if is_some g.name then is_some (all_given xs before (g ∷ gs)) else names_from xs (suc before) gs
 
-abbrev pub takes_named : (name : List ℕ) → (greatest : Option ℕ) → List Given → Bool
-takes_named name None gs = true
-takes_named name (Some zero) gs = true
-takes_named name (Some greatest) gs = names_from (known_parameters name (Some greatest)) 0 gs
+-- whether what adds to a Collection is given an item: the first argument, where that has no name, or the one of that name
+abbrev pub is_item_called : Option (List ℕ) → Bool
+is_item_called None = false
+is_item_called (Some name) = is_item_name name
+
+abbrev pub is_item : Given → Bool
+is_item g = is_item_called g.name
+
+abbrev pub begins_plain : List Given → Bool
+begins_plain [] = false
+begins_plain (g ∷ gs) = not (is_some g.name)
+
+abbrev pub item_given : (adds : Bool) → List Given → Bool
+item_given adds gs = not adds || (begins_plain gs || list_any is_item gs)
+
+abbrev pub takes_named : (name : List ℕ) → (greatest : Option ℕ) → (adds : Bool) → List Given → Bool
+takes_named name None adds gs = true
+takes_named name (Some zero) adds gs = true
+takes_named name (Some greatest) adds gs = names_from (known_parameters name (Some greatest)) 0 gs && item_given adds gs
 
 -- the rule that arguments break behind a member that takes none, by what it gives
 abbrev pub rule_behind : Declared → Option ℕ

@@ -1,19 +1,22 @@
 //! Members that are called: their objects are looked at, and their arguments are pushed.
 
-ghost use Rattle.std.specs.Prelude.{◌≡◌, ◌<◌, length, IfOk, MatchBool, OnOk};
+ghost use Rattle.std.specs.Prelude.{◌≡◌, ◌<◌, ◌&&◌, length, not, IfOk, MatchBool, None, OnOk, Some};
 ghost use Rattle.bound_project.specs.DraftView.{draft_view};
+ghost use Rattle.bound_project.specs.Pieces.{Tables};
+ghost use Rattle.bound_calls.specs.bound_forms.specs.ExpressionsBound as bound;
 ghost use Rattle.bound_calls.specs.declared.term.Item.TheVariants as item;
 ghost use Rattle.bound_calls.specs.Indexing.{AddsArgument, AddsMissing};
-ghost use Rattle.bound_calls.specs.Standing.{MemberNamed, TermNamed};
+ghost use Rattle.bound_calls.specs.References.{may_be_instance_by};
+ghost use Rattle.bound_calls.specs.Standing.{MemberNamed, TermNamed, member_is};
 ghost use Rattle.bound_members.specs.MemberCalls.{AddsNamed, AddsValue, EndsCall, EndsMember, NamesFit, OpensMember, PushesWritten, is_value_kind, there_kind};
 
 use crate::ahead::given_ahead;
-use crate::members::takes_arguments;
+use crate::members::{is_add, takes_arguments};
 use crate::names::{is_next, names_ahead, takes_names};
 use bound_calls::bound_declarations::NotYet;
 use bound_calls::{
-    Ending, HostMember, MemberCall, Shape, Term, Tree, given_ending, is_typed_kind, mark_given,
-    may_be_instance, nowhere, push_node, sum,
+    Ending, HostMember, MemberCall, Shape, Term, Tree, given_ending, is_item_name, is_typed_kind,
+    mark_given, may_be_instance, nowhere, push_node, sum,
 };
 use bound_project::{ArgumentNames, DeclaredType, Draft, ElementType, NodeKind};
 use std::alloc::Global;
@@ -66,22 +69,30 @@ fn is_value_kind(kind: NodeKind) -> bool
     }
 }
 
-/// Pushes an expression as an argument of a member: as it is, no object of a class, and marked where a Variant doesn't take
-/// it.
+/// Can a value that may be an object of a class be no argument, since not any value can?
+fn is_kept_out(takes_any: bool, has_class: bool, draft: &Draft, ending: Ending) -> bool
+    ensures { result ≡ (not takes_any && may_be_instance_by has_class (draft_view draft.now).tables ending) }
+{
+    !takes_any && may_be_instance(has_class, draft, ending)
+}
+
+/// Pushes an expression as an argument of a member: as it is, no object of a class unless any value can be it, and marked
+/// where a Variant doesn't take it.
 fn push_written<'a>(
     alloc: Global,
     draft: &mut Draft,
     tree: Tree<'a>,
+    takes_any: bool,
     has_class: bool,
 ) -> Result<(), OrMemory<NotYet>>
     requires { TermNamed (draft_view draft.old).tables tree.term }
-    ensures { OnOk result (PushesWritten has_class tree.entry (draft_view draft.old) (draft_view draft.new)) }
+    ensures { OnOk result (PushesWritten has_class takes_any tree.entry (draft_view draft.old) (draft_view draft.new)) }
 {
     let ending = given_ending(alloc, draft, tree)?;
     if !is_value_kind(ending.kind) {
         return Err(OrMemory::Fault(NotYet));
     }
-    if may_be_instance(has_class, ending) {
+    if is_kept_out(takes_any, has_class, draft, ending) {
         return Err(OrMemory::Fault(NotYet));
     }
     push_node(draft, ending.kind, ending.of, tree.place)?;
@@ -97,21 +108,36 @@ fn add_value<'a>(
     call: MemberCall,
     tree: Tree<'a>,
     named: u32,
+    takes_any: bool,
     has_class: bool,
 ) -> Result<MemberCall, OrMemory<NotYet>>
     requires tree { TermNamed (draft_view draft.old).tables tree.term }
     requires member { MemberNamed (draft_view draft.old).tables call }
-    ensures { IfOk result (λ more. AddsValue has_class call tree.entry named (draft_view draft.old) (draft_view draft.new) more) }
+    ensures { IfOk result (λ more. AddsValue has_class takes_any call tree.entry named (draft_view draft.old) (draft_view draft.new) more) }
 {
     let count = sum(call.count, 1)?;
     let written = sum(call.written, 1)?;
-    push_written(alloc, draft, tree, has_class)?;
+    push_written(alloc, draft, tree, takes_any, has_class)?;
     Ok(MemberCall {
         count,
         written,
         named,
         ..call
     })
+}
+
+/// Is the next argument, which has no name, the item that is added to a Collection?
+fn is_first_item(call: MemberCall) -> bool
+    ensures { (t : Tables) → result ≡ (bound.is_add (member_is t call.member) && bound.is_item_given call.count None) }
+{
+    is_add(call.member) && call.count == 0
+}
+
+/// The same of one with a name.
+fn is_named_item(call: MemberCall, name: &Identifier) -> bool
+    ensures { (t : Tables) → result ≡ (bound.is_add (member_is t call.member) && bound.is_item_given call.count (Some name.now.name)) }
+{
+    is_add(call.member) && is_item_name(name.name.units())
 }
 
 /// One more argument without a name: the expression on top.
@@ -129,7 +155,8 @@ pub fn add_given<'a>(
     if call.named != 0 {
         return Err(OrMemory::Fault(NotYet));
     }
-    add_value(alloc, draft, call, tree, 0, has_class)
+    let takes_any = is_first_item(call);
+    add_value(alloc, draft, call, tree, 0, takes_any, has_class)
 }
 
 /// One more argument, with a name, which is the next one of those that were told.
@@ -152,7 +179,8 @@ pub fn add_named<'a>(
         return Err(OrMemory::Fault(NotYet));
     }
     let named = sum(call.named, 1)?;
-    add_value(alloc, draft, call, tree, named, has_class)
+    let takes_any = is_named_item(call, name);
+    add_value(alloc, draft, call, tree, named, takes_any, has_class)
 }
 
 /// One more argument, which isn't written: Missing.

@@ -10,7 +10,7 @@ use bound_calls::{Ending, is_typed_kind};
 use bound_project::{DeclaredType, ElementType, NodeKind};
 use vba_values::HostRef;
 
-/// What an object is: Application, the workbook, its sheets, a sheet, a range, or what the run decides.
+/// What an object is: Application, the workbook, its sheets, a sheet, a range, a Collection, or what the run decides.
 #[derive(Clone, Copy)]
 pub enum HostKind {
     Application,
@@ -18,14 +18,16 @@ pub enum HostKind {
     Sheets,
     Sheet,
     Area,
+    Collection,
     AnyObject,
 }
 
-/// What an object of a declared type is; none where the type isn't one of the host's. What a Variant has the run decides.
+/// What an object of a declared type is; none where the type has no members of its own. What a Variant has the run decides.
 pub fn kind_of_type(of: DeclaredType) -> Option<HostKind>
     ensures { option_map kind_view result ≡ kind_by_type (declared_view of) }
 {
     match of {
+        DeclaredType::Plain(ElementType::Collection) => Some(HostKind::Collection),
         DeclaredType::Plain(ElementType::Worksheet) => Some(HostKind::Sheet),
         DeclaredType::Plain(ElementType::Range) => Some(HostKind::Area),
         DeclaredType::Plain(ElementType::Object) => Some(HostKind::AnyObject),

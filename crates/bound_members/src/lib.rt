@@ -17,4 +17,3 @@ pub use taking::{arguments_rule, member_takes};
 
 // What stands below, for the crates above.
 pub use bound_calls;
-pub use bound_calls::{binder, bound_declarations, bound_forms, constant_values, declared_names};

@@ -234,6 +234,49 @@ const AREA: Members = &[
     ),
 ];
 
+const COLLECTION: Members = &[
+    (
+        b"add",
+        Known {
+            of: ElementType::Variant,
+            least: 1,
+            greatest: Some(4),
+        },
+    ),
+    (
+        b"count",
+        Known {
+            of: ElementType::Long,
+            least: 0,
+            greatest: Some(0),
+        },
+    ),
+    (
+        b"item",
+        Known {
+            of: ElementType::Variant,
+            least: 1,
+            greatest: Some(1),
+        },
+    ),
+    (
+        b"remove",
+        Known {
+            of: ElementType::Variant,
+            least: 1,
+            greatest: Some(1),
+        },
+    ),
+    (
+        b"_newenum",
+        Known {
+            of: ElementType::Collection,
+            least: 0,
+            greatest: Some(0),
+        },
+    ),
+];
+
 fn members_of(kind: HostKind) -> Members
     ensures { map (λ m. entry_member (m.0.now, m.1)) result.now ≡ listed (kind_view kind) }
 {
@@ -243,6 +286,7 @@ fn members_of(kind: HostKind) -> Members
         HostKind::Sheets => SHEETS,
         HostKind::Sheet => SHEET,
         HostKind::Area => AREA,
+        HostKind::Collection => COLLECTION,
         HostKind::AnyObject => &[],
     }
 }
@@ -358,5 +402,15 @@ pub fn takes_arguments(member: HostMember, count: u32) -> bool
             let is_half = member.least == 0 && count == 1;
             member.least <= count && (count <= greatest && !is_half)
         }
+    }
+}
+
+/// Is a member Add of a Collection? No other one takes four arguments.
+pub fn is_add(member: HostMember) -> bool
+    ensures { (t : Tables) → result ≡ bound.is_add (member_is t member) }
+{
+    match member.greatest {
+        None => false,
+        Some(greatest) => greatest == 4,
     }
 }

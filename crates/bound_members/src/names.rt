@@ -1,5 +1,6 @@
 //! Names of arguments that members take.
 
+ghost use Rattle.std.specs.List.{list_any};
 ghost use Rattle.std.specs.Prelude.{◌≡◌, ◌+◌, ◌<◌, ◌^◌, [], IfOk, OnOk, Some, is_some, length, map};
 ghost use Rattle.bound_project.specs.DraftView.{draft_view};
 ghost use Rattle.bound_project.specs.Pieces.{by_name_in, name_in, names_in};
@@ -9,8 +10,8 @@ ghost use Rattle.bound_calls.specs.Standing.{member_is};
 ghost use Rattle.bound_members.specs.Names.{AddsName, TellsNames, is_next};
 
 use crate::ahead::before_names;
-use crate::members::is_word;
-use bound_calls::{HostMember, Shape, constant_number, order_number};
+use crate::members::{is_add, is_word};
+use bound_calls::{HostMember, Shape, constant_number, is_item_name, order_number};
 use bound_project::{ArgumentNames, Draft};
 use std::alloc::Global;
 use vba_base::{NoMemory, Units};
@@ -98,10 +99,12 @@ const ADDRESS: Parameters = &[b"address"];
 
 const ROW_AND_COLUMN: Parameters = &[b"r", b"c"];
 
+const ADDED: Parameters = &[b"item", b"key", b"before", b"after"];
+
 /// The names that parameters of a member have, by the greatest number of its arguments.
 pub fn known_parameters(name: &[u16], greatest: u32) -> Parameters
     ensures names { map (λ w. w.now) result.now ≡ bound.known_parameters name.now (Some greatest) }
-    ensures few { length result.now < 4 }
+    ensures few { length result.now < 5 }
 {
     if greatest == 1 {
         return INDEX;
@@ -111,6 +114,9 @@ pub fn known_parameters(name: &[u16], greatest: u32) -> Parameters
     }
     if greatest == 2 {
         return ROW_AND_COLUMN;
+    }
+    if greatest == 4 {
+        return ADDED;
     }
     &[]
 }
@@ -166,6 +172,26 @@ fn are_given(draft: &Draft, parameters: &[&[u8]], before: u32, order: &[u32]) ->
     }
 }
 
+/// Is one of these names that of the item?
+#[tactic(auto, using(std::proofs::lemmas::List::drop_more))]
+fn names_item(draft: &Draft, order: &[u32]) -> bool
+    ensures { result ≡ list_any bound.is_item_name (map (name_in (draft_view draft.now).tables) order.now) }
+{
+    for constant in order {
+        if is_item_name(draft.name(*constant)) {
+            return true;
+        }
+    }
+    false
+}
+
+/// Is Add of a Collection given an item? Other members need none.
+fn has_item(draft: &Draft, member: HostMember, names: ArgumentNames) -> bool
+    ensures { let t = (draft_view draft.now).tables in result ≡ bound.has_item (member_is t member) (by_name_in t names) }
+{
+    !is_add(member) || (names.before != 0 || names_item(draft, draft.order(names.order)))
+}
+
 /// Has a member parameters of these names, where they are known before the run?
 pub fn takes_names(draft: &Draft, member: HostMember, names: ArgumentNames) -> bool
     ensures { let t = (draft_view draft.now).tables in result ≡ bound.takes_names (member_is t member) (by_name_in t names) }
@@ -175,6 +201,7 @@ pub fn takes_names(draft: &Draft, member: HostMember, names: ArgumentNames) -> b
         Some(greatest) => {
             let parameters = known_parameters(draft.name(member.name), greatest);
             are_given(draft, parameters, names.before, draft.order(names.order))
+                && has_item(draft, member, names)
         }
     }
 }

@@ -1,23 +1,24 @@
 //! Arguments that members take, by their names and by whether they are written.
 
+ghost use Rattle.std.specs.List.{list_any};
 ghost use Rattle.std.specs.Prelude.{◌≡◌, ◌+◌, ◌<◌, ◌^◌, IfOk, is_some, length, map};
 ghost use Rattle.bound_project.specs.DraftView.{draft_view};
 ghost use Rattle.bound_project.specs.Pieces.{Tables};
 ghost use Rattle.bound_project.specs.View.{declared_view};
 ghost use Rattle.bound_calls.specs.bound_forms.specs.ExpressionsBound as bound;
-ghost use Rattle.bound_calls.specs.Shapes.{shapes_given};
+ghost use Rattle.bound_calls.specs.Shapes.{shape_given, shapes_given};
 ghost use Rattle.bound_calls.specs.Standing.{member_is};
-ghost use Rattle.bound_members.specs.Shapes.{all_given, any_given, names_from, rule_behind, takes_named};
+ghost use Rattle.bound_members.specs.Shapes.{all_given, any_given, begins_plain, is_item, item_given, names_from, rule_behind, takes_named};
 
-use crate::members::takes_arguments;
+use crate::members::{is_add, takes_arguments};
 use crate::names::{Parameters, known_parameters, parameter_named};
-use bound_calls::{HostMember, Shape, has_names};
+use bound_calls::{HostMember, Shape, has_names, is_item_name};
 use bound_project::{DeclaredType, Draft, ElementType};
 use vba_base::NoMemory;
 
 /// Is a parameter given an argument by its name?
 fn is_given<'a>(parameters: Parameters, number: u32, shapes: &[Shape<'a>]) -> bool
-    requires { length parameters.now < 4 }
+    requires { length parameters.now < 5 }
     ensures { result ≡ any_given (map (λ w. w.now) parameters.now) number (shapes_given shapes.now) }
 {
     match shapes {
@@ -36,7 +37,7 @@ fn is_given<'a>(parameters: Parameters, number: u32, shapes: &[Shape<'a>]) -> bo
 
 /// Have all of these arguments names of parameters behind the first ones, no two the same?
 fn are_given<'a>(parameters: Parameters, before: u32, shapes: &[Shape<'a>]) -> bool
-    requires { length parameters.now < 4 }
+    requires { length parameters.now < 5 }
     ensures { result ≡ is_some (all_given (map (λ w. w.now) parameters.now) before (shapes_given shapes.now)) }
 {
     match shapes {
@@ -58,7 +59,7 @@ fn are_given<'a>(parameters: Parameters, before: u32, shapes: &[Shape<'a>]) -> b
 
 /// Have arguments, behind so many others, none with names, the names of parameters from the first one with a name on?
 fn names_taken<'a>(parameters: Parameters, before: u32, shapes: &[Shape<'a>]) -> bool
-    requires few { length parameters.now < 4 }
+    requires few { length parameters.now < 5 }
     requires short { before + length shapes.now < 2 ^ 32 }
     ensures { result ≡ names_from (map (λ w. w.now) parameters.now) before (shapes_given shapes.now) }
 {
@@ -71,15 +72,57 @@ fn names_taken<'a>(parameters: Parameters, before: u32, shapes: &[Shape<'a>]) ->
     }
 }
 
+/// Is an argument the item by its name?
+fn is_item<'a>(shape: Shape<'a>) -> bool
+    ensures { result ≡ is_item (shape_given shape.entry) }
+{
+    match shape.name {
+        None => false,
+        Some(name) => is_item_name(name.name.units()),
+    }
+}
+
+/// Is one of these arguments the item by its name?
+#[tactic(auto, using(std::proofs::lemmas::List::drop_more))]
+fn any_item<'a>(shapes: &[Shape<'a>]) -> bool
+    ensures { result ≡ list_any is_item (shapes_given shapes.now) }
+{
+    for shape in shapes {
+        if is_item(*shape) {
+            return true;
+        }
+    }
+    false
+}
+
+/// Has the first argument no name?
+fn begins_plain<'a>(shapes: &[Shape<'a>]) -> bool
+    ensures { result ≡ begins_plain (shapes_given shapes.now) }
+{
+    match shapes {
+        [] => false,
+        [shape, ..] => shape.name.is_none(),
+    }
+}
+
+/// Is Add of a Collection given an item? Other members need none.
+fn item_given<'a>(member: HostMember, shapes: &[Shape<'a>]) -> bool
+    ensures { (t : Tables) → result ≡ item_given (bound.is_add (member_is t member)) (shapes_given shapes.now) }
+{
+    !is_add(member) || (begins_plain(shapes) || any_item(shapes))
+}
+
 /// Has a member parameters of the names that arguments have?
 fn takes_named<'a>(member: HostMember, name: &[u16], shapes: &[Shape<'a>]) -> bool
     requires { length shapes.now < 2 ^ 32 }
-    ensures { result ≡ takes_named name.now member.greatest (shapes_given shapes.now) }
+    ensures { (t : Tables) → result ≡ takes_named name.now member.greatest (bound.is_add (member_is t member)) (shapes_given shapes.now) }
 {
     match member.greatest {
         None => true,
         Some(0) => true,
-        Some(greatest) => names_taken(known_parameters(name, greatest), 0, shapes),
+        Some(greatest) => {
+            names_taken(known_parameters(name, greatest), 0, shapes) && item_given(member, shapes)
+        }
     }
 }
 

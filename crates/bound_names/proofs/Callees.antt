@@ -5,10 +5,10 @@ use Rattle.vba_words.specs.declared.identifier.Identifier.{Identifier}
 use Rattle.vba_expression.specs.Tree.{Expr}
 use Rattle.bound_project.specs.Pieces.{Piece}
 use Rattle.bound_project.specs.Drafts.{Drafted}
-use Rattle.bound_members.specs.binder.specs.Scopes.{called, declares}
-use Rattle.bound_members.specs.bound_forms.specs.Terms.{Env}
-use Rattle.bound_members.specs.bound_forms.specs.Terms as plain
-use Rattle.bound_members.specs.bound_forms.specs.ExpressionsBound.{callee, meant_term, term_of}
+use Rattle.bound_members.specs.bound_calls.specs.bound_declarations.specs.constant_values.specs.declared_names.specs.binder.specs.Scopes.{called, declares}
+use Rattle.bound_members.specs.bound_calls.specs.bound_forms.specs.Terms.{Env}
+use Rattle.bound_members.specs.bound_calls.specs.bound_forms.specs.Terms as plain
+use Rattle.bound_members.specs.bound_calls.specs.bound_forms.specs.ExpressionsBound.{callee, meant_term, term_of}
 use Rattle.bound_members.specs.bound_calls.specs.declared.term.Term.{Term}
 use Rattle.bound_members.specs.bound_calls.specs.declared.term.Tree.{Tree}
 use Rattle.bound_members.specs.bound_calls.specs.Standing.{TermStands, TermNamed, LeafStands}

@@ -8,14 +8,14 @@ use Rattle.vba_lib.specs.Names.{function_named}
 use Rattle.bound_project.specs.Expressions as bound
 use Rattle.bound_project.specs.Pieces.{Piece, Tables}
 use Rattle.bound_project.specs.Drafts.{Drafted}
-use Rattle.bound_members.specs.binder.specs.Declarations.{Written}
-use Rattle.bound_members.specs.binder.specs.Scopes.{Space, has_dollar, of_library}
-use Rattle.bound_members.specs.binder.specs.Sources.{Source, base_of, has_choice, is_base_one}
-use Rattle.bound_members.specs.binder.specs.Constants.{compare_in}
-use Rattle.bound_members.specs.bound_forms.specs.Terms.{Env, a_function, error_word, routine_term}
-use Rattle.bound_members.specs.bound_forms.specs.Terms as terms
-use Rattle.bound_members.specs.bound_forms.specs.ExpressionsBound.{array_base, constant_term, from_zero, library_term}
-use Rattle.bound_members.specs.declared_names.specs.View.{space_view, written_view}
+use Rattle.bound_members.specs.bound_calls.specs.bound_declarations.specs.constant_values.specs.declared_names.specs.binder.specs.Declarations.{Written}
+use Rattle.bound_members.specs.bound_calls.specs.bound_declarations.specs.constant_values.specs.declared_names.specs.binder.specs.Scopes.{Space, has_dollar, of_library}
+use Rattle.bound_members.specs.bound_calls.specs.bound_declarations.specs.constant_values.specs.declared_names.specs.binder.specs.Sources.{Source, base_of, has_choice, is_base_one}
+use Rattle.bound_members.specs.bound_calls.specs.bound_declarations.specs.constant_values.specs.declared_names.specs.binder.specs.Constants.{compare_in}
+use Rattle.bound_members.specs.bound_calls.specs.bound_forms.specs.Terms.{Env, a_function, error_word, routine_term}
+use Rattle.bound_members.specs.bound_calls.specs.bound_forms.specs.Terms as terms
+use Rattle.bound_members.specs.bound_calls.specs.bound_forms.specs.ExpressionsBound.{array_base, constant_term, from_zero, library_term}
+use Rattle.bound_members.specs.bound_calls.specs.bound_declarations.specs.constant_values.specs.declared_names.specs.View.{space_view, written_view}
 use Rattle.bound_members.specs.bound_calls.specs.declared.term.Function.{Function}
 use Rattle.bound_members.specs.bound_calls.specs.declared.term.Term.{Term}
 use Rattle.bound_members.specs.bound_calls.specs.declared.term.Term.TheVariants as term

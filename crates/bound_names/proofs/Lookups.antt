@@ -5,15 +5,15 @@ use Rattle.vba_words.specs.declared.identifier.Identifier.{Identifier}
 use Rattle.vba_tree.specs.declared.procedure.ProcedureWords.{ProcedureWords}
 use Rattle.vba_tree.specs.Tree.{Parameter, Variable, Constant}
 use Rattle.vba_expression.specs.Tree.{Expr}
-use Rattle.bound_members.specs.binder.specs.Declarations.{Written, What, a_variable, a_constant, an_enum, a_member, a_type, an_event, a_procedure, Entry, FieldWritten}
-use Rattle.bound_members.specs.binder.specs.Scopes.{Space, Scope, is_named, first_at}
-use Rattle.bound_members.specs.binder.specs.Signatures.{procedure_of}
-use Rattle.bound_members.specs.declared_names.specs.declared.entry.What.{What as EntryWhat}
-use Rattle.bound_members.specs.declared_names.specs.declared.entry.What.TheVariants as what
-use Rattle.bound_members.specs.declared_names.specs.declared.entry.Written.{Written as EntryWritten}
-use Rattle.bound_members.specs.declared_names.specs.View.{what_view}
+use Rattle.bound_members.specs.bound_calls.specs.bound_declarations.specs.constant_values.specs.declared_names.specs.binder.specs.Declarations.{Written, What, a_variable, a_constant, an_enum, a_member, a_type, an_event, a_procedure, Entry, FieldWritten}
+use Rattle.bound_members.specs.bound_calls.specs.bound_declarations.specs.constant_values.specs.declared_names.specs.binder.specs.Scopes.{Space, Scope, is_named, first_at}
+use Rattle.bound_members.specs.bound_calls.specs.bound_declarations.specs.constant_values.specs.declared_names.specs.binder.specs.Signatures.{procedure_of}
+use Rattle.bound_members.specs.bound_calls.specs.bound_declarations.specs.constant_values.specs.declared_names.specs.declared.entry.What.{What as EntryWhat}
+use Rattle.bound_members.specs.bound_calls.specs.bound_declarations.specs.constant_values.specs.declared_names.specs.declared.entry.What.TheVariants as what
+use Rattle.bound_members.specs.bound_calls.specs.bound_declarations.specs.constant_values.specs.declared_names.specs.declared.entry.Written.{Written as EntryWritten}
+use Rattle.bound_members.specs.bound_calls.specs.bound_declarations.specs.constant_values.specs.declared_names.specs.View.{what_view}
 use Rattle.bound_names.specs.Properties.{wants, first_wanted, property_with, IsEntry, test_of}
-use Rattle.bound_members.specs.binder.specs.Classes.{reaches}
+use Rattle.bound_members.specs.bound_calls.specs.bound_declarations.specs.constant_values.specs.declared_names.specs.binder.specs.Classes.{reaches}
 use Rattle.bound_names.specs.declared.properties.Part.{Part}
 
 abbrev entry_of : Identifier → Bool → What → Entry

@@ -9,19 +9,19 @@ use Rattle.vba_tree.specs.Tree.{Variable, Constant, Parameter, TypeClause}
 use Rattle.vba_expression.specs.Tree.{Expr}
 use Rattle.bound_project.specs.Expressions.{Storage, constant, own}
 use Rattle.bound_project.specs.Drafts.{Drafted}
-use Rattle.bound_members.specs.binder.specs.Declarations.{Written, the_result, a_parameter, a_local, an_array, undeclared, a_variable, a_constant, a_member, a_procedure}
-use Rattle.bound_members.specs.binder.specs.Scopes.{Space, Scope, Meant, of_module}
-use Rattle.bound_members.specs.binder.specs.Constants.{Known, home, meant_by, names_in}
+use Rattle.bound_members.specs.bound_calls.specs.bound_declarations.specs.constant_values.specs.declared_names.specs.binder.specs.Declarations.{Written, the_result, a_parameter, a_local, an_array, undeclared, a_variable, a_constant, a_member, a_procedure}
+use Rattle.bound_members.specs.bound_calls.specs.bound_declarations.specs.constant_values.specs.declared_names.specs.binder.specs.Scopes.{Space, Scope, Meant, of_module}
+use Rattle.bound_members.specs.bound_calls.specs.bound_declarations.specs.constant_values.specs.declared_names.specs.binder.specs.Constants.{Known, home, meant_by, names_in}
 use Rattle.bound_project.specs.View.{declared_view}
-use Rattle.bound_members.specs.binder.specs.Storage.{result_type, parameter_type, plain_clause_type, declared_variable, own_storage, module_storage, has_bounds}
-use Rattle.bound_members.specs.bound_forms.specs.Terms.{Env, a_routine, a_value, a_method}
-use Rattle.bound_members.specs.bound_forms.specs.Terms as plain
-use Rattle.bound_members.specs.bound_forms.specs.ExpressionsBound.{entry_term, constant_term, if_there, made_place, own_object, parameter_term, variable_term}
+use Rattle.bound_members.specs.bound_calls.specs.bound_declarations.specs.constant_values.specs.declared_names.specs.binder.specs.Storage.{result_type, parameter_type, plain_clause_type, declared_variable, own_storage, module_storage, has_bounds}
+use Rattle.bound_members.specs.bound_calls.specs.bound_forms.specs.Terms.{Env, a_routine, a_value, a_method}
+use Rattle.bound_members.specs.bound_calls.specs.bound_forms.specs.Terms as plain
+use Rattle.bound_members.specs.bound_calls.specs.bound_forms.specs.ExpressionsBound.{entry_term, constant_term, if_there, made_place, own_object, parameter_term, variable_term}
 use Rattle.bound_members.specs.bound_calls.specs.declared.term.Term.{Term}
 use Rattle.bound_names.specs.declared.names.Shape.{Shape}
 use Rattle.bound_names.specs.Owned.{IsShape, OwnShaped, kept_at, made_term, making_of, making_through}
 use Rattle.bound_members.specs.bound_calls.specs.Steps.{MakesLeaf}
-use Rattle.bound_members.specs.binder.specs.Classes.{field_number, has_class, made_by, made_class, made_through, may_be_made}
+use Rattle.bound_members.specs.bound_calls.specs.bound_declarations.specs.constant_values.specs.declared_names.specs.binder.specs.Classes.{field_number, has_new, made_by, made_class, made_through, may_be_made}
 use Rattle.bound_names.specs.declared.names.Making.{Making}
 use Rattle.bound_names.specs.declared.names.Making.TheVariants as making
 
@@ -51,7 +51,7 @@ own_result s n w x k env y number h =
     let kept = own_storage env.scope env.first number (the_result w) in
     ap (λ (t : Scope). made_term making.Never kept (result_type t w) false) h ∙ shaped making.Never kept (result_type s w) false x k
 
-pub own_parameter : (s : Scope) (n : Identifier) (p : Parameter) (has : Bool) (x : Shape) → has_class s.spaces ≡ has → IsShape (parameter_type s p) false x
+pub own_parameter : (s : Scope) (n : Identifier) (p : Parameter) (has : Bool) (x : Shape) → has_new s.spaces ≡ has → IsShape (parameter_type s p) false x
     → OwnShaped s (record { name = n; own = a_parameter p }) (declared_view x.of) x.is_bounded (making_through (made_through has p (declared_view x.of)))
 own_parameter s n p has x known k env y number h =
     let kept = own_storage env.scope env.first number (a_parameter p) in

@@ -17,21 +17,21 @@ use Rattle.bound_project.specs.Drafts.{Drafted}
 use Rattle.bound_project.specs.Project.{Class, Declaration}
 use Rattle.bound_project.specs.Project as project
 use Rattle.bound_project.specs.View.{class_view, declarations_view, declared_view}
-use Rattle.bound_members.specs.binder.specs.Projects.{class_of, declarations_of}
-use Rattle.bound_members.specs.binder.specs.Classes.{class_space, field_number, found_at, made_by, member_entry}
-use Rattle.bound_members.specs.binder.specs.ClassTables.{class_table}
-use Rattle.bound_members.specs.binder.specs.Constants.{home}
-use Rattle.bound_members.specs.binder.specs.Declarations.{Entry, a_procedure, a_variable, Written}
-use Rattle.bound_members.specs.bound_forms.specs.ExpressionsBound.{class_member, made_place, object_term, unknown_member}
-use Rattle.bound_members.specs.binder.specs.Storage.{has_bounds, declared_variable, module_declarations}
-use Rattle.bound_members.specs.binder.specs.Scopes.{Scope, Space, first_at, is_same}
-use Rattle.bound_members.specs.bound_forms.specs.Terms.{Env}
-use Rattle.bound_members.specs.bound_forms.specs.Terms as terms
-use Rattle.bound_members.specs.binder.specs.Types.{class_number}
-use Rattle.bound_members.specs.constant_values.specs.Rounds.{AreNumbered}
-use Rattle.bound_members.specs.declared_names.specs.Outside.{the_outside}
-use Rattle.bound_members.specs.declared_names.specs.View.{scope_view}
-use Rattle.bound_members.specs.declared_names.specs.declared.scope.Scope.{Scope as ScopeHere}
+use Rattle.bound_members.specs.bound_calls.specs.bound_declarations.specs.constant_values.specs.declared_names.specs.binder.specs.Projects.{class_of, declarations_of}
+use Rattle.bound_members.specs.bound_calls.specs.bound_declarations.specs.constant_values.specs.declared_names.specs.binder.specs.Classes.{class_space, field_number, found_at, made_by, member_entry}
+use Rattle.bound_members.specs.bound_calls.specs.bound_declarations.specs.constant_values.specs.declared_names.specs.binder.specs.ClassTables.{class_table}
+use Rattle.bound_members.specs.bound_calls.specs.bound_declarations.specs.constant_values.specs.declared_names.specs.binder.specs.Constants.{home}
+use Rattle.bound_members.specs.bound_calls.specs.bound_declarations.specs.constant_values.specs.declared_names.specs.binder.specs.Declarations.{Entry, a_procedure, a_variable, Written}
+use Rattle.bound_members.specs.bound_calls.specs.bound_forms.specs.ExpressionsBound.{class_member, made_place, object_term, unknown_member}
+use Rattle.bound_members.specs.bound_calls.specs.bound_declarations.specs.constant_values.specs.declared_names.specs.binder.specs.Storage.{has_bounds, declared_variable, module_declarations}
+use Rattle.bound_members.specs.bound_calls.specs.bound_declarations.specs.constant_values.specs.declared_names.specs.binder.specs.Scopes.{Scope, Space, first_at, is_same}
+use Rattle.bound_members.specs.bound_calls.specs.bound_forms.specs.Terms.{Env}
+use Rattle.bound_members.specs.bound_calls.specs.bound_forms.specs.Terms as terms
+use Rattle.bound_members.specs.bound_calls.specs.bound_declarations.specs.constant_values.specs.declared_names.specs.binder.specs.Types.{class_number}
+use Rattle.bound_members.specs.bound_calls.specs.bound_declarations.specs.constant_values.specs.Rounds.{AreNumbered}
+use Rattle.bound_members.specs.bound_calls.specs.bound_declarations.specs.constant_values.specs.declared_names.specs.Outside.{the_outside}
+use Rattle.bound_members.specs.bound_calls.specs.bound_declarations.specs.constant_values.specs.declared_names.specs.View.{scope_view}
+use Rattle.bound_members.specs.bound_calls.specs.bound_declarations.specs.constant_values.specs.declared_names.specs.declared.scope.Scope.{Scope as ScopeHere}
 use Rattle.project_tables.specs.Signed.{whole_scope}
 use Rattle.bound_members.specs.bound_calls.specs.declared.term.Receiver.TheVariants as receiver
 use Rattle.bound_members.specs.bound_calls.specs.declared.term.Term.{Term}

@@ -8,21 +8,21 @@ use Rattle.bound_project.specs.Expressions.{Storage, shared}
 use Rattle.bound_project.specs.Project.{Declaration, Class}
 use Rattle.bound_project.specs.Project as project
 use Rattle.bound_project.specs.View.{declaration_view, declarations_view}
-use Rattle.bound_members.specs.binder.specs.Projects.{declarations_of, class_of}
-use Rattle.bound_members.specs.binder.specs.Constants.{home}
-use Rattle.bound_members.specs.binder.specs.Declarations.{What, a_variable, a_constant, an_enum, a_member, a_type, an_event, a_procedure, Entry}
-use Rattle.bound_members.specs.binder.specs.Storage.{has_bounds, declared_variable, is_variable, module_declarations, module_storage, shared_before, shared_from, shared_of, static_declarations}
-use Rattle.bound_members.specs.binder.specs.Scopes.{Scope, Space}
-use Rattle.bound_members.specs.binder.specs.Types.{counted}
-use Rattle.bound_members.specs.constant_values.specs.Rounds.{AreNumbered}
-use Rattle.bound_members.specs.declared_names.specs.Outside.{the_outside}
-use Rattle.bound_members.specs.declared_names.specs.View.{scope_view}
-use Rattle.bound_members.specs.declared_names.specs.declared.scope.Scope.{Scope as ScopeHere}
+use Rattle.bound_members.specs.bound_calls.specs.bound_declarations.specs.constant_values.specs.declared_names.specs.binder.specs.Projects.{declarations_of, class_of}
+use Rattle.bound_members.specs.bound_calls.specs.bound_declarations.specs.constant_values.specs.declared_names.specs.binder.specs.Constants.{home}
+use Rattle.bound_members.specs.bound_calls.specs.bound_declarations.specs.constant_values.specs.declared_names.specs.binder.specs.Declarations.{What, a_variable, a_constant, an_enum, a_member, a_type, an_event, a_procedure, Entry}
+use Rattle.bound_members.specs.bound_calls.specs.bound_declarations.specs.constant_values.specs.declared_names.specs.binder.specs.Storage.{has_bounds, declared_variable, is_variable, module_declarations, module_storage, shared_before, shared_from, shared_of, static_declarations}
+use Rattle.bound_members.specs.bound_calls.specs.bound_declarations.specs.constant_values.specs.declared_names.specs.binder.specs.Scopes.{Scope, Space}
+use Rattle.bound_members.specs.bound_calls.specs.bound_declarations.specs.constant_values.specs.declared_names.specs.binder.specs.Types.{counted}
+use Rattle.bound_members.specs.bound_calls.specs.bound_declarations.specs.constant_values.specs.Rounds.{AreNumbered}
+use Rattle.bound_members.specs.bound_calls.specs.bound_declarations.specs.constant_values.specs.declared_names.specs.Outside.{the_outside}
+use Rattle.bound_members.specs.bound_calls.specs.bound_declarations.specs.constant_values.specs.declared_names.specs.View.{scope_view}
+use Rattle.bound_members.specs.bound_calls.specs.bound_declarations.specs.constant_values.specs.declared_names.specs.declared.scope.Scope.{Scope as ScopeHere}
 use Rattle.project_tables.specs.Signed.{whole_scope}
 use Rattle.project_tables.proofs.Counts.{before_counted}
 use Rattle.bound_names.specs.declared.names.Shape.{Shape}
 use Rattle.bound_names.specs.Owned.{SharedShape, IsShape}
-use Rattle.bound_members.specs.binder.specs.ClassTables.{class_table}
+use Rattle.bound_members.specs.bound_calls.specs.bound_declarations.specs.constant_values.specs.declared_names.specs.binder.specs.ClassTables.{class_table}
 
 -- ---- lists
 

@@ -4,13 +4,13 @@ use Rattle.vba_expression.specs.Tree.{Expr}
 use Rattle.bound_project.specs.Drafts.{Drafted}
 use Rattle.bound_project.specs.Pieces.{Piece, Tables}
 use Rattle.bound_project.specs.View.{declared_view, parameter_view}
-use Rattle.bound_members.specs.bound_forms.specs.Terms.{Env, routine_term}
-use Rattle.bound_members.specs.binder.specs.Signatures.{call_type, is_property, parameters_in}
-use Rattle.bound_members.specs.bound_forms.specs.ExpressionsBound.{callee, term_of}
-use Rattle.bound_members.specs.binder.specs.Declarations.{Written}
-use Rattle.bound_members.specs.binder.specs.Storage.{procedure_number}
-use Rattle.bound_members.specs.binder.specs.Scopes.{Scope, Space}
-use Rattle.bound_members.specs.declared_names.specs.View.{space_view, written_view}
+use Rattle.bound_members.specs.bound_calls.specs.bound_forms.specs.Terms.{Env, routine_term}
+use Rattle.bound_members.specs.bound_calls.specs.bound_declarations.specs.constant_values.specs.declared_names.specs.binder.specs.Signatures.{call_type, is_property, parameters_in}
+use Rattle.bound_members.specs.bound_calls.specs.bound_forms.specs.ExpressionsBound.{callee, term_of}
+use Rattle.bound_members.specs.bound_calls.specs.bound_declarations.specs.constant_values.specs.declared_names.specs.binder.specs.Declarations.{Written}
+use Rattle.bound_members.specs.bound_calls.specs.bound_declarations.specs.constant_values.specs.declared_names.specs.binder.specs.Storage.{procedure_number}
+use Rattle.bound_members.specs.bound_calls.specs.bound_declarations.specs.constant_values.specs.declared_names.specs.binder.specs.Scopes.{Scope, Space}
+use Rattle.bound_members.specs.bound_calls.specs.bound_declarations.specs.constant_values.specs.declared_names.specs.View.{space_view, written_view}
 use Rattle.bound_names.specs.declared.properties.Writer.{Writer}
 use Rattle.bound_members.specs.bound_calls.specs.declared.term.Property.{Property}
 use Rattle.bound_members.specs.bound_calls.specs.declared.term.Routine.{Routine}

@@ -1,11 +1,5 @@
-pub use Rattle.bound_members
 pub use Rattle.project_tables
-pub use Rattle.bound_members.specs.binder
-pub use Rattle.bound_members.specs.bound_forms
-pub use Rattle.bound_members.specs.bound_calls
-pub use Rattle.bound_members.specs.bound_declarations
-pub use Rattle.bound_members.specs.constant_values
-pub use Rattle.bound_members.specs.declared_names
+pub use Rattle.bound_members
 pub mod View
 pub mod Owned
 pub mod Properties

@@ -2,12 +2,12 @@
 use Rattle.std.specs.Prelude.{◌≡◌, ℕ, Bool, ◌||◌, List, codes, bytes_eq, Option, Some, None, if◌then◌else◌, slice_get, false, true}
 use Rattle.vba_values.specs.Types.{Declared}
 use Rattle.vba_words.specs.declared.identifier.Identifier.{Identifier}
-use Rattle.bound_members.specs.binder.specs.Declarations.{Local}
-use Rattle.bound_members.specs.binder.specs.Scopes.{Scope}
-use Rattle.bound_members.specs.binder.specs.Storage.{own_storage, has_bounds}
-use Rattle.bound_members.specs.bound_forms.specs.Terms.{Env}
-use Rattle.bound_members.specs.bound_forms.specs.Terms as plain
-use Rattle.bound_members.specs.bound_forms.specs.ExpressionsBound.{own_term}
+use Rattle.bound_members.specs.bound_calls.specs.bound_declarations.specs.constant_values.specs.declared_names.specs.binder.specs.Declarations.{Local}
+use Rattle.bound_members.specs.bound_calls.specs.bound_declarations.specs.constant_values.specs.declared_names.specs.binder.specs.Scopes.{Scope}
+use Rattle.bound_members.specs.bound_calls.specs.bound_declarations.specs.constant_values.specs.declared_names.specs.binder.specs.Storage.{own_storage, has_bounds}
+use Rattle.bound_members.specs.bound_calls.specs.bound_forms.specs.Terms.{Env}
+use Rattle.bound_members.specs.bound_calls.specs.bound_forms.specs.Terms as plain
+use Rattle.bound_members.specs.bound_calls.specs.bound_forms.specs.ExpressionsBound.{own_term}
 use Rattle.vba_values.specs.Types as type
 use Rattle.bound_project.specs.Expressions.{Storage, shared, active_sheet, host_object, Lvalue, variable, as_new}
 use Rattle.bound_project.specs.Project.{Declaration}

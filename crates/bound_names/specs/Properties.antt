@@ -2,10 +2,10 @@
 use Rattle.std.specs.Prelude.{◌≡◌, ℕ, Bool, false, ◌&&◌, Option, Some, slice_get}
 use Rattle.vba_words.specs.declared.identifier.Identifier.{Identifier}
 use Rattle.vba_tree.specs.declared.procedure.ProcedureWords.{ProcedureWords}
-use Rattle.bound_members.specs.binder.specs.Declarations.{Written, What, a_procedure, Entry}
-use Rattle.bound_members.specs.binder.specs.Scopes.{Space, Scope, is_named, first_at}
-use Rattle.bound_members.specs.binder.specs.Signatures.{is_get, is_let, procedure_with, is_set}
-use Rattle.bound_members.specs.binder.specs.Classes.{reaches}
+use Rattle.bound_members.specs.bound_calls.specs.bound_declarations.specs.constant_values.specs.declared_names.specs.binder.specs.Declarations.{Written, What, a_procedure, Entry}
+use Rattle.bound_members.specs.bound_calls.specs.bound_declarations.specs.constant_values.specs.declared_names.specs.binder.specs.Scopes.{Space, Scope, is_named, first_at}
+use Rattle.bound_members.specs.bound_calls.specs.bound_declarations.specs.constant_values.specs.declared_names.specs.binder.specs.Signatures.{is_get, is_let, procedure_with, is_set}
+use Rattle.bound_members.specs.bound_calls.specs.bound_declarations.specs.constant_values.specs.declared_names.specs.binder.specs.Classes.{reaches}
 use Rattle.bound_names.specs.declared.properties.Part.{Part}
 use Rattle.bound_names.specs.declared.properties.Part.TheVariants as part
 

@@ -1,12 +1,12 @@
 -- Serves the code: where an expression stands, as the binder says it.
 use Rattle.std.specs.Prelude.{◌≡◌, option_map}
 use Rattle.bound_project.specs.View.{declarations_view, declared_view}
-use Rattle.bound_members.specs.declared_names.specs.Outside.{the_outside}
-use Rattle.bound_members.specs.declared_names.specs.View.{scope_view}
-use Rattle.bound_members.specs.binder.specs.Projects.{declarations_of}
-use Rattle.bound_members.specs.bound_forms.specs.Terms as plain
-use Rattle.bound_members.specs.constant_values.specs.Rounds.{IsPlaced}
-use Rattle.bound_members.specs.constant_values.specs.Tables.{AreConstants}
+use Rattle.bound_members.specs.bound_calls.specs.bound_declarations.specs.constant_values.specs.declared_names.specs.Outside.{the_outside}
+use Rattle.bound_members.specs.bound_calls.specs.bound_declarations.specs.constant_values.specs.declared_names.specs.View.{scope_view}
+use Rattle.bound_members.specs.bound_calls.specs.bound_declarations.specs.constant_values.specs.declared_names.specs.binder.specs.Projects.{declarations_of}
+use Rattle.bound_members.specs.bound_calls.specs.bound_forms.specs.Terms as plain
+use Rattle.bound_members.specs.bound_calls.specs.bound_declarations.specs.constant_values.specs.Rounds.{IsPlaced}
+use Rattle.bound_members.specs.bound_calls.specs.bound_declarations.specs.constant_values.specs.Tables.{AreConstants}
 use Rattle.project_tables.specs.Signed.{AreSignatures, whole_scope}
 use Rattle.bound_names.specs.declared.env.Env.{Env}
 use Rattle.bound_names.specs.declared.env.Within.{Within}

@@ -2,8 +2,8 @@
 
 ghost use Rattle.std.specs.Prelude.{IfOk};
 ghost use Rattle.bound_project.specs.DraftView.{draft_view};
-ghost use Rattle.bound_members.specs.bound_forms.specs.ExpressionsBound as bound;
-ghost use Rattle.bound_members.specs.binder.specs.Scopes as scopes;
+ghost use Rattle.bound_members.specs.bound_calls.specs.bound_forms.specs.ExpressionsBound as bound;
+ghost use Rattle.bound_members.specs.bound_calls.specs.bound_declarations.specs.constant_values.specs.declared_names.specs.binder.specs.Scopes as scopes;
 ghost use Rattle.bound_names.specs.Callee.{CalleeIs};
 ghost use Rattle.bound_members.specs.bound_calls.specs.Standing.{TermNamed};
 ghost use Rattle.bound_members.specs.bound_calls.specs.Steps.{MakesLeaf};
@@ -11,9 +11,11 @@ ghost use Rattle.bound_names.specs.View.{EnvStands, env_view};
 
 use crate::env::Env;
 use crate::names::meant_term;
+use bound_members::bound_calls::bound_declarations::NotYet;
+use bound_members::bound_calls::bound_declarations::constant_values::declared_names::{
+    Use, declares,
+};
 use bound_members::bound_calls::{Term, Tree};
-use bound_members::bound_declarations::NotYet;
-use bound_members::declared_names::{Use, declares};
 use bound_project::Draft;
 use std::alloc::Global;
 use vba_base::OrMemory;

@@ -4,15 +4,15 @@ ghost use Rattle.std.specs.Prelude.{◌≡◌, IfOk, Some, option_map, slice_get
 ghost use Rattle.bound_project.specs.Drafts.{Drafted};
 ghost use Rattle.bound_project.specs.Expressions as expressions;
 ghost use Rattle.bound_project.specs.View.{class_view};
-ghost use Rattle.bound_members.specs.binder.specs.Constants as constants;
-ghost use Rattle.bound_members.specs.binder.specs.Declarations.{a_variable};
-ghost use Rattle.bound_members.specs.binder.specs.Classes as classes;
-ghost use Rattle.bound_members.specs.bound_forms.specs.ExpressionsBound as bound;
-ghost use Rattle.bound_members.specs.binder.specs.Scopes.{of_module};
-ghost use Rattle.bound_members.specs.binder.specs.Storage.{declared_variable};
-ghost use Rattle.bound_members.specs.binder.specs.Storage as storage;
-ghost use Rattle.bound_members.specs.constant_values.specs.Rounds.{IsThere};
-ghost use Rattle.bound_members.specs.declared_names.specs.View.{entry_view, scope_view, space_view, what_view};
+ghost use Rattle.bound_members.specs.bound_calls.specs.bound_declarations.specs.constant_values.specs.declared_names.specs.binder.specs.Constants as constants;
+ghost use Rattle.bound_members.specs.bound_calls.specs.bound_declarations.specs.constant_values.specs.declared_names.specs.binder.specs.Declarations.{a_variable};
+ghost use Rattle.bound_members.specs.bound_calls.specs.bound_declarations.specs.constant_values.specs.declared_names.specs.binder.specs.Classes as classes;
+ghost use Rattle.bound_members.specs.bound_calls.specs.bound_forms.specs.ExpressionsBound as bound;
+ghost use Rattle.bound_members.specs.bound_calls.specs.bound_declarations.specs.constant_values.specs.declared_names.specs.binder.specs.Scopes.{of_module};
+ghost use Rattle.bound_members.specs.bound_calls.specs.bound_declarations.specs.constant_values.specs.declared_names.specs.binder.specs.Storage.{declared_variable};
+ghost use Rattle.bound_members.specs.bound_calls.specs.bound_declarations.specs.constant_values.specs.declared_names.specs.binder.specs.Storage as storage;
+ghost use Rattle.bound_members.specs.bound_calls.specs.bound_declarations.specs.constant_values.specs.Rounds.{IsThere};
+ghost use Rattle.bound_members.specs.bound_calls.specs.bound_declarations.specs.constant_values.specs.declared_names.specs.View.{entry_view, scope_view, space_view, what_view};
 ghost use Rattle.vba_tree.specs.View.{variable_view};
 ghost use Rattle.vba_words.specs.declared.identifier.Identifier as identifier;
 ghost use Rattle.bound_members.specs.bound_calls.specs.Steps.{MakesLeaf};
@@ -25,11 +25,11 @@ use crate::env::Env;
 use crate::names::{Shape, declaration_at, known_shape, making_of, variable_term};
 use crate::routines::procedure_term;
 use crate::unknown::unknown_term;
-use bound_members::bound_calls::{Receiver, Term, push_node};
-use bound_members::bound_declarations::{NotYet, made_by};
-use bound_members::declared_names::{
+use bound_members::bound_calls::bound_declarations::constant_values::declared_names::{
     Entry, Space, What, class_number, class_space, field_number, member_entry, own_class,
 };
+use bound_members::bound_calls::bound_declarations::{NotYet, made_by};
+use bound_members::bound_calls::{Receiver, Term, push_node};
 use bound_project::{Class, Declarations, DeclaredType, Draft, ElementType, NodeKind, Storage};
 use vba_base::{OrMemory, Place};
 use vba_tree::Variable;

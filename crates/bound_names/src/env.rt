@@ -1,9 +1,9 @@
 ghost use Rattle.std.specs.Prelude.{◌≡◌};
-ghost use Rattle.bound_members.specs.declared_names.specs.View.{scope_view};
-ghost use Rattle.bound_members.specs.binder.specs.Constants.{compare_in};
-ghost use Rattle.bound_members.specs.binder.specs.Classes as classes;
+ghost use Rattle.bound_members.specs.bound_calls.specs.bound_declarations.specs.constant_values.specs.declared_names.specs.View.{scope_view};
+ghost use Rattle.bound_members.specs.bound_calls.specs.bound_declarations.specs.constant_values.specs.declared_names.specs.binder.specs.Constants.{compare_in};
+ghost use Rattle.bound_members.specs.bound_calls.specs.bound_declarations.specs.constant_values.specs.declared_names.specs.binder.specs.Classes as classes;
 
-use bound_members::constant_values::Constants;
+use bound_members::bound_calls::bound_declarations::constant_values::Constants;
 use bound_project::{Declarations, DeclaredType};
 use project_tables::Signatures;
 use vba_values::Compare;
@@ -29,6 +29,9 @@ pub struct Env<'a> {
     pub compare: Compare,
     /// Has the project a class?
     pub has_class: bool,
+    /// Does the project declare a variable As New?
+    pub has_new: bool,
     ghost compare_is: { compare ≡ compare_in (scope_view constants.scope) },
     ghost has_class_is: { has_class ≡ classes.has_class (scope_view constants.scope).spaces },
+    ghost has_new_is: { has_new ≡ classes.has_new (scope_view constants.scope).spaces },
 }

@@ -2,16 +2,16 @@
 
 ghost use Rattle.std.specs.Prelude.{◌≡◌};
 ghost use Rattle.bound_project.specs.Drafts.{Drafted};
-ghost use Rattle.bound_members.specs.bound_forms.specs.ExpressionsBound as bound;
-ghost use Rattle.bound_members.specs.binder.specs.Scopes.{has_dollar};
-ghost use Rattle.bound_members.specs.bound_forms.specs.Terms as plain;
+ghost use Rattle.bound_members.specs.bound_calls.specs.bound_forms.specs.ExpressionsBound as bound;
+ghost use Rattle.bound_members.specs.bound_calls.specs.bound_declarations.specs.constant_values.specs.declared_names.specs.binder.specs.Scopes.{has_dollar};
+ghost use Rattle.bound_members.specs.bound_calls.specs.bound_forms.specs.Terms as plain;
 ghost use Rattle.bound_members.specs.bound_calls.specs.Standing.{base_number};
 ghost use Rattle.bound_members.specs.bound_calls.specs.Steps.{MakesLeaf};
 ghost use Rattle.bound_names.specs.View.{EnvStands, env_view};
 
 use crate::env::Env;
+use bound_members::bound_calls::bound_declarations::constant_values::declared_names::has_dollar;
 use bound_members::bound_calls::{Function, Term};
-use bound_members::declared_names::has_dollar;
 use vba_lib::LibraryFunction;
 use vba_words::Identifier;
 

@@ -20,7 +20,4 @@ pub use unknown::unknown_term;
 
 // What stands below, for the crates above.
 pub use bound_members;
-pub use bound_members::{
-    binder, bound_calls, bound_declarations, bound_forms, constant_values, declared_names,
-};
 pub use project_tables;

@@ -8,16 +8,16 @@ ghost use Rattle.vba_values.specs.Types as type;
 ghost use Rattle.bound_project.specs.DraftView.{draft_view};
 ghost use Rattle.bound_project.specs.Drafts.{Drafted};
 ghost use Rattle.bound_project.specs.View.{declaration_view, declared_view, storage_view};
-ghost use Rattle.bound_members.specs.binder.specs.Constants as constants;
-ghost use Rattle.bound_members.specs.binder.specs.Declarations.{a_variable};
-ghost use Rattle.bound_members.specs.bound_forms.specs.ExpressionsBound as bound;
-ghost use Rattle.bound_members.specs.binder.specs.Scopes.{of_module, of_procedure};
-ghost use Rattle.bound_members.specs.binder.specs.Storage as storage;
-ghost use Rattle.bound_members.specs.binder.specs.Storage.{declared_variable, module_storage};
-ghost use Rattle.bound_members.specs.bound_forms.specs.Terms as plain;
-ghost use Rattle.bound_members.specs.constant_values.specs.Rounds.{IsThere};
-ghost use Rattle.bound_members.specs.constant_values.specs.Tables.{AreConstants};
-ghost use Rattle.bound_members.specs.declared_names.specs.View.{entry_view, local_view, meant_view, scope_view, space_view, what_view, written_view};
+ghost use Rattle.bound_members.specs.bound_calls.specs.bound_declarations.specs.constant_values.specs.declared_names.specs.binder.specs.Constants as constants;
+ghost use Rattle.bound_members.specs.bound_calls.specs.bound_declarations.specs.constant_values.specs.declared_names.specs.binder.specs.Declarations.{a_variable};
+ghost use Rattle.bound_members.specs.bound_calls.specs.bound_forms.specs.ExpressionsBound as bound;
+ghost use Rattle.bound_members.specs.bound_calls.specs.bound_declarations.specs.constant_values.specs.declared_names.specs.binder.specs.Scopes.{of_module, of_procedure};
+ghost use Rattle.bound_members.specs.bound_calls.specs.bound_declarations.specs.constant_values.specs.declared_names.specs.binder.specs.Storage as storage;
+ghost use Rattle.bound_members.specs.bound_calls.specs.bound_declarations.specs.constant_values.specs.declared_names.specs.binder.specs.Storage.{declared_variable, module_storage};
+ghost use Rattle.bound_members.specs.bound_calls.specs.bound_forms.specs.Terms as plain;
+ghost use Rattle.bound_members.specs.bound_calls.specs.bound_declarations.specs.constant_values.specs.Rounds.{IsThere};
+ghost use Rattle.bound_members.specs.bound_calls.specs.bound_declarations.specs.constant_values.specs.Tables.{AreConstants};
+ghost use Rattle.bound_members.specs.bound_calls.specs.bound_declarations.specs.constant_values.specs.declared_names.specs.View.{entry_view, local_view, meant_view, scope_view, space_view, what_view, written_view};
 ghost use Rattle.vba_tree.specs.View.{parameter_view, type_clause_view, variable_view};
 ghost use Rattle.vba_words.specs.declared.identifier.Identifier as identifier;
 ghost use Rattle.bound_names.specs.Owned.{IsShape, OwnShaped, SharedShape, host_rest, made_term, making_of, making_through};
@@ -28,13 +28,17 @@ use crate::classes::own_member;
 use crate::env::Env;
 use crate::functions::function_term;
 use crate::routines::procedure_term;
-use bound_members::bound_calls::{Ending, Receiver, Term, value_term};
-use bound_members::bound_declarations::{
+use bound_members::bound_calls::bound_declarations::constant_values::declared_names::{
+    Entry, Local, Meant, Own, Scope, Space, What, Written,
+};
+use bound_members::bound_calls::bound_declarations::constant_values::{
+    Constants, clause_type, meant_value,
+};
+use bound_members::bound_calls::bound_declarations::{
     NotYet, arrayed, is_bounded, made_by, made_through, own_storage, parameter_type, result_type,
     variable_type,
 };
-use bound_members::constant_values::{Constants, clause_type, meant_value};
-use bound_members::declared_names::{Entry, Local, Meant, Own, Scope, Space, What, Written};
+use bound_members::bound_calls::{Ending, Receiver, Term, value_term};
 use bound_members::{HostKind, find_member, is_word};
 use bound_project::{
     Declaration, Declarations, DeclaredType, Draft, ElementType, NodeKind, Storage, Variable,
@@ -314,7 +318,7 @@ fn own_shape<'a>(
         }
         Own::Parameter(parameter) => {
             let shape = parameter_shape(scope, parameter)?;
-            let through = made_through(env.has_class, parameter, shape.of);
+            let through = made_through(env.has_new, parameter, shape.of);
             Ok((shape, making_through(through)))
         }
         Own::Variable { variable, .. } => {

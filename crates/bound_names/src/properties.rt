@@ -1,14 +1,16 @@
 //! Properties of a module: their Gets, their Lets and their Sets, by their names.
 
 ghost use Rattle.std.specs.Prelude.{◌≡◌, IfSome, MatchOption, option_map};
-ghost use Rattle.bound_members.specs.declared_names.specs.Lookup.{found_view};
-ghost use Rattle.bound_members.specs.declared_names.specs.View.{scope_view, space_view, what_view, written_view};
+ghost use Rattle.bound_members.specs.bound_calls.specs.bound_declarations.specs.constant_values.specs.declared_names.specs.Lookup.{found_view};
+ghost use Rattle.bound_members.specs.bound_calls.specs.bound_declarations.specs.constant_values.specs.declared_names.specs.View.{scope_view, space_view, what_view, written_view};
 ghost use Rattle.bound_names.specs.Callee.{NoWriter, WriterOf, property_in};
 ghost use Rattle.bound_names.specs.Properties.{IsEntry, first_wanted, property_with, wants, test_of};
 ghost use Rattle.bound_names.specs.PropertyView.{row_view};
 
+use bound_members::bound_calls::bound_declarations::constant_values::declared_names::{
+    Entry, Scope, Space, What, Written, reaches,
+};
 use bound_members::bound_calls::{Property, Term};
-use bound_members::declared_names::{Entry, Scope, Space, What, Written, reaches};
 use vba_tree::ProcedureWords;
 use vba_words::Identifier;
 

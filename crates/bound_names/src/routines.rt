@@ -1,22 +1,24 @@
 ghost use Rattle.std.specs.Prelude.{◌≡◌, IfOk, Some, slice_get};
 ghost use Rattle.bound_project.specs.View.{declared_view};
-ghost use Rattle.bound_members.specs.binder.specs.Constants as constants;
-ghost use Rattle.bound_members.specs.binder.specs.Declarations.{a_procedure};
-ghost use Rattle.bound_members.specs.binder.specs.Signatures as bound;
-ghost use Rattle.bound_members.specs.binder.specs.Scopes.{of_module};
-ghost use Rattle.bound_members.specs.constant_values.specs.Rounds.{IsThere};
-ghost use Rattle.bound_members.specs.declared_names.specs.View.{entry_view, scope_view, space_view, what_view, written_view};
+ghost use Rattle.bound_members.specs.bound_calls.specs.bound_declarations.specs.constant_values.specs.declared_names.specs.binder.specs.Constants as constants;
+ghost use Rattle.bound_members.specs.bound_calls.specs.bound_declarations.specs.constant_values.specs.declared_names.specs.binder.specs.Declarations.{a_procedure};
+ghost use Rattle.bound_members.specs.bound_calls.specs.bound_declarations.specs.constant_values.specs.declared_names.specs.binder.specs.Signatures as bound;
+ghost use Rattle.bound_members.specs.bound_calls.specs.bound_declarations.specs.constant_values.specs.declared_names.specs.binder.specs.Scopes.{of_module};
+ghost use Rattle.bound_members.specs.bound_calls.specs.bound_declarations.specs.constant_values.specs.Rounds.{IsThere};
+ghost use Rattle.bound_members.specs.bound_calls.specs.bound_declarations.specs.constant_values.specs.declared_names.specs.View.{entry_view, scope_view, space_view, what_view, written_view};
 ghost use Rattle.bound_names.specs.Callee.{IsProperty, Reading, MakesRoutine};
 ghost use Rattle.bound_names.specs.Properties.{IsEntry};
 ghost use Rattle.bound_names.specs.View.{EnvStands, env_view};
 
 use crate::env::Env;
 use crate::properties::{Part, property_with};
-use bound_members::bound_calls::{Property, Receiver, Routine, Term};
-use bound_members::bound_declarations::{
+use bound_members::bound_calls::bound_declarations::constant_values::declared_names::{
+    Entry, Scope, Space, Written,
+};
+use bound_members::bound_calls::bound_declarations::{
     NotYet, gives_value, is_property, procedure_number, result_type,
 };
-use bound_members::declared_names::{Entry, Scope, Space, Written};
+use bound_members::bound_calls::{Property, Receiver, Routine, Term};
 use bound_project::{DeclaredType, ElementType};
 use vba_base::OrMemory;
 

@@ -22,9 +22,9 @@ use Rattle.bound_project.specs.Lists.{above, exprs_of}
 use Rattle.bound_project.proofs.Lists.{above_push}
 use Rattle.bound_project.specs.Pieces.{Piece, Tables, an_expr, a_place, exprs_off, of_place, of_found, of_place_found, of_value, of_value_found, expr_of, put_kind, put, nothing}
 use Rattle.bound_project.specs.Drafts.{Drafted}
-use Rattle.bound_members.specs.bound_forms.specs.Terms.{Env, Given, a_value, expression_of, has_names, listed_values, read_of}
-use Rattle.bound_members.specs.bound_forms.specs.Terms as terms
-use Rattle.bound_members.specs.bound_forms.specs.ExpressionsBound.{are_numbers, numbers_of, element_place, element_type, with_type, indexed, is_host_type, item_of, callee, term_of, operand_of, givens, place_told, term_or, wrong_term, host_behind, indexed_type, may_be_instance}
+use Rattle.bound_members.specs.bound_calls.specs.bound_forms.specs.Terms.{Env, Given, a_value, expression_of, has_names, listed_values, read_of}
+use Rattle.bound_members.specs.bound_calls.specs.bound_forms.specs.Terms as terms
+use Rattle.bound_members.specs.bound_calls.specs.bound_forms.specs.ExpressionsBound.{are_numbers, numbers_of, element_place, element_type, with_type, indexed, is_host_type, item_of, callee, term_of, operand_of, givens, place_told, term_or, wrong_term, host_behind, indexed_type, may_be_instance}
 use Rattle.bound_members.specs.bound_calls.specs.declared.term.Ending.{Ending}
 use Rattle.bound_members.specs.bound_calls.specs.declared.term.Routine.{Routine}
 use Rattle.bound_members.specs.bound_calls.specs.declared.term.Term.{Term}
@@ -44,7 +44,7 @@ use Rattle.bound_members.specs.bound_calls.specs.Indexing.{TargetAt, PushesTarge
 use Rattle.bound_members.proofs.Listing.{all_listed, no_names, numbers_more, taken_off}
 use Rattle.bound_members.specs.bound_calls.proofs.Growing.{grown_same, grown_pieces, all_named, item_named, stands_grows}
 use Rattle.bound_members.specs.bound_calls.proofs.CallSteps.{goes_missing, tree_ended}
-use Rattle.bound_members.specs.binder.specs.Classes.{has_class}
+use Rattle.bound_members.specs.bound_calls.specs.bound_declarations.specs.constant_values.specs.declared_names.specs.binder.specs.Classes.{has_class}
 use Rattle.bound_members.specs.bound_calls.specs.Taking.{read_kind}
 use Rattle.bound_members.specs.bound_calls.proofs.Taking.{read_ends}
 
@@ -134,7 +134,7 @@ no_object type.currency u h = refl
 no_object type.text u h = refl
 no_object (type.fixed_text n) u h = refl
 no_object (type.class n) u h = refl
-no_object type.collection u h = refl
+no_object type.collection u h = let e : None ≡ Some u = h in absurd cc
 no_object (type.udt n) u h = refl
 no_object type.object u h = let e : None ≡ Some u = h in absurd cc
 no_object type.worksheet u h = let e : None ≡ Some u = h in absurd cc
@@ -190,14 +190,14 @@ abbrev pub begun : Tree → Target → DeclaredType → Bool → Indexed
 begun x t of lends = record { place = x.place; target = t; of = of; lends = lends; count = 0 }
 
 pub opens_place : (env : Env) (has : Bool) (x : Tree) (k : NodeKind) (of element_of : DeclaredType) (bounded lends makes : Bool) (d e : Drafted) (t : Target) → has_class env.scope.spaces ≡ has
-    → HasElements has (record { kind = read_kind makes; of = of }) element_of → PushesTarget k d e t → OpensTerm env x (term.Place k of bounded lends makes) d e (items.Indexed (begun x t element_of lends))
+    → HasElements has d.tables (record { kind = read_kind makes; of = of }) element_of → PushesTarget k d e t → OpensTerm env x (term.Place k of bounded lends makes) d e (items.Indexed (begun x t element_of lends))
 opens_place env has x k of element_of bounded lends makes d e t known elements p = record {
   grown = p.grown;
   named = tt;
   stands = λ tree others is' below base at h s.
       let place = place_told tree in
       let n = node_of k place of in
-      let no = elements.none env d.tables (read_of makes h.at) place (put d.tables n d.pieces) below known (read_ends makes d.tables h.at (put d.tables n d.pieces) below (h.ends n)) in
+      let no = elements.none env (read_of makes h.at) place (put d.tables n d.pieces) below known (read_ends makes d.tables h.at (put d.tables n d.pieces) below (h.ends n)) in
       let element_is = indexed_by env (read_of makes h.at) place (declared_view of) (declared_view element_of) no elements.element_is in (
         below,
         (
@@ -215,7 +215,7 @@ opens_place env has x k of element_of bounded lends makes d e t known elements p
       );
 }
 
-pub pushes_whole : (has : Bool) (ending : Ending) (element_of : DeclaredType) (place : Place) (d e : Drafted) → HasElements has ending element_of
+pub pushes_whole : (has : Bool) (ending : Ending) (element_of : DeclaredType) (place : Place) (d e : Drafted) → HasElements has d.tables ending element_of
     → e ≡ record d { pieces = put d.tables (node_of ending.kind place ending.of) d.pieces } → PushesWhole has ending place d e (record { place = place; target = target.Value; of = element_of; lends = false; count = 0 })
 pushes_whole has ending element_of place d e elements eq =
     let P : Drafted → Type 0 = λ (z : Drafted). PushesWhole has ending place d z (record { place = place; target = target.Value; of = element_of; lends = false; count = 0 }) in
@@ -238,7 +238,7 @@ opens_value env has x ending d e i known p =
     opens_whole env x (term.Value ending) i d e p.grown p.is (λ tree below at h.
     let place = place_told tree in
     let z = callee env tree (term_of env tree) in
-    let no = p.elements.none env d.tables h.made place d.pieces below known h.ends in
+    let no = p.elements.none env h.made place d.pieces below known h.ends in
     record {
       whole = expression_of h.made place (declared_view ending.of);
       is = λ gs es numbers. ap (λ (y : terms.Term). indexed env place (item_of env place y) gs) h.is

@@ -30,11 +30,11 @@ use Rattle.bound_project.specs.Lists.{above, exprs_of}
 use Rattle.bound_project.proofs.Lists.{above_push}
 use Rattle.bound_project.specs.Pieces.{Piece, an_expr, of_found, expr_of, put}
 use Rattle.bound_project.specs.Drafts.{Drafted}
-use Rattle.bound_members.specs.binder.specs.Constants.{compare_in}
-use Rattle.bound_members.specs.binder.specs.Options.{from_two}
-use Rattle.bound_members.specs.bound_forms.specs.Terms.{Env, Given, a_value, given_to, has_names}
-use Rattle.bound_members.specs.bound_forms.specs.Terms as terms
-use Rattle.bound_members.specs.bound_forms.specs.ExpressionsBound.{callee, first_given, function_called, function_takes, function_value, function_values, givens, has_start, if_there, indexed, is_wrong, item_of, lacks_needed, needs, taken_as, takes_count, taking, term_of, place_told, term_or}
+use Rattle.bound_members.specs.bound_calls.specs.bound_declarations.specs.constant_values.specs.declared_names.specs.binder.specs.Constants.{compare_in}
+use Rattle.bound_members.specs.bound_calls.specs.bound_declarations.specs.constant_values.specs.declared_names.specs.binder.specs.Options.{from_two}
+use Rattle.bound_members.specs.bound_calls.specs.bound_forms.specs.Terms.{Env, Given, a_value, given_to, has_names}
+use Rattle.bound_members.specs.bound_calls.specs.bound_forms.specs.Terms as terms
+use Rattle.bound_members.specs.bound_calls.specs.bound_forms.specs.ExpressionsBound.{callee, first_given, function_called, function_takes, function_value, function_values, givens, has_start, if_there, indexed, is_wrong, item_of, lacks_needed, needs, taken_as, takes_count, taking, term_of, place_told, term_or}
 use Rattle.bound_members.specs.bound_calls.specs.declared.term.Ending.{Ending}
 use Rattle.bound_members.specs.bound_calls.specs.declared.term.Function.{Function}
 use Rattle.bound_members.specs.bound_calls.specs.declared.term.FunctionCall.{FunctionCall}

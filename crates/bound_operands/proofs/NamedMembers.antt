@@ -6,7 +6,7 @@ use Rattle.std.specs.Prelude.{Option}
 use Rattle.vba_expression.specs.declared.node.ExpressionNode.TheVariants as node
 use Rattle.vba_expression.specs.Nodes.{behind_node}
 use Rattle.bound_project.specs.Drafts.{Drafted}
-use Rattle.bound_members.specs.bound_forms.specs.Terms.{Env}
+use Rattle.bound_members.specs.bound_calls.specs.bound_forms.specs.Terms.{Env}
 use Rattle.bound_members.specs.bound_calls.specs.declared.term.Item.{Item}
 use Rattle.bound_members.specs.bound_calls.specs.declared.term.Item.TheVariants as item
 use Rattle.bound_members.specs.bound_calls.specs.declared.term.MemberCall.{MemberCall}
@@ -15,7 +15,7 @@ use Rattle.bound_members.specs.bound_calls.specs.Standing.{AllNamed}
 use Rattle.bound_members.specs.bound_calls.specs.Steps.{Goes}
 use Rattle.bound_members.specs.bound_calls.proofs.Growing.{all_named}
 use Rattle.bound_members.specs.MemberCalls.{AddsNamed}
-use Rattle.bound_members.specs.binder.specs.Classes.{has_class}
+use Rattle.bound_members.specs.bound_calls.specs.bound_declarations.specs.constant_values.specs.declared_names.specs.binder.specs.Classes.{has_class}
 
 pub goes_to_member : (has : Bool) (env : Env) → has_class env.scope.spaces ≡ has → (x : Tree) (c z : MemberCall) (xs new : List Item) (name : Identifier) (comma : Option Token) (mark : Token) (d e : Drafted) → new ≡ item.Member z ∷ xs → AllNamed d.tables (item.Tree x ∷ item.Member c ∷ xs)
     → AddsNamed has c x name d e z → Goes env d (item.Tree x ∷ item.Member c ∷ xs) e new (behind_node (node.NamedArgument comma name mark))

@@ -27,13 +27,13 @@ use Rattle.bound_project.proofs.Lists.{above_push, args_are, exprs_are}
 use Rattle.bound_project.specs.Pieces.{Argument, Piece, Tables, an_argument, an_expr, arguments_off, exprs_off, of_found, put, put_kind, values_listed}
 use Rattle.bound_project.specs.Project as project
 use Rattle.bound_project.specs.Drafts.{Drafted, NodeNamed}
-use Rattle.bound_members.specs.binder.specs.Constants.{home}
-use Rattle.bound_members.specs.binder.specs.Names.{scope_in}
-use Rattle.bound_members.specs.binder.specs.Scopes.{Scope}
-use Rattle.bound_members.specs.binder.specs.Storage.{bound_parameters}
-use Rattle.bound_members.specs.bound_forms.specs.Terms.{Env, Given, Item as Taken_item, are_apart, bound_arguments, built, by_position, has_names, left_over, listed_values, routine_term, taken_by}
-use Rattle.bound_members.specs.bound_forms.specs.Terms as terms
-use Rattle.bound_members.specs.bound_forms.specs.ExpressionsBound.{argument_of, callee, givens, indexed, operand_of, term_of, term_or, wrong_term, place_told, call_node}
+use Rattle.bound_members.specs.bound_calls.specs.bound_declarations.specs.constant_values.specs.declared_names.specs.binder.specs.Constants.{home}
+use Rattle.bound_members.specs.bound_calls.specs.bound_declarations.specs.constant_values.specs.declared_names.specs.binder.specs.Names.{scope_in}
+use Rattle.bound_members.specs.bound_calls.specs.bound_declarations.specs.constant_values.specs.declared_names.specs.binder.specs.Scopes.{Scope}
+use Rattle.bound_members.specs.bound_calls.specs.bound_declarations.specs.constant_values.specs.declared_names.specs.binder.specs.Storage.{bound_parameters}
+use Rattle.bound_members.specs.bound_calls.specs.bound_forms.specs.Terms.{Env, Given, Item as Taken_item, are_apart, bound_arguments, built, by_position, has_names, left_over, listed_values, routine_term, taken_by}
+use Rattle.bound_members.specs.bound_calls.specs.bound_forms.specs.Terms as terms
+use Rattle.bound_members.specs.bound_calls.specs.bound_forms.specs.ExpressionsBound.{argument_of, callee, givens, indexed, operand_of, term_of, term_or, wrong_term, place_told, call_node}
 use Rattle.bound_members.specs.bound_calls.specs.declared.term.Call.{Call}
 use Rattle.bound_members.specs.bound_calls.specs.declared.term.Ending.{Ending}
 use Rattle.bound_members.specs.bound_calls.specs.declared.term.Item.{Item}

@@ -17,8 +17,8 @@ use Rattle.bound_project.specs.Lists.{above, exprs_of}
 use Rattle.bound_project.proofs.Lists.{above_push, exprs_are}
 use Rattle.bound_project.specs.Pieces.{Piece, Tables, an_expr, expr_of, exprs_off, of_found}
 use Rattle.bound_project.specs.Drafts.{Drafted}
-use Rattle.bound_members.specs.bound_forms.specs.Terms.{Env, Given, broken_value, has_names}
-use Rattle.bound_members.specs.bound_forms.specs.ExpressionsBound.{are_numbers, are_places, argument_of, callee, givens, if_there, indexed, item_of, place_told, term_of}
+use Rattle.bound_members.specs.bound_calls.specs.bound_forms.specs.Terms.{Env, Given, broken_value, has_names}
+use Rattle.bound_members.specs.bound_calls.specs.bound_forms.specs.ExpressionsBound.{are_numbers, are_places, argument_of, callee, givens, if_there, indexed, item_of, place_told, term_of}
 use Rattle.bound_members.specs.bound_calls.specs.declared.term.Item.{Item}
 use Rattle.bound_members.specs.bound_calls.specs.declared.term.Item.TheVariants as item
 use Rattle.bound_members.specs.bound_calls.specs.declared.term.Shape.{Shape}

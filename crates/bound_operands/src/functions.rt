@@ -5,8 +5,8 @@ ghost use Rattle.vba_lib.specs.Library.{declared_of};
 ghost use Rattle.bound_project.specs.DraftView.{draft_view};
 ghost use Rattle.bound_project.specs.Drafts.{Drafted};
 ghost use Rattle.bound_project.specs.View.{declared_view};
-ghost use Rattle.bound_members.specs.bound_forms.specs.ExpressionsBound as bound;
-ghost use Rattle.bound_members.specs.bound_forms.specs.Terms as plain;
+ghost use Rattle.bound_members.specs.bound_calls.specs.bound_forms.specs.ExpressionsBound as bound;
+ghost use Rattle.bound_members.specs.bound_calls.specs.bound_forms.specs.Terms as plain;
 ghost use Rattle.bound_members.specs.bound_calls.specs.declared.term.Item.TheVariants as item;
 ghost use Rattle.bound_operands.specs.Functions.{AddsNamedValue, EndsFunction, PushesMarked, PushesTaken, call_takes, taking_view};
 ghost use Rattle.vba_lib.specs.declared.function.LibraryFunction.TheVariants as function;
@@ -14,11 +14,11 @@ ghost use Rattle.bound_members.specs.bound_calls.specs.Indexing.{AddsArgument, A
 ghost use Rattle.bound_members.specs.bound_calls.specs.Standing.{TermNamed};
 
 use crate::types::element_type;
+use bound_members::bound_calls::bound_declarations::NotYet;
 use bound_members::bound_calls::{
     Ending, Function, FunctionCall, Term, Tree, mark_given, nowhere, push_given, push_if_any,
     push_node, push_operand, sum,
 };
-use bound_members::bound_declarations::NotYet;
 use bound_project::{DeclaredType, Draft, ElementType, NodeKind};
 use std::alloc::Global;
 use vba_base::{NoMemory, OrMemory, Refusal};

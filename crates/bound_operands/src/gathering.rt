@@ -6,16 +6,16 @@ ghost use Rattle.vba_expression.specs.declared.node.ExpressionNode.TheVariants a
 ghost use Rattle.vba_expression.specs.Nodes.{behind_node};
 ghost use Rattle.bound_project.specs.DraftView.{draft_view};
 ghost use Rattle.bound_project.specs.View.{parameter_view};
-ghost use Rattle.bound_members.specs.bound_forms.specs.Terms as plain;
+ghost use Rattle.bound_members.specs.bound_calls.specs.bound_forms.specs.Terms as plain;
 ghost use Rattle.bound_members.specs.bound_calls.specs.Standing.{AllNamed, is_gathering};
 ghost use Rattle.bound_members.specs.bound_calls.specs.Steps.{Goes};
 ghost use Rattle.bound_operands.specs.Gathering.{EndsGathered, PassesGathered, gathers, with_gathered, with_value};
 
+use bound_members::bound_calls::bound_declarations::NotYet;
 use bound_members::bound_calls::{
     Ending, Item, Passed, Routine, Term, Tree, call_kind, count_of, nowhere, pass_rest,
     push_argument, push_node, put_item, sum, take_item,
 };
-use bound_members::bound_declarations::NotYet;
 use bound_project::{DeclaredType, Draft, ElementType, NodeKind, Parameter};
 use std::alloc::Global;
 use vba_base::{NoMemory, OrMemory};

@@ -4,9 +4,9 @@ ghost use Rattle.std.specs.Prelude.{◌≡◌, ◌<◌, Bool, IfOk, IfSome, opti
 ghost use Rattle.bound_project.specs.DraftView.{draft_view};
 ghost use Rattle.bound_project.specs.Drafts.{Drafted, NodeNamed};
 ghost use Rattle.bound_project.specs.View.{declared_view};
-ghost use Rattle.bound_members.specs.bound_forms.specs.ExpressionsBound.{element_type};
-ghost use Rattle.bound_members.specs.bound_forms.specs.Terms as plain;
-ghost use Rattle.bound_members.specs.binder.specs.Classes as classes;
+ghost use Rattle.bound_members.specs.bound_calls.specs.bound_forms.specs.ExpressionsBound.{element_type};
+ghost use Rattle.bound_members.specs.bound_calls.specs.bound_forms.specs.Terms as plain;
+ghost use Rattle.bound_members.specs.bound_calls.specs.bound_declarations.specs.constant_values.specs.declared_names.specs.binder.specs.Classes as classes;
 ghost use Rattle.bound_members.specs.bound_calls.specs.Calls.{PushesReceiver};
 ghost use Rattle.bound_members.specs.bound_calls.specs.Indexing.{AddsArgument, AddsMissing, Closes, EndsIndexed, OpensTerm, PushesTarget, is_part};
 ghost use Rattle.bound_members.specs.bound_calls.specs.Standing.{ItemNamed, TermNamed};
@@ -14,11 +14,11 @@ ghost use Rattle.bound_operands.specs.Indexing.{HasElements, PushesWhole};
 
 use crate::call_steps::{passed_in, with_passed};
 use crate::functions::{add_missing_value, add_value, close_function};
+use bound_members::bound_calls::bound_declarations::NotYet;
 use bound_members::bound_calls::{
     Call, Ending, Indexed, Item, Passed, Routine, Target, Term, Tree, call_ending, may_be_instance,
     pass_missing, pass_plain, push_node, push_operand, read_kind, sum,
 };
-use bound_members::bound_declarations::NotYet;
 use bound_members::{add_given, add_missing, close_member};
 use bound_project::{DeclaredType, Draft, ElementType, NodeKind};
 use std::alloc::Global;
@@ -38,10 +38,10 @@ fn element_type(of: DeclaredType) -> Option<DeclaredType>
 }
 
 /// The same before the run, of a value whose last node isn't pushed: none where it may be an object of a class.
-fn indexed_type(has_class: bool, whole: Ending) -> Option<DeclaredType>
-    ensures { IfSome result (λ of. HasElements has_class whole of) }
+fn indexed_type(has_class: bool, draft: &Draft, whole: Ending) -> Option<DeclaredType>
+    ensures { IfSome result (λ of. HasElements has_class (draft_view draft.now).tables whole of) }
 {
-    if may_be_instance(has_class, whole) {
+    if may_be_instance(has_class, draft, whole) {
         return None;
     }
     element_type(whole.of)
@@ -111,7 +111,7 @@ pub fn open_place<'a>(
         kind: read_kind(makes),
         of,
     };
-    let Some(element) = indexed_type(has_class, read) else {
+    let Some(element) = indexed_type(has_class, draft, read) else {
         return Err(OrMemory::Fault(NotYet));
     };
     let target = push_target(draft, kind, of, tree.place)?;
@@ -134,7 +134,7 @@ pub fn push_whole(
     requires { NodeNamed (draft_view draft.old).tables ending.kind }
     ensures { IfOk result (λ indexed. PushesWhole has_class ending place (draft_view draft.old) (draft_view draft.new) indexed) }
 {
-    let Some(element) = indexed_type(has_class, ending) else {
+    let Some(element) = indexed_type(has_class, draft, ending) else {
         return Err(OrMemory::Fault(NotYet));
     };
     push_node(draft, ending.kind, ending.of, place)?;

@@ -8,22 +8,22 @@ ghost use Rattle.vba_expression.specs.declared.node.ExpressionNode.TheVariants a
 ghost use Rattle.vba_expression.specs.Nodes.{behind_node};
 ghost use Rattle.bound_project.specs.DraftView.{draft_view};
 ghost use Rattle.bound_project.specs.View.{parameter_view};
-ghost use Rattle.bound_members.specs.bound_forms.specs.Terms as plain;
+ghost use Rattle.bound_members.specs.bound_calls.specs.bound_forms.specs.Terms as plain;
 ghost use Rattle.bound_members.specs.bound_calls.specs.InOrder.{found_view, is_named, with_named};
 ghost use Rattle.bound_members.specs.bound_calls.specs.Standing.{AllNamed, passed_below};
 ghost use Rattle.bound_members.specs.bound_calls.specs.Steps.{Goes};
-ghost use Rattle.bound_members.specs.binder.specs.Classes as classes;
+ghost use Rattle.bound_members.specs.bound_calls.specs.bound_declarations.specs.constant_values.specs.declared_names.specs.binder.specs.Classes as classes;
 
 use crate::call_steps;
 use crate::functions::add_named_value;
 use crate::gathering::{index_gathered, take_gathered};
 use crate::untaken::{index_untaken, is_refused, refuse};
 use bound_members::add_named;
+use bound_members::bound_calls::bound_declarations::NotYet;
 use bound_members::bound_calls::{
     FunctionCall, Item, MemberCall, Named, Passed, Term, Tree, named_ending, pass_tree, put_item,
     sum, take_item, take_numbers,
 };
-use bound_members::bound_declarations::NotYet;
 use bound_project::{Draft, Parameter};
 use std::alloc::Global;
 use vba_base::{NoMemory, OrMemory};

@@ -2,8 +2,8 @@ ghost use Rattle.std.specs.Prelude.{IfOk};
 ghost use Rattle.bound_members.specs.bound_calls.specs.Steps.{MakesBinary, MakesUnary};
 
 use crate::types::result_of;
+use bound_members::bound_calls::bound_declarations::constant_values::{operator_kind, unary_kind};
 use bound_members::bound_calls::{Ending, Term};
-use bound_members::constant_values::{operator_kind, unary_kind};
 use bound_project::{DeclaredType, NodeKind};
 use std::alloc::Global;
 use vba_base::NoMemory;

@@ -4,18 +4,18 @@ ghost use Rattle.vba_expression.specs.declared.node.ExpressionNode.TheVariants a
 ghost use Rattle.vba_expression.specs.declared.operator.BinaryOperator.TheVariants as operators;
 ghost use Rattle.vba_expression.specs.Nodes.{behind_node};
 ghost use Rattle.bound_project.specs.DraftView.{draft_view};
-ghost use Rattle.bound_members.specs.binder.specs.Constants.{compare_in};
-ghost use Rattle.bound_members.specs.bound_forms.specs.Terms as plain;
+ghost use Rattle.bound_members.specs.bound_calls.specs.bound_declarations.specs.constant_values.specs.declared_names.specs.binder.specs.Constants.{compare_in};
+ghost use Rattle.bound_members.specs.bound_calls.specs.bound_forms.specs.Terms as plain;
 ghost use Rattle.bound_members.specs.bound_calls.specs.Standing.{AllNamed};
 ghost use Rattle.bound_members.specs.bound_calls.specs.Steps.{Goes, is_same};
 
 use crate::operators::{binary_term, unary_term};
+use bound_members::bound_calls::bound_declarations::NotYet;
+use bound_members::bound_calls::bound_declarations::constant_values::{literal_meant, value_type};
 use bound_members::bound_calls::{
     Ending, Item, Operand, Term, Tree, given_ending, push_operand, push_reference, put_item,
     settle, take_item, value_term,
 };
-use bound_members::bound_declarations::NotYet;
-use bound_members::constant_values::{literal_meant, value_type};
 use bound_project::{DeclaredType, Draft, ElementType, NodeKind};
 use std::alloc::Global;
 use vba_base::OrMemory;

@@ -1,7 +1,7 @@
 ghost use Rattle.std.specs.Prelude.{◌≡◌, IfOk};
 ghost use Rattle.vba_values.specs.Types.{declared};
 ghost use Rattle.bound_project.specs.View.{element_view, declared_view};
-ghost use Rattle.bound_members.specs.bound_forms.specs.ExpressionsBound.{result_of};
+ghost use Rattle.bound_members.specs.bound_calls.specs.bound_forms.specs.ExpressionsBound.{result_of};
 
 use bound_project::{DeclaredType, ElementType};
 use std::alloc::Global;

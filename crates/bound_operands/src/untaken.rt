@@ -7,19 +7,19 @@ ghost use Rattle.vba_expression.specs.declared.node.ExpressionNode.TheVariants a
 ghost use Rattle.vba_expression.specs.Nodes.{behind_node};
 ghost use Rattle.bound_project.specs.DraftView.{draft_view};
 ghost use Rattle.bound_project.specs.View.{declared_view};
-ghost use Rattle.bound_members.specs.bound_forms.specs.ExpressionsBound as bound;
-ghost use Rattle.bound_members.specs.bound_forms.specs.Terms as plain;
+ghost use Rattle.bound_members.specs.bound_calls.specs.bound_forms.specs.ExpressionsBound as bound;
+ghost use Rattle.bound_members.specs.bound_calls.specs.bound_forms.specs.Terms as plain;
 ghost use Rattle.bound_members.specs.bound_calls.specs.Shapes.{shapes_given};
 ghost use Rattle.bound_members.specs.bound_calls.specs.Standing.{AllNamed, refused_rule, values_before};
 ghost use Rattle.bound_members.specs.bound_calls.specs.Steps.{Goes};
 ghost use Rattle.bound_operands.specs.Untaken.{ClosesUntaken, EachArgument, EndsRefused, all_plain, is_plain, is_refused};
 
+use bound_members::bound_calls::bound_declarations::NotYet;
+use bound_members::bound_calls::bound_declarations::constant_values::declared_names::is_object;
 use bound_members::bound_calls::{
     Item, Refuser, Shape, Term, Tree, Untaken, broken_ending, nowhere, push_argument, push_node,
     put_item, sum, take_item, take_shapes, takes,
 };
-use bound_members::bound_declarations::NotYet;
-use bound_members::declared_names::is_object;
 use bound_members::{arguments_rule, member_takes};
 use bound_project::{DeclaredType, Draft, ElementType, NodeKind};
 use std::alloc::Global;

@@ -7,21 +7,21 @@ use Rattle.vba_expression.specs.Nodes.{behind_node}
 use Rattle.vba_expression.specs.declared.node.ExpressionNode.TheVariants as node
 use Rattle.bound_project.specs.Pieces.{Piece}
 use Rattle.bound_project.specs.Drafts.{Drafted}
-use Rattle.bound_names.specs.bound_forms.specs.Terms.{Env}
-use Rattle.bound_names.specs.bound_forms.specs.ExpressionsBound.{item_of, callee, term_of}
-use Rattle.bound_names.specs.bound_calls.specs.declared.term.Term.{Term}
-use Rattle.bound_names.specs.bound_calls.specs.declared.term.Term.TheVariants as term
-use Rattle.bound_names.specs.bound_calls.specs.declared.term.Tree.{Tree}
-use Rattle.bound_names.specs.bound_calls.specs.declared.term.HostMember.{HostMember}
-use Rattle.bound_names.specs.bound_calls.specs.declared.term.Item.{Item}
-use Rattle.bound_names.specs.bound_calls.specs.declared.term.Item.TheVariants as items
-use Rattle.bound_names.specs.bound_calls.specs.Standing.{TermStands, Stands, AllNamed, Base}
-use Rattle.bound_names.specs.bound_calls.specs.Steps.{Goes}
-use Rattle.bound_names.specs.Callee.{CalleeIs}
+use Rattle.bound_accesses.specs.bound_names.specs.bound_members.specs.bound_calls.specs.bound_forms.specs.Terms.{Env}
+use Rattle.bound_accesses.specs.bound_names.specs.bound_members.specs.bound_calls.specs.bound_forms.specs.ExpressionsBound.{item_of, callee, term_of}
+use Rattle.bound_accesses.specs.bound_names.specs.bound_members.specs.bound_calls.specs.declared.term.Term.{Term}
+use Rattle.bound_accesses.specs.bound_names.specs.bound_members.specs.bound_calls.specs.declared.term.Term.TheVariants as term
+use Rattle.bound_accesses.specs.bound_names.specs.bound_members.specs.bound_calls.specs.declared.term.Tree.{Tree}
+use Rattle.bound_accesses.specs.bound_names.specs.bound_members.specs.bound_calls.specs.declared.term.HostMember.{HostMember}
+use Rattle.bound_accesses.specs.bound_names.specs.bound_members.specs.bound_calls.specs.declared.term.Item.{Item}
+use Rattle.bound_accesses.specs.bound_names.specs.bound_members.specs.bound_calls.specs.declared.term.Item.TheVariants as items
+use Rattle.bound_accesses.specs.bound_names.specs.bound_members.specs.bound_calls.specs.Standing.{TermStands, Stands, AllNamed, Base}
+use Rattle.bound_accesses.specs.bound_names.specs.bound_members.specs.bound_calls.specs.Steps.{Goes}
+use Rattle.bound_accesses.specs.bound_names.specs.Callee.{CalleeIs}
 use Rattle.bound_accesses.specs.Items.{MakesItem}
-use Rattle.bound_names.specs.bound_calls.specs.Indexing.{Opens, OpensTerm}
+use Rattle.bound_accesses.specs.bound_names.specs.bound_members.specs.bound_calls.specs.Indexing.{Opens, OpensTerm}
 use Rattle.bound_terms.specs.Indexing.{OpensItem}
-use Rattle.bound_names.specs.bound_calls.proofs.Growing.{grown_twice, all_named, stands_grows}
+use Rattle.bound_accesses.specs.bound_names.specs.bound_members.specs.bound_calls.proofs.Growing.{grown_twice, all_named, stands_grows}
 
 pub opens : (env : Env) (x : Tree) (y : Term) (i : Item) (d e f : Drafted) → CalleeIs env x d e y → OpensTerm env x y e f i → Opens env x d f i
 opens env x y i d e f c o = record {

@@ -11,33 +11,33 @@ use Rattle.bound_project.specs.Expressions as bound
 use Rattle.bound_project.specs.Pieces.{an_expr}
 use Rattle.bound_project.specs.Project as project
 use Rattle.bound_project.specs.Drafts.{Drafted}
-use Rattle.bound_names.specs.binder.specs.Constants.{home}
-use Rattle.bound_names.specs.binder.specs.Declarations.{Written, What, a_variable, a_constant, an_enum, a_member, a_type, an_event, a_procedure, Entry}
-use Rattle.bound_names.specs.binder.specs.Names.{scope_in}
-use Rattle.bound_names.specs.binder.specs.Scopes.{Space, Scope, first_at, is_named}
-use Rattle.bound_names.specs.binder.specs.Storage.{bound_parameter, bound_parameters, takes_value}
-use Rattle.bound_names.specs.bound_forms.specs.Terms.{Env, Given, a_routine, a_value, bound_arguments, expression_of, a_method, routine_term}
-use Rattle.bound_names.specs.bound_forms.specs.Terms as terms
-use Rattle.bound_names.specs.bound_forms.specs.ExpressionsBound.{argument_of, bare_call, call_value, call_with, callee, if_there, indexed, indexed_value, item_of, node_or, numbers_of, operand_of, taken_by_term, term_of, term_or, with_type, wrong_term, place_told, indexed_type}
-use Rattle.bound_names.specs.binder.specs.Signatures.{is_get, is_property, parameters_in, procedure_with, reader}
-use Rattle.bound_names.specs.declared_names.specs.View.{written_view}
-use Rattle.bound_names.specs.bound_calls.specs.declared.term.Ending.{Ending}
-use Rattle.bound_names.specs.bound_calls.specs.declared.term.Indexed.{Indexed}
-use Rattle.bound_names.specs.bound_calls.specs.declared.term.Item.TheVariants as items
-use Rattle.bound_names.specs.bound_calls.specs.declared.term.Routine.{Routine}
-use Rattle.bound_names.specs.bound_calls.specs.declared.term.Term.TheVariants as term
-use Rattle.bound_names.specs.bound_calls.specs.declared.term.Tree.{Tree}
-use Rattle.bound_names.specs.bound_calls.specs.Indexing.{OpensTerm}
-use Rattle.bound_names.specs.bound_calls.specs.Taking.{CallsRoutine}
-use Rattle.bound_names.specs.bound_calls.proofs.Growing.{grown_twice}
+use Rattle.declared_names.specs.binder.specs.Constants.{home}
+use Rattle.declared_names.specs.binder.specs.Declarations.{Written, What, a_variable, a_constant, an_enum, a_member, a_type, an_event, a_procedure, Entry}
+use Rattle.declared_names.specs.binder.specs.Names.{scope_in}
+use Rattle.declared_names.specs.binder.specs.Scopes.{Space, Scope, first_at, is_named}
+use Rattle.declared_names.specs.binder.specs.Storage.{bound_parameter, bound_parameters, takes_value}
+use Rattle.bound_accesses.specs.bound_names.specs.bound_members.specs.bound_calls.specs.bound_forms.specs.Terms.{Env, Given, a_routine, a_value, bound_arguments, expression_of, a_method, routine_term}
+use Rattle.bound_accesses.specs.bound_names.specs.bound_members.specs.bound_calls.specs.bound_forms.specs.Terms as terms
+use Rattle.bound_accesses.specs.bound_names.specs.bound_members.specs.bound_calls.specs.bound_forms.specs.ExpressionsBound.{argument_of, bare_call, call_value, call_with, callee, if_there, indexed, indexed_value, item_of, node_or, numbers_of, operand_of, taken_by_term, term_of, term_or, with_type, wrong_term, place_told, indexed_type}
+use Rattle.declared_names.specs.binder.specs.Signatures.{is_get, is_property, parameters_in, procedure_with, reader}
+use Rattle.declared_names.specs.View.{written_view}
+use Rattle.bound_accesses.specs.bound_names.specs.bound_members.specs.bound_calls.specs.declared.term.Ending.{Ending}
+use Rattle.bound_accesses.specs.bound_names.specs.bound_members.specs.bound_calls.specs.declared.term.Indexed.{Indexed}
+use Rattle.bound_accesses.specs.bound_names.specs.bound_members.specs.bound_calls.specs.declared.term.Item.TheVariants as items
+use Rattle.bound_accesses.specs.bound_names.specs.bound_members.specs.bound_calls.specs.declared.term.Routine.{Routine}
+use Rattle.bound_accesses.specs.bound_names.specs.bound_members.specs.bound_calls.specs.declared.term.Term.TheVariants as term
+use Rattle.bound_accesses.specs.bound_names.specs.bound_members.specs.bound_calls.specs.declared.term.Tree.{Tree}
+use Rattle.bound_accesses.specs.bound_names.specs.bound_members.specs.bound_calls.specs.Indexing.{OpensTerm}
+use Rattle.bound_accesses.specs.bound_names.specs.bound_members.specs.bound_calls.specs.Taking.{CallsRoutine}
+use Rattle.bound_accesses.specs.bound_names.specs.bound_members.specs.bound_calls.proofs.Growing.{grown_twice}
 use Rattle.bound_operands.specs.Indexing.{PushesWhole}
 use Rattle.bound_terms.specs.Indexing.{IndexesValue, NotIndexed}
-use Rattle.bound_names.specs.Properties.{first_wanted, wants}
+use Rattle.bound_accesses.specs.bound_names.specs.Properties.{first_wanted, wants}
 use Rattle.bound_operands.proofs.Elements.{indexed_by, opens_whole}
-use Rattle.bound_names.proofs.Lookups.{property_found, with_entry}
-use Rattle.bound_names.specs.binder.specs.Classes.{has_class, reaches}
-use Rattle.bound_names.specs.bound_calls.proofs.CallSteps.{routine_item, taken_routine}
-use Rattle.bound_names.specs.declared.properties.Part.TheVariants as part
+use Rattle.bound_accesses.specs.bound_names.proofs.Lookups.{property_found, with_entry}
+use Rattle.declared_names.specs.binder.specs.Classes.{has_class, reaches}
+use Rattle.bound_accesses.specs.bound_names.specs.bound_members.specs.bound_calls.proofs.CallSteps.{routine_item, taken_routine}
+use Rattle.bound_accesses.specs.bound_names.specs.declared.properties.Part.TheVariants as part
 
 -- ---- the Get of a property
 
@@ -162,7 +162,7 @@ opens_property env has x r ending d m e i known v c p =
     let same : routine_term u.base u.space u.number u.written ≡ routine_term b.base b.space b.number b.written = sym u.is ∙ b.is in
     let call : bare_call env u.base u.space u.number u.written ≡ a_value b.called.made (declared_view ending.of) = same_routine u.base b.base u.space b.space u.number b.number u.written b.written same env ∙ b.called.is in
     let property : is_property u.written.kind ≡ true = ap (λ (w : Written). is_property w.kind) u.written_is ∙ v.property in
-    let no = p.elements.none env m.tables b.called.made place m.pieces below known b.called.ends in
+    let no = p.elements.none env b.called.made place m.pieces below known b.called.ends in
     let element = indexed_by env b.called.made place (declared_view ending.of) (declared_view i.of) no p.elements.element_is in
     record {
       whole = expression_of b.called.made place (declared_view ending.of);

@@ -4,19 +4,19 @@ use Rattle.vba_base.specs.declared.place.Place.{Place}
 use Rattle.bound_project.specs.View.{declared_view}
 use Rattle.bound_project.specs.Pieces.{an_expr}
 use Rattle.bound_project.specs.Drafts.{Drafted}
-use Rattle.bound_names.specs.binder.specs.Classes.{has_class}
-use Rattle.bound_names.specs.bound_forms.specs.Terms.{Env, expression_of}
-use Rattle.bound_names.specs.bound_forms.specs.Terms as terms
-use Rattle.bound_names.specs.bound_forms.specs.ExpressionsBound.{callee, indexed, item_of, place_told, term_of}
-use Rattle.bound_names.specs.bound_calls.specs.declared.term.Ending.{Ending}
-use Rattle.bound_names.specs.bound_calls.specs.declared.term.Indexed.{Indexed}
-use Rattle.bound_names.specs.bound_calls.specs.declared.term.Item.TheVariants as items
-use Rattle.bound_names.specs.bound_calls.specs.declared.term.Term.{Term}
-use Rattle.bound_names.specs.bound_calls.specs.declared.term.Term.TheVariants as term
-use Rattle.bound_names.specs.bound_calls.specs.declared.term.Tree.{Tree}
-use Rattle.bound_names.specs.bound_calls.specs.Indexing.{OpensTerm}
-use Rattle.bound_names.specs.bound_calls.specs.Standing.{TermStands, ValueStands}
-use Rattle.bound_names.specs.bound_calls.proofs.Growing.{grown_twice}
+use Rattle.declared_names.specs.binder.specs.Classes.{has_class}
+use Rattle.bound_accesses.specs.bound_names.specs.bound_members.specs.bound_calls.specs.bound_forms.specs.Terms.{Env, expression_of}
+use Rattle.bound_accesses.specs.bound_names.specs.bound_members.specs.bound_calls.specs.bound_forms.specs.Terms as terms
+use Rattle.bound_accesses.specs.bound_names.specs.bound_members.specs.bound_calls.specs.bound_forms.specs.ExpressionsBound.{callee, indexed, item_of, place_told, term_of}
+use Rattle.bound_accesses.specs.bound_names.specs.bound_members.specs.bound_calls.specs.declared.term.Ending.{Ending}
+use Rattle.bound_accesses.specs.bound_names.specs.bound_members.specs.bound_calls.specs.declared.term.Indexed.{Indexed}
+use Rattle.bound_accesses.specs.bound_names.specs.bound_members.specs.bound_calls.specs.declared.term.Item.TheVariants as items
+use Rattle.bound_accesses.specs.bound_names.specs.bound_members.specs.bound_calls.specs.declared.term.Term.{Term}
+use Rattle.bound_accesses.specs.bound_names.specs.bound_members.specs.bound_calls.specs.declared.term.Term.TheVariants as term
+use Rattle.bound_accesses.specs.bound_names.specs.bound_members.specs.bound_calls.specs.declared.term.Tree.{Tree}
+use Rattle.bound_accesses.specs.bound_names.specs.bound_members.specs.bound_calls.specs.Indexing.{OpensTerm}
+use Rattle.bound_accesses.specs.bound_names.specs.bound_members.specs.bound_calls.specs.Standing.{TermStands, ValueStands}
+use Rattle.bound_accesses.specs.bound_names.specs.bound_members.specs.bound_calls.proofs.Growing.{grown_twice}
 use Rattle.bound_accesses.specs.Items.{MakesItem}
 use Rattle.bound_operands.specs.Indexing.{PushesWhole}
 use Rattle.bound_operands.proofs.Elements.{indexed_by, opens_whole, value_indexed}
@@ -30,7 +30,7 @@ opens_lacking env has x y v i d e f known m p =
     let z = callee env tree (term_of env tree) in
     let A : Place → Type 0 = λ (q : Place). TermStands env e.tables (term.Value v) (item_of env q z) e.pieces below in
     let t : ValueStands e.tables v (item_of env place z) e.pieces below = subst A at (m.stands z below h) in
-    let no = p.elements.none env e.tables t.made place e.pieces below known t.ends in
+    let no = p.elements.none env t.made place e.pieces below known t.ends in
     let element_is = indexed_by env t.made place (declared_view v.of) (declared_view i.of) no p.elements.element_is in
     record {
       whole = expression_of t.made place (declared_view v.of);

@@ -19,40 +19,40 @@ use Rattle.bound_project.specs.Project as project
 use Rattle.bound_project.specs.Lists.{above}
 use Rattle.bound_project.specs.Pieces.{Piece, Tables, an_expr, put}
 use Rattle.bound_project.specs.Drafts.{Drafted}
-use Rattle.bound_names.specs.binder.specs.Constants.{home}
-use Rattle.bound_names.specs.binder.specs.Declarations.{Written}
-use Rattle.bound_names.specs.binder.specs.Scopes.{Scope, Space}
-use Rattle.bound_names.specs.binder.specs.Names.{scope_in}
-use Rattle.bound_names.specs.binder.specs.Signatures.{is_get, is_property, parameters_in, procedure_with, reader}
-use Rattle.bound_names.specs.binder.specs.Options.{from_two}
-use Rattle.bound_names.specs.binder.specs.Storage.{bound_parameters, takes_value}
-use Rattle.bound_names.specs.bound_forms.specs.Terms.{Env, Given, HostMember, a_value, bound_arguments, expression_of, has_names, no_term, read_of, routine_term, takes}
-use Rattle.bound_names.specs.bound_forms.specs.Terms as terms
-use Rattle.bound_names.specs.bound_forms.specs.ExpressionsBound.{argument_of, arguments_rule, bare_call, behind_base, call_value, call_with, callee, element_place, element_type, host_arguments, host_behind, host_called, if_there, indexed, indexed_value, indexes_value, is_host_type, item_of, may_be_instance, may_index, member_called, member_takes, names_taken, node_or, numbers_of, operand_of, place_told, takes_arguments, term_of, term_or, with_type, wrong_arguments, wrong_call, wrong_index, wrong_term}
-use Rattle.bound_names.specs.bound_calls.specs.declared.term.Ending.{Ending}
-use Rattle.bound_names.specs.declared_names.specs.View.{written_view}
-use Rattle.bound_names.specs.bound_calls.specs.declared.term.HostMember.{HostMember as MemberHere}
-use Rattle.bound_names.specs.bound_calls.specs.declared.term.Item.TheVariants as items
-use Rattle.bound_names.specs.bound_calls.specs.declared.term.Refuser.{Refuser}
-use Rattle.bound_names.specs.bound_calls.specs.declared.term.Refuser.TheVariants as refuser
-use Rattle.bound_names.specs.bound_calls.specs.declared.term.MemberCall.{MemberCall}
-use Rattle.bound_names.specs.bound_calls.specs.declared.term.Receiver.TheVariants as receiver
-use Rattle.bound_names.specs.bound_calls.specs.declared.term.Routine.{Routine}
-use Rattle.bound_names.specs.bound_calls.specs.declared.term.Term.{Term}
-use Rattle.bound_names.specs.bound_calls.specs.declared.term.Term.TheVariants as term
-use Rattle.bound_names.specs.bound_calls.specs.declared.term.Tree.{Tree}
-use Rattle.bound_names.specs.bound_calls.specs.Calls.{node_of}
-use Rattle.bound_names.specs.bound_calls.specs.Indexing.{OpensTerm}
-use Rattle.bound_names.specs.bound_calls.specs.Taking.{CallsRoutine, read_kind}
-use Rattle.bound_names.specs.bound_members.specs.MemberCalls.{OpensMember}
+use Rattle.declared_names.specs.binder.specs.Constants.{home}
+use Rattle.declared_names.specs.binder.specs.Declarations.{Written}
+use Rattle.declared_names.specs.binder.specs.Scopes.{Scope, Space}
+use Rattle.declared_names.specs.binder.specs.Names.{scope_in}
+use Rattle.declared_names.specs.binder.specs.Signatures.{is_get, is_property, parameters_in, procedure_with, reader}
+use Rattle.declared_names.specs.binder.specs.Options.{from_two}
+use Rattle.declared_names.specs.binder.specs.Storage.{bound_parameters, takes_value}
+use Rattle.bound_accesses.specs.bound_names.specs.bound_members.specs.bound_calls.specs.bound_forms.specs.Terms.{Env, Given, HostMember, a_value, bound_arguments, expression_of, has_names, no_term, read_of, routine_term, takes}
+use Rattle.bound_accesses.specs.bound_names.specs.bound_members.specs.bound_calls.specs.bound_forms.specs.Terms as terms
+use Rattle.bound_accesses.specs.bound_names.specs.bound_members.specs.bound_calls.specs.bound_forms.specs.ExpressionsBound.{argument_of, arguments_rule, bare_call, behind_base, call_value, call_with, callee, element_place, element_type, host_arguments, host_behind, host_called, if_there, indexed, indexed_value, indexes_value, is_host_type, item_of, may_be_instance, may_index, member_called, member_takes, names_taken, node_or, numbers_of, operand_of, place_told, takes_arguments, term_of, term_or, with_type, wrong_arguments, wrong_call, wrong_index, wrong_term}
+use Rattle.bound_accesses.specs.bound_names.specs.bound_members.specs.bound_calls.specs.declared.term.Ending.{Ending}
+use Rattle.declared_names.specs.View.{written_view}
+use Rattle.bound_accesses.specs.bound_names.specs.bound_members.specs.bound_calls.specs.declared.term.HostMember.{HostMember as MemberHere}
+use Rattle.bound_accesses.specs.bound_names.specs.bound_members.specs.bound_calls.specs.declared.term.Item.TheVariants as items
+use Rattle.bound_accesses.specs.bound_names.specs.bound_members.specs.bound_calls.specs.declared.term.Refuser.{Refuser}
+use Rattle.bound_accesses.specs.bound_names.specs.bound_members.specs.bound_calls.specs.declared.term.Refuser.TheVariants as refuser
+use Rattle.bound_accesses.specs.bound_names.specs.bound_members.specs.bound_calls.specs.declared.term.MemberCall.{MemberCall}
+use Rattle.bound_accesses.specs.bound_names.specs.bound_members.specs.bound_calls.specs.declared.term.Receiver.TheVariants as receiver
+use Rattle.bound_accesses.specs.bound_names.specs.bound_members.specs.bound_calls.specs.declared.term.Routine.{Routine}
+use Rattle.bound_accesses.specs.bound_names.specs.bound_members.specs.bound_calls.specs.declared.term.Term.{Term}
+use Rattle.bound_accesses.specs.bound_names.specs.bound_members.specs.bound_calls.specs.declared.term.Term.TheVariants as term
+use Rattle.bound_accesses.specs.bound_names.specs.bound_members.specs.bound_calls.specs.declared.term.Tree.{Tree}
+use Rattle.bound_accesses.specs.bound_names.specs.bound_members.specs.bound_calls.specs.Calls.{node_of}
+use Rattle.bound_accesses.specs.bound_names.specs.bound_members.specs.bound_calls.specs.Indexing.{OpensTerm}
+use Rattle.bound_accesses.specs.bound_names.specs.bound_members.specs.bound_calls.specs.Taking.{CallsRoutine, read_kind}
+use Rattle.bound_accesses.specs.bound_names.specs.bound_members.specs.MemberCalls.{OpensMember}
 use Rattle.bound_terms.specs.Indexing.{IndexesValue, NotIndexed, OpensItem, untaken_at}
 use Rattle.bound_terms.proofs.IndexedProperties.{none_written, property_value, read_get, same_routine}
-use Rattle.bound_names.specs.bound_calls.specs.Standing.{Grown, RefuserNamed, RoutineIs, TermStands, behind_values, member_is, refused_rule, values_before}
-use Rattle.bound_names.specs.bound_calls.proofs.Growing.{grown_pieces, grown_same, grown_twice}
-use Rattle.bound_names.specs.bound_calls.proofs.CallSteps.{routine_item, taken_routine}
-use Rattle.bound_names.specs.bound_calls.proofs.Lacking.{module_base, module_pushed}
-use Rattle.bound_names.specs.bound_calls.proofs.Refusing.{refused}
-use Rattle.bound_names.specs.bound_calls.proofs.Taking.{read_ends}
+use Rattle.bound_accesses.specs.bound_names.specs.bound_members.specs.bound_calls.specs.Standing.{Grown, RefuserNamed, RoutineIs, TermStands, behind_values, member_is, refused_rule, values_before}
+use Rattle.bound_accesses.specs.bound_names.specs.bound_members.specs.bound_calls.proofs.Growing.{grown_pieces, grown_same, grown_twice}
+use Rattle.bound_accesses.specs.bound_names.specs.bound_members.specs.bound_calls.proofs.CallSteps.{routine_item, taken_routine}
+use Rattle.bound_accesses.specs.bound_names.specs.bound_members.specs.bound_calls.proofs.Lacking.{module_base, module_pushed}
+use Rattle.bound_accesses.specs.bound_names.specs.bound_members.specs.bound_calls.proofs.Refusing.{refused}
+use Rattle.bound_accesses.specs.bound_names.specs.bound_members.specs.bound_calls.proofs.Taking.{read_ends}
 
 -- ---- what is refused, by its term
 
@@ -76,7 +76,7 @@ not_host type.currency gs h = refl
 not_host type.text gs h = refl
 not_host (type.fixed_text n) gs h = refl
 not_host (type.class n) gs h = refl
-not_host type.collection gs h = refl
+not_host type.collection gs h = h
 not_host (type.udt n) gs h = refl
 not_host type.object gs h = h
 not_host type.worksheet gs h = h
@@ -368,7 +368,7 @@ not_called_by env e m (Some zero) gs h =
     ap (λ (c : Bool). if c then if_there (option_map (λ (node : bound.Node). a_value node x.of) (member_called env e x gs)) else no_term) (only_first (takes_arguments x (length gs)) (has_names gs) h)
 not_called_by env e m (Some (suc k)) gs h =
     let x : HostMember = record m { greatest = Some (suc k) } in
-    no_names_taken e x (takes_arguments x (length gs)) (has_names gs) (names_taken x gs) (host_arguments env gs) (option_map (λ es. host_member e x.name es) (host_arguments env gs)) h
+    no_names_taken e x (takes_arguments x (length gs)) (has_names gs) (names_taken x gs) (host_arguments env x gs) (option_map (λ es. host_member e x.name es) (host_arguments env x gs)) h
 
 not_called : (env : Env) (e : bound.Expr) (m : HostMember) (gs : List Given) → member_takes m gs ≡ false → host_called env e m gs ≡ no_term
 not_called env e m gs h = not_called_by env e m m.greatest gs h

@@ -16,21 +16,20 @@ use Rattle.bound_project.specs.Expressions.{is_type, new_object, this}
 use Rattle.bound_project.specs.Expressions as bound
 use Rattle.bound_project.specs.Pieces.{Piece, Tables, expr_of, of_value}
 use Rattle.bound_project.specs.Drafts.{Drafted}
-use Rattle.bound_names.specs.binder.specs.Types.{meant_type, plain_type}
-use Rattle.bound_names.specs.bound_forms.specs.Terms.{Env, a_value}
-use Rattle.bound_names.specs.bound_forms.specs.ExpressionsBound.{given_as, term_of, typed_term, place_told, new_term}
-use Rattle.bound_names.specs.bound_calls.specs.declared.term.Tree.{Tree}
-use Rattle.bound_names.specs.bound_calls.specs.declared.term.Term.{Term}
-use Rattle.bound_names.specs.bound_calls.specs.declared.term.Term.TheVariants as term
-use Rattle.bound_names.specs.bound_calls.specs.declared.term.Item.{Item}
-use Rattle.bound_names.specs.bound_calls.specs.declared.term.Item.TheVariants as item
-use Rattle.bound_names.specs.bound_calls.specs.References.{PushesGiven}
-use Rattle.bound_names.specs.bound_calls.specs.Standing.{AllNamed, PushedIs, ValueStands}
-use Rattle.bound_names.specs.bound_calls.specs.Steps.{Goes, MakesLeaf}
-use Rattle.bound_names.specs.bound_calls.proofs.Steps.{goes_made, goes_leaf}
-use Rattle.bound_names.specs.binder.specs.Classes.{class_in, own_class}
-use Rattle.bound_names.specs.bound_calls.proofs.Growing.{grown_same}
-use Rattle.bound_accesses.proofs.Fielding.{class_is}
+use Rattle.declared_names.specs.binder.specs.Types.{meant_type, plain_type}
+use Rattle.bound_accesses.specs.bound_names.specs.bound_members.specs.bound_calls.specs.bound_forms.specs.Terms.{Env, a_value}
+use Rattle.bound_accesses.specs.bound_names.specs.bound_members.specs.bound_calls.specs.bound_forms.specs.ExpressionsBound.{given_as, term_of, typed_term, place_told, new_term}
+use Rattle.bound_accesses.specs.bound_names.specs.bound_members.specs.bound_calls.specs.declared.term.Tree.{Tree}
+use Rattle.bound_accesses.specs.bound_names.specs.bound_members.specs.bound_calls.specs.declared.term.Term.{Term}
+use Rattle.bound_accesses.specs.bound_names.specs.bound_members.specs.bound_calls.specs.declared.term.Term.TheVariants as term
+use Rattle.bound_accesses.specs.bound_names.specs.bound_members.specs.bound_calls.specs.declared.term.Item.{Item}
+use Rattle.bound_accesses.specs.bound_names.specs.bound_members.specs.bound_calls.specs.declared.term.Item.TheVariants as item
+use Rattle.bound_accesses.specs.bound_names.specs.bound_members.specs.bound_calls.specs.References.{PushesGiven}
+use Rattle.bound_accesses.specs.bound_names.specs.bound_members.specs.bound_calls.specs.Standing.{AllNamed, PushedIs, ValueStands}
+use Rattle.bound_accesses.specs.bound_names.specs.bound_members.specs.bound_calls.specs.Steps.{Goes, MakesLeaf}
+use Rattle.bound_accesses.specs.bound_names.specs.bound_members.specs.bound_calls.proofs.Steps.{goes_made, goes_leaf}
+use Rattle.declared_names.specs.binder.specs.Classes.{made_in, own_class}
+use Rattle.bound_accesses.specs.bound_names.specs.bound_members.specs.bound_calls.proofs.Growing.{grown_same}
 
 -- What TypeOf makes of the expression on top; Me and New.
 
@@ -80,20 +79,26 @@ goes_me env token of xs ys after d e g meant k =
 abbrev pub newly : ℕ → DeclaredType → Term
 newly number of = term.Value (record { kind = kinds.NewObject number; of = of })
 
-new_leaf : (env : Env) (d : Drafted) (number : ℕ) (of : DeclaredType) (u : Declared) → declared_view of ≡ u → class_in (declared_view of) ≡ Some number → MakesLeaf env d d (newly number of) (new_term u)
+-- an object of a class, and a Collection
+new_is : (of : Declared) (number : ℕ) → made_in of ≡ Some number → new_term of ≡ a_value (new_object number) of
+new_is (type.class class) number h = let e : class ≡ number = cc in ap (λ (k : ℕ). a_value (new_object k) (type.class class)) e
+new_is type.collection number h = let e : 0 ≡ number = cc in ap (λ (k : ℕ). a_value (new_object k) type.collection) e
+new_is of number h = let e : None ≡ Some number = h in absurd cc
+
+new_leaf : (env : Env) (d : Drafted) (number : ℕ) (of : DeclaredType) (u : Declared) → declared_view of ≡ u → made_in (declared_view of) ≡ Some number → MakesLeaf env d d (newly number of) (new_term u)
 new_leaf env d number of u h class = record {
   grown = grown_same d;
   pieces = refl;
   named = tt;
   stands = λ ps. record {
     made = new_object number;
-    is = ap (λ (w : Declared). new_term w) (sym h ∙ class_is (declared_view of) number class) ∙ ap (λ (w : Declared). a_value (new_object number) w) (sym (class_is (declared_view of) number class));
+    is = ap (λ (w : Declared). new_term w) (sym h) ∙ new_is (declared_view of) number class;
     ends = λ n. refl;
   };
 }
 
 pub goes_new : (env : Env) (word : Token) (class : Identifier) (number : ℕ) (of : DeclaredType) (xs ys after : List Item) (d e : Drafted) → Goes env d xs e ys (λ is. is) → declared_view of ≡ meant_type (plain_type env.scope class)
-    → class_in (declared_view of) ≡ Some number → after ≡ item.Tree (record { place = word.place; name = None; dotted = None; term = newly number of }) ∷ ys → Goes env d xs e after (behind_node (node.New word class))
+    → made_in (declared_view of) ≡ Some number → after ≡ item.Tree (record { place = word.place; name = None; dotted = None; term = newly number of }) ∷ ys → Goes env d xs e after (behind_node (node.New word class))
 goes_new env word class number of xs ys after d e g meant known k =
     goes_leaf env xs ys after d e e (record { place = word.place; name = None; dotted = None; term = newly number of }) (new word (short_type class)) g (new_leaf env e number of (meant_type (plain_type env.scope class)) meant known) refl
     refl refl k

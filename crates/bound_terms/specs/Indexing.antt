@@ -5,17 +5,17 @@ use Rattle.vba_expression.specs.Tree.{Expr, no_args}
 use Rattle.vba_expression.specs.Nodes as nodes
 use Rattle.bound_project.specs.Pieces.{Piece}
 use Rattle.bound_project.specs.Drafts.{Drafted}
-use Rattle.bound_names.specs.binder.specs.Signatures.{is_property}
-use Rattle.bound_names.specs.declared_names.specs.View.{written_view}
-use Rattle.bound_names.specs.bound_forms.specs.Terms.{Env}
-use Rattle.bound_names.specs.bound_forms.specs.ExpressionsBound.{callee, item_of, place_told, term_of}
-use Rattle.bound_names.specs.bound_calls.specs.declared.term.HostMember.{HostMember}
-use Rattle.bound_names.specs.bound_calls.specs.declared.term.Item.{Item}
-use Rattle.bound_names.specs.bound_calls.specs.declared.term.Item.TheVariants as item
-use Rattle.bound_names.specs.bound_calls.specs.declared.term.Refuser.{Refuser}
-use Rattle.bound_names.specs.bound_calls.specs.declared.term.Routine.{Routine}
-use Rattle.bound_names.specs.bound_calls.specs.declared.term.Tree.{Tree}
-use Rattle.bound_names.specs.bound_calls.specs.Standing.{Base, Grown, HostMemberStands, ItemNamed, Stands}
+use Rattle.declared_names.specs.binder.specs.Signatures.{is_property}
+use Rattle.declared_names.specs.View.{written_view}
+use Rattle.bound_accesses.specs.bound_names.specs.bound_members.specs.bound_calls.specs.bound_forms.specs.Terms.{Env}
+use Rattle.bound_accesses.specs.bound_names.specs.bound_members.specs.bound_calls.specs.bound_forms.specs.ExpressionsBound.{callee, item_of, place_told, term_of}
+use Rattle.bound_accesses.specs.bound_names.specs.bound_members.specs.bound_calls.specs.declared.term.HostMember.{HostMember}
+use Rattle.bound_accesses.specs.bound_names.specs.bound_members.specs.bound_calls.specs.declared.term.Item.{Item}
+use Rattle.bound_accesses.specs.bound_names.specs.bound_members.specs.bound_calls.specs.declared.term.Item.TheVariants as item
+use Rattle.bound_accesses.specs.bound_names.specs.bound_members.specs.bound_calls.specs.declared.term.Refuser.{Refuser}
+use Rattle.bound_accesses.specs.bound_names.specs.bound_members.specs.bound_calls.specs.declared.term.Routine.{Routine}
+use Rattle.bound_accesses.specs.bound_names.specs.bound_members.specs.bound_calls.specs.declared.term.Tree.{Tree}
+use Rattle.bound_accesses.specs.bound_names.specs.bound_members.specs.bound_calls.specs.Standing.{Base, Grown, HostMemberStands, ItemNamed, Stands}
 
 -- a property whose Get has no parameters, and what is no such property
 pub record IndexesValue (r : Routine) : Type 0 where

@@ -1,12 +1,3 @@
-pub use Rattle.bound_names
 pub use Rattle.bound_accesses
 pub use Rattle.bound_operands
-pub use Rattle.bound_names.specs.binder
-pub use Rattle.bound_names.specs.bound_forms
-pub use Rattle.bound_names.specs.bound_calls
-pub use Rattle.bound_names.specs.bound_declarations
-pub use Rattle.bound_names.specs.bound_members
-pub use Rattle.bound_names.specs.constant_values
-pub use Rattle.bound_names.specs.declared_names
-pub use Rattle.bound_names.specs.project_tables
 pub mod Indexing

@@ -3,20 +3,22 @@
 ghost use Rattle.std.specs.Prelude.{◌≡◌, ◌<◌, Bool, IfOk, MatchBool, length};
 ghost use Rattle.bound_project.specs.DraftView.{draft_view};
 ghost use Rattle.bound_project.specs.Drafts.{Drafted, NodeNamed};
-ghost use Rattle.bound_names.specs.bound_forms.specs.Terms as plain;
-ghost use Rattle.bound_names.specs.bound_calls.specs.Indexing.{Opens, OpensTerm};
-ghost use Rattle.bound_names.specs.bound_calls.specs.Standing.{TermNamed};
+ghost use Rattle.bound_accesses.specs.bound_names.specs.bound_members.specs.bound_calls.specs.bound_forms.specs.Terms as plain;
+ghost use Rattle.bound_accesses.specs.bound_names.specs.bound_members.specs.bound_calls.specs.Indexing.{Opens, OpensTerm};
+ghost use Rattle.bound_accesses.specs.bound_names.specs.bound_members.specs.bound_calls.specs.Standing.{TermNamed};
 ghost use Rattle.bound_terms.specs.Indexing.{IndexesValue, NotIndexed, OpensItem, untaken_at};
-ghost use Rattle.bound_names.specs.View.{EnvStands, env_view};
+ghost use Rattle.bound_accesses.specs.bound_names.specs.View.{EnvStands, env_view};
 
-use bound_accesses::{item_member, item_term, lacks_item, takes_item};
-use bound_names::bound_calls::{
+use bound_accesses::bound_names::bound_members::bound_calls::bound_declarations::{
+    NotYet, is_property,
+};
+use bound_accesses::bound_names::bound_members::bound_calls::{
     Ending, HostMember, Indexed, Item, Receiver, Refuser, Routine, Shape, Term, Tree, Untaken,
     push_node, push_receiver, read_kind, routine_ending,
 };
-use bound_names::bound_declarations::{NotYet, is_property};
-use bound_names::bound_members::open_member;
-use bound_names::{Env, callee_term};
+use bound_accesses::bound_names::bound_members::open_member;
+use bound_accesses::bound_names::{Env, callee_term};
+use bound_accesses::{item_member, item_term, lacks_item, takes_item};
 use bound_operands::{open_call, open_function, open_place, open_value, push_whole, refused_rule};
 use bound_project::Draft;
 use std::alloc::Global;

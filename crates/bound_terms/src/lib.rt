@@ -12,9 +12,4 @@ pub use pass::{bind_given, bind_operand, bind_reference, bind_value, push_value,
 
 // What stands below, for the crates above.
 pub use bound_accesses;
-pub use bound_names;
-pub use bound_names::{
-    binder, bound_calls, bound_declarations, bound_forms, bound_members, constant_values,
-    declared_names, project_tables,
-};
 pub use bound_operands;

@@ -2,21 +2,21 @@ ghost use Rattle.std.specs.Prelude.{OnOk, IfOk, Some, reverse};
 ghost use Rattle.vba_expression.specs.Nodes.{behind_node, behind_nodes};
 ghost use Rattle.vba_expression.specs.View.{view as expression_view};
 ghost use Rattle.bound_project.specs.DraftView.{draft_view};
-ghost use Rattle.bound_names.specs.bound_forms.specs.ExpressionsBound.{bound_as_given, bound_operand, bound_reference, bound_value};
-ghost use Rattle.bound_names.specs.bound_calls.specs.Standing.{AllNamed, TermNamed};
-ghost use Rattle.bound_names.specs.bound_calls.specs.Steps.{Binds, Goes, Leaves, PushesValue};
-ghost use Rattle.bound_names.specs.View.{EnvStands, env_view};
+ghost use Rattle.bound_accesses.specs.bound_names.specs.bound_members.specs.bound_calls.specs.bound_forms.specs.ExpressionsBound.{bound_as_given, bound_operand, bound_reference, bound_value};
+ghost use Rattle.bound_accesses.specs.bound_names.specs.bound_members.specs.bound_calls.specs.Standing.{AllNamed, TermNamed};
+ghost use Rattle.bound_accesses.specs.bound_names.specs.bound_members.specs.bound_calls.specs.Steps.{Binds, Goes, Leaves, PushesValue};
+ghost use Rattle.bound_accesses.specs.bound_names.specs.View.{EnvStands, env_view};
 
 use crate::call_steps::step_no_arguments;
 use crate::step::{step_me, step_name, step_new, step_type_of};
-use bound_accesses::{step_member, step_with_member};
-use bound_names::Env;
-use bound_names::bound_calls::{
+use bound_accesses::bound_names::Env;
+use bound_accesses::bound_names::bound_members::bound_calls::bound_declarations::NotYet;
+use bound_accesses::bound_names::bound_members::bound_calls::{
     Item, Shape, Tree, push_ending, push_given, push_operand, push_reference, take_item,
     value_ending,
 };
-use bound_names::bound_declarations::NotYet;
-use bound_names::bound_members::{links_of, shapes_at};
+use bound_accesses::bound_names::bound_members::{links_of, shapes_at};
+use bound_accesses::{step_member, step_with_member};
 use bound_operands::{
     step_binary, step_index, step_literal, step_missing_argument, step_named_argument,
     step_parenthesised, step_plain_argument, step_unary,

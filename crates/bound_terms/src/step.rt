@@ -3,15 +3,19 @@ ghost use Rattle.vba_lexer.specs.declared.token.Token.{Token};
 ghost use Rattle.vba_expression.specs.declared.node.ExpressionNode.TheVariants as node;
 ghost use Rattle.vba_expression.specs.Nodes.{behind_node};
 ghost use Rattle.bound_project.specs.DraftView.{draft_view};
-ghost use Rattle.bound_names.specs.bound_calls.specs.Standing.{AllNamed};
-ghost use Rattle.bound_names.specs.bound_calls.specs.Steps.{Goes};
-ghost use Rattle.bound_names.specs.View.{EnvStands, env_view};
+ghost use Rattle.bound_accesses.specs.bound_names.specs.bound_members.specs.bound_calls.specs.Standing.{AllNamed};
+ghost use Rattle.bound_accesses.specs.bound_names.specs.bound_members.specs.bound_calls.specs.Steps.{Goes};
+ghost use Rattle.bound_accesses.specs.bound_names.specs.View.{EnvStands, env_view};
 
-use bound_names::bound_calls::{Ending, Item, Term, Tree, push_given, put_item, settle, take_item};
-use bound_names::bound_declarations::{NotYet, class_in};
-use bound_names::declared_names::{Use, declares, meant_type, own_class, plain_type};
-use bound_names::{Env, meant_term};
+use bound_accesses::bound_names::bound_members::bound_calls::bound_declarations::{
+    NotYet, made_in,
+};
+use bound_accesses::bound_names::bound_members::bound_calls::{
+    Ending, Item, Term, Tree, push_given, put_item, settle, take_item,
+};
+use bound_accesses::bound_names::{Env, meant_term};
 use bound_project::{DeclaredType, Draft, ElementType, NodeKind};
+use declared_names::{Use, declares, meant_type, own_class, plain_type};
 use std::alloc::Global;
 use vba_base::OrMemory;
 use vba_lexer::Token;
@@ -78,7 +82,7 @@ pub fn step_me<'a>(
     Ok(())
 }
 
-/// New: a new object of a class. A left operand before it is a reference where its operator is Is.
+/// New: a new object of a class, or a new Collection. A left operand before it is a reference where its operator is Is.
 pub fn step_new<'a>(
     alloc: Global,
     draft: &mut Draft,
@@ -94,7 +98,7 @@ pub fn step_new<'a>(
     settle(alloc, draft, stack, is_reference)?;
     let meant = plain_type(env.constants.scope, class)?;
     let of = meant_type(meant);
-    let Some(number) = class_in(of) else {
+    let Some(number) = made_in(of) else {
         return Err(OrMemory::Fault(NotYet));
     };
     put_item(

@@ -3,8 +3,8 @@ use Rattle.std.proofs.Common.{◌≡◌, List, [], ◌∷◌, ◌++◌, Option, 
 use Rattle.std.specs.Prelude.{option_map}
 use Rattle.std.proofs.lemmas.List.{append-nil}
 use Rattle.vba_values.specs.declared.value.Bound.{Bound}
-use Rattle.binder.specs.Options.{from_two}
-use Rattle.binder.specs.Constants.{all_bounds}
+use Rattle.declared_names.specs.binder.specs.Options.{from_two}
+use Rattle.declared_names.specs.binder.specs.Constants.{all_bounds}
 use Rattle.constant_values.specs.Bounds.{all_behind}
 
 one_more : (before : List Bound) (b : Bound) (r : Option (List Bound))

@@ -5,10 +5,10 @@ use Rattle.vba_lexer.specs.declared.number.TypeSuffix.{TypeSuffix}
 use Rattle.vba_values.specs.Types.{Declared}
 use Rattle.vba_expression.specs.Tree.{Expr}
 use Rattle.vba_tree.specs.Tree.{DeclaredType, TypeClause, Constant}
-use Rattle.binder.specs.Types.{written_type, clause_type}
-use Rattle.binder.specs.Declarations.{What, Own}
-use Rattle.binder.specs.Scopes.{Space, Scope}
-use Rattle.binder.specs.Constants.{Known, names_in, value_by, length_by, constant_by, first_by, entry_by, own_by, home, known_value, known_length}
+use Rattle.declared_names.specs.binder.specs.Types.{written_type, clause_type}
+use Rattle.declared_names.specs.binder.specs.Declarations.{What, Own}
+use Rattle.declared_names.specs.binder.specs.Scopes.{Space, Scope}
+use Rattle.declared_names.specs.binder.specs.Constants.{Known, names_in, value_by, length_by, constant_by, first_by, entry_by, own_by, home, known_value, known_length}
 use Rattle.declared_names.specs.View.{scope_view}
 use Rattle.constant_values.specs.declared.own.Constants.{Constants}
 use Rattle.constant_values.specs.Names.{Names, values, names_from}

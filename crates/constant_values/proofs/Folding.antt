@@ -9,8 +9,8 @@ use Rattle.vba_expression.specs.declared.tree.TypeQualifier.{TypeQualifier}
 use Rattle.vba_expression.specs.Tree.{Expr, literal, me, name, with_member, member, index, parenthesised, new, type_of, unary, binary}
 use Rattle.vba_expression.specs.Nodes.{Item, tree, arguments, no_token, as_tree, last_tree, rest, behind_node, behind_nodes, tree_in}
 use Rattle.vba_expression.specs.Reader.{behind_dot, new_behind_dot, type_of_behind_dot}
-use Rattle.binder.specs.Scopes.{Scope}
-use Rattle.binder.specs.Constants.{value_by}
+use Rattle.declared_names.specs.binder.specs.Scopes.{Scope}
+use Rattle.declared_names.specs.binder.specs.Constants.{value_by}
 use Rattle.constant_values.specs.Names.{Names, nothing, values, names_from}
 use Rattle.constant_values.specs.Stack.{Outcome, outcome, member_outcome, last, others, behind_outcome, behind_outcomes, item_outcome}
 

@@ -3,8 +3,8 @@ use Rattle.std.proofs.Common.{◌≡◌, ℕ, zero, suc, ◌+◌, ◌-◌, ◌�
 use Rattle.std.proofs.lemmas.List.{length-map, map-append}
 use Rattle.std.specs.declared.alloc.Global.{Global}
 use Rattle.std.specs.declared.vec.Vec.{Vec}
-use Rattle.binder.specs.Scopes.{Space, Scope}
-use Rattle.binder.specs.Constants.{Known, all_entries}
+use Rattle.declared_names.specs.binder.specs.Scopes.{Space, Scope}
+use Rattle.declared_names.specs.binder.specs.Constants.{Known, all_entries}
 use Rattle.declared_names.specs.Outside.{the_outside}
 use Rattle.declared_names.specs.View.{local_view, scope_view}
 use Rattle.declared_names.specs.declared.scope.Scope.{Scope as RustScope}

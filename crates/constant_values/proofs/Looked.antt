@@ -3,10 +3,10 @@ use Rattle.std.proofs.Common.{◌≡◌, ℕ, zero, suc, ◌+◌, Bool, true, fa
 use Rattle.std.specs.Prelude.{option_map, option_and_then, slice_get, if◌then◌else◌, drop}
 use Rattle.vba_words.specs.declared.identifier.Identifier.{Identifier}
 use Rattle.vba_expression.specs.Tree.{Expr, literal, me, name, with_member, member, index, parenthesised, new, type_of, unary, binary}
-use Rattle.binder.specs.Options.{or_else}
-use Rattle.binder.specs.Sources.{Source}
-use Rattle.binder.specs.Declarations.{What, a_variable, a_constant, an_enum, a_member, a_type, an_event, a_procedure, Entry, Local}
-use Rattle.binder.specs.Scopes.{Space, Scope, spaces_from, Use, plainly, called, before_dot, Meant, of_procedure, of_module, a_module, the_library, of_host, of_library, first_at, is_named, is_member, member_among, counts, counts_here, is_seen, seen_from, has_dollar, is_library_word, entry_of, module_named, in_modules, module_before_dot, in_project, in_outside, declares, Qualifier, module_qualifier, enum_qualifier, library_qualifier, behind, as_qualifier, enum_behind, qualifier_of}
+use Rattle.declared_names.specs.binder.specs.Options.{or_else}
+use Rattle.declared_names.specs.binder.specs.Sources.{Source}
+use Rattle.declared_names.specs.binder.specs.Declarations.{What, a_variable, a_constant, an_enum, a_member, a_type, an_event, a_procedure, Entry, Local}
+use Rattle.declared_names.specs.binder.specs.Scopes.{Space, Scope, spaces_from, Use, plainly, called, before_dot, Meant, of_procedure, of_module, a_module, the_library, of_host, of_library, first_at, is_named, is_member, member_among, counts, counts_here, is_seen, seen_from, has_dollar, is_library_word, entry_of, module_named, in_modules, module_before_dot, in_project, in_outside, declares, Qualifier, module_qualifier, enum_qualifier, library_qualifier, behind, as_qualifier, enum_behind, qualifier_of}
 use Rattle.constant_values.specs.Rounds.{AreNumbered, IsPlaced, IsThere, IsPlace}
 
 -- ---- lists

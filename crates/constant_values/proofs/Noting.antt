@@ -14,7 +14,7 @@ use Rattle.std.specs.List.{list_all}
 use Rattle.vba_values.specs.declared.value.Bound.{Bound}
 use Rattle.arrays_udt.specs.Shapes.{is_ordered, elements}
 use Rattle.vba_tree.specs.Tree.{Dim, upper}
-use Rattle.binder.specs.Constants.{unless, stepped, turn_fault, order_fault, many_elements, place_of_expression}
+use Rattle.declared_names.specs.binder.specs.Constants.{unless, stepped, turn_fault, order_fault, many_elements, place_of_expression}
 use Rattle.constant_values.specs.Bounds.{first_expression}
 
 pub noted_if : (found : Option Refusal) (b : Bool) (place : Place) → least_of found (broken_if b 20 place) ≡ least_of found (broken 20 (place_if b place))

@@ -4,10 +4,10 @@ use Rattle.std.specs.Prelude.{option_map, option_and_then, slice_get}
 use Rattle.std.proofs.lemmas.Option.{slice_get-map}
 use Rattle.vba_words.specs.declared.identifier.Identifier.{Identifier}
 use Rattle.vba_expression.specs.Tree.{Expr, literal, me, name, with_member, member, index, parenthesised, new, type_of, unary, binary}
-use Rattle.binder.specs.Declarations.{Entry, Local}
-use Rattle.binder.specs.Scopes.{Outside, Space, Scope, plainly, Meant, of_procedure, of_module, a_module, the_library, of_host, of_library, declares, behind, Qualifier, qualifier_of}
-use Rattle.binder.specs.Names.{scope_of}
-use Rattle.binder.specs.Constants.{Known, entry_by, own_by, meant_by, named_within, value_by, known_value, names_in}
+use Rattle.declared_names.specs.binder.specs.Declarations.{Entry, Local}
+use Rattle.declared_names.specs.binder.specs.Scopes.{Outside, Space, Scope, plainly, Meant, of_procedure, of_module, a_module, the_library, of_host, of_library, declares, behind, Qualifier, qualifier_of}
+use Rattle.declared_names.specs.binder.specs.Names.{scope_of}
+use Rattle.declared_names.specs.binder.specs.Constants.{Known, entry_by, own_by, meant_by, named_within, value_by, known_value, names_in}
 use Rattle.constant_values.specs.Names.{Names, nothing, values, slot_at, entry_at, value_of, names_from, space_by, entries_by, locals_by}
 use Rattle.constant_values.specs.Rounds.{AreNumbered, IsPlaced, IsThere, space_round, entries_round, locals_round, longest}
 use Rattle.constant_values.proofs.Looked.{declared_there, member_there_in, placed_at}

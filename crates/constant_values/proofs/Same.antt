@@ -5,10 +5,10 @@ use Rattle.vba_lexer.specs.declared.number.TypeSuffix.{TypeSuffix}
 use Rattle.vba_values.specs.Types.{Declared}
 use Rattle.vba_expression.specs.Tree.{Expr, literal, me, name, with_member, member, index, parenthesised, new, type_of, unary, binary}
 use Rattle.vba_tree.specs.Tree.{DeclaredType, named, fixed_text, TypeClause, Constant}
-use Rattle.binder.specs.Declarations.{What, a_variable, a_constant, an_enum, a_member, a_type, an_event, a_procedure, Own, the_result, a_parameter, a_local, a_local_constant, an_array, undeclared}
-use Rattle.binder.specs.Scopes.{Scope}
-use Rattle.binder.specs.Types.{written_type, clause_type}
-use Rattle.binder.specs.Constants.{Known, with_one, with_two, compare_in, value_by, coerced, as_length, long_of, length_by, constant_by, stepped, first_by, entry_by, own_by}
+use Rattle.declared_names.specs.binder.specs.Declarations.{What, a_variable, a_constant, an_enum, a_member, a_type, an_event, a_procedure, Own, the_result, a_parameter, a_local, a_local_constant, an_array, undeclared}
+use Rattle.declared_names.specs.binder.specs.Scopes.{Scope}
+use Rattle.declared_names.specs.binder.specs.Types.{written_type, clause_type}
+use Rattle.declared_names.specs.binder.specs.Constants.{Known, with_one, with_two, compare_in, value_by, coerced, as_length, long_of, length_by, constant_by, stepped, first_by, entry_by, own_by}
 
 -- names have the same values in a scope
 pub record SameNames (m n : Scope → Expr → Option Known) (s : Scope) : Type 0 where

@@ -11,7 +11,7 @@ use Rattle.vba_values.specs.declared.types.WholeKind.TheVariants as kind
 use Rattle.vba_values.specs.Types.{Declared}
 use Rattle.vba_values.specs.Types as type
 use Rattle.vba_values.specs.Val.{Val, empty, null, missing, boolean, whole, currency, text, object, array, udt}
-use Rattle.binder.specs.Constants.{Known}
+use Rattle.declared_names.specs.binder.specs.Constants.{Known}
 use Rattle.constant_values.specs.Slots.{is_nothing, is_same_of, is_same_value, is_same_slot, are_same_slots, are_same_tables}
 
 same_of : (a b : Declared) → is_same_of a b ≡ true → a ≡ b

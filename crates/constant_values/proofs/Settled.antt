@@ -3,8 +3,8 @@ use Rattle.std.proofs.Common.{◌≡◌, ℕ, zero, suc, ◌+◌, ◌-◌, ◌�
 use Rattle.std.specs.Prelude.{bytes_eq, ℤ}
 use Rattle.std.specs.Ordering.{int_eq}
 use Rattle.std.specs.Bool.{beq}
-use Rattle.binder.specs.Scopes.{Outside, Space, Scope}
-use Rattle.binder.specs.Constants.{Known, all_entries}
+use Rattle.declared_names.specs.binder.specs.Scopes.{Outside, Space, Scope}
+use Rattle.declared_names.specs.binder.specs.Constants.{Known, all_entries}
 use Rattle.declared_names.specs.Outside.{the_outside}
 use Rattle.constant_values.specs.Names.{nothing, values, entries_by, locals_by}
 use Rattle.constant_values.specs.Rounds.{AreNumbered, IsPlaced, entries_round, locals_round, longest, rounds_from}

@@ -1,3 +1,4 @@
+pub use Rattle.declared_names
 pub mod Bounds
 pub mod Names
 pub mod Rounds

@@ -2,9 +2,9 @@
 use Rattle.std.specs.Prelude.{ℕ, List, [], ◌∷◌, map, Option, Some, None, option_map, option_and_then, slice_get}
 use Rattle.vba_words.specs.declared.identifier.Identifier.{Identifier}
 use Rattle.vba_expression.specs.Tree.{Expr, name, member}
-use Rattle.binder.specs.Scopes.{Outside, Space, Scope, plainly, Meant, of_procedure, of_module, of_library, declares, behind, qualifier_of}
-use Rattle.binder.specs.Names.{scope_of}
-use Rattle.binder.specs.Constants.{Known, typed, entry_by, own_by}
+use Rattle.declared_names.specs.binder.specs.Scopes.{Outside, Space, Scope, plainly, Meant, of_procedure, of_module, of_library, declares, behind, qualifier_of}
+use Rattle.declared_names.specs.binder.specs.Names.{scope_of}
+use Rattle.declared_names.specs.binder.specs.Constants.{Known, typed, entry_by, own_by}
 
 -- what is known of names: nothing yet, or the values of the entries of modules and of the names of a procedure, by their numbers
 pub data Names : Type 0 where

@@ -1,8 +1,8 @@
 -- What tables of values hold, and where they may be asked.
 use Rattle.std.specs.Prelude.{◌≡◌, ℕ, zero, suc, ◌+◌, List, [], ◌∷◌, length, map, Option, Some, slice_get}
-use Rattle.binder.specs.Scopes.{Outside, Space, Scope, Meant, of_procedure, of_module, a_module, Qualifier, module_qualifier, enum_qualifier}
-use Rattle.binder.specs.Names.{scope_of}
-use Rattle.binder.specs.Constants.{Known, entry_by, own_by, named_within, all_entries}
+use Rattle.declared_names.specs.binder.specs.Scopes.{Outside, Space, Scope, Meant, of_procedure, of_module, a_module, Qualifier, module_qualifier, enum_qualifier}
+use Rattle.declared_names.specs.binder.specs.Names.{scope_of}
+use Rattle.declared_names.specs.binder.specs.Constants.{Known, entry_by, own_by, named_within, all_entries}
 
 -- each module of a project has its place as its number
 abbrev pub AreNumbered : List Space → Type 0

@@ -9,7 +9,7 @@ use Rattle.vba_values.specs.Coerce.{is_same_type}
 use Rattle.vba_values.specs.Types.{Declared}
 use Rattle.vba_values.specs.Types as type
 use Rattle.vba_values.specs.Val.{Val, empty, null, boolean, whole, currency, text, object}
-use Rattle.binder.specs.Constants.{Known}
+use Rattle.declared_names.specs.binder.specs.Constants.{Known}
 
 -- no value of a constant expression is an array
 abbrev pub is_same_of : Declared → Declared → Bool

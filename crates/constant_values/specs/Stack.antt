@@ -5,8 +5,8 @@ use Rattle.vba_expression.specs.declared.node.ExpressionNode.{ExpressionNode}
 use Rattle.vba_expression.specs.declared.node.ExpressionNode.TheVariants as node
 use Rattle.vba_expression.specs.Tree.{Expr, name}
 use Rattle.vba_expression.specs.Nodes.{Item, as_tree}
-use Rattle.binder.specs.Scopes.{Scope, plainly, Qualifier, behind, enum_behind, qualifier_of}
-use Rattle.binder.specs.Constants.{Known, typed, literal_meant, with_one, with_two, compare_in, value_by}
+use Rattle.declared_names.specs.binder.specs.Scopes.{Scope, plainly, Qualifier, behind, enum_behind, qualifier_of}
+use Rattle.declared_names.specs.binder.specs.Constants.{Known, typed, literal_meant, with_one, with_two, compare_in, value_by}
 use Rattle.constant_values.specs.Names.{Names, value_of, names_from}
 
 -- what counts of an expression: its value, and what it is before a dot

@@ -2,8 +2,8 @@
 use Rattle.std.specs.Prelude.{◌≡◌, ◌≤◌, ◌+◌, ℕ, zero, suc, true, false, List, [], ◌∷◌, map, length, Option, Some, None}
 use Rattle.std.specs.declared.alloc.Global.{Global}
 use Rattle.std.specs.declared.vec.Vec.{Vec}
-use Rattle.binder.specs.Scopes.{Outside, Space, Scope}
-use Rattle.binder.specs.Constants.{Known, all_entries}
+use Rattle.declared_names.specs.binder.specs.Scopes.{Outside, Space, Scope}
+use Rattle.declared_names.specs.binder.specs.Constants.{Known, all_entries}
 use Rattle.declared_names.specs.Outside.{the_outside}
 use Rattle.declared_names.specs.View.{scope_view}
 use Rattle.constant_values.specs.declared.known.Known.{Known as Slot}

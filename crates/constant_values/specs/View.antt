@@ -5,8 +5,8 @@ use Rattle.std.specs.declared.vec.Vec.{Vec}
 use Rattle.vba_values.specs.View.{view as value_view}
 use Rattle.bound_project.specs.View.{declared_view}
 use Rattle.vba_expression.specs.Tree.{name}
-use Rattle.binder.specs.Scopes.{Scope}
-use Rattle.binder.specs.Constants as plain
+use Rattle.declared_names.specs.binder.specs.Scopes.{Scope}
+use Rattle.declared_names.specs.binder.specs.Constants as plain
 use Rattle.declared_names.specs.View.{qualifier_view}
 use Rattle.constant_values.specs.Names as plain_names
 use Rattle.constant_values.specs.Stack.{Outcome, with_value, outcome, member_outcome}

@@ -4,8 +4,8 @@ ghost use Rattle.std.specs.Prelude.{◌≡◌, IfOk, Some, option_map, slice_get
 ghost use Rattle.bound_project.specs.View.{declared_view};
 ghost use Rattle.vba_expression.specs.View.{view};
 ghost use Rattle.vba_tree.specs.View.{constant_view, declared_type_view, dim_view, dims_view, type_clause_view};
-ghost use Rattle.binder.specs.Types as types;
-ghost use Rattle.binder.specs.Constants as plain;
+ghost use Rattle.declared_names.specs.binder.specs.Types as types;
+ghost use Rattle.declared_names.specs.binder.specs.Constants as plain;
 ghost use Rattle.declared_names.specs.View.{meant_view, scope_view, space_view, what_view};
 ghost use Rattle.constant_values.specs.Rounds.{IsThere};
 ghost use Rattle.constant_values.specs.Tables.{AreConstants, constants_names};

@@ -3,7 +3,7 @@
 ghost use Rattle.std.specs.Prelude.{◌≡◌, ◌∷◌, IfOk, OnOk, option_map};
 ghost use Rattle.vba_expression.specs.Tree.{name as name_expression};
 ghost use Rattle.vba_expression.specs.View.{view};
-ghost use Rattle.binder.specs.Constants as plain;
+ghost use Rattle.declared_names.specs.binder.specs.Constants as plain;
 ghost use Rattle.declared_names.specs.View.{qualifier_view, scope_view};
 ghost use Rattle.constant_values.specs.Names.{names_from};
 ghost use Rattle.constant_values.specs.Names as plain_names;

@@ -8,7 +8,7 @@ ghost use Rattle.vba_expression.specs.View.{view};
 ghost use Rattle.vba_module.specs.Misplaced.{place_if};
 ghost use Rattle.vba_module.specs.Verdict.{broken};
 ghost use Rattle.vba_tree.specs.View.{constant_view, declared_type_view, parameter_view, type_clause_view};
-ghost use Rattle.binder.specs.Constants as plain;
+ghost use Rattle.declared_names.specs.binder.specs.Constants as plain;
 ghost use Rattle.declared_names.specs.View.{scope_view};
 ghost use Rattle.constant_values.specs.Tables.{AreConstants};
 
@@ -16,7 +16,7 @@ use crate::api::{clause_type, constant_value, first_value, known_value};
 use crate::constant::stepped;
 use crate::operate::{as_length, coerced, long_of};
 use crate::own::Constants;
-use module_parts::expression_place;
+use declared_names::module_parts::expression_place;
 use refusal_order::note_if;
 use std::alloc::Global;
 use vba_base::{NoMemory, Place, Refusal};

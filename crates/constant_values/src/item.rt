@@ -4,7 +4,7 @@ ghost use Rattle.std.specs.Prelude.{◌≡◌, ◌∷◌, OnOk};
 ghost use Rattle.constant_values.specs.Stack.{last, others};
 ghost use Rattle.constant_values.specs.Names as plain;
 ghost use Rattle.constant_values.specs.View.{item_view, outcomes};
-ghost use Rattle.binder.specs.Scopes.{Scope as PlainScope};
+ghost use Rattle.declared_names.specs.binder.specs.Scopes.{Scope as PlainScope};
 
 use crate::known::Known;
 use declared_names::Qualifier;

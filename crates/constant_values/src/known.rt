@@ -3,7 +3,7 @@
 ghost use Rattle.std.specs.Prelude.{◌≡◌, IfOk};
 ghost use Rattle.vba_values.specs.View.{view};
 ghost use Rattle.bound_project.specs.View.{declared_view};
-ghost use Rattle.binder.specs.Constants as plain;
+ghost use Rattle.declared_names.specs.binder.specs.Constants as plain;
 ghost use Rattle.constant_values.specs.View.{known_view, slot_view};
 
 use bound_project::{DeclaredType, ElementType};

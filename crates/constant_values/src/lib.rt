@@ -29,3 +29,6 @@ pub use literals::{literal_meant, operator_kind, unary_kind};
 pub use operate::{coerced, is_variant};
 pub use own::{Constants, OwnValues, constants_in, own_values};
 pub use project::{ProjectValues, project_values};
+
+// What stands below, for the crates above.
+pub use declared_names;

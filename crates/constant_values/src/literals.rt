@@ -2,7 +2,7 @@
 
 ghost use Rattle.std.specs.Prelude.{◌≡◌, IfOk};
 ghost use Rattle.vba_values.specs.View.{view};
-ghost use Rattle.binder.specs.Constants as plain;
+ghost use Rattle.declared_names.specs.binder.specs.Constants as plain;
 
 use currency::from_count;
 use std::alloc::Global;

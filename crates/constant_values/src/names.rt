@@ -2,7 +2,7 @@
 
 ghost use Rattle.std.specs.Prelude.{◌≡◌, IfOk, option_map};
 ghost use Rattle.declared_names.specs.View.{meant_view, scope_view};
-ghost use Rattle.binder.specs.Constants.{typed};
+ghost use Rattle.declared_names.specs.binder.specs.Constants.{typed};
 ghost use Rattle.vba_lib.specs.Names.{constant_named};
 ghost use Rattle.constant_values.specs.Names.{entry_at, slot_at, value_of};
 ghost use Rattle.constant_values.specs.View.{names_view, slot_view, slots_view, tables_view};

@@ -7,7 +7,7 @@ ghost use Rattle.vba_values.specs.Val.{Val};
 ghost use Rattle.vba_values.specs.View.{view};
 ghost use Rattle.vba_values.specs.declared.fault.Bad.{Bad};
 ghost use Rattle.bound_project.specs.View.{declared_view};
-ghost use Rattle.binder.specs.Constants as plain;
+ghost use Rattle.declared_names.specs.binder.specs.Constants as plain;
 ghost use Rattle.constant_values.specs.View.{known_view, slot_view};
 
 use crate::known::{Known, value_type};

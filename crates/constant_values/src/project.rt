@@ -1,7 +1,7 @@
 //! The values of the entries of a project, round by round.
 
 ghost use Rattle.std.specs.Prelude.{◌≡◌, [], IfOk, map};
-ghost use Rattle.binder.specs.Constants.{all_entries};
+ghost use Rattle.declared_names.specs.binder.specs.Constants.{all_entries};
 ghost use Rattle.declared_names.specs.Outside.{the_outside};
 ghost use Rattle.declared_names.specs.View.{space_view};
 ghost use Rattle.constant_values.specs.Names as plain;

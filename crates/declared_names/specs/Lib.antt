@@ -1,3 +1,5 @@
+pub use Rattle.binder
+pub use Rattle.module_parts
 pub mod Lookup
 pub mod Numbers
 pub mod Outside

@@ -52,3 +52,7 @@ pub use types::{
     type_meant,
 };
 pub use words::is_word;
+
+// What stands below, for the crates above.
+pub use binder;
+pub use module_parts;

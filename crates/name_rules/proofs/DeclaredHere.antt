@@ -5,25 +5,25 @@ use Rattle.std.specs.List.{list_any}
 use Rattle.vba_tree.specs.declared.procedure.EventLine.{EventLine}
 use Rattle.vba_tree.specs.View.{parameters_view}
 use Rattle.vba_module.specs.Headers.{parameters_of}
-use Rattle.module_parts.specs.View.{parts_view}
-use Rattle.declared_names.specs.Range.{range_items}
-use Rattle.declared_names.specs.View.{entry_view, what_view}
-use Rattle.declared_names.specs.declared.range.PartRange.{PartRange}
-use Rattle.declared_names.specs.declared.entry.Entry as code
-use Rattle.declared_names.specs.declared.entry.What.{What}
-use Rattle.declared_names.specs.declared.entry.What.TheVariants as what
+use Rattle.constant_values.specs.declared_names.specs.module_parts.specs.View.{parts_view}
+use Rattle.constant_values.specs.declared_names.specs.Range.{range_items}
+use Rattle.constant_values.specs.declared_names.specs.View.{entry_view, what_view}
+use Rattle.constant_values.specs.declared_names.specs.declared.range.PartRange.{PartRange}
+use Rattle.constant_values.specs.declared_names.specs.declared.entry.Entry as code
+use Rattle.constant_values.specs.declared_names.specs.declared.entry.What.{What}
+use Rattle.constant_values.specs.declared_names.specs.declared.entry.What.TheVariants as what
 use Rattle.vba_base.specs.declared.place.Place.{Place}
 use Rattle.vba_words.specs.declared.identifier.Identifier.{Identifier}
 use Rattle.vba_expression.specs.Tree.{Expr, name, Args, no_args, missing, plain}
 use Rattle.vba_expression.specs.Tree as expr
 use Rattle.vba_tree.specs.Tree.{Parameter, TypeClause}
 use Rattle.std.proofs.lemmas.List.{map-append}
-use Rattle.binder.specs.Declarations.{FieldWritten, fields_in, Local, Written, header_names}
-use Rattle.binder.specs.Said.{Said, declares, type_named, new_named, constant_expression, expression, redimmed, goes_to, raises, arguments_said, said_in_body}
-use Rattle.binder.specs.Said as say
-use Rattle.binder.specs.Scopes.{Scope, Use, plainly}
-use Rattle.binder.specs.Names.{Using, names_used, names_called, uses_of, redim_uses, usings, declared_here}
-use Rattle.binder.specs.Violations.{later, same_name, place_of_name, twice_in_procedure, twice_inside}
+use Rattle.constant_values.specs.declared_names.specs.binder.specs.Declarations.{FieldWritten, fields_in, Local, Written, header_names}
+use Rattle.constant_values.specs.declared_names.specs.binder.specs.Said.{Said, declares, type_named, new_named, constant_expression, expression, redimmed, goes_to, raises, arguments_said, said_in_body}
+use Rattle.constant_values.specs.declared_names.specs.binder.specs.Said as say
+use Rattle.constant_values.specs.declared_names.specs.binder.specs.Scopes.{Scope, Use, plainly}
+use Rattle.constant_values.specs.declared_names.specs.binder.specs.Names.{Using, names_used, names_called, uses_of, redim_uses, usings, declared_here}
+use Rattle.constant_values.specs.declared_names.specs.binder.specs.Violations.{later, same_name, place_of_name, twice_in_procedure, twice_inside}
 use Rattle.name_rules.specs.Naming.{declared_in, names_in}
 
 uses_declare : (xs : List (Use × Identifier)) (us : List Using) → declared_here (uses_of xs ++ us) ≡ declared_here us

@@ -6,13 +6,13 @@ use Rattle.std.proofs.lemmas.List.Concat.{flat_map-append}
 use Rattle.vba_base.specs.declared.place.Place.{Place}
 use Rattle.vba_base.specs.declared.place.Refusal.{Refusal}
 use Rattle.vba_words.specs.declared.identifier.Identifier.{Identifier}
-use Rattle.binder.specs.Declarations as plain
-use Rattle.binder.specs.Declarations.{What, a_variable, a_constant, an_enum, a_member, a_type, an_event, a_procedure, Written}
-use Rattle.binder.specs.Said.{Said, header_said}
-use Rattle.binder.specs.Scopes.{Scope}
-use Rattle.binder.specs.Violations.{in_body, procedures_in, recursive_in, types_said}
-use Rattle.declared_names.specs.declared.entry.Entry.{Entry}
-use Rattle.declared_names.specs.View.{entry_view}
+use Rattle.constant_values.specs.declared_names.specs.binder.specs.Declarations as plain
+use Rattle.constant_values.specs.declared_names.specs.binder.specs.Declarations.{What, a_variable, a_constant, an_enum, a_member, a_type, an_event, a_procedure, Written}
+use Rattle.constant_values.specs.declared_names.specs.binder.specs.Said.{Said, header_said}
+use Rattle.constant_values.specs.declared_names.specs.binder.specs.Scopes.{Scope}
+use Rattle.constant_values.specs.declared_names.specs.binder.specs.Violations.{in_body, procedures_in, recursive_in, types_said}
+use Rattle.constant_values.specs.declared_names.specs.declared.entry.Entry.{Entry}
+use Rattle.constant_values.specs.declared_names.specs.View.{entry_view}
 use Rattle.use_rules.specs.Found.{noted}
 use Rattle.use_rules.specs.Walked.{walked}
 use Rattle.use_rules.proofs.Noted.{noted_append}

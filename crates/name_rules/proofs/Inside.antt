@@ -4,9 +4,9 @@ use Rattle.std.specs.Prelude.{flat_map, is_some, Result, Ok, Err, OnOk}
 use Rattle.vba_base.specs.declared.place.Place.{Place}
 use Rattle.vba_base.specs.declared.place.Refusal.{Refusal}
 use Rattle.vba_module.specs.Parts.{Part}
-use Rattle.binder.specs.Declarations.{Written}
-use Rattle.binder.specs.Said.{Said, header_said}
-use Rattle.binder.specs.Violations.{in_body}
+use Rattle.constant_values.specs.declared_names.specs.binder.specs.Declarations.{Written}
+use Rattle.constant_values.specs.declared_names.specs.binder.specs.Said.{Said, header_said}
+use Rattle.constant_values.specs.declared_names.specs.binder.specs.Violations.{in_body}
 use Rattle.use_rules.specs.Found.{noted}
 use Rattle.use_rules.specs.Walked.{walked}
 use Rattle.name_rules.proofs.Gathered.{header_noted}

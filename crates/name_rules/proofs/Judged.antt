@@ -8,8 +8,8 @@ use Rattle.refusal_order.specs.Least.{least_of, least_of_both}
 use Rattle.refusal_order.proofs.LeastFound.{least_of_append}
 use Rattle.vba_module.specs.Misplaced.{place_if}
 use Rattle.vba_module.specs.Verdict.{broken}
-use Rattle.binder.specs.Options.{or_else}
-use Rattle.binder.specs.Violations.{first_broken}
+use Rattle.constant_values.specs.declared_names.specs.binder.specs.Options.{or_else}
+use Rattle.constant_values.specs.declared_names.specs.binder.specs.Violations.{first_broken}
 use Rattle.name_rules.specs.Judged.{least_of_eight}
 use Rattle.use_rules.specs.Found.{noted}
 use Rattle.use_rules.proofs.Noted.{noted_broken, noted_alone}

@@ -7,7 +7,7 @@ use Rattle.std.proofs.lemmas.List.Folds.{list_any-append}
 use Rattle.vba_base.specs.declared.place.Place.{Place}
 use Rattle.vba_base.specs.declared.place.Refusal.{Refusal}
 use Rattle.vba_module.specs.Misplaced.{place_if}
-use Rattle.binder.specs.Violations.{later}
+use Rattle.constant_values.specs.declared_names.specs.binder.specs.Violations.{later}
 use Rattle.use_rules.specs.Found.{noted}
 use Rattle.use_rules.proofs.Noted.{noted_append}
 

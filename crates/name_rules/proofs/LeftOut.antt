@@ -8,14 +8,14 @@ use Rattle.refusal_order.specs.Least.{least_of}
 use Rattle.vba_words.specs.declared.identifier.Identifier.{Identifier}
 use Rattle.vba_tree.specs.Tree.{Parameter}
 use Rattle.vba_module.specs.Verdict.{broken}
-use Rattle.binder.specs.Declarations.{What, a_variable, a_constant, an_enum, a_member, a_type, an_event, a_procedure, Written}
-use Rattle.binder.specs.LeftOut.{entry_left_out, event_left_out, parameters_left_out, procedure_left_out, said_left_out, suffix_left_out}
-use Rattle.binder.specs.Names.{scope_in}
-use Rattle.binder.specs.Said.{Said, entry_said}
-use Rattle.binder.specs.Scopes.{Scope}
-use Rattle.binder.specs.Violations.{in_body, procedures_in}
-use Rattle.declared_names.specs.declared.entry.Entry.{Entry}
-use Rattle.declared_names.specs.View.{entry_view}
+use Rattle.constant_values.specs.declared_names.specs.binder.specs.Declarations.{What, a_variable, a_constant, an_enum, a_member, a_type, an_event, a_procedure, Written}
+use Rattle.constant_values.specs.declared_names.specs.binder.specs.LeftOut.{entry_left_out, event_left_out, parameters_left_out, procedure_left_out, said_left_out, suffix_left_out}
+use Rattle.constant_values.specs.declared_names.specs.binder.specs.Names.{scope_in}
+use Rattle.constant_values.specs.declared_names.specs.binder.specs.Said.{Said, entry_said}
+use Rattle.constant_values.specs.declared_names.specs.binder.specs.Scopes.{Scope}
+use Rattle.constant_values.specs.declared_names.specs.binder.specs.Violations.{in_body, procedures_in}
+use Rattle.constant_values.specs.declared_names.specs.declared.entry.Entry.{Entry}
+use Rattle.constant_values.specs.declared_names.specs.View.{entry_view}
 use Rattle.use_rules.specs.Found.{noted}
 use Rattle.use_rules.proofs.Noted.{noted_append, noted_broken}
 

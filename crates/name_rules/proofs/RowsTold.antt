@@ -2,7 +2,7 @@
 use Rattle.std.proofs.Common.{◌≡◌, ℕ, zero, suc, Bool, false, ◌||◌, List, [], ◌∷◌, map, refl, sym, ap, ◌∙◌}
 use Rattle.std.specs.Prelude.{◌==◌}
 use Rattle.std.specs.List.{list_any}
-use Rattle.binder.specs.Violations.{leads, held_by}
+use Rattle.constant_values.specs.declared_names.specs.binder.specs.Violations.{leads, held_by}
 use Rattle.name_rules.specs.Rows.{told, next_row, row_of}
 
 told_by : (f : List ℕ → Bool) → f [] ≡ false → (types : List (List ℕ)) (n : ℕ) → told (map f types) n ≡ f (held_by types n)

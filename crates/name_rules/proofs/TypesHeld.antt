@@ -6,10 +6,10 @@ use Rattle.std.specs.declared.alloc.Global.{Global}
 use Rattle.vba_words.specs.declared.identifier.Identifier.{Identifier}
 use Rattle.vba_values.specs.Types.{Declared}
 use Rattle.vba_values.specs.Types as type
-use Rattle.binder.specs.Declarations.{FieldWritten, What, a_variable, a_constant, an_enum, a_member, a_type, an_event, a_procedure, Entry}
-use Rattle.binder.specs.Scopes.{Scope}
-use Rattle.binder.specs.Types.{written_type}
-use Rattle.binder.specs.Violations.{held_in, types_of_entries}
+use Rattle.constant_values.specs.declared_names.specs.binder.specs.Declarations.{FieldWritten, What, a_variable, a_constant, an_enum, a_member, a_type, an_event, a_procedure, Entry}
+use Rattle.constant_values.specs.declared_names.specs.binder.specs.Scopes.{Scope}
+use Rattle.constant_values.specs.declared_names.specs.binder.specs.Types.{written_type}
+use Rattle.constant_values.specs.declared_names.specs.binder.specs.Violations.{held_in, types_of_entries}
 use Rattle.name_rules.specs.Held.{held_of_type, held_list, number_in_field}
 
 -- the Type of a field, or none

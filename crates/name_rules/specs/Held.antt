@@ -2,9 +2,9 @@
 use Rattle.std.specs.Prelude.{ℕ, List, [], ◌∷◌, Option, Some, None}
 use Rattle.vba_values.specs.Types.{Declared}
 use Rattle.vba_values.specs.Types as type
-use Rattle.binder.specs.Declarations.{FieldWritten}
-use Rattle.binder.specs.Scopes.{Scope}
-use Rattle.binder.specs.Types.{written_type}
+use Rattle.constant_values.specs.declared_names.specs.binder.specs.Declarations.{FieldWritten}
+use Rattle.constant_values.specs.declared_names.specs.binder.specs.Scopes.{Scope}
+use Rattle.constant_values.specs.declared_names.specs.binder.specs.Types.{written_type}
 
 -- the number of a Type
 abbrev pub held_of_type : Declared → Option ℕ

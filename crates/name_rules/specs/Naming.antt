@@ -1,8 +1,8 @@
 -- Serves the code: the names that procedures declare.
 use Rattle.std.specs.Prelude.{List, [], ◌∷◌, ◌++◌, map, Option, Some, None}
 use Rattle.vba_words.specs.declared.identifier.Identifier.{Identifier}
-use Rattle.binder.specs.Declarations.{Local, Written, header_names}
-use Rattle.binder.specs.Said.{Said, declares, said_in_body}
+use Rattle.constant_values.specs.declared_names.specs.binder.specs.Declarations.{Local, Written, header_names}
+use Rattle.constant_values.specs.declared_names.specs.binder.specs.Said.{Said, declares, said_in_body}
 
 -- what is declared, of all that is said
 abbrev pub declared_in : List Said → List Local

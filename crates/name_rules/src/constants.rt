@@ -1,22 +1,22 @@
 //! S20: what must be constant and isn't, entry by entry and procedure by procedure.
 
 ghost use Rattle.std.specs.Prelude.{◌≡◌, OnOk, map, flat_map, option_map};
-ghost use Rattle.binder.specs.Constants as plain;
-ghost use Rattle.binder.specs.Violations as violations;
+ghost use Rattle.constant_values.specs.declared_names.specs.binder.specs.Constants as plain;
+ghost use Rattle.constant_values.specs.declared_names.specs.binder.specs.Violations as violations;
 ghost use Rattle.constant_values.specs.Rounds.{IsPlaced};
 ghost use Rattle.constant_values.specs.Tables.{AreConstants, AreProjectValues};
-ghost use Rattle.declared_names.specs.View.{entry_view, local_view, own_view, scope_view, written_view};
+ghost use Rattle.constant_values.specs.declared_names.specs.View.{entry_view, local_view, own_view, scope_view, written_view};
 ghost use Rattle.said_parts.specs.View.{field_view};
 ghost use Rattle.use_rules.specs.Found.{noted};
 ghost use Rattle.vba_module.specs.Headers.{all_of, parameters_of};
 ghost use Rattle.vba_expression.specs.View.{view};
 ghost use Rattle.vba_tree.specs.View.{constant_view, declared_type_view, dims_view, listed_view, new_type_clause_view, parameter_view, parameters_view, variable_view};
 
+use constant_values::declared_names::{Entry, Local, Own, Scope, What, Written};
 use constant_values::{
     Constants, ProjectValues, constants_in, note_clause_faults, note_constant_faults,
     note_default_faults, note_dims_faults, note_member_faults, note_type_faults, own_values,
 };
-use declared_names::{Entry, Local, Own, Scope, What, Written};
 use said_parts::fields_of;
 use std::alloc::Global;
 use vba_base::{NoMemory, Place, Refusal};

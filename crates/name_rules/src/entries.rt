@@ -1,12 +1,12 @@
 //! S15, S16 and S17 at the entries of a module.
 
 ghost use Rattle.std.specs.Prelude.{◌≡◌, [], ◌++◌, false, map, flat_map, option_map, OnOk};
-ghost use Rattle.binder.specs.Declarations.{fields_in};
-ghost use Rattle.binder.specs.Said.{entry_said};
-ghost use Rattle.binder.specs.Violations.{later, names_said, place_of_name, same_name, twice_inside, types_said};
-ghost use Rattle.declared_names.specs.Range.{range_items};
-ghost use Rattle.declared_names.specs.View.{entry_view, scope_view, what_view};
-ghost use Rattle.module_parts.specs.View.{parts_view};
+ghost use Rattle.constant_values.specs.declared_names.specs.binder.specs.Declarations.{fields_in};
+ghost use Rattle.constant_values.specs.declared_names.specs.binder.specs.Said.{entry_said};
+ghost use Rattle.constant_values.specs.declared_names.specs.binder.specs.Violations.{later, names_said, place_of_name, same_name, twice_inside, types_said};
+ghost use Rattle.constant_values.specs.declared_names.specs.Range.{range_items};
+ghost use Rattle.constant_values.specs.declared_names.specs.View.{entry_view, scope_view, what_view};
+ghost use Rattle.constant_values.specs.declared_names.specs.module_parts.specs.View.{parts_view};
 ghost use Rattle.said_parts.specs.View.{all_said};
 ghost use Rattle.use_rules.specs.Found.{noted};
 ghost use Rattle.vba_module.specs.Headers.{parameters_of};
@@ -14,7 +14,7 @@ ghost use Rattle.vba_tree.specs.View.{parameters_view};
 
 use crate::names_of::{names_of_fields, names_of_parameters};
 use crate::twice::note_twice;
-use declared_names::{Entry, PartRange, Scope, What};
+use constant_values::declared_names::{Entry, PartRange, Scope, What};
 use said_parts::{
     Said, fields_of, push_constant, push_fields, push_parameters, push_said, push_variable,
 };

@@ -2,7 +2,7 @@
 
 ghost use Rattle.std.specs.Prelude.{◌≡◌, [], map};
 ghost use Rattle.std.specs.List.{list_any};
-ghost use Rattle.binder.specs.Violations.{later, place_of_label, same_label};
+ghost use Rattle.constant_values.specs.declared_names.specs.binder.specs.Violations.{later, place_of_label, same_label};
 ghost use Rattle.use_rules.specs.Found.{noted};
 
 use use_rules::{is_same_label, note_place, place_of_label};

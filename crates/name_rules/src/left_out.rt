@@ -1,11 +1,11 @@
 //! S23: where a project has what the language leaves out.
 
 ghost use Rattle.std.specs.Prelude.{◌≡◌, [], ◌∷◌, None, IfOk, OnOk, flat_map, map, option_map};
-ghost use Rattle.binder.specs.LeftOut.{entry_left_out, event_left_out, first_left_out, left_out_in, parameters_left_out, procedure_left_out, suffix_left_out};
-ghost use Rattle.binder.specs.Names.{scope_in, scope_of};
-ghost use Rattle.binder.specs.Violations.{procedures_in};
-ghost use Rattle.declared_names.specs.Outside.{the_outside};
-ghost use Rattle.declared_names.specs.View.{entry_view, scope_view, space_view, what_view, written_view};
+ghost use Rattle.constant_values.specs.declared_names.specs.binder.specs.LeftOut.{entry_left_out, event_left_out, first_left_out, left_out_in, parameters_left_out, procedure_left_out, suffix_left_out};
+ghost use Rattle.constant_values.specs.declared_names.specs.binder.specs.Names.{scope_in, scope_of};
+ghost use Rattle.constant_values.specs.declared_names.specs.binder.specs.Violations.{procedures_in};
+ghost use Rattle.constant_values.specs.declared_names.specs.Outside.{the_outside};
+ghost use Rattle.constant_values.specs.declared_names.specs.View.{entry_view, scope_view, space_view, what_view, written_view};
 ghost use Rattle.refusal_order.specs.Least.{least_of};
 ghost use Rattle.use_rules.specs.Found.{noted};
 ghost use Rattle.vba_module.specs.Headers.{parameters_of};
@@ -15,7 +15,7 @@ ghost use Rattle.vba_tree.specs.View.{parameters_view};
 use crate::entries::push_entry;
 use crate::names_of::names_of_parameters;
 use crate::procedures::scope_inside;
-use declared_names::{Entry, Scope, Space, What, Written};
+use constant_values::declared_names::{Entry, Scope, Space, What, Written};
 use procedure_names::locals_of;
 use said_parts::push_header;
 use std::alloc::Global;

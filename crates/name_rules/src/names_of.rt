@@ -1,16 +1,16 @@
 //! The names of fields, of parameters and of a procedure, in text order.
 
 ghost use Rattle.std.specs.Prelude.{◌≡◌, [], ◌∷◌, ◌++◌, map, flat_map, option_map, OnOk, IfOk};
-ghost use Rattle.binder.specs.Said.{said_in_part};
-ghost use Rattle.declared_names.specs.View.{local_view, written_view};
-ghost use Rattle.module_parts.specs.View.{part_view, parts_view};
+ghost use Rattle.constant_values.specs.declared_names.specs.binder.specs.Said.{said_in_part};
+ghost use Rattle.constant_values.specs.declared_names.specs.View.{local_view, written_view};
+ghost use Rattle.constant_values.specs.declared_names.specs.module_parts.specs.View.{part_view, parts_view};
 ghost use Rattle.name_rules.specs.Naming.{declared_in, name_list, names_in};
 ghost use Rattle.said_parts.specs.View.{all_said, field_view, said_view};
 ghost use Rattle.vba_module.specs.Headers.{all_of, parameters_of};
 ghost use Rattle.vba_tree.specs.View.{listed_view, parameter_view, parameters_view};
 
-use declared_names::{Local, Written, header_names};
-use module_parts::Part;
+use constant_values::declared_names::module_parts::Part;
+use constant_values::declared_names::{Local, Written, header_names};
 use said_parts::{Said, push_part};
 use std::alloc::Global;
 use vba_base::NoMemory;

@@ -1,13 +1,13 @@
 //! S15 to S20 at the procedures of a module.
 
 ghost use Rattle.std.specs.Prelude.{◌≡◌, [], ◌∷◌, map, flat_map, OnOk};
-ghost use Rattle.binder.specs.Names as names;
-ghost use Rattle.binder.specs.Names.{scope_in};
-ghost use Rattle.binder.specs.Said.{said_in_body};
-ghost use Rattle.binder.specs.Violations.{in_body, label_said, labels_in, later, names_said, place_of_label, place_of_name, procedure_faults, procedures_in, same_label, same_name, twice_in_procedure, types_said};
+ghost use Rattle.constant_values.specs.declared_names.specs.binder.specs.Names as names;
+ghost use Rattle.constant_values.specs.declared_names.specs.binder.specs.Names.{scope_in};
+ghost use Rattle.constant_values.specs.declared_names.specs.binder.specs.Said.{said_in_body};
+ghost use Rattle.constant_values.specs.declared_names.specs.binder.specs.Violations.{in_body, label_said, labels_in, later, names_said, place_of_label, place_of_name, procedure_faults, procedures_in, same_label, same_name, twice_in_procedure, types_said};
 ghost use Rattle.constant_values.specs.Rounds.{IsPlaced};
 ghost use Rattle.constant_values.specs.Tables.{AreProjectValues};
-ghost use Rattle.declared_names.specs.View.{entry_view, local_view, scope_view, written_view};
+ghost use Rattle.constant_values.specs.declared_names.specs.View.{entry_view, local_view, scope_view, written_view};
 ghost use Rattle.name_rules.specs.Naming.{names_in};
 ghost use Rattle.use_rules.specs.Found.{noted};
 
@@ -16,7 +16,7 @@ use crate::labelled::note_twice_labelled;
 use crate::names_of::names_of_procedure;
 use crate::twice::note_twice;
 use constant_values::ProjectValues;
-use declared_names::{Entry, Local, Scope, What, Written};
+use constant_values::declared_names::{Entry, Local, Scope, What, Written};
 use procedure_names::locals_of;
 use said_parts::push_header;
 use std::alloc::Global;

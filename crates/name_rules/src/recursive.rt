@@ -1,13 +1,13 @@
 //! S21: Types that hold themselves.
 
 ghost use Rattle.std.specs.Prelude.{◌≡◌, [], ◌∷◌, ◌++◌, List, ℕ, map, OnOk, IfOk, option_map};
-ghost use Rattle.binder.specs.Declarations.{Entry as PlainEntry};
-ghost use Rattle.binder.specs.Names.{scope_of};
-ghost use Rattle.binder.specs.Types.{written_type};
-ghost use Rattle.binder.specs.Violations as violations;
+ghost use Rattle.constant_values.specs.declared_names.specs.binder.specs.Declarations.{Entry as PlainEntry};
+ghost use Rattle.constant_values.specs.declared_names.specs.binder.specs.Names.{scope_of};
+ghost use Rattle.constant_values.specs.declared_names.specs.binder.specs.Types.{written_type};
+ghost use Rattle.constant_values.specs.declared_names.specs.binder.specs.Violations as violations;
 ghost use Rattle.bound_project.specs.View.{declared_view};
-ghost use Rattle.declared_names.specs.Outside.{the_outside};
-ghost use Rattle.declared_names.specs.View.{entry_view, scope_view, space_view, what_view};
+ghost use Rattle.constant_values.specs.declared_names.specs.Outside.{the_outside};
+ghost use Rattle.constant_values.specs.declared_names.specs.View.{entry_view, scope_view, space_view, what_view};
 ghost use Rattle.use_rules.specs.Found.{noted};
 ghost use Rattle.name_rules.specs.Held.{held_of_type, number_in_field};
 ghost use Rattle.said_parts.specs.View.{field_view};
@@ -15,7 +15,7 @@ ghost use Rattle.vba_tree.specs.View.{declared_type_view};
 
 use crate::rows::holds_itself;
 use bound_project::{DeclaredType, ElementType};
-use declared_names::{Entry, Scope, Space, What, named_type};
+use constant_values::declared_names::{Entry, Scope, Space, What, named_type};
 use said_parts::fields_of;
 use std::alloc::Global;
 use use_rules::note_place;

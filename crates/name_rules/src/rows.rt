@@ -2,7 +2,7 @@
 
 ghost use Rattle.std.specs.Prelude.{◌≡◌, ◌==◌, ◌||◌, [], ◌∷◌, ◌++◌, length, map, IfOk, OnOk};
 ghost use Rattle.std.specs.List.{list_any};
-ghost use Rattle.binder.specs.Violations.{leads};
+ghost use Rattle.constant_values.specs.declared_names.specs.binder.specs.Violations.{leads};
 ghost use Rattle.name_rules.specs.Rows.{told, next_row, row_of};
 
 use std::alloc::Global;

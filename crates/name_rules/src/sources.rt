@@ -2,16 +2,16 @@
 
 ghost use Rattle.std.specs.Prelude.{◌≡◌, ◌==◌, ◌&&◌, is_none, OnOk, IfOk, map, option_map, flat_map};
 ghost use Rattle.std.specs.List.{list_any};
-ghost use Rattle.binder.specs.Declarations.{Entry as PlainEntry};
-ghost use Rattle.binder.specs.Types.{written_type, class_number};
-ghost use Rattle.binder.specs.Violations as violations;
+ghost use Rattle.constant_values.specs.declared_names.specs.binder.specs.Declarations.{Entry as PlainEntry};
+ghost use Rattle.constant_values.specs.declared_names.specs.binder.specs.Types.{written_type, class_number};
+ghost use Rattle.constant_values.specs.declared_names.specs.binder.specs.Violations as violations;
 ghost use Rattle.bound_project.specs.View.{declared_view};
-ghost use Rattle.declared_names.specs.View.{entry_view, scope_view, space_view, what_view};
+ghost use Rattle.constant_values.specs.declared_names.specs.View.{entry_view, scope_view, space_view, what_view};
 ghost use Rattle.use_rules.specs.Found.{noted};
 ghost use Rattle.vba_tree.specs.View.{declared_type_view, new_type_clause_view, variable_view};
 
 use bound_project::{DeclaredType, ElementType};
-use declared_names::{Entry, Scope, Space, What, class_number, named_type};
+use constant_values::declared_names::{Entry, Scope, Space, What, class_number, named_type};
 use use_rules::note_place;
 use vba_base::{NoMemory, Refusal};
 use vba_tree::{NewTypeClause, Variable};

@@ -2,12 +2,12 @@
 
 ghost use Rattle.std.specs.Prelude.{◌≡◌, [], ◌∷◌, ◌++◌, List, map, reverse, suc, IfOk, OnOk, bytes_eq, flat_map};
 ghost use Rattle.std.specs.List.{list_any};
-ghost use Rattle.binder.specs.Violations as violations;
-ghost use Rattle.binder.specs.Violations.{clashes, later, place_of_name, same_name};
-ghost use Rattle.declared_names.specs.View.{entry_view, what_view, space_view};
+ghost use Rattle.constant_values.specs.declared_names.specs.binder.specs.Violations as violations;
+ghost use Rattle.constant_values.specs.declared_names.specs.binder.specs.Violations.{clashes, later, place_of_name, same_name};
+ghost use Rattle.constant_values.specs.declared_names.specs.View.{entry_view, what_view, space_view};
 ghost use Rattle.use_rules.specs.Found.{noted};
 
-use declared_names::{Entry, Space, What, is_same_space};
+use constant_values::declared_names::{Entry, Space, What, is_same_space};
 use use_rules::note_place;
 use vba_base::{NoMemory, Place, Refusal};
 use vba_tree::ProcedureWords;

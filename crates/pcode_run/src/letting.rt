@@ -59,7 +59,7 @@ pub fn finish_object(
 ) -> Result<(), NoMemory>
     ensures { OnOk result (Comes machine.old (finished_by looking object count (after_view after) (backs_view machine.old.backs) (state_view machine.old)) machine.new) }
 {
-    if !machine.memory.is_last(alloc, object)? {
+    if !machine.memory.is_last(object) {
         letting(machine, count, after);
         return Ok(());
     }
@@ -128,7 +128,7 @@ fn let_object(
 ) -> Result<Step, NoMemory>
     ensures { IfOk result (λ step. Does turns (lets_one_by looking (code_view code.now) object count (after_view after) (backs_view machine.old.backs) (state_view machine.old)) machine.old machine.new step) }
 {
-    let last = machine.memory.is_last(alloc, object)?;
+    let last = machine.memory.is_last(object);
     if !last {
         letting(machine, count, after);
         return Ok(Step::On);

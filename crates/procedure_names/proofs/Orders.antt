@@ -4,9 +4,9 @@ use Rattle.std.specs.Prelude.{◌||◌, reverse}
 use Rattle.std.specs.List.{list_any}
 use Rattle.std.proofs.lemmas.List.{map-append, reverse-append}
 use Rattle.vba_words.specs.declared.identifier.Identifier.{Identifier}
-use Rattle.binder.specs.Scopes.{Use, plainly, is_named}
-use Rattle.binder.specs.Declarations.{Local, an_array, undeclared}
-use Rattle.binder.specs.Names.{Using, by_declaration, by_redim, by_use, arranged, has_name, has_redim}
+use Rattle.declared_names.specs.binder.specs.Scopes.{Use, plainly, is_named}
+use Rattle.declared_names.specs.binder.specs.Declarations.{Local, an_array, undeclared}
+use Rattle.declared_names.specs.binder.specs.Names.{Using, by_declaration, by_redim, by_use, arranged, has_name, has_redim}
 use Rattle.declared_names.specs.View.{local_view}
 use Rattle.declared_names.specs.declared.local.Local.{Local as LocalHere}
 use Rattle.procedure_names.specs.Added.{added}

@@ -9,8 +9,8 @@ use Rattle.vba_expression.specs.declared.tree.TypeQualifier.{TypeQualifier}
 use Rattle.vba_expression.specs.Tree as expr
 use Rattle.vba_expression.specs.Reader.{behind_dot, new_behind_dot, type_of_behind_dot}
 use Rattle.vba_expression.specs.Nodes as nodes
-use Rattle.binder.specs.Scopes.{Use, plainly, called, before_dot}
-use Rattle.binder.specs.Names.{names_used, names_in_args, names_called}
+use Rattle.declared_names.specs.binder.specs.Scopes.{Use, plainly, called, before_dot}
+use Rattle.declared_names.specs.binder.specs.Names.{names_used, names_in_args, names_called}
 use Rattle.procedure_names.specs.Used.{Names, bare, in_tree, in_arguments, item_names, names_of, arguments_of, last_tree, last_arguments, rest, behind_node, behind_nodes}
 
 -- the names of an item that is used in a way

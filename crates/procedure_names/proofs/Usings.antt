@@ -8,9 +8,9 @@ use Rattle.vba_words.specs.declared.identifier.Identifier.{Identifier}
 use Rattle.vba_expression.specs.Reader.{name_in}
 use Rattle.vba_expression.specs.Tree as expr
 use Rattle.vba_tree.specs.Tree.{TypeClause}
-use Rattle.binder.specs.Names.{by_redim, by_use, names_in_args, names_used, redim_uses, uses_of, usings}
-use Rattle.binder.specs.Said.{Said, arguments_said, expression}
-use Rattle.binder.specs.Scopes.{Use, plainly}
+use Rattle.declared_names.specs.binder.specs.Names.{by_redim, by_use, names_in_args, names_used, redim_uses, uses_of, usings}
+use Rattle.declared_names.specs.binder.specs.Said.{Said, arguments_said, expression}
+use Rattle.declared_names.specs.binder.specs.Scopes.{Use, plainly}
 use Rattle.procedure_names.specs.declared.using.Using.{Using}
 use Rattle.procedure_names.specs.Using.{using_view}
 

@@ -1,9 +1,9 @@
 -- Serves the code: the name that one use adds, if any.
 use Rattle.std.specs.Prelude.{Bool, ◌||◌, List, [], ◌∷◌, is_some, if◌then◌else◌}
 use Rattle.vba_words.specs.declared.identifier.Identifier.{Identifier}
-use Rattle.binder.specs.Scopes.{Scope, Use, plainly, declares}
-use Rattle.binder.specs.Declarations.{Local, an_array, undeclared}
-use Rattle.binder.specs.Names.{Using, by_declaration, by_redim, by_use, has_name, has_redim}
+use Rattle.declared_names.specs.binder.specs.Scopes.{Scope, Use, plainly, declares}
+use Rattle.declared_names.specs.binder.specs.Declarations.{Local, an_array, undeclared}
+use Rattle.declared_names.specs.binder.specs.Names.{Using, by_declaration, by_redim, by_use, has_name, has_redim}
 
 abbrev pub added : Bool → (Use → Identifier → Bool) → List Using → List Local → Using → List Local
 added static known all before (by_declaration l) = l ∷ []

@@ -1,8 +1,8 @@
 -- Serves the code: the names of a body.
 use Rattle.std.specs.Prelude.{◌++◌, List, [], is_some}
-use Rattle.binder.specs.Declarations.{Local, Written, header_names}
-use Rattle.binder.specs.Names.{Using, arranged, declared_here}
-use Rattle.binder.specs.Scopes.{Scope}
+use Rattle.declared_names.specs.binder.specs.Declarations.{Local, Written, header_names}
+use Rattle.declared_names.specs.binder.specs.Names.{Using, arranged, declared_here}
+use Rattle.declared_names.specs.binder.specs.Scopes.{Scope}
 use Rattle.procedure_names.specs.Added.{known_in}
 
 -- the names of a body in a scope where those of the header and those that the body declares are known

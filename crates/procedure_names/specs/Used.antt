@@ -5,8 +5,8 @@ use Rattle.vba_expression.specs.declared.node.ExpressionNode.{ExpressionNode}
 use Rattle.vba_expression.specs.declared.node.ExpressionNode.TheVariants as node
 use Rattle.vba_expression.specs.Tree.{name}
 use Rattle.vba_expression.specs.Nodes as nodes
-use Rattle.binder.specs.Scopes.{Use, plainly, called, before_dot}
-use Rattle.binder.specs.Names.{names_used, names_in_args}
+use Rattle.declared_names.specs.binder.specs.Scopes.{Use, plainly, called, before_dot}
+use Rattle.declared_names.specs.binder.specs.Names.{names_used, names_in_args}
 use Rattle.declared_names.specs.View.{use_view}
 use Rattle.procedure_names.specs.declared.item.Used.{Used}
 use Rattle.procedure_names.specs.declared.item.Item.{Item}

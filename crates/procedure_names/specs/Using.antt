@@ -1,7 +1,7 @@
 -- Serves the code: names of a procedure by what declares them.
 use Rattle.std.specs.Prelude.{option_map}
 use Rattle.vba_tree.specs.View.{type_clause_view}
-use Rattle.binder.specs.Names as names
+use Rattle.declared_names.specs.binder.specs.Names as names
 use Rattle.declared_names.specs.View.{local_view, use_view}
 use Rattle.procedure_names.specs.declared.using.Using.{Using}
 use Rattle.procedure_names.specs.declared.using.Using.TheVariants as using

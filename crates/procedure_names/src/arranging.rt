@@ -1,8 +1,8 @@
 //! The names of a body, in text order, each undeclared one at its first use.
 
 ghost use Rattle.std.specs.Prelude.{◌≡◌, [], ◌∷◌, ◌++◌, ◌||◌, map, reverse, is_some, if◌then◌else◌, IfOk, OnOk};
-ghost use Rattle.binder.specs.Names.{arranged, declared_here, has_name, has_redim};
-ghost use Rattle.binder.specs.Scopes.{declares};
+ghost use Rattle.declared_names.specs.binder.specs.Names.{arranged, declared_here, has_name, has_redim};
+ghost use Rattle.declared_names.specs.binder.specs.Scopes.{declares};
 ghost use Rattle.declared_names.specs.View.{local_view, scope_view, use_view};
 ghost use Rattle.procedure_names.specs.Added.{added, known_in};
 ghost use Rattle.procedure_names.specs.Using.{using_view};

@@ -1,9 +1,9 @@
 //! The names of a procedure: those of its header, and those that its body declares or uses.
 
 ghost use Rattle.std.specs.Prelude.{◌≡◌, ◌++◌, flat_map, map, IfOk, OnOk};
-ghost use Rattle.module_parts.specs.View.{parts_view};
-ghost use Rattle.binder.specs.Names as names;
-ghost use Rattle.binder.specs.Said as plain;
+ghost use Rattle.declared_names.specs.module_parts.specs.View.{parts_view};
+ghost use Rattle.declared_names.specs.binder.specs.Names as names;
+ghost use Rattle.declared_names.specs.binder.specs.Said as plain;
 ghost use Rattle.declared_names.specs.View.{local_view, scope_view, written_view};
 ghost use Rattle.said_parts.specs.View.{all_said, said_view};
 ghost use Rattle.procedure_names.specs.Own.{own_names};
@@ -12,8 +12,8 @@ ghost use Rattle.procedure_names.specs.Using.{using_view};
 use crate::arranging::{arrange, push_declared};
 use crate::item::Used;
 use crate::using::{Using, push_arguments, push_called, push_expression, push_redim, push_using};
+use declared_names::module_parts::Part;
 use declared_names::{Local, Own, Scope, Use, Written, header_names};
-use module_parts::Part;
 use said_parts::{Said, push_part};
 use std::alloc::Global;
 use vba_base::NoMemory;

@@ -2,8 +2,8 @@
 
 ghost use Rattle.std.specs.Prelude.{◌≡◌, [], ◌∷◌, map, IfOk, OnOk};
 ghost use Rattle.vba_expression.specs.View.{arguments_view, view};
-ghost use Rattle.binder.specs.Names.{names_called, names_in_args, names_used};
-ghost use Rattle.binder.specs.Scopes.{plainly};
+ghost use Rattle.declared_names.specs.binder.specs.Names.{names_called, names_in_args, names_used};
+ghost use Rattle.declared_names.specs.binder.specs.Scopes.{plainly};
 ghost use Rattle.declared_names.specs.View.{use_view};
 ghost use Rattle.procedure_names.specs.Used as plain;
 ghost use Rattle.procedure_names.specs.Used.{stack, used_view};

@@ -3,9 +3,9 @@
 ghost use Rattle.std.specs.Prelude.{◌≡◌, [], ◌∷◌, ◌++◌, flat_map, map, option_map, OnOk};
 ghost use Rattle.vba_expression.specs.View.{arguments_view, view};
 ghost use Rattle.vba_tree.specs.View.{type_clause_view};
-ghost use Rattle.binder.specs.Names.{names_called, names_used, redim_uses, uses_of, usings as usings_said};
-ghost use Rattle.binder.specs.Said.{arguments_said};
-ghost use Rattle.binder.specs.Scopes.{plainly};
+ghost use Rattle.declared_names.specs.binder.specs.Names.{names_called, names_used, redim_uses, uses_of, usings as usings_said};
+ghost use Rattle.declared_names.specs.binder.specs.Said.{arguments_said};
+ghost use Rattle.declared_names.specs.binder.specs.Scopes.{plainly};
 ghost use Rattle.procedure_names.specs.Used.{used_view};
 ghost use Rattle.procedure_names.specs.Using.{using_view};
 

@@ -13,4 +13,3 @@ pub use codegen;
 pub use pcode;
 pub use pcode_run;
 pub use pcode_vm;
-pub use sheet_host;

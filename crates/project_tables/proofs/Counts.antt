@@ -3,15 +3,15 @@ use Rattle.std.proofs.Common.{◌≡◌, ℕ, zero, suc, ◌+◌, ◌<◌, ◌==
 use Rattle.std.specs.Prelude.{Option, Some, None, slice_get}
 use Rattle.std.proofs.lemmas.Bool.{ne_eqb}
 use Rattle.std.proofs.lemmas.List.{take_at}
-use Rattle.bound_declarations.specs.vba_words.specs.declared.identifier.Identifier.{Identifier}
-use Rattle.bound_declarations.specs.bound_project.specs.Project.{Declaration}
-use Rattle.bound_declarations.specs.binder.specs.Projects.{numbered}
-use Rattle.bound_declarations.specs.binder.specs.Constants.{home}
-use Rattle.bound_declarations.specs.binder.specs.Declarations.{Written, What, a_variable, a_constant, an_enum, a_member, a_type, an_event, a_procedure, Entry, Own, the_result, a_parameter, a_local, a_local_constant, an_array, undeclared, Local}
-use Rattle.bound_declarations.specs.binder.specs.Scopes.{Space, Scope, is_same}
-use Rattle.bound_declarations.specs.binder.specs.Names.{scope_in, locals_of}
-use Rattle.bound_declarations.specs.binder.specs.Storage.{is_static, is_variable, declarations_if, module_declarations, static_declarations, first_static, shared_before, shared_from, shared_of}
-use Rattle.bound_declarations.specs.binder.specs.Types.{counted}
+use Rattle.vba_words.specs.declared.identifier.Identifier.{Identifier}
+use Rattle.bound_project.specs.Project.{Declaration}
+use Rattle.bound_declarations.specs.constant_values.specs.declared_names.specs.binder.specs.Projects.{numbered}
+use Rattle.bound_declarations.specs.constant_values.specs.declared_names.specs.binder.specs.Constants.{home}
+use Rattle.bound_declarations.specs.constant_values.specs.declared_names.specs.binder.specs.Declarations.{Written, What, a_variable, a_constant, an_enum, a_member, a_type, an_event, a_procedure, Entry, Own, the_result, a_parameter, a_local, a_local_constant, an_array, undeclared, Local}
+use Rattle.bound_declarations.specs.constant_values.specs.declared_names.specs.binder.specs.Scopes.{Space, Scope, is_same}
+use Rattle.bound_declarations.specs.constant_values.specs.declared_names.specs.binder.specs.Names.{scope_in, locals_of}
+use Rattle.bound_declarations.specs.constant_values.specs.declared_names.specs.binder.specs.Storage.{is_static, is_variable, declarations_if, module_declarations, static_declarations, first_static, shared_before, shared_from, shared_of}
+use Rattle.bound_declarations.specs.constant_values.specs.declared_names.specs.binder.specs.Types.{counted}
 use Rattle.bound_declarations.specs.constant_values.specs.Rounds.{AreNumbered}
 use Rattle.project_tables.specs.declared.rows.ProcedureRow.{ProcedureRow}
 use Rattle.project_tables.specs.Rows.{Row, row_of, row_view, AreRowsOf}

@@ -5,18 +5,18 @@ use Rattle.std.specs.declared.alloc.Global.{Global}
 use Rattle.std.proofs.lemmas.Bool.{ne_eqb}
 use Rattle.std.proofs.lemmas.List.{map-append}
 use Rattle.std.proofs.lemmas.Option.{slice_get-map, get_or_from_slice_get}
-use Rattle.bound_declarations.specs.vba_words.specs.declared.identifier.Identifier.{Identifier}
-use Rattle.bound_declarations.specs.bound_project.specs.Project as bound
-use Rattle.bound_declarations.specs.binder.specs.Projects.{numbered}
-use Rattle.bound_declarations.specs.binder.specs.Constants.{home}
-use Rattle.bound_declarations.specs.binder.specs.Declarations.{Written, What, a_variable, a_constant, an_enum, a_member, a_type, an_event, a_procedure, Entry}
-use Rattle.bound_declarations.specs.binder.specs.Signatures.{parameters_in}
-use Rattle.bound_declarations.specs.binder.specs.Names.{scope_of, scope_in}
-use Rattle.bound_declarations.specs.binder.specs.Scopes.{Space, Scope}
-use Rattle.bound_declarations.specs.binder.specs.Storage.{parameters_of, shared_before, shared_from, shared_of}
-use Rattle.bound_declarations.specs.declared_names.specs.Outside.{the_outside}
-use Rattle.bound_declarations.specs.declared_names.specs.View.{scope_view, space_view}
-use Rattle.bound_declarations.specs.declared_names.specs.declared.scope.Scope.{Scope as ScopeHere}
+use Rattle.vba_words.specs.declared.identifier.Identifier.{Identifier}
+use Rattle.bound_project.specs.Project as bound
+use Rattle.bound_declarations.specs.constant_values.specs.declared_names.specs.binder.specs.Projects.{numbered}
+use Rattle.bound_declarations.specs.constant_values.specs.declared_names.specs.binder.specs.Constants.{home}
+use Rattle.bound_declarations.specs.constant_values.specs.declared_names.specs.binder.specs.Declarations.{Written, What, a_variable, a_constant, an_enum, a_member, a_type, an_event, a_procedure, Entry}
+use Rattle.bound_declarations.specs.constant_values.specs.declared_names.specs.binder.specs.Signatures.{parameters_in}
+use Rattle.bound_declarations.specs.constant_values.specs.declared_names.specs.binder.specs.Names.{scope_of, scope_in}
+use Rattle.bound_declarations.specs.constant_values.specs.declared_names.specs.binder.specs.Scopes.{Space, Scope}
+use Rattle.bound_declarations.specs.constant_values.specs.declared_names.specs.binder.specs.Storage.{parameters_of, shared_before, shared_from, shared_of}
+use Rattle.bound_declarations.specs.constant_values.specs.declared_names.specs.Outside.{the_outside}
+use Rattle.bound_declarations.specs.constant_values.specs.declared_names.specs.View.{scope_view, space_view}
+use Rattle.bound_declarations.specs.constant_values.specs.declared_names.specs.declared.scope.Scope.{Scope as ScopeHere}
 use Rattle.project_tables.specs.declared.rows.ProcedureRow.{ProcedureRow}
 use Rattle.project_tables.specs.declared.signing.Signature.{Signature}
 use Rattle.project_tables.specs.declared.signing.Signatures.{Signatures}

@@ -4,12 +4,12 @@ use Rattle.std.specs.Prelude.{option_map, slice_get, Option, Some, None, Vec}
 use Rattle.std.specs.declared.alloc.Global.{Global}
 use Rattle.std.proofs.lemmas.List.{get_or-map, length-map, map-append, take-map, take_more}
 use Rattle.std.proofs.lemmas.Option.{slice_get-map, slice_get_read}
-use Rattle.bound_declarations.specs.binder.specs.Names.{scope_of}
-use Rattle.bound_declarations.specs.binder.specs.Scopes.{Space, Scope}
-use Rattle.bound_declarations.specs.binder.specs.Storage.{shared_before, shared_from, shared_of}
-use Rattle.bound_declarations.specs.declared_names.specs.Outside.{the_outside}
-use Rattle.bound_declarations.specs.declared_names.specs.View.{space_view}
-use Rattle.bound_declarations.specs.declared_names.specs.declared.space.Space.{Space as SpaceHere}
+use Rattle.bound_declarations.specs.constant_values.specs.declared_names.specs.binder.specs.Names.{scope_of}
+use Rattle.bound_declarations.specs.constant_values.specs.declared_names.specs.binder.specs.Scopes.{Space, Scope}
+use Rattle.bound_declarations.specs.constant_values.specs.declared_names.specs.binder.specs.Storage.{shared_before, shared_from, shared_of}
+use Rattle.bound_declarations.specs.constant_values.specs.declared_names.specs.Outside.{the_outside}
+use Rattle.bound_declarations.specs.constant_values.specs.declared_names.specs.View.{space_view}
+use Rattle.bound_declarations.specs.constant_values.specs.declared_names.specs.declared.space.Space.{Space as SpaceHere}
 use Rattle.bound_declarations.specs.constant_values.specs.Rounds.{AreNumbered, IsPlaced}
 use Rattle.bound_declarations.specs.constant_values.proofs.Looked.{placed_at}
 use Rattle.project_tables.specs.declared.rows.ProcedureRow.{ProcedureRow}

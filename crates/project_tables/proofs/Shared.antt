@@ -1,24 +1,24 @@
 -- What a project declares, module by module.
 use Rattle.std.proofs.Common.{◌≡◌, ℕ, suc, Bool, List, [], ◌∷◌, ◌++◌, map, refl, sym, ap, ◌∙◌, take}
 use Rattle.std.proofs.lemmas.List.{append-nil, map-append}
-use Rattle.bound_declarations.specs.vba_words.specs.declared.identifier.Identifier.{Identifier}
-use Rattle.bound_declarations.specs.bound_project.specs.Project as bound
-use Rattle.bound_declarations.specs.bound_project.specs.View.{module_view, procedure_view, class_view, named_view}
-use Rattle.bound_declarations.specs.bound_project.specs.declared.declarations.Module.{Module}
-use Rattle.bound_declarations.specs.bound_project.specs.declared.declarations.Procedure.{Procedure}
-use Rattle.bound_declarations.specs.binder.specs.Projects.{numbered, bound_procedure, procedures_of}
-use Rattle.bound_declarations.specs.binder.specs.Declarations.{Written, What, a_variable, a_constant, an_enum, a_member, a_type, an_event, a_procedure, Entry}
-use Rattle.bound_declarations.specs.binder.specs.Names.{scope_in, locals_of}
-use Rattle.bound_declarations.specs.binder.specs.Scopes.{Scope}
-use Rattle.bound_declarations.specs.binder.specs.Storage.{declarations_if, is_static, static_declarations}
+use Rattle.vba_words.specs.declared.identifier.Identifier.{Identifier}
+use Rattle.bound_project.specs.Project as bound
+use Rattle.bound_project.specs.View.{module_view, procedure_view, class_view, named_view}
+use Rattle.bound_project.specs.declared.declarations.Module.{Module}
+use Rattle.bound_project.specs.declared.declarations.Procedure.{Procedure}
+use Rattle.bound_declarations.specs.constant_values.specs.declared_names.specs.binder.specs.Projects.{numbered, bound_procedure, procedures_of}
+use Rattle.bound_declarations.specs.constant_values.specs.declared_names.specs.binder.specs.Declarations.{Written, What, a_variable, a_constant, an_enum, a_member, a_type, an_event, a_procedure, Entry}
+use Rattle.bound_declarations.specs.constant_values.specs.declared_names.specs.binder.specs.Names.{scope_in, locals_of}
+use Rattle.bound_declarations.specs.constant_values.specs.declared_names.specs.binder.specs.Scopes.{Scope}
+use Rattle.bound_declarations.specs.constant_values.specs.declared_names.specs.binder.specs.Storage.{declarations_if, is_static, static_declarations}
 use Rattle.project_tables.specs.declared.rows.ProcedureRow.{ProcedureRow}
 use Rattle.project_tables.specs.Rows.{row_of, row_view, AreRowsOf}
 use Rattle.project_tables.specs.Steps.{statics_in, procedure_of}
-use Rattle.bound_declarations.specs.bound_project.specs.declared.declarations.Class.{Class}
-use Rattle.bound_declarations.specs.bound_project.specs.declared.declarations.NamedMember.{NamedMember}
-use Rattle.bound_declarations.specs.declared_names.specs.View.{entry_view}
-use Rattle.bound_declarations.specs.declared_names.specs.declared.entry.Entry.{Entry as EntryHere}
-use Rattle.bound_declarations.specs.declared_names.proofs.Walks.{take_map}
+use Rattle.bound_project.specs.declared.declarations.Class.{Class}
+use Rattle.bound_project.specs.declared.declarations.NamedMember.{NamedMember}
+use Rattle.bound_declarations.specs.constant_values.specs.declared_names.specs.View.{entry_view}
+use Rattle.bound_declarations.specs.constant_values.specs.declared_names.specs.declared.entry.Entry.{Entry as EntryHere}
+use Rattle.bound_declarations.specs.constant_values.specs.declared_names.proofs.Walks.{take_map}
 
 pub modules_push : (xs : List Module) (x : Module) → map module_view (xs ++ x ∷ []) ≡ map module_view xs ++ module_view x ∷ []
 modules_push xs x = map-append module_view xs (x ∷ [])

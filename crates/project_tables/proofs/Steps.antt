@@ -2,14 +2,14 @@
 use Rattle.std.proofs.Common.{◌≡◌, ℕ, suc, ◌+◌, List, [], ◌∷◌, ◌++◌, map, refl, sym, ap, ◌∙◌, subst, Vec, length, take}
 use Rattle.std.specs.declared.alloc.Global.{Global}
 use Rattle.std.proofs.lemmas.List.{map-append}
-use Rattle.bound_declarations.specs.binder.specs.Projects.{numbered}
-use Rattle.bound_declarations.specs.binder.specs.Declarations.{Written, Local, What, a_variable, a_constant, an_enum, a_member, a_type, an_event, a_procedure, Entry}
-use Rattle.bound_declarations.specs.binder.specs.Scopes.{Space, Scope}
-use Rattle.bound_declarations.specs.binder.specs.Names.{scope_of, scope_in, locals_of}
-use Rattle.bound_declarations.specs.binder.specs.Storage.{is_static, declarations_if, static_declarations, first_static, shared_before, is_variable}
-use Rattle.bound_declarations.specs.binder.specs.Types.{counted}
-use Rattle.bound_declarations.specs.declared_names.specs.Outside.{the_outside}
-use Rattle.bound_declarations.specs.declared_names.specs.View.{local_view, written_view}
+use Rattle.bound_declarations.specs.constant_values.specs.declared_names.specs.binder.specs.Projects.{numbered}
+use Rattle.bound_declarations.specs.constant_values.specs.declared_names.specs.binder.specs.Declarations.{Written, Local, What, a_variable, a_constant, an_enum, a_member, a_type, an_event, a_procedure, Entry}
+use Rattle.bound_declarations.specs.constant_values.specs.declared_names.specs.binder.specs.Scopes.{Space, Scope}
+use Rattle.bound_declarations.specs.constant_values.specs.declared_names.specs.binder.specs.Names.{scope_of, scope_in, locals_of}
+use Rattle.bound_declarations.specs.constant_values.specs.declared_names.specs.binder.specs.Storage.{is_static, declarations_if, static_declarations, first_static, shared_before, is_variable}
+use Rattle.bound_declarations.specs.constant_values.specs.declared_names.specs.binder.specs.Types.{counted}
+use Rattle.bound_declarations.specs.constant_values.specs.declared_names.specs.Outside.{the_outside}
+use Rattle.bound_declarations.specs.constant_values.specs.declared_names.specs.View.{local_view, written_view}
 use Rattle.bound_declarations.specs.constant_values.specs.Rounds.{IsPlaced}
 use Rattle.bound_declarations.specs.constant_values.specs.Tables.{AreOwnValues}
 use Rattle.project_tables.specs.declared.rows.ProcedureRow.{ProcedureRow}

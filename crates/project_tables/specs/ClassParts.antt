@@ -1,11 +1,11 @@
 -- Serves the code: procedures of properties, which entries count for a member, and marks of members.
 use Rattle.std.specs.Prelude.{Bool, true, false, Option}
-use Rattle.bound_declarations.specs.vba_lexer.specs.declared.token.Token.{Token}
-use Rattle.bound_declarations.specs.vba_expression.specs.declared.tree.LiteralValue.{LiteralValue}
-use Rattle.bound_declarations.specs.vba_tree.specs.declared.procedure.ProcedureWords.{ProcedureWords}
-use Rattle.bound_declarations.specs.binder.specs.ClassTables.{every_entry, is_minus_four, is_public_member, is_zero}
-use Rattle.bound_declarations.specs.binder.specs.Declarations.{Entry}
-use Rattle.bound_declarations.specs.binder.specs.Signatures.{is_get, is_let, is_set}
+use Rattle.vba_lexer.specs.declared.token.Token.{Token}
+use Rattle.vba_expression.specs.declared.tree.LiteralValue.{LiteralValue}
+use Rattle.vba_tree.specs.declared.procedure.ProcedureWords.{ProcedureWords}
+use Rattle.bound_declarations.specs.constant_values.specs.declared_names.specs.binder.specs.ClassTables.{every_entry, is_minus_four, is_public_member, is_zero}
+use Rattle.bound_declarations.specs.constant_values.specs.declared_names.specs.binder.specs.Declarations.{Entry}
+use Rattle.bound_declarations.specs.constant_values.specs.declared_names.specs.binder.specs.Signatures.{is_get, is_let, is_set}
 use Rattle.project_tables.specs.declared.class_tables.Mark.{Mark}
 use Rattle.project_tables.specs.declared.class_tables.Mark.TheVariants as mark
 use Rattle.project_tables.specs.declared.class_tables.PropertyPart.{PropertyPart}

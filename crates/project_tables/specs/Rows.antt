@@ -1,12 +1,12 @@
 -- Serves the code: the procedures of a project, each with its names and the number of its first static.
 use Rattle.std.specs.Prelude.{◌≡◌, ℕ, List, [], ◌∷◌, map}
-use Rattle.bound_declarations.specs.binder.specs.Declarations.{Written, Local}
-use Rattle.bound_declarations.specs.binder.specs.Scopes.{Space, Scope}
-use Rattle.bound_declarations.specs.binder.specs.Names.{scope_of, scope_in, locals_of}
-use Rattle.bound_declarations.specs.binder.specs.Storage.{first_static}
-use Rattle.bound_declarations.specs.binder.specs.Projects.{numbered}
-use Rattle.bound_declarations.specs.declared_names.specs.Outside.{the_outside}
-use Rattle.bound_declarations.specs.declared_names.specs.View.{local_view, written_view}
+use Rattle.bound_declarations.specs.constant_values.specs.declared_names.specs.binder.specs.Declarations.{Written, Local}
+use Rattle.bound_declarations.specs.constant_values.specs.declared_names.specs.binder.specs.Scopes.{Space, Scope}
+use Rattle.bound_declarations.specs.constant_values.specs.declared_names.specs.binder.specs.Names.{scope_of, scope_in, locals_of}
+use Rattle.bound_declarations.specs.constant_values.specs.declared_names.specs.binder.specs.Storage.{first_static}
+use Rattle.bound_declarations.specs.constant_values.specs.declared_names.specs.binder.specs.Projects.{numbered}
+use Rattle.bound_declarations.specs.constant_values.specs.declared_names.specs.Outside.{the_outside}
+use Rattle.bound_declarations.specs.constant_values.specs.declared_names.specs.View.{local_view, written_view}
 use Rattle.bound_declarations.specs.constant_values.specs.Tables.{AreProjectValues, AreOwnValues}
 use Rattle.project_tables.specs.declared.rows.ProcedureRow.{ProcedureRow}
 use Rattle.project_tables.specs.declared.rows.Rows.{Rows}

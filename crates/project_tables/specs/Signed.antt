@@ -2,15 +2,15 @@
 use Rattle.std.specs.Prelude.{◌≡◌, ℕ, ◌+◌, List, [], ◌∷◌, length, map}
 use Rattle.std.specs.declared.alloc.Global.{Global}
 use Rattle.std.specs.Prelude.{Vec}
-use Rattle.bound_declarations.specs.bound_project.specs.Project.{Parameter}
-use Rattle.bound_declarations.specs.bound_project.specs.View.{parameter_view}
-use Rattle.bound_declarations.specs.binder.specs.Projects.{no_space, numbered}
-use Rattle.bound_declarations.specs.binder.specs.Constants.{home}
-use Rattle.bound_declarations.specs.binder.specs.Declarations.{Written}
-use Rattle.bound_declarations.specs.binder.specs.Names.{scope_of, scope_in}
-use Rattle.bound_declarations.specs.binder.specs.Scopes.{Space, Scope}
-use Rattle.bound_declarations.specs.binder.specs.Storage.{parameters_of, shared_from, shared_of}
-use Rattle.bound_declarations.specs.declared_names.specs.Outside.{the_outside}
+use Rattle.bound_project.specs.Project.{Parameter}
+use Rattle.bound_project.specs.View.{parameter_view}
+use Rattle.bound_declarations.specs.constant_values.specs.declared_names.specs.binder.specs.Projects.{no_space, numbered}
+use Rattle.bound_declarations.specs.constant_values.specs.declared_names.specs.binder.specs.Constants.{home}
+use Rattle.bound_declarations.specs.constant_values.specs.declared_names.specs.binder.specs.Declarations.{Written}
+use Rattle.bound_declarations.specs.constant_values.specs.declared_names.specs.binder.specs.Names.{scope_of, scope_in}
+use Rattle.bound_declarations.specs.constant_values.specs.declared_names.specs.binder.specs.Scopes.{Space, Scope}
+use Rattle.bound_declarations.specs.constant_values.specs.declared_names.specs.binder.specs.Storage.{parameters_of, shared_from, shared_of}
+use Rattle.bound_declarations.specs.constant_values.specs.declared_names.specs.Outside.{the_outside}
 use Rattle.bound_declarations.specs.constant_values.specs.Rounds.{AreNumbered}
 use Rattle.project_tables.specs.declared.signing.Signature.{Signature}
 use Rattle.project_tables.specs.declared.signing.Signatures.{Signatures}

@@ -1,5 +1,5 @@
 -- Serves the code: the macro to begin with.
-use Rattle.bound_declarations.specs.binder.specs.Projects as projects
+use Rattle.bound_declarations.specs.constant_values.specs.declared_names.specs.binder.specs.Projects as projects
 use Rattle.project_tables.specs.declared.startup.Startup.{Startup}
 
 abbrev pub startup_view : Startup → projects.Startup

@@ -1,16 +1,16 @@
 -- Serves the code: the procedures of a module one after another.
 use Rattle.std.specs.Prelude.{ℕ, ◌+◌, ◌==◌, List, [], ◌∷◌, ◌++◌, map, if◌then◌else◌, Vec}
 use Rattle.std.specs.declared.alloc.Global.{Global}
-use Rattle.bound_declarations.specs.bound_project.specs.Project as bound
+use Rattle.bound_project.specs.Project as bound
 use Rattle.bound_declarations.specs.Whole.{procedure_in}
-use Rattle.bound_declarations.specs.binder.specs.Declarations.{Written, Local}
-use Rattle.bound_declarations.specs.binder.specs.Scopes.{Space, Scope}
-use Rattle.bound_declarations.specs.binder.specs.Names.{scope_of, locals_of}
-use Rattle.bound_declarations.specs.binder.specs.Storage.{declarations_if, is_static, is_variable, parameters_of}
-use Rattle.bound_declarations.specs.binder.specs.Types.{counted}
-use Rattle.bound_declarations.specs.declared_names.specs.Outside.{the_outside}
-use Rattle.bound_declarations.specs.declared_names.specs.View.{local_view, space_view}
-use Rattle.bound_declarations.specs.declared_names.specs.declared.space.Space.{Space as SpaceHere}
+use Rattle.bound_declarations.specs.constant_values.specs.declared_names.specs.binder.specs.Declarations.{Written, Local}
+use Rattle.bound_declarations.specs.constant_values.specs.declared_names.specs.binder.specs.Scopes.{Space, Scope}
+use Rattle.bound_declarations.specs.constant_values.specs.declared_names.specs.binder.specs.Names.{scope_of, locals_of}
+use Rattle.bound_declarations.specs.constant_values.specs.declared_names.specs.binder.specs.Storage.{declarations_if, is_static, is_variable, parameters_of}
+use Rattle.bound_declarations.specs.constant_values.specs.declared_names.specs.binder.specs.Types.{counted}
+use Rattle.bound_declarations.specs.constant_values.specs.declared_names.specs.Outside.{the_outside}
+use Rattle.bound_declarations.specs.constant_values.specs.declared_names.specs.View.{local_view, space_view}
+use Rattle.bound_declarations.specs.constant_values.specs.declared_names.specs.declared.space.Space.{Space as SpaceHere}
 use Rattle.bound_declarations.specs.constant_values.specs.Rounds.{IsPlaced}
 use Rattle.bound_declarations.specs.constant_values.specs.Tables.{AreOwnValues, AreProjectValues}
 use Rattle.bound_declarations.specs.constant_values.specs.declared.project.ProjectValues.{ProjectValues}

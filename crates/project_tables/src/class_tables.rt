@@ -1,40 +1,40 @@
 //! The table of a class: the procedures that begin and end its objects, its public members, and its default member.
 
 ghost use Rattle.std.specs.Prelude.{◌≡◌, ◌++◌, ◌==◌, ◌&&◌, IfOk, OnOk, Some, bytes_eq, codes, length, map, option_map};
-ghost use Rattle.bound_declarations.specs.binder.specs.ClassTables as plain;
-ghost use Rattle.bound_declarations.specs.binder.specs.Classes as classes;
-ghost use Rattle.bound_declarations.specs.binder.specs.Scopes.{first_at, is_named};
-ghost use Rattle.bound_declarations.specs.binder.specs.Storage as storage;
-ghost use Rattle.bound_declarations.specs.binder.specs.Storage.{procedure_number};
-ghost use Rattle.bound_declarations.specs.bound_project.specs.Project as project;
-ghost use Rattle.bound_declarations.specs.bound_project.specs.View.{class_member_view, class_view, declaration_view, named_view};
+ghost use Rattle.bound_declarations.specs.constant_values.specs.declared_names.specs.binder.specs.ClassTables as plain;
+ghost use Rattle.bound_declarations.specs.constant_values.specs.declared_names.specs.binder.specs.Classes as classes;
+ghost use Rattle.bound_declarations.specs.constant_values.specs.declared_names.specs.binder.specs.Scopes.{first_at, is_named};
+ghost use Rattle.bound_declarations.specs.constant_values.specs.declared_names.specs.binder.specs.Storage as storage;
+ghost use Rattle.bound_declarations.specs.constant_values.specs.declared_names.specs.binder.specs.Storage.{procedure_number};
+ghost use Rattle.bound_project.specs.Project as project;
+ghost use Rattle.bound_project.specs.View.{class_member_view, class_view, declaration_view, named_view};
 ghost use Rattle.bound_declarations.specs.constant_values.specs.Rounds.{IsPlaced};
 ghost use Rattle.bound_declarations.specs.constant_values.specs.Tables.{AreConstants, AreProjectValues};
-ghost use Rattle.bound_declarations.specs.declared_names.specs.Lookup.{found_view};
-ghost use Rattle.bound_declarations.specs.declared_names.specs.View.{entry_view, scope_view, what_view, written_view};
-ghost use Rattle.bound_declarations.specs.module_parts.specs.View.{part_view, parts_view};
+ghost use Rattle.bound_declarations.specs.constant_values.specs.declared_names.specs.Lookup.{found_view};
+ghost use Rattle.bound_declarations.specs.constant_values.specs.declared_names.specs.View.{entry_view, scope_view, what_view, written_view};
+ghost use Rattle.bound_declarations.specs.constant_values.specs.declared_names.specs.module_parts.specs.View.{part_view, parts_view};
 ghost use Rattle.project_tables.specs.ClassParts.{counts, is_part, marks};
-ghost use Rattle.bound_declarations.specs.vba_module.specs.Headers.{parameters_of};
-ghost use Rattle.bound_declarations.specs.vba_tree.specs.View.{listed_view, parameters_view, variable_view};
+ghost use Rattle.vba_module.specs.Headers.{parameters_of};
+ghost use Rattle.vba_tree.specs.View.{listed_view, parameters_view, variable_view};
 
-use bound_declarations::bound_project::{Class, Declaration, Member, NamedMember};
-use bound_declarations::constant_values::{Constants, ProjectValues, constants_in, own_values};
-use bound_declarations::declared_names::{
+use bound_declarations::constant_values::declared_names::module_parts::Part;
+use bound_declarations::constant_values::declared_names::{
     Entry, Scope, What, Written, field_number, first_entries, is_of_object, is_word,
 };
-use bound_declarations::module_parts::Part;
-use bound_declarations::vba_base::{NoMemory, OrMemory};
-use bound_declarations::vba_expression::LiteralValue;
-use bound_declarations::vba_lexer::Token;
-use bound_declarations::vba_tree::{
-    Access, AccessWord, AttributeLine, AttributeValue, LineTree, Parameters, ProcedureWords,
-    Variable,
-};
-use bound_declarations::vba_words::Identifier;
+use bound_declarations::constant_values::{Constants, ProjectValues, constants_in, own_values};
 use bound_declarations::{
     NotYet, copy_name, is_property, made_by, module_variables, procedure_number, variable_type,
 };
+use bound_project::{Class, Declaration, Member, NamedMember};
 use std::alloc::Global;
+use vba_base::{NoMemory, OrMemory};
+use vba_expression::LiteralValue;
+use vba_lexer::Token;
+use vba_tree::{
+    Access, AccessWord, AttributeLine, AttributeValue, LineTree, Parameters, ProcedureWords,
+    Variable,
+};
+use vba_words::Identifier;
 
 /// Which attribute a member has: that of a default member, or that of an enumerator.
 #[derive(Clone, Copy)]

@@ -1,15 +1,15 @@
 //! How many variables modules share.
 
 ghost use Rattle.std.specs.Prelude.{◌≡◌, ◌+◌, IfOk, length, map};
-ghost use Rattle.bound_declarations.specs.binder.specs.Storage as storage;
-ghost use Rattle.bound_declarations.specs.declared_names.specs.View.{scope_view, space_view};
+ghost use Rattle.bound_declarations.specs.constant_values.specs.declared_names.specs.binder.specs.Storage as storage;
+ghost use Rattle.bound_declarations.specs.constant_values.specs.declared_names.specs.View.{scope_view, space_view};
 ghost use Rattle.project_tables.specs.Rows.{AreRowsOf, row_view};
 ghost use Rattle.project_tables.specs.Steps.{own_variables, statics_of};
 
 use crate::rows::ProcedureRow;
-use bound_declarations::declared_names::{Counted, Scope, Space, count_of};
-use bound_declarations::vba_base::NoMemory;
+use bound_declarations::constant_values::declared_names::{Counted, Scope, Space, count_of};
 use bound_declarations::{Kept, count_kept};
+use vba_base::NoMemory;
 
 /// The sum of two numbers.
 pub(crate) fn sum(one: u32, other: u32) -> Result<u32, NoMemory>

@@ -1,15 +1,15 @@
 //! All that a project declares.
 
 ghost use Rattle.std.specs.Prelude.{◌≡◌, [], ◌∷◌, ◌++◌, IfOk, OnOk, flat_map, if◌then◌else◌, map};
-ghost use Rattle.bound_declarations.specs.binder.specs.Projects as projects;
-ghost use Rattle.bound_declarations.specs.binder.specs.Constants.{home};
-ghost use Rattle.bound_declarations.specs.binder.specs.Names.{scope_of};
-ghost use Rattle.bound_declarations.specs.binder.specs.Storage as storage;
-ghost use Rattle.bound_declarations.specs.bound_project.specs.View.{declaration_view, declarations_view, module_view, procedure_view, class_view};
+ghost use Rattle.bound_declarations.specs.constant_values.specs.declared_names.specs.binder.specs.Projects as projects;
+ghost use Rattle.bound_declarations.specs.constant_values.specs.declared_names.specs.binder.specs.Constants.{home};
+ghost use Rattle.bound_declarations.specs.constant_values.specs.declared_names.specs.binder.specs.Names.{scope_of};
+ghost use Rattle.bound_declarations.specs.constant_values.specs.declared_names.specs.binder.specs.Storage as storage;
+ghost use Rattle.bound_project.specs.View.{declaration_view, declarations_view, module_view, procedure_view, class_view};
 ghost use Rattle.bound_declarations.specs.constant_values.specs.Rounds.{AreNumbered, IsPlaced};
 ghost use Rattle.bound_declarations.specs.constant_values.specs.Tables.{AreProjectValues};
-ghost use Rattle.bound_declarations.specs.declared_names.specs.Outside.{the_outside};
-ghost use Rattle.bound_declarations.specs.declared_names.specs.View.{scope_view, space_view};
+ghost use Rattle.bound_declarations.specs.constant_values.specs.declared_names.specs.Outside.{the_outside};
+ghost use Rattle.bound_declarations.specs.constant_values.specs.declared_names.specs.View.{scope_view, space_view};
 ghost use Rattle.project_tables.specs.Rows.{AreRows, row_view};
 ghost use Rattle.project_tables.specs.Signed.{whole_scope};
 ghost use Rattle.project_tables.specs.Steps.{HasValues, IsModule, module_scope, own_statics, procedure_of, statics_in};
@@ -18,14 +18,14 @@ use crate::class_tables::class_table;
 use crate::project_types::user_types;
 use crate::rows::{ProcedureRow, Rows};
 use crate::scopes::constants_of;
-use bound_declarations::bound_project::{Class, Declaration, Declarations, Module, Procedure};
+use bound_declarations::constant_values::declared_names::{Scope, Space};
 use bound_declarations::constant_values::{ProjectValues, constants_in, own_values};
-use bound_declarations::declared_names::{Scope, Space};
-use bound_declarations::vba_base::{NoMemory, OrMemory};
 use bound_declarations::{
     Kept, NotYet, bound_module, bound_procedure, kept_declarations, module_variables,
 };
+use bound_project::{Class, Declaration, Declarations, Module, Procedure};
 use std::alloc::Global;
+use vba_base::{NoMemory, OrMemory};
 
 /// Adds a module.
 #[tactic(auto, using(crate::proofs::Shared::modules_push))]

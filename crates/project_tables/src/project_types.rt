@@ -1,22 +1,22 @@
 //! The Types of a project.
 
 ghost use Rattle.std.specs.Prelude.{◌≡◌, ◌++◌, IfOk, OnOk, map};
-ghost use Rattle.bound_declarations.specs.binder.specs.Storage as storage;
-ghost use Rattle.bound_declarations.specs.bound_project.specs.View.{user_type_view};
+ghost use Rattle.bound_declarations.specs.constant_values.specs.declared_names.specs.binder.specs.Storage as storage;
+ghost use Rattle.bound_project.specs.View.{user_type_view};
 ghost use Rattle.bound_declarations.specs.constant_values.specs.Rounds.{AreNumbered, IsPlaced};
 ghost use Rattle.bound_declarations.specs.constant_values.specs.Tables.{AreProjectValues};
-ghost use Rattle.bound_declarations.specs.declared_names.specs.View.{space_view};
+ghost use Rattle.bound_declarations.specs.constant_values.specs.declared_names.specs.View.{space_view};
 ghost use Rattle.project_tables.specs.Rows.{AreRows};
 ghost use Rattle.project_tables.specs.Signed.{whole_scope};
 ghost use Rattle.project_tables.specs.Steps.{module_scope};
 
 use crate::rows::Rows;
-use bound_declarations::bound_project::UserType;
+use bound_declarations::constant_values::declared_names::{Scope, Space};
 use bound_declarations::constant_values::{ProjectValues, constants_in, own_values};
-use bound_declarations::declared_names::{Scope, Space};
-use bound_declarations::vba_base::OrMemory;
 use bound_declarations::{NotYet, module_types};
+use bound_project::UserType;
 use std::alloc::Global;
+use vba_base::OrMemory;
 
 /// Adds the Types of a module.
 fn push_types<'a>(

@@ -1,23 +1,23 @@
 //! The procedures of a project, each with its names and the values of its constants.
 
 ghost use Rattle.std.specs.Prelude.{◌≡◌, ◌+◌, [], ◌∷◌, ◌++◌, List, IfOk, OnOk, length, map};
-ghost use Rattle.bound_declarations.specs.binder.specs.Names.{locals_of};
-ghost use Rattle.bound_declarations.specs.binder.specs.Scopes as scopes;
-ghost use Rattle.bound_declarations.specs.binder.specs.Storage as storage;
-ghost use Rattle.bound_declarations.specs.binder.specs.Types.{counted};
-ghost use Rattle.bound_declarations.specs.declared_names.specs.View.{local_view, scope_view, space_view, written_view};
+ghost use Rattle.bound_declarations.specs.constant_values.specs.declared_names.specs.binder.specs.Names.{locals_of};
+ghost use Rattle.bound_declarations.specs.constant_values.specs.declared_names.specs.binder.specs.Scopes as scopes;
+ghost use Rattle.bound_declarations.specs.constant_values.specs.declared_names.specs.binder.specs.Storage as storage;
+ghost use Rattle.bound_declarations.specs.constant_values.specs.declared_names.specs.binder.specs.Types.{counted};
+ghost use Rattle.bound_declarations.specs.constant_values.specs.declared_names.specs.View.{local_view, scope_view, space_view, written_view};
 ghost use Rattle.bound_declarations.specs.constant_values.specs.Rounds.{AreNumbered, IsPlaced};
 ghost use Rattle.bound_declarations.specs.constant_values.specs.Tables.{AreOwnValues, AreProjectValues};
 ghost use Rattle.project_tables.specs.Rows.{AreRows, AreRowsFrom, AreRowsOf, row_view};
 ghost use Rattle.project_tables.specs.Steps.{HasValues, HaveOwnValues, module_scope, row_at, row_lists, with_names};
 
 use crate::counting::{shared_count, sum, variable_count};
+use bound_declarations::constant_values::declared_names::{Local, Scope, Space, What, Written};
 use bound_declarations::constant_values::{OwnValues, ProjectValues, own_values, project_values};
-use bound_declarations::declared_names::{Local, Scope, Space, What, Written};
-use bound_declarations::vba_base::NoMemory;
 use bound_declarations::{Kept, count_kept};
 use procedure_names::locals_of;
 use std::alloc::Global;
+use vba_base::NoMemory;
 
 /// A procedure by the number of its entry, with its names, the values of its constants, and the number of its first
 /// static among the shared variables.

@@ -3,12 +3,12 @@
 ghost use Rattle.std.specs.Prelude.{◌≡◌, map};
 ghost use Rattle.bound_declarations.specs.constant_values.specs.Rounds.{IsPlaced};
 ghost use Rattle.bound_declarations.specs.constant_values.specs.Tables.{AreConstants, AreProjectValues};
-ghost use Rattle.bound_declarations.specs.declared_names.specs.View.{local_view, scope_view};
+ghost use Rattle.bound_declarations.specs.constant_values.specs.declared_names.specs.View.{local_view, scope_view};
 ghost use Rattle.project_tables.specs.Steps.{HasValues, with_names};
 
 use crate::rows::ProcedureRow;
+use bound_declarations::constant_values::declared_names::Scope;
 use bound_declarations::constant_values::{Constants, ProjectValues, constants_in};
-use bound_declarations::declared_names::Scope;
 
 /// The scope in a procedure, with the values of its constants.
 pub(crate) fn constants_of<'r, 'a>(

@@ -1,15 +1,15 @@
 //! What calls and module variables need of a project.
 
 ghost use Rattle.std.specs.Prelude.{◌≡◌, ◌+◌, [], ◌∷◌, ◌++◌, Option, Some, IfOk, OnOk, length, map, slice_get, slice_index_or, take};
-ghost use Rattle.bound_declarations.specs.binder.specs.Projects.{numbered};
-ghost use Rattle.bound_declarations.specs.binder.specs.Declarations as plain;
-ghost use Rattle.bound_declarations.specs.binder.specs.Signatures as signatures;
-ghost use Rattle.bound_declarations.specs.binder.specs.Storage as storage;
-ghost use Rattle.bound_declarations.specs.binder.specs.Types.{counted};
-ghost use Rattle.bound_declarations.specs.bound_project.specs.View.{parameter_view, storage_view};
+ghost use Rattle.bound_declarations.specs.constant_values.specs.declared_names.specs.binder.specs.Projects.{numbered};
+ghost use Rattle.bound_declarations.specs.constant_values.specs.declared_names.specs.binder.specs.Declarations as plain;
+ghost use Rattle.bound_declarations.specs.constant_values.specs.declared_names.specs.binder.specs.Signatures as signatures;
+ghost use Rattle.bound_declarations.specs.constant_values.specs.declared_names.specs.binder.specs.Storage as storage;
+ghost use Rattle.bound_declarations.specs.constant_values.specs.declared_names.specs.binder.specs.Types.{counted};
+ghost use Rattle.bound_project.specs.View.{parameter_view, storage_view};
 ghost use Rattle.bound_declarations.specs.constant_values.specs.Rounds.{AreNumbered, IsPlaced};
 ghost use Rattle.bound_declarations.specs.constant_values.specs.Tables.{AreConstants, AreProjectValues};
-ghost use Rattle.bound_declarations.specs.declared_names.specs.View.{local_view, scope_view, space_view, written_view};
+ghost use Rattle.bound_declarations.specs.constant_values.specs.declared_names.specs.View.{local_view, scope_view, space_view, written_view};
 ghost use Rattle.project_tables.specs.Rows.{AreRows, AreRowsFrom, row_view};
 ghost use Rattle.project_tables.specs.Signed.{AreSignatures, signed_in, signed_lists, signed_of, signed_view};
 ghost use Rattle.project_tables.specs.Steps.{HasValues, IsModule, module_scope, parameters_at, row_lists, signed_row, with_names};
@@ -17,12 +17,12 @@ ghost use Rattle.project_tables.specs.Steps.{HasValues, IsModule, module_scope, 
 use crate::counting::{shared_count, sum};
 use crate::rows::{ProcedureRow, Rows};
 use crate::scopes::constants_of;
-use bound_declarations::bound_project::{Parameter, Storage};
 use bound_declarations::constant_values::ProjectValues;
-use bound_declarations::declared_names::{Counted, Scope, Space, count_before};
-use bound_declarations::vba_base::{NoMemory, OrMemory};
+use bound_declarations::constant_values::declared_names::{Counted, Scope, Space, count_before};
 use bound_declarations::{NotYet, parameters_of};
+use bound_project::{Parameter, Storage};
 use std::alloc::Global;
+use vba_base::{NoMemory, OrMemory};
 
 /// The parameters of a procedure by the number of its entry.
 #[derive(Drop)]

@@ -2,18 +2,18 @@
 
 ghost use Rattle.std.specs.Prelude.{◌≡◌, IfOk, bytes_eq, map, option_map};
 ghost use Rattle.std.specs.List.{list_any};
-ghost use Rattle.bound_declarations.specs.binder.specs.Projects as projects;
-ghost use Rattle.bound_declarations.specs.binder.specs.Names.{scope_of};
-ghost use Rattle.bound_declarations.specs.declared_names.specs.Outside.{the_outside};
-ghost use Rattle.bound_declarations.specs.declared_names.specs.View.{scope_view, space_view, written_view};
+ghost use Rattle.bound_declarations.specs.constant_values.specs.declared_names.specs.binder.specs.Projects as projects;
+ghost use Rattle.bound_declarations.specs.constant_values.specs.declared_names.specs.binder.specs.Names.{scope_of};
+ghost use Rattle.bound_declarations.specs.constant_values.specs.declared_names.specs.Outside.{the_outside};
+ghost use Rattle.bound_declarations.specs.constant_values.specs.declared_names.specs.View.{scope_view, space_view, written_view};
 ghost use Rattle.project_tables.specs.Startups.{startup_view};
-ghost use Rattle.bound_declarations.specs.vba_module.specs.Headers as headers;
-ghost use Rattle.bound_declarations.specs.vba_tree.specs.View.{listed_view, parameter_view, parameters_view};
+ghost use Rattle.vba_module.specs.Headers as headers;
+ghost use Rattle.vba_tree.specs.View.{listed_view, parameter_view, parameters_view};
 
-use bound_declarations::declared_names::{Scope, Space, What, Written};
+use bound_declarations::constant_values::declared_names::{Scope, Space, What, Written};
 use bound_declarations::procedure_number;
-use bound_declarations::vba_base::{Name, NoMemory};
-use bound_declarations::vba_tree::{Listed, Parameter, Parameters, ProcedureWords};
+use vba_base::{Name, NoMemory};
+use vba_tree::{Listed, Parameter, Parameters, ProcedureWords};
 
 /// The macro to begin with, by the folds of its module's name and its own.
 #[derive(Clone, Copy)]

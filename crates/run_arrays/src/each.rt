@@ -10,10 +10,9 @@ ghost use Rattle.run_memory.specs.Acts.{Acts};
 ghost use Rattle.run_memory.specs.View.{memory_view};
 ghost use Rattle.run_arrays.specs.Walks.{item_taken};
 
-use crate::objects::add_objects;
 use crate::walks::{item_walked, keep_at_top, set_walk, walk_at};
 use bound_project::Variable;
-use run_memory::{Kept, Memory};
+use run_memory::{Kept, Memory, add_objects};
 use std::alloc::Global;
 use vba_base::{NoMemory, OrMemory};
 use vba_values::{Bad, HostRef, ObjRef, Value};

@@ -7,9 +7,8 @@ ghost use Rattle.vba_meaning.specs.Effects.{Fine};
 ghost use Rattle.vba_meaning.specs.Arrays.{exchanged};
 ghost use Rattle.run_memory.specs.View.{memory_view, path_view};
 
-use crate::objects::add_objects;
 use arrays_udt::{PathStep, has_path, path_read};
-use run_memory::{Memory, Path};
+use run_memory::{Memory, Path, add_objects};
 use std::alloc::Global;
 use vba_base::NoMemory;
 use vba_values::Value;

@@ -8,7 +8,6 @@ mod elements;
 mod exchange;
 mod fresh;
 mod numbers;
-mod objects;
 mod preserve;
 mod walks;
 

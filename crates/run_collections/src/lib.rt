@@ -7,7 +7,6 @@ mod changing;
 mod items;
 mod lists;
 mod members;
-mod objects;
 mod places;
 mod removing;
 mod used;

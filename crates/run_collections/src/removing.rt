@@ -10,9 +10,8 @@ ghost use Rattle.run_collections.specs.Parts.{objects_at, removed_by_index};
 
 use crate::changing::remove_item;
 use crate::items::items_of;
-use crate::objects::add_objects;
 use crate::places::place_of_item;
-use run_memory::{Memory, Slot};
+use run_memory::{Memory, Slot, add_objects};
 use std::alloc::Global;
 use vba_base::{NoMemory, OrMemory};
 use vba_values::{Bad, Value};

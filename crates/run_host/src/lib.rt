@@ -19,11 +19,12 @@ mod reading;
 mod sheets;
 mod writing;
 
+pub use arguments::{as_given, plains};
 pub use assigning::{item_assigned, member_assigned, member_not_set, written_default};
 pub use by_name::{NamedArguments, in_parameter_order, named_there};
 pub use events::{Event, Told};
 pub use indexing::item_by;
 pub use members::{is_counted, member_called, member_there, object_member};
-pub use places::{assigned_at, place_at};
+pub use places::{assigned_at, path_to, place_at};
 pub use raising::{error_given, is_raise};
 pub use sheets::first_sheet;

@@ -52,7 +52,7 @@ fn item_place(
 }
 
 /// Where what an index gave lies: an object of the host, or an item.
-fn path_to(alloc: Global, value: Value) -> Path
+pub fn path_to(alloc: Global, value: Value) -> Path
     ensures { path_view result ≡ path_to (view value) }
 {
     match value {

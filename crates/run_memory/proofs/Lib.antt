@@ -5,7 +5,6 @@ pub mod Others
 pub mod Refused
 pub mod Roots
 pub mod Steps
-pub mod AllObjects
 pub mod Emptied
 pub mod Exchanged
 pub mod Found
@@ -15,5 +14,6 @@ pub mod Instances
 pub mod KeptInOrder
 pub mod Bounds
 pub mod Named
+pub mod Referred
 pub mod Received
 pub mod Unconnected

@@ -1,5 +1,4 @@
 pub mod Acts
-pub mod All
 pub mod Calls
 pub mod Elements
 pub mod Exchanges
@@ -7,6 +6,7 @@ pub mod Keeps
 pub mod Locked
 pub mod Looks
 pub mod Named
+pub mod Referred
 pub mod Slots
 pub mod Told
 pub mod View

@@ -31,7 +31,7 @@ pub fn add_objects_in(
     }
 }
 
-pub fn add_objects_in_slots(
+fn add_objects_in_slots(
     alloc: Global,
     objects: &mut Vec<u32>,
     slots: &[Slot],
@@ -49,7 +49,7 @@ pub fn add_objects_in_slots(
     }
 }
 
-pub fn add_objects_kept(
+fn add_objects_kept(
     alloc: Global,
     objects: &mut Vec<u32>,
     keeps: &[(u32, Kept)],

@@ -34,6 +34,7 @@ pub use frame::{Frame, Kept, Loop, Slot, Typed};
 pub use initial::{first_value, first_values, own_slots, shared_values};
 pub use loops::{fits, fits_between};
 pub use memory::{Memory, Object, RunError};
+pub use objects::add_objects;
 pub use path::{Path, Root, Step};
 pub use printing::show_value;
 pub use values::{condition, is_true, operated, operated_alone};

@@ -4,12 +4,12 @@ use Rattle.std.specs.Prelude.{flat_map, slice_get}
 use Rattle.std.proofs.lemmas.List.{drop_more}
 use Rattle.vba_base.specs.declared.place.Place.{Place}
 use Rattle.vba_base.specs.declared.place.Refusal.{Refusal}
-use Rattle.bound_declarations.specs.binder.specs.Names.{scope_of}
+use Rattle.bound_declarations.specs.constant_values.specs.declared_names.specs.binder.specs.Names.{scope_of}
 use Rattle.bound_declarations.specs.constant_values.specs.Rounds.{AreNumbered, IsPlaced}
 use Rattle.bound_declarations.specs.constant_values.proofs.Looked.{placed_at}
-use Rattle.bound_declarations.specs.declared_names.specs.Outside.{the_outside}
-use Rattle.bound_declarations.specs.declared_names.specs.View.{space_view}
-use Rattle.bound_declarations.specs.declared_names.specs.declared.space.Space.{Space}
+use Rattle.bound_declarations.specs.constant_values.specs.declared_names.specs.Outside.{the_outside}
+use Rattle.bound_declarations.specs.constant_values.specs.declared_names.specs.View.{space_view}
+use Rattle.bound_declarations.specs.constant_values.specs.declared_names.specs.declared.space.Space.{Space}
 use Rattle.use_rules.specs.Found.{noted}
 use Rattle.use_rules.proofs.Noted.{noted_append}
 

@@ -1,7 +1,7 @@
 -- One parameter more of a signature.
 use Rattle.std.proofs.Common.{◌≡◌, ℕ, suc, arith, ◌==◌, Bool, true, false, ◌&&◌, List, [], ◌∷◌, ◌++◌, append_assoc, length, refl, sym, ap, ◌∙◌}
 use Rattle.std.proofs.lemmas.List.{map-append}
-use Rattle.bound_declarations.specs.binder.specs.Scopes.{Scope}
+use Rattle.bound_declarations.specs.constant_values.specs.declared_names.specs.binder.specs.Scopes.{Scope}
 use Rattle.bound_declarations.specs.Parameters.{next_items}
 use Rattle.signature_rules.specs.Signatures.{Passed, all_passed, passed}
 use Rattle.signature_rules.specs.View.{passed_view, signature_view}

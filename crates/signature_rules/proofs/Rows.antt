@@ -12,9 +12,9 @@ use Rattle.vba_tree.specs.declared.procedure.Passing.TheVariants.{ByVal, ByRef}
 use Rattle.vba_tree.specs.declared.procedure.ProcedureWords.{ProcedureWords}
 use Rattle.vba_tree.specs.declared.procedure.ProcedureWords.TheVariants as words
 use Rattle.vba_tree.specs.Tree.{named, Parameter}
-use Rattle.bound_declarations.specs.binder.specs.Declarations.{Entry, a_variable, an_event, a_procedure}
-use Rattle.bound_declarations.specs.binder.specs.Names.{scope_of}
-use Rattle.bound_declarations.specs.binder.specs.Scopes.{Outside, Space}
+use Rattle.bound_declarations.specs.constant_values.specs.declared_names.specs.binder.specs.Declarations.{Entry, a_variable, an_event, a_procedure}
+use Rattle.bound_declarations.specs.constant_values.specs.declared_names.specs.binder.specs.Names.{scope_of}
+use Rattle.bound_declarations.specs.constant_values.specs.declared_names.specs.binder.specs.Scopes.{Outside, Space}
 use Rattle.signature_rules.specs.Signatures.{signature_faults}
 
 -- ---- what is written

@@ -15,14 +15,14 @@ use Rattle.vba_tree.specs.declared.procedure.ProcedureWords.TheVariants as words
 use Rattle.vba_tree.specs.Tree.{Variable, NewTypeClause, Parameter, ResultType}
 use Rattle.vba_module.specs.Misplaced.{place_if}
 use Rattle.vba_module.specs.Verdict.{broken}
-use Rattle.bound_declarations.specs.binder.specs.Constants.{home, known_length}
-use Rattle.bound_declarations.specs.binder.specs.Declarations.{Written, What, a_variable, an_event, a_procedure, Entry}
-use Rattle.bound_declarations.specs.binder.specs.Signatures.{is_property}
-use Rattle.bound_declarations.specs.binder.specs.Names.{scope_of, scope_in}
-use Rattle.bound_declarations.specs.binder.specs.Scopes.{Outside, Space, Scope}
-use Rattle.bound_declarations.specs.binder.specs.Storage.{gives_value, is_by_val, plain_clause_type, takes_value}
-use Rattle.bound_declarations.specs.binder.specs.Types.{class_number, suffix_type, written_type}
-use Rattle.bound_declarations.specs.binder.specs.Violations.{first_broken, later, place_of_name, same_name}
+use Rattle.bound_declarations.specs.constant_values.specs.declared_names.specs.binder.specs.Constants.{home, known_length}
+use Rattle.bound_declarations.specs.constant_values.specs.declared_names.specs.binder.specs.Declarations.{Written, What, a_variable, an_event, a_procedure, Entry}
+use Rattle.bound_declarations.specs.constant_values.specs.declared_names.specs.binder.specs.Signatures.{is_property}
+use Rattle.bound_declarations.specs.constant_values.specs.declared_names.specs.binder.specs.Names.{scope_of, scope_in}
+use Rattle.bound_declarations.specs.constant_values.specs.declared_names.specs.binder.specs.Scopes.{Outside, Space, Scope}
+use Rattle.bound_declarations.specs.constant_values.specs.declared_names.specs.binder.specs.Storage.{gives_value, is_by_val, plain_clause_type, takes_value}
+use Rattle.bound_declarations.specs.constant_values.specs.declared_names.specs.binder.specs.Types.{class_number, suffix_type, written_type}
+use Rattle.bound_declarations.specs.constant_values.specs.declared_names.specs.binder.specs.Violations.{first_broken, later, place_of_name, same_name}
 
 -- ---- signatures ([MS-VBAL] 5.3.1.5)
 

@@ -1,19 +1,19 @@
 //! Which of the two rules on signatures a project breaks first.
 
 ghost use Rattle.std.specs.Prelude.{◌≡◌, None, IfOk, OnOk, map};
-ghost use Rattle.bound_declarations.specs.binder.specs.Names.{scope_of};
+ghost use Rattle.bound_declarations.specs.constant_values.specs.declared_names.specs.binder.specs.Names.{scope_of};
 ghost use Rattle.bound_declarations.specs.constant_values.specs.Rounds.{AreNumbered, IsPlaced};
 ghost use Rattle.bound_declarations.specs.constant_values.specs.Tables.{AreProjectValues};
-ghost use Rattle.bound_declarations.specs.declared_names.specs.Outside.{the_outside};
-ghost use Rattle.bound_declarations.specs.declared_names.specs.View.{scope_view, space_view};
+ghost use Rattle.bound_declarations.specs.constant_values.specs.declared_names.specs.Outside.{the_outside};
+ghost use Rattle.bound_declarations.specs.constant_values.specs.declared_names.specs.View.{scope_view, space_view};
 ghost use Rattle.refusal_order.specs.Least.{least_of};
 ghost use Rattle.signature_rules.specs.Signatures as plain;
 ghost use Rattle.use_rules.specs.Found.{noted};
 
 use crate::handlers::note_wrong_handlers;
 use crate::properties::note_properties;
+use bound_declarations::constant_values::declared_names::{Scope, Space};
 use bound_declarations::constant_values::{ProjectValues, project_values};
-use bound_declarations::declared_names::{Scope, Space};
 use std::alloc::Global;
 use vba_base::{NoMemory, Refusal};
 

@@ -2,12 +2,12 @@
 
 ghost use Rattle.std.specs.Prelude.{◌≡◌, ◌==◌, ◌&&◌, [], ◌∷◌, false, map, flat_map, option_map, codes, IfOk, OnOk};
 ghost use Rattle.std.specs.List.{list_any};
-ghost use Rattle.bound_declarations.specs.binder.specs.Constants.{home};
-ghost use Rattle.bound_declarations.specs.binder.specs.Types.{class_number, written_type};
+ghost use Rattle.bound_declarations.specs.constant_values.specs.declared_names.specs.binder.specs.Constants.{home};
+ghost use Rattle.bound_declarations.specs.constant_values.specs.declared_names.specs.binder.specs.Types.{class_number, written_type};
 ghost use Rattle.bound_project.specs.View.{declared_view};
 ghost use Rattle.bound_declarations.specs.constant_values.specs.Rounds.{IsPlaced};
 ghost use Rattle.bound_declarations.specs.constant_values.specs.Tables.{AreProjectValues};
-ghost use Rattle.bound_declarations.specs.declared_names.specs.View.{entry_view, scope_view, space_view, what_view, written_view};
+ghost use Rattle.bound_declarations.specs.constant_values.specs.declared_names.specs.View.{entry_view, scope_view, space_view, what_view, written_view};
 ghost use Rattle.signature_rules.specs.Signatures as plain;
 ghost use Rattle.signature_rules.specs.View.{passed_view, signature_view};
 ghost use Rattle.use_rules.specs.Found.{noted};
@@ -18,7 +18,7 @@ use crate::handler_names::{CHANGE, is_handler_name, is_own_name};
 use crate::inside::{event_passed, signature_inside};
 use crate::passed::{Passed, is_same_signature};
 use bound_declarations::constant_values::ProjectValues;
-use bound_declarations::declared_names::{
+use bound_declarations::constant_values::declared_names::{
     Entry, Scope, Space, What, Written, class_number, named_type,
 };
 use bound_project::{DeclaredType, ElementType};

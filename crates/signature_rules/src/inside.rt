@@ -1,11 +1,11 @@
 //! Signatures by the names that stand in their scopes.
 
 ghost use Rattle.std.specs.Prelude.{◌≡◌, false, option_map, IfOk, map};
-ghost use Rattle.bound_declarations.specs.binder.specs.Names as names;
-ghost use Rattle.bound_declarations.specs.binder.specs.Names.{scope_in};
+ghost use Rattle.bound_declarations.specs.constant_values.specs.declared_names.specs.binder.specs.Names as names;
+ghost use Rattle.bound_declarations.specs.constant_values.specs.declared_names.specs.binder.specs.Names.{scope_in};
 ghost use Rattle.bound_declarations.specs.constant_values.specs.Rounds.{IsPlaced};
 ghost use Rattle.bound_declarations.specs.constant_values.specs.Tables.{AreProjectValues};
-ghost use Rattle.bound_declarations.specs.declared_names.specs.View.{local_view, scope_view, written_view};
+ghost use Rattle.bound_declarations.specs.constant_values.specs.declared_names.specs.View.{local_view, scope_view, written_view};
 ghost use Rattle.signature_rules.specs.Signatures as plain;
 ghost use Rattle.signature_rules.specs.View.{signature_view};
 ghost use Rattle.vba_module.specs.Headers.{parameters_of};
@@ -13,8 +13,8 @@ ghost use Rattle.vba_tree.specs.View.{parameters_view};
 
 use crate::passed::Passed;
 use crate::signature::{all_passed, signature};
+use bound_declarations::constant_values::declared_names::{Local, Scope, Written};
 use bound_declarations::constant_values::{ProjectValues, constants_in, own_values};
-use bound_declarations::declared_names::{Local, Scope, Written};
 use procedure_names::locals_of;
 use std::alloc::Global;
 use vba_base::NoMemory;

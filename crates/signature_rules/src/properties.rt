@@ -2,18 +2,18 @@
 
 ghost use Rattle.std.specs.Prelude.{◌≡◌, [], map, IfOk, OnOk};
 ghost use Rattle.std.specs.List.{list_any};
-ghost use Rattle.bound_declarations.specs.binder.specs.Violations.{later, place_of_name};
+ghost use Rattle.bound_declarations.specs.constant_values.specs.declared_names.specs.binder.specs.Violations.{later, place_of_name};
 ghost use Rattle.bound_declarations.specs.constant_values.specs.Rounds.{IsPlaced};
 ghost use Rattle.bound_declarations.specs.constant_values.specs.Tables.{AreProjectValues};
-ghost use Rattle.bound_declarations.specs.declared_names.specs.View.{entry_view, scope_view, what_view, written_view};
-ghost use Rattle.bound_declarations.specs.binder.specs.Declarations.{a_procedure};
+ghost use Rattle.bound_declarations.specs.constant_values.specs.declared_names.specs.View.{entry_view, scope_view, what_view, written_view};
+ghost use Rattle.bound_declarations.specs.constant_values.specs.declared_names.specs.binder.specs.Declarations.{a_procedure};
 ghost use Rattle.signature_rules.specs.Signatures as plain;
 ghost use Rattle.use_rules.specs.Found.{noted};
 
 use crate::inside::signature_inside;
 use crate::passed::is_same_signature;
 use bound_declarations::constant_values::ProjectValues;
-use bound_declarations::declared_names::{Entry, Scope, What, Written};
+use bound_declarations::constant_values::declared_names::{Entry, Scope, What, Written};
 use bound_declarations::is_property;
 use std::alloc::Global;
 use use_rules::note_place;

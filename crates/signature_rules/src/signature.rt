@@ -1,18 +1,18 @@
 //! The signatures of procedures and events.
 
 ghost use Rattle.std.specs.Prelude.{◌≡◌, ◌==◌, ◌&&◌, [], ◌∷◌, ◌++◌, length, option_map, IfOk, OnOk};
-ghost use Rattle.bound_declarations.specs.binder.specs.Storage as storage;
+ghost use Rattle.bound_declarations.specs.constant_values.specs.declared_names.specs.binder.specs.Storage as storage;
 ghost use Rattle.bound_declarations.specs.Parameters.{next_items};
 ghost use Rattle.bound_declarations.specs.constant_values.specs.Tables.{AreConstants};
-ghost use Rattle.bound_declarations.specs.declared_names.specs.View.{scope_view, written_view};
+ghost use Rattle.bound_declarations.specs.constant_values.specs.declared_names.specs.View.{scope_view, written_view};
 ghost use Rattle.signature_rules.specs.Signatures as plain;
 ghost use Rattle.signature_rules.specs.View.{passed_view, signature_view};
 ghost use Rattle.vba_module.specs.Headers.{all_of, parameters_of};
 ghost use Rattle.vba_tree.specs.View.{listed_view, parameter_view, parameters_view};
 
 use crate::passed::{Passed, value_passed};
+use bound_declarations::constant_values::declared_names::{Written, suffix_type};
 use bound_declarations::constant_values::{Constants, clause_type, written_type};
-use bound_declarations::declared_names::{Written, suffix_type};
 use bound_declarations::{gives_value, is_by_val, takes_value};
 use std::alloc::Global;
 use vba_base::NoMemory;

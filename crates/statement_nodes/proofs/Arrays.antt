@@ -14,9 +14,9 @@ use Rattle.bound_project.specs.Statements.{Resizes, resize, Arrays, an_array}
 use Rattle.bound_project.specs.Pieces.{Piece, an_expr, a_place, a_resize, an_erased, of_place, of_place_found, exprs_off, resizes_off, arrays_off}
 use Rattle.bound_project.specs.Drafts.{Drafted}
 use Rattle.bound_project.specs.View.{declared_view}
-use Rattle.bound_calls.specs.binder.specs.Sources.{base_of}
-use Rattle.bound_calls.specs.binder.specs.Options.{from_two, from_three}
-use Rattle.bound_calls.specs.binder.specs.Constants.{place_of_expression}
+use Rattle.bound_calls.specs.bound_declarations.specs.constant_values.specs.declared_names.specs.binder.specs.Sources.{base_of}
+use Rattle.bound_calls.specs.bound_declarations.specs.constant_values.specs.declared_names.specs.binder.specs.Options.{from_two, from_three}
+use Rattle.bound_calls.specs.bound_declarations.specs.constant_values.specs.declared_names.specs.binder.specs.Constants.{place_of_expression}
 use Rattle.bound_calls.specs.bound_forms.specs.Terms.{Env}
 use Rattle.bound_calls.specs.bound_forms.specs.Terms as terms
 use Rattle.bound_calls.specs.bound_forms.specs.ExpressionsBound.{bound_operand, term_of, place_told}

@@ -20,9 +20,9 @@ use Rattle.bound_project.specs.Bodies.{action_of}
 use Rattle.bound_project.specs.Drafts.{Drafted}
 use Rattle.bound_project.specs.View.{declared_view, element_view, variable_view}
 use Rattle.vba_values.specs.Types.{Declared}
-use Rattle.bound_calls.specs.binder.specs.Constants.{is_variant}
-use Rattle.bound_calls.specs.binder.specs.Types.{is_object}
-use Rattle.bound_calls.specs.binder.specs.Numbering.{Opened, Standing}
+use Rattle.bound_calls.specs.bound_declarations.specs.constant_values.specs.declared_names.specs.binder.specs.Constants.{is_variant}
+use Rattle.bound_calls.specs.bound_declarations.specs.constant_values.specs.declared_names.specs.binder.specs.Types.{is_object}
+use Rattle.bound_calls.specs.bound_declarations.specs.constant_values.specs.declared_names.specs.binder.specs.Numbering.{Opened, Standing}
 use Rattle.bound_calls.specs.bound_forms.specs.Terms.{Env, broken_rule}
 use Rattle.bound_calls.specs.bound_forms.specs.ExpressionsBound.{bound_as_given, place_told}
 use Rattle.bound_calls.specs.bound_forms.specs.StatementsBound.{if_broken, cannot_count, is_counting, goes_over, for_each_of, walked, line_of, counter_of, loop_name, loop_variable}

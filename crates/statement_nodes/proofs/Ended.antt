@@ -20,12 +20,12 @@ use Rattle.bound_project.specs.Pieces.{Tables, Piece, an_expr, as_operand, print
 use Rattle.bound_project.specs.Bodies.{action_of, action_or, handling_view, whole}
 use Rattle.bound_project.specs.Drafts.{Drafted, ActionNamed, statement_of}
 use Rattle.bound_project.specs.View.{declared_view, variable_view}
-use Rattle.bound_calls.specs.binder.specs.Options.{from_two}
-use Rattle.bound_calls.specs.binder.specs.Constants.{compare_in}
-use Rattle.bound_calls.specs.binder.specs.Numbering.{Opened, Standing}
+use Rattle.bound_calls.specs.bound_declarations.specs.constant_values.specs.declared_names.specs.binder.specs.Options.{from_two}
+use Rattle.bound_calls.specs.bound_declarations.specs.constant_values.specs.declared_names.specs.binder.specs.Constants.{compare_in}
+use Rattle.bound_calls.specs.bound_declarations.specs.constant_values.specs.declared_names.specs.binder.specs.Numbering.{Opened, Standing}
 use Rattle.bound_calls.specs.bound_forms.specs.Terms.{Within, Env}
 use Rattle.bound_calls.specs.bound_forms.specs.StatementsBound.{Around, with_or, within, integer, one_statement, simple_action, env_at, for_action, next_action, line_of, loop_variable, selected}
-use Rattle.bound_calls.specs.binder.specs.Blocks.{header_of}
+use Rattle.bound_calls.specs.bound_declarations.specs.constant_values.specs.declared_names.specs.binder.specs.Blocks.{header_of}
 use Rattle.bound_calls.specs.bound_forms.specs.ExpressionsBound.{bound_operand}
 use Rattle.vba_lexer.specs.declared.token.Token.{Token}
 use Rattle.vba_words.specs.declared.identifier.Identifier.{Identifier}

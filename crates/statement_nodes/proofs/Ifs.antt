@@ -16,11 +16,11 @@ use Rattle.bound_project.specs.declared.statement.ActionKind.{ActionKind}
 use Rattle.bound_project.specs.Drafts.{Drafted}
 use Rattle.bound_project.specs.Statements as to
 use Rattle.bound_project.specs.Statements.{Action, Statement}
-use Rattle.bound_calls.specs.binder.specs.Numbering.{Standing, simple_count, count_list}
+use Rattle.bound_calls.specs.bound_declarations.specs.constant_values.specs.declared_names.specs.binder.specs.Numbering.{Standing, simple_count, count_list}
 use Rattle.bound_calls.specs.bound_forms.specs.Terms.{Env}
 use Rattle.bound_calls.specs.bound_forms.specs.ExpressionsBound.{bound_operand}
 use Rattle.bound_calls.specs.bound_forms.specs.StatementsBound.{Around, both, unless_none, one_statement, first_or, simple_action, env_at, bound_statement, bound_list}
-use Rattle.bound_calls.specs.binder.specs.Blocks.{next_number}
+use Rattle.bound_calls.specs.bound_declarations.specs.constant_values.specs.declared_names.specs.binder.specs.Blocks.{next_number}
 use Rattle.bound_calls.specs.bound_forms.specs.Bind.{is_built_part}
 use Rattle.statement_nodes.specs.Pushed.{ActionPushed}
 use Rattle.statement_nodes.specs.Actions.{simple_in}

@@ -14,8 +14,8 @@ use Rattle.bound_project.specs.Expressions.{Prints, shown, zone}
 use Rattle.bound_project.specs.Statements.{Tests, test_is, test_range}
 use Rattle.bound_project.specs.Pieces.{Piece, an_expr, a_value_shown, a_zone, a_test_begun, a_test_is, a_test_range, as_operand, of_value, of_test, of_range, prints_off, tests_off}
 use Rattle.bound_project.specs.Drafts.{Drafted}
-use Rattle.bound_calls.specs.binder.specs.Options.{from_two, from_three}
-use Rattle.bound_calls.specs.binder.specs.Constants.{operator_kind, place_of_expression}
+use Rattle.bound_calls.specs.bound_declarations.specs.constant_values.specs.declared_names.specs.binder.specs.Options.{from_two, from_three}
+use Rattle.bound_calls.specs.bound_declarations.specs.constant_values.specs.declared_names.specs.binder.specs.Constants.{operator_kind, place_of_expression}
 use Rattle.bound_calls.specs.bound_forms.specs.Terms.{Env}
 use Rattle.bound_calls.specs.bound_forms.specs.ExpressionsBound.{bound_operand}
 use Rattle.bound_calls.specs.bound_forms.specs.StatementsBound.{case_tests, ends_line}

@@ -8,7 +8,7 @@ use Rattle.vba_tree.specs.declared.statement.Statement as line
 use Rattle.vba_tree.specs.declared.statement.StatementList.{StatementList, fold_out-StatementList}
 use Rattle.vba_tree.specs.View.{Next, written, missing, put, put_all, next_view, statement_view, list_view}
 use Rattle.bound_project.specs.Statements.{Statement}
-use Rattle.bound_calls.specs.binder.specs.Numbering.{Standing, count, count_list}
+use Rattle.bound_calls.specs.bound_declarations.specs.constant_values.specs.declared_names.specs.binder.specs.Numbering.{Standing, count, count_list}
 use Rattle.bound_calls.specs.bound_forms.specs.StatementsBound.{Around, both, first_or, bound_statement, bound_list}
 use Rattle.statement_numbers.specs.Counts.{next_count, next_counts}
 use Rattle.statement_numbers.proofs.Counted.{list_counted}

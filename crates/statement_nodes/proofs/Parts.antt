@@ -1,8 +1,8 @@
 -- Parts of a body by their numbers.
 use Rattle.std.proofs.Common.{◌≡◌, ℕ, zero, suc, List, [], ◌∷◌, refl}
 use Rattle.std.specs.Prelude.{Some, None, slice_get}
-use Rattle.module_parts.specs.View.{part_view}
-use Rattle.module_parts.specs.declared.part.Part.{Part}
+use Rattle.bound_calls.specs.bound_declarations.specs.constant_values.specs.declared_names.specs.module_parts.specs.View.{part_view}
+use Rattle.bound_calls.specs.bound_declarations.specs.constant_values.specs.declared_names.specs.module_parts.specs.declared.part.Part.{Part}
 use Rattle.statement_numbers.specs.View.{part_at, no_part}
 
 pub part_there : (body : List Part) (at : ℕ) (part : Part) → slice_get body at ≡ Some part → part_at body at ≡ part_view part

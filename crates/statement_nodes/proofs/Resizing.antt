@@ -13,7 +13,7 @@ use Rattle.bound_project.specs.Expressions.{Lvalue, Exprs, no_exprs, also}
 use Rattle.bound_project.specs.Pieces.{Piece, Tables, an_expr, exprs_off, put}
 use Rattle.bound_project.specs.Drafts.{Drafted}
 use Rattle.bound_project.specs.View.{declared_view, element_view}
-use Rattle.bound_calls.specs.binder.specs.Constants.{is_variant}
+use Rattle.bound_calls.specs.bound_declarations.specs.constant_values.specs.declared_names.specs.binder.specs.Constants.{is_variant}
 use Rattle.bound_calls.specs.bound_forms.specs.Terms as terms
 use Rattle.bound_calls.specs.bound_forms.specs.StatementsBound.{last_broken, may_resize}
 use Rattle.bound_calls.specs.Calls.{node_of}

@@ -7,9 +7,9 @@ use Rattle.vba_module.specs.Parts as plain
 use Rattle.vba_module.specs.Parts.{statement}
 use Rattle.vba_module.specs.Blocks.{for_loop, same_kind}
 use Rattle.vba_tree.specs.Tree as tree
-use Rattle.module_parts.specs.Brackets.{kind_view}
-use Rattle.module_parts.specs.declared.part.Part.{Part}
-use Rattle.bound_calls.specs.binder.specs.Numbering as numbering
+use Rattle.bound_calls.specs.bound_declarations.specs.constant_values.specs.declared_names.specs.module_parts.specs.Brackets.{kind_view}
+use Rattle.bound_calls.specs.bound_declarations.specs.constant_values.specs.declared_names.specs.module_parts.specs.declared.part.Part.{Part}
+use Rattle.bound_calls.specs.bound_declarations.specs.constant_values.specs.declared_names.specs.binder.specs.Numbering as numbering
 use Rattle.bound_calls.specs.bound_forms.specs.StatementsBound as bound
 use Rattle.bound_calls.specs.bound_forms.specs.StatementsBound.{with_object, for_each_header}
 use Rattle.statement_numbers.specs.declared.opened.Opened.{Opened}

@@ -6,9 +6,9 @@ use Rattle.vba_module.specs.Parts.{Part, label, statement, whole_line}
 use Rattle.vba_tree.specs.Tree.{simple, if_then, if_else}
 use Rattle.bound_project.specs.Statements.{Statement}
 use Rattle.bound_project.specs.Drafts.{Drafted}
-use Rattle.bound_calls.specs.binder.specs.Numbering.{Standing, standings_in}
+use Rattle.bound_calls.specs.bound_declarations.specs.constant_values.specs.declared_names.specs.binder.specs.Numbering.{Standing, standings_in}
 use Rattle.bound_calls.specs.bound_forms.specs.StatementsBound.{Around, both, part_statements, all_statements}
-use Rattle.bound_calls.specs.binder.specs.Blocks.{next_number}
+use Rattle.bound_calls.specs.bound_declarations.specs.constant_values.specs.declared_names.specs.binder.specs.Blocks.{next_number}
 use Rattle.bound_calls.specs.bound_forms.specs.Bind.{is_built_part, left_in_body}
 use Rattle.statement_nodes.specs.Walks.{Added, PartAdded, BodyAdded, Walked, statements_of}
 

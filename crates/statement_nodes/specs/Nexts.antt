@@ -2,7 +2,7 @@
 use Rattle.std.specs.Prelude.{◌≡◌, ◌++◌, ℕ, ◌+◌, List, [], ◌∷◌, Option, Some}
 use Rattle.vba_tree.specs.View.{Next, written, missing}
 use Rattle.bound_project.specs.Statements.{Statement}
-use Rattle.bound_calls.specs.binder.specs.Numbering.{Standing}
+use Rattle.bound_calls.specs.bound_declarations.specs.constant_values.specs.declared_names.specs.binder.specs.Numbering.{Standing}
 use Rattle.bound_calls.specs.bound_forms.specs.StatementsBound.{Around, both, first_or, bound_statement}
 use Rattle.bound_project.specs.Drafts.{Drafted}
 use Rattle.statement_numbers.specs.Counts.{next_count, next_counts}

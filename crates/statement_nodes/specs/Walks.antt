@@ -4,7 +4,7 @@ use Rattle.vba_module.specs.Parts.{Part, statement, place_of}
 use Rattle.vba_tree.specs.Tree.{simple}
 use Rattle.bound_project.specs.Statements.{Statement}
 use Rattle.bound_project.specs.Drafts.{Drafted}
-use Rattle.bound_calls.specs.binder.specs.Numbering.{Standing, simple_count}
+use Rattle.bound_calls.specs.bound_declarations.specs.constant_values.specs.declared_names.specs.binder.specs.Numbering.{Standing, simple_count}
 use Rattle.bound_calls.specs.bound_forms.specs.StatementsBound.{Around, both, unless_none, one_statement, simple_action, bound_statement, part_statements, all_statements}
 use Rattle.bound_calls.specs.bound_forms.specs.Bind.{is_built_part, left_in_body}
 

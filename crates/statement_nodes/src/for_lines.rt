@@ -1,21 +1,23 @@
 //! Variables, steps and names of For, For Each and Next.
 
 ghost use Rattle.std.specs.Prelude.{◌≡◌, ◌||◌, OnOk, option_and_then, option_map};
-ghost use Rattle.bound_calls.specs.binder.specs.Constants.{is_variant};
+ghost use Rattle.bound_calls.specs.bound_declarations.specs.constant_values.specs.declared_names.specs.binder.specs.Constants.{is_variant};
 ghost use Rattle.bound_calls.specs.bound_forms.specs.StatementsBound as plain;
-ghost use Rattle.bound_calls.specs.binder.specs.Types.{is_object};
+ghost use Rattle.bound_calls.specs.bound_declarations.specs.constant_values.specs.declared_names.specs.binder.specs.Types.{is_object};
 ghost use Rattle.bound_project.specs.DraftView.{draft_view};
 ghost use Rattle.bound_project.specs.View.{declared_view, element_view};
 ghost use Rattle.statement_nodes.specs.Actions.{Walks, holds_types};
-ghost use Rattle.module_parts.specs.View.{part_view};
+ghost use Rattle.bound_calls.specs.bound_declarations.specs.constant_values.specs.declared_names.specs.module_parts.specs.View.{part_view};
 ghost use Rattle.statement_numbers.specs.View.{part_at, standing_view};
 ghost use Rattle.vba_tree.specs.View.{block_line_view, step_view};
 
 use crate::innermost::{innermost_block, line_of};
-use bound_calls::declared_names::is_object;
+use bound_calls::bound_declarations::constant_values::declared_names::is_object;
+use bound_calls::bound_declarations::constant_values::declared_names::module_parts::{
+    Part, expression_place,
+};
 use bound_calls::{is_variant, nowhere, push_node};
 use bound_project::{DeclaredType, Draft, ElementType, NodeKind};
-use module_parts::{Part, expression_place};
 use statement_numbers::{Opened, Standing};
 use vba_base::{NoMemory, Place, Refusal};
 use vba_tree::{BlockLine, StepClause};

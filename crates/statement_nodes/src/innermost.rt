@@ -2,14 +2,16 @@
 
 ghost use Rattle.std.specs.Prelude.{◌≡◌, [], ◌∷◌, List, Some, IfSome, MatchOption, option_map};
 ghost use Rattle.statement_nodes.specs.Loops as loops;
-ghost use Rattle.bound_calls.specs.binder.specs.Numbering as numbering;
-ghost use Rattle.bound_calls.specs.binder.specs.Blocks as numbered;
+ghost use Rattle.bound_calls.specs.bound_declarations.specs.constant_values.specs.declared_names.specs.binder.specs.Numbering as numbering;
+ghost use Rattle.bound_calls.specs.bound_declarations.specs.constant_values.specs.declared_names.specs.binder.specs.Blocks as numbered;
 ghost use Rattle.bound_calls.specs.bound_forms.specs.StatementsBound as plain;
-ghost use Rattle.module_parts.specs.View.{part_view};
+ghost use Rattle.bound_calls.specs.bound_declarations.specs.constant_values.specs.declared_names.specs.module_parts.specs.View.{part_view};
 ghost use Rattle.statement_numbers.specs.View.{opened_view, part_at, standing_view};
 ghost use Rattle.vba_tree.specs.View.{block_line_view};
 
-use module_parts::{BlockKind, Part};
+use bound_calls::bound_declarations::constant_values::declared_names::module_parts::{
+    BlockKind, Part,
+};
 use statement_numbers::{Opened, Standing, is_same_kind};
 use vba_tree::{BlockLine, SimpleStatement, Statement};
 

@@ -3,13 +3,13 @@
 ghost use Rattle.std.specs.Prelude.{◌≡◌, option_map};
 ghost use Rattle.statement_nodes.specs.Loops as loops;
 ghost use Rattle.bound_calls.specs.bound_forms.specs.StatementsBound as plain;
-ghost use Rattle.module_parts.specs.View.{part_view};
+ghost use Rattle.bound_calls.specs.bound_declarations.specs.constant_values.specs.declared_names.specs.module_parts.specs.View.{part_view};
 ghost use Rattle.statement_numbers.specs.View.{part_at};
 ghost use Rattle.vba_expression.specs.View.{view as expression_view};
 ghost use Rattle.vba_tree.specs.View.{block_line_view};
 
 use crate::innermost::line_of;
-use module_parts::Part;
+use bound_calls::bound_declarations::constant_values::declared_names::module_parts::Part;
 use statement_numbers::Opened;
 use vba_expression::Expression;
 use vba_tree::BlockLine;

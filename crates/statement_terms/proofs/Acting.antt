@@ -8,9 +8,9 @@ use Rattle.bound_project.specs.View.{declared_view, variable_view}
 use Rattle.bound_project.specs.Expressions.{Lvalue}
 use Rattle.bound_project.specs.Expressions as bound
 use Rattle.bound_project.specs.Pieces as piece
-use Rattle.bound_members.specs.bound_forms.specs.Terms.{a_place}
-use Rattle.bound_members.specs.bound_forms.specs.Terms as plain
-use Rattle.bound_members.specs.bound_forms.specs.StatementsBound.{plain_variable}
+use Rattle.bound_members.specs.bound_calls.specs.bound_forms.specs.Terms.{a_place}
+use Rattle.bound_members.specs.bound_calls.specs.bound_forms.specs.Terms as plain
+use Rattle.bound_members.specs.bound_calls.specs.bound_forms.specs.StatementsBound.{plain_variable}
 use Rattle.bound_members.specs.bound_calls.specs.declared.term.Term.{Term}
 use Rattle.bound_members.specs.bound_calls.specs.declared.term.Term.TheVariants as term
 use Rattle.bound_members.specs.bound_calls.specs.Standing.{TermStands}

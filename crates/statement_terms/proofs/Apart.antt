@@ -13,17 +13,17 @@ use Rattle.vba_lib.specs.Names.{function_named}
 use Rattle.bound_project.specs.Expressions.{Lvalue, variable, field, object_field, as_new, Exprs, also, Storage, active_sheet, element_value, err_description, err_number, err_source, err_value, field_value, host_member, host_object, own}
 use Rattle.bound_project.specs.Expressions as bound
 use Rattle.bound_project.specs.Project.{Declaration, nowhere}
-use Rattle.bound_members.specs.binder.specs.Classes.{class_space, field_number, found_at, has_class, made_class, member_entry}
-use Rattle.bound_members.specs.binder.specs.Constants.{compare_in, home, meant_by, names_in, operator_kind, unary_kind}
-use Rattle.bound_members.specs.binder.specs.Declarations.{Entry, Own, What, Written, a_constant, a_local, a_local_constant, a_member, a_parameter, a_procedure, a_variable, the_result}
-use Rattle.bound_members.specs.binder.specs.Options.{from_three, from_two}
-use Rattle.bound_members.specs.binder.specs.Scopes.{Meant, Qualifier, Space, behind, called, declares, first_at, has_dollar, of_host, of_library, of_module, of_procedure, plainly, qualifier_of}
-use Rattle.bound_members.specs.binder.specs.Signatures.{call_type, parameters_in, reader}
-use Rattle.bound_members.specs.binder.specs.Storage.{declared_variable, has_bounds, module_storage, own_declaration, own_storage, procedure_number}
-use Rattle.bound_members.specs.binder.specs.Types.{class_number, is_object, meant_type, type_meant}
-use Rattle.bound_members.specs.bound_forms.specs.Terms.{Env, Given, HostMember, Term, Within, a_function, a_host_member, a_method, a_place, a_routine, a_value, bound_arguments, broken_value, err_clear, err_object, err_raise, error_word, expression_of, no_term, read_of, takes}
-use Rattle.bound_members.specs.bound_forms.specs.ExpressionsBound.{HostKind, argument_of, array_base, arguments_rule, bare_call, behind_base, behind_term, call_node, call_value, call_with, callee, class_member, constant_term, declared_place, element_place, entry_term, err_member, field_named, field_of_place, field_of_value, from_zero, function_takes, function_value, function_values, given_as, givens, host_behind, host_kind, host_term, if_there, indexed, indexed_type, indexed_value, indexes_value, is_host_type, item_of, kept_member, library_term, made_place, may_be_instance, may_index, meant_term, member_called, member_in, member_of, member_of_kind, member_of_other, member_takes, new_term, node_or, numbers_of, object_behind, object_member, object_term, operand_of, own_object, own_term, place_told, reference_of, result_of, sheet_term, sheets_value, taken_by_term, takes_arguments, term_of, term_or, unknown_member, value_term, variable_term, variant_arguments, workbook, wrong_arguments, wrong_call, wrong_index, wrong_some, wrong_term}
-use Rattle.bound_members.specs.bound_forms.specs.StatementsBound.{is_of_object}
+use Rattle.bound_members.specs.bound_calls.specs.bound_declarations.specs.constant_values.specs.declared_names.specs.binder.specs.Classes.{class_space, field_number, found_at, has_class, made_class, member_entry}
+use Rattle.bound_members.specs.bound_calls.specs.bound_declarations.specs.constant_values.specs.declared_names.specs.binder.specs.Constants.{compare_in, home, meant_by, names_in, operator_kind, unary_kind}
+use Rattle.bound_members.specs.bound_calls.specs.bound_declarations.specs.constant_values.specs.declared_names.specs.binder.specs.Declarations.{Entry, Own, What, Written, a_constant, a_local, a_local_constant, a_member, a_parameter, a_procedure, a_variable, the_result}
+use Rattle.bound_members.specs.bound_calls.specs.bound_declarations.specs.constant_values.specs.declared_names.specs.binder.specs.Options.{from_three, from_two}
+use Rattle.bound_members.specs.bound_calls.specs.bound_declarations.specs.constant_values.specs.declared_names.specs.binder.specs.Scopes.{Meant, Qualifier, Space, behind, called, declares, first_at, has_dollar, of_host, of_library, of_module, of_procedure, plainly, qualifier_of}
+use Rattle.bound_members.specs.bound_calls.specs.bound_declarations.specs.constant_values.specs.declared_names.specs.binder.specs.Signatures.{call_type, parameters_in, reader}
+use Rattle.bound_members.specs.bound_calls.specs.bound_declarations.specs.constant_values.specs.declared_names.specs.binder.specs.Storage.{declared_variable, has_bounds, module_storage, own_declaration, own_storage, procedure_number}
+use Rattle.bound_members.specs.bound_calls.specs.bound_declarations.specs.constant_values.specs.declared_names.specs.binder.specs.Types.{class_number, is_object, meant_type, type_meant}
+use Rattle.bound_members.specs.bound_calls.specs.bound_forms.specs.Terms.{Env, Given, HostMember, Term, Within, a_function, a_host_member, a_method, a_place, a_routine, a_value, bound_arguments, broken_value, err_clear, err_object, err_raise, error_word, expression_of, no_term, read_of, takes}
+use Rattle.bound_members.specs.bound_calls.specs.bound_forms.specs.ExpressionsBound.{HostKind, argument_of, array_base, arguments_rule, bare_call, behind_base, behind_term, call_node, call_value, call_with, callee, class_member, constant_term, declared_place, element_place, entry_term, err_member, field_named, field_of_place, field_of_value, from_zero, function_takes, function_value, function_values, given_as, givens, host_behind, host_kind, host_term, if_there, indexed, indexed_type, indexed_value, indexes_value, is_host_type, item_of, kept_member, library_term, made_place, may_be_instance, may_index, meant_term, member_called, member_in, member_of, member_of_kind, member_of_other, member_takes, new_term, node_or, numbers_of, object_behind, object_member, object_term, operand_of, own_object, own_term, place_told, reference_of, result_of, sheet_term, sheets_value, taken_by_term, takes_arguments, term_of, term_or, unknown_member, value_term, variable_term, variant_arguments, workbook, wrong_arguments, wrong_call, wrong_index, wrong_some, wrong_term}
+use Rattle.bound_members.specs.bound_calls.specs.bound_forms.specs.StatementsBound.{is_of_object}
 
 -- what is no place of another object, but for one that isn't lent in a project with a class
 abbrev is_free : (has : Bool) → Term → Bool

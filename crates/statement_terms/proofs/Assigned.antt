@@ -22,14 +22,14 @@ use Rattle.bound_project.specs.Lists.{above, args_of}
 use Rattle.bound_project.proofs.Lists.{args_are}
 use Rattle.bound_project.specs.Pieces.{Piece, Tables, an_argument, an_expr, an_object}
 use Rattle.bound_project.specs.Drafts.{Drafted, ActionNamed}
-use Rattle.bound_members.specs.binder.specs.Options.{or_else}
-use Rattle.bound_members.specs.binder.specs.Declarations.{Written}
-use Rattle.bound_members.specs.binder.specs.Scopes.{Space}
-use Rattle.bound_members.specs.bound_forms.specs.Terms.{Env, Given, routine_term}
-use Rattle.bound_members.specs.bound_forms.specs.Terms as plain
-use Rattle.bound_members.specs.bound_forms.specs.ExpressionsBound.{argument_of, item_of, givens, indexed, term_of, place_told, behind_base, may_be_instance}
-use Rattle.bound_members.specs.bound_forms.specs.StatementsBound.{assigned, assigned_to, broken_target, is_given_with, is_no_target, is_variant_place, takes_value, target_before, untaken, value_given, written_to, property_given}
-use Rattle.bound_members.specs.declared_names.specs.View.{space_view}
+use Rattle.bound_members.specs.bound_calls.specs.bound_declarations.specs.constant_values.specs.declared_names.specs.binder.specs.Options.{or_else}
+use Rattle.bound_members.specs.bound_calls.specs.bound_declarations.specs.constant_values.specs.declared_names.specs.binder.specs.Declarations.{Written}
+use Rattle.bound_members.specs.bound_calls.specs.bound_declarations.specs.constant_values.specs.declared_names.specs.binder.specs.Scopes.{Space}
+use Rattle.bound_members.specs.bound_calls.specs.bound_forms.specs.Terms.{Env, Given, routine_term}
+use Rattle.bound_members.specs.bound_calls.specs.bound_forms.specs.Terms as plain
+use Rattle.bound_members.specs.bound_calls.specs.bound_forms.specs.ExpressionsBound.{argument_of, item_of, givens, indexed, term_of, place_told, behind_base, may_be_instance}
+use Rattle.bound_members.specs.bound_calls.specs.bound_forms.specs.StatementsBound.{assigned, assigned_to, broken_target, is_given_with, is_no_target, is_variant_place, takes_value, target_before, untaken, value_given, written_to, property_given}
+use Rattle.bound_members.specs.bound_calls.specs.bound_declarations.specs.constant_values.specs.declared_names.specs.View.{space_view}
 use Rattle.statement_terms.specs.declared.trees.Split.{Split}
 use Rattle.bound_members.specs.bound_calls.specs.declared.term.Routine.{Routine}
 use Rattle.bound_members.specs.bound_calls.specs.declared.term.Tree.{Tree}
@@ -46,7 +46,7 @@ use Rattle.bound_members.specs.bound_calls.proofs.Arguing.{left_long}
 use Rattle.bound_members.specs.bound_calls.proofs.CallSteps.{parameters_long, routine_item}
 use Rattle.bound_members.specs.bound_calls.proofs.Passing.{arguments_bound}
 use Rattle.statement_terms.proofs.NodeTrees.{behind_both, behind_push}
-use Rattle.bound_members.specs.binder.specs.Classes.{has_class}
+use Rattle.bound_members.specs.bound_calls.specs.bound_declarations.specs.constant_values.specs.declared_names.specs.binder.specs.Classes.{has_class}
 use Rattle.bound_members.specs.bound_calls.specs.declared.term.Receiver.{Receiver}
 use Rattle.bound_members.specs.bound_calls.specs.declared.term.Receiver.TheVariants as receiver
 

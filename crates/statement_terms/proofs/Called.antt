@@ -17,19 +17,19 @@ use Rattle.bound_project.specs.Statements.{evaluate}
 use Rattle.bound_project.specs.Statements as to
 use Rattle.bound_project.specs.Bodies.{action_of, whole}
 use Rattle.bound_project.specs.View.{declared_view, parameter_view}
-use Rattle.bound_members.specs.declared_names.specs.View.{space_view, written_view}
+use Rattle.bound_members.specs.bound_calls.specs.bound_declarations.specs.constant_values.specs.declared_names.specs.View.{space_view, written_view}
 use Rattle.bound_project.specs.Lists.{above, args_of}
 use Rattle.bound_project.proofs.Lists.{args_are}
 use Rattle.bound_project.specs.Pieces.{Argument, Piece, Tables, an_argument, put}
 use Rattle.bound_project.specs.Project as project
 use Rattle.bound_project.specs.Drafts.{Drafted}
-use Rattle.bound_members.specs.binder.specs.Declarations.{Written}
-use Rattle.bound_members.specs.binder.specs.Scopes.{Space}
-use Rattle.bound_members.specs.binder.specs.Options.{or_else}
-use Rattle.bound_members.specs.bound_forms.specs.Terms.{Env, Given, broken_rule, routine_term, err_raise, err_clear, error_word, no_term, bound_arguments, has_names}
-use Rattle.bound_members.specs.bound_forms.specs.Terms as plain
-use Rattle.bound_members.specs.bound_forms.specs.ExpressionsBound.{argument_of, given_as, givens, indexed}
-use Rattle.bound_members.specs.bound_forms.specs.StatementsBound.{called_place, called_term, called_with, is_one, raise_parameters, raised, untaken}
+use Rattle.bound_members.specs.bound_calls.specs.bound_declarations.specs.constant_values.specs.declared_names.specs.binder.specs.Declarations.{Written}
+use Rattle.bound_members.specs.bound_calls.specs.bound_declarations.specs.constant_values.specs.declared_names.specs.binder.specs.Scopes.{Space}
+use Rattle.bound_members.specs.bound_calls.specs.bound_declarations.specs.constant_values.specs.declared_names.specs.binder.specs.Options.{or_else}
+use Rattle.bound_members.specs.bound_calls.specs.bound_forms.specs.Terms.{Env, Given, broken_rule, routine_term, err_raise, err_clear, error_word, no_term, bound_arguments, has_names}
+use Rattle.bound_members.specs.bound_calls.specs.bound_forms.specs.Terms as plain
+use Rattle.bound_members.specs.bound_calls.specs.bound_forms.specs.ExpressionsBound.{argument_of, given_as, givens, indexed}
+use Rattle.bound_members.specs.bound_calls.specs.bound_forms.specs.StatementsBound.{called_place, called_term, called_with, is_one, raise_parameters, raised, untaken}
 use Rattle.statement_terms.specs.declared.trees.Split.{Split}
 use Rattle.bound_members.specs.bound_calls.specs.declared.term.Ending.{Ending}
 use Rattle.bound_members.specs.bound_calls.specs.declared.term.Term.{Term}

@@ -2,12 +2,12 @@
 use Rattle.std.proofs.Common.{◌≡◌, ℕ, Bool, true, false, [], Option, Some, None, refl, sym, ◌∙◌}
 use Rattle.vba_base.specs.declared.place.Place.{Place}
 use Rattle.bound_project.specs.Expressions as bound
-use Rattle.bound_members.specs.binder.specs.Declarations.{Written}
-use Rattle.bound_members.specs.binder.specs.Scopes.{Space}
-use Rattle.bound_members.specs.binder.specs.Signatures.{parameters_in, reader}
-use Rattle.bound_members.specs.binder.specs.Options.{or_else}
-use Rattle.bound_members.specs.bound_forms.specs.Terms.{Env, bound_arguments, routine_term, takes, typed_value, value_in}
-use Rattle.bound_members.specs.bound_forms.specs.ExpressionsBound.{bare_call, given_as, indexed, lacking_call, term_or, typed_reference, wrong_call}
+use Rattle.bound_members.specs.bound_calls.specs.bound_declarations.specs.constant_values.specs.declared_names.specs.binder.specs.Declarations.{Written}
+use Rattle.bound_members.specs.bound_calls.specs.bound_declarations.specs.constant_values.specs.declared_names.specs.binder.specs.Scopes.{Space}
+use Rattle.bound_members.specs.bound_calls.specs.bound_declarations.specs.constant_values.specs.declared_names.specs.binder.specs.Signatures.{parameters_in, reader}
+use Rattle.bound_members.specs.bound_calls.specs.bound_declarations.specs.constant_values.specs.declared_names.specs.binder.specs.Options.{or_else}
+use Rattle.bound_members.specs.bound_calls.specs.bound_forms.specs.Terms.{Env, bound_arguments, routine_term, takes, typed_value, value_in}
+use Rattle.bound_members.specs.bound_calls.specs.bound_forms.specs.ExpressionsBound.{bare_call, given_as, indexed, lacking_call, term_or, typed_reference, wrong_call}
 use Rattle.bound_members.specs.bound_calls.proofs.Refusing.{refused}
 
 -- the same by its parts, whatever it is called of

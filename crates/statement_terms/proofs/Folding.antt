@@ -11,7 +11,7 @@ use Rattle.vba_values.specs.declared.value.Value.TheVariants.{Missing, rolls-Mis
 use Rattle.bound_project.specs.Project as project
 use Rattle.bound_project.specs.View.{parameter_view}
 use Rattle.bound_project.specs.declared.declarations.Parameter.{Parameter}
-use Rattle.bound_members.specs.bound_forms.specs.StatementsBound.{raise_parameter, raise_parameters}
+use Rattle.bound_members.specs.bound_calls.specs.bound_forms.specs.StatementsBound.{raise_parameter, raise_parameters}
 
 pub number_folded : folded (codes "number") ≡ codes "number"
 unfolding folded caseless

@@ -10,13 +10,13 @@ use Rattle.bound_project.specs.Expressions as bound
 use Rattle.bound_project.specs.Drafts.{Drafted}
 use Rattle.bound_project.specs.Pieces.{Piece, Tables, put}
 use Rattle.bound_project.specs.View.{declared_view}
-use Rattle.bound_members.specs.binder.specs.Options.{or_else}
-use Rattle.bound_members.specs.binder.specs.Types.{is_object}
-use Rattle.bound_members.specs.binder.specs.Constants.{is_variant}
-use Rattle.bound_members.specs.bound_forms.specs.Terms.{Env, a_place, a_value, a_routine, a_function, a_host_member, err_object, err_raise, err_clear, error_word, no_term, expression_of, given_rule, given_to, typed_value, unless_broken, a_method, read_of, value_in, broken_rule, takes}
-use Rattle.bound_members.specs.bound_forms.specs.Terms as plain
-use Rattle.bound_members.specs.bound_forms.specs.ExpressionsBound.{bound_as_given, bound_operand, default_value, given_as, may_be_object as may_be_object_at, operand_of, plain_operand, reference_of, term_of, value_of, place_told, bare_call, has_default, has_object, is_instance_type, is_of_host, may_be_instance, given_way, default_rule, host_kind, lacking_call, behind_base}
-use Rattle.bound_members.specs.bound_forms.specs.StatementsBound.{given_to_term, is_given_with, target_term, value_for, value_given}
+use Rattle.bound_members.specs.bound_calls.specs.bound_declarations.specs.constant_values.specs.declared_names.specs.binder.specs.Options.{or_else}
+use Rattle.bound_members.specs.bound_calls.specs.bound_declarations.specs.constant_values.specs.declared_names.specs.binder.specs.Types.{is_object}
+use Rattle.bound_members.specs.bound_calls.specs.bound_declarations.specs.constant_values.specs.declared_names.specs.binder.specs.Constants.{is_variant}
+use Rattle.bound_members.specs.bound_calls.specs.bound_forms.specs.Terms.{Env, a_place, a_value, a_routine, a_function, a_host_member, err_object, err_raise, err_clear, error_word, no_term, expression_of, given_rule, given_to, typed_value, unless_broken, a_method, read_of, value_in, broken_rule, takes}
+use Rattle.bound_members.specs.bound_calls.specs.bound_forms.specs.Terms as plain
+use Rattle.bound_members.specs.bound_calls.specs.bound_forms.specs.ExpressionsBound.{bound_as_given, bound_operand, default_value, given_as, may_be_object as may_be_object_at, operand_of, plain_operand, reference_of, term_of, value_of, place_told, bare_call, has_default, has_object, is_instance_type, is_of_host, may_be_instance, given_way, default_rule, host_kind, lacking_call, behind_base}
+use Rattle.bound_members.specs.bound_calls.specs.bound_forms.specs.StatementsBound.{given_to_term, is_given_with, target_term, value_for, value_given}
 use Rattle.bound_members.specs.bound_calls.specs.declared.term.Term.{Term}
 use Rattle.bound_members.specs.bound_calls.specs.declared.term.Term.TheVariants as term
 use Rattle.bound_members.specs.bound_calls.specs.declared.term.Tree.{Tree}
@@ -27,14 +27,14 @@ use Rattle.statement_terms.specs.Terms.{may_be_object}
 use Rattle.statement_terms.specs.Assigning.{ExprPushed, PushesFor, ValueBound, ValueFor, is_plain, taken_for}
 use Rattle.statement_terms.specs.declared.takers.Taker.{Taker}
 use Rattle.statement_terms.specs.Takers.{MarksTaken, TakenBy, given_by, may_break}
-use Rattle.bound_members.specs.binder.specs.Classes.{has_class}
+use Rattle.bound_members.specs.bound_calls.specs.bound_declarations.specs.constant_values.specs.declared_names.specs.binder.specs.Classes.{has_class}
 use Rattle.bound_members.specs.bound_calls.specs.declared.term.Ending.{Ending}
 use Rattle.bound_members.specs.bound_calls.specs.Calls.{node_of}
 use Rattle.bound_members.specs.bound_calls.specs.References.{TakesGiven, may_be_instance_by}
 use Rattle.bound_members.specs.bound_calls.proofs.LastNodes.{no_instance}
-use Rattle.bound_members.specs.binder.specs.Signatures.{parameters_in, reader}
-use Rattle.bound_members.specs.binder.specs.Scopes.{Space}
-use Rattle.bound_members.specs.binder.specs.Declarations.{Written}
+use Rattle.bound_members.specs.bound_calls.specs.bound_declarations.specs.constant_values.specs.declared_names.specs.binder.specs.Signatures.{parameters_in, reader}
+use Rattle.bound_members.specs.bound_calls.specs.bound_declarations.specs.constant_values.specs.declared_names.specs.binder.specs.Scopes.{Space}
+use Rattle.bound_members.specs.bound_calls.specs.bound_declarations.specs.constant_values.specs.declared_names.specs.binder.specs.Declarations.{Written}
 
 value_as_given : (env : Env) (t : plain.Term) (place : Place) (made : bound.Expr) → value_of env t place ≡ Some made → given_as env t place ≡ Some made
 value_as_given env t place made h = ap (λ (o : Option bound.Expr). or_else o (reference_of env t place)) h
@@ -254,7 +254,7 @@ plain_pushed has given x of d e plain p = record {
       };
 }
 
-pub given_pushed : (has may_be : Bool) (x : Tree) (d m e : Drafted) (v : Ending) → TakesGiven x.term x.place d m v → e ≡ record m { pieces = put m.tables (node_of v.kind x.place v.of) m.pieces } → may_be_instance_by has v ≡ may_be
+pub given_pushed : (has may_be : Bool) (x : Tree) (d m e : Drafted) (v : Ending) → TakesGiven x.term x.place d m v → e ≡ record m { pieces = put m.tables (node_of v.kind x.place v.of) m.pieces } → may_be_instance_by has m.tables v ≡ may_be
     → PushesFor has may_be true x d e v.of
 given_pushed has may_be x d m e v t eq same =
     let P : Drafted → Type 0 = λ (z : Drafted). PushesFor has may_be true x d z v.of in
@@ -267,7 +267,7 @@ given_pushed has may_be x d m e v t eq same =
           let A : Place → Type 0 = λ (place : Place). given_as env (term_of env tree) place ≡ Some made in
           record {
             pushed = record { made = made; is = subst A k.place_is g.is; operand = refl; on_top = g.ends n };
-            free = λ no. no_instance has v (same ∙ no) env m.tables g.made x.place m.pieces below known g.ends;
+            free = λ no. no_instance has m.tables v (same ∙ no) env g.made x.place m.pieces below known g.ends;
           };
     })
 

@@ -15,10 +15,10 @@ use Rattle.bound_project.specs.Drafts.{Drafted}
 use Rattle.bound_project.specs.Expressions as bound
 use Rattle.bound_project.specs.Pieces.{Piece}
 use Rattle.bound_project.specs.Statements.{evaluate}
-use Rattle.bound_members.specs.bound_forms.specs.Terms.{Env, Given, a_place, a_value, a_routine, a_function, a_host_member, err_object, err_raise, err_clear, error_word, no_term, a_method}
-use Rattle.bound_members.specs.bound_forms.specs.Terms as plain
-use Rattle.bound_members.specs.bound_forms.specs.ExpressionsBound.{callee, given_as, givens, indexed, item_of, term_of, place_told}
-use Rattle.bound_members.specs.bound_forms.specs.StatementsBound.{called_term, called_with}
+use Rattle.bound_members.specs.bound_calls.specs.bound_forms.specs.Terms.{Env, Given, a_place, a_value, a_routine, a_function, a_host_member, err_object, err_raise, err_clear, error_word, no_term, a_method}
+use Rattle.bound_members.specs.bound_calls.specs.bound_forms.specs.Terms as plain
+use Rattle.bound_members.specs.bound_calls.specs.bound_forms.specs.ExpressionsBound.{callee, given_as, givens, indexed, item_of, term_of, place_told}
+use Rattle.bound_members.specs.bound_calls.specs.bound_forms.specs.StatementsBound.{called_term, called_with}
 use Rattle.bound_members.specs.bound_calls.specs.declared.term.Item.{Item}
 use Rattle.bound_members.specs.bound_calls.specs.declared.term.Item.TheVariants as item
 use Rattle.bound_members.specs.bound_calls.specs.declared.term.Tree.{Tree}

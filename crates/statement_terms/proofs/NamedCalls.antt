@@ -19,10 +19,10 @@ use Rattle.bound_project.proofs.Lists.{args_are}
 use Rattle.bound_project.specs.Pieces.{Argument, Piece, Tables, an_argument, arguments_off, order_in}
 use Rattle.bound_project.specs.Project as project
 use Rattle.bound_project.specs.Drafts.{Drafted}
-use Rattle.bound_members.specs.bound_forms.specs.Terms.{Env, Given, bound_arguments}
-use Rattle.bound_members.specs.bound_forms.specs.StatementsBound.{called_term, raise_parameters}
-use Rattle.bound_members.specs.bound_forms.specs.Terms as plain
-use Rattle.bound_members.specs.bound_forms.specs.ExpressionsBound.{argument_of, givens, indexed}
+use Rattle.bound_members.specs.bound_calls.specs.bound_forms.specs.Terms.{Env, Given, bound_arguments}
+use Rattle.bound_members.specs.bound_calls.specs.bound_forms.specs.StatementsBound.{called_term, raise_parameters}
+use Rattle.bound_members.specs.bound_calls.specs.bound_forms.specs.Terms as plain
+use Rattle.bound_members.specs.bound_calls.specs.bound_forms.specs.ExpressionsBound.{argument_of, givens, indexed}
 use Rattle.bound_members.specs.bound_calls.specs.declared.term.Ending.{Ending}
 use Rattle.bound_members.specs.bound_calls.specs.declared.term.Item.TheVariants as item
 use Rattle.bound_members.specs.bound_calls.specs.declared.term.Term.TheVariants as term

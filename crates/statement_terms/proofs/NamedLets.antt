@@ -13,8 +13,8 @@ use Rattle.bound_project.specs.Statements.{Action}
 use Rattle.bound_project.specs.Statements as to
 use Rattle.bound_project.specs.View.{declared_view, parameter_view}
 use Rattle.bound_project.proofs.Lists.{args_are}
-use Rattle.bound_members.specs.bound_forms.specs.Terms.{Env}
-use Rattle.bound_members.specs.bound_forms.specs.ExpressionsBound.{givens}
+use Rattle.bound_members.specs.bound_calls.specs.bound_forms.specs.Terms.{Env}
+use Rattle.bound_members.specs.bound_calls.specs.bound_forms.specs.ExpressionsBound.{givens}
 use Rattle.bound_members.specs.bound_calls.specs.declared.term.Ordered.{Ordered}
 use Rattle.bound_members.specs.bound_calls.specs.declared.term.Passed.{Passed}
 use Rattle.bound_members.specs.bound_calls.specs.InOrder.{EndsInOrder}
@@ -24,7 +24,7 @@ use Rattle.statement_terms.specs.NamedCalls.{ReadsNamed}
 use Rattle.statement_terms.proofs.Assigned.{let_made, property_named}
 use Rattle.statement_terms.proofs.Called.{all_passed}
 use Rattle.statement_terms.proofs.NamedCalls.{bound_on, reads_plain, some_reversed}
-use Rattle.bound_members.specs.bound_forms.specs.StatementsBound.{property_given}
+use Rattle.bound_members.specs.bound_calls.specs.bound_forms.specs.StatementsBound.{property_given}
 use Rattle.bound_members.specs.bound_calls.specs.Standing.{ReceiverThere}
 
 -- ---- without names

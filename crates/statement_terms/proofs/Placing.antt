@@ -13,13 +13,13 @@ use Rattle.bound_project.specs.Bodies.{action_of}
 use Rattle.bound_project.specs.Pieces.{Piece, Tables, an_expr, a_place, put, put_kind}
 use Rattle.bound_project.specs.Drafts.{Drafted}
 use Rattle.bound_project.specs.Statements.{with_place, with_value}
-use Rattle.bound_members.specs.binder.specs.Declarations.{Written}
-use Rattle.bound_members.specs.binder.specs.Scopes.{Space}
-use Rattle.bound_members.specs.declared_names.specs.View.{space_view, written_view}
-use Rattle.bound_members.specs.bound_forms.specs.Terms.{Env}
-use Rattle.bound_members.specs.bound_forms.specs.Terms as terms
-use Rattle.bound_members.specs.bound_forms.specs.ExpressionsBound.{given_as, term_of, place_told}
-use Rattle.bound_members.specs.bound_forms.specs.StatementsBound.{is_of_object, place_in, with_action}
+use Rattle.bound_members.specs.bound_calls.specs.bound_declarations.specs.constant_values.specs.declared_names.specs.binder.specs.Declarations.{Written}
+use Rattle.bound_members.specs.bound_calls.specs.bound_declarations.specs.constant_values.specs.declared_names.specs.binder.specs.Scopes.{Space}
+use Rattle.bound_members.specs.bound_calls.specs.bound_declarations.specs.constant_values.specs.declared_names.specs.View.{space_view, written_view}
+use Rattle.bound_members.specs.bound_calls.specs.bound_forms.specs.Terms.{Env}
+use Rattle.bound_members.specs.bound_calls.specs.bound_forms.specs.Terms as terms
+use Rattle.bound_members.specs.bound_calls.specs.bound_forms.specs.ExpressionsBound.{given_as, term_of, place_told}
+use Rattle.bound_members.specs.bound_calls.specs.bound_forms.specs.StatementsBound.{is_of_object, place_in, with_action}
 use Rattle.bound_members.specs.bound_calls.specs.declared.term.Ending.{Ending}
 use Rattle.bound_members.specs.bound_calls.specs.declared.term.Term.{Term}
 use Rattle.bound_members.specs.bound_calls.specs.declared.term.Term.TheVariants as term
@@ -34,11 +34,11 @@ use Rattle.bound_members.specs.bound_calls.specs.References.{PushesGiven}
 use Rattle.bound_members.specs.bound_calls.specs.Steps.{Leaves}
 use Rattle.bound_members.specs.bound_calls.proofs.Growing.{grown_twice, grown_pieces}
 use Rattle.bound_members.specs.bound_calls.proofs.LastNodes.{any_node, value_passes}
-use Rattle.bound_members.specs.binder.specs.Classes.{has_class}
+use Rattle.bound_members.specs.bound_calls.specs.bound_declarations.specs.constant_values.specs.declared_names.specs.binder.specs.Classes.{has_class}
 use Rattle.statement_terms.proofs.Apart.{no_object}
 use Rattle.std.specs.Prelude.{◌&&◌, ◌||◌, not}
-use Rattle.bound_members.specs.binder.specs.Types.{is_object}
-use Rattle.bound_members.specs.binder.specs.Constants.{is_variant}
+use Rattle.bound_members.specs.bound_calls.specs.bound_declarations.specs.constant_values.specs.declared_names.specs.binder.specs.Types.{is_object}
+use Rattle.bound_members.specs.bound_calls.specs.bound_declarations.specs.constant_values.specs.declared_names.specs.binder.specs.Constants.{is_variant}
 
 -- a place by its last node and its type, and whether it is lent
 pub record PlaceThere (t : Tables) (e : Ending) (lent : Bool) (x : terms.Term) (ps below : List Piece) : Type 0 where

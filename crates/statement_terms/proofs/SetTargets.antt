@@ -21,14 +21,14 @@ use Rattle.bound_project.specs.Expressions as bound
 use Rattle.bound_project.specs.Pieces.{Piece, Tables, an_expr, expr_of, exprs_off, misfit, of_found, put, put_kind}
 use Rattle.bound_project.specs.Statements.{Action, set, set_member}
 use Rattle.bound_project.specs.View.{declared_view}
-use Rattle.bound_members.specs.binder.specs.Options.{or_else}
-use Rattle.bound_members.specs.binder.specs.Types.{is_object}
-use Rattle.bound_members.specs.binder.specs.Constants.{is_variant}
-use Rattle.bound_members.specs.binder.specs.Signatures.{is_property}
-use Rattle.bound_members.specs.bound_forms.specs.Terms.{Env, Given, a_host_member, a_method, a_place, a_routine, a_value, expression_of, no_term}
-use Rattle.bound_members.specs.bound_forms.specs.Terms as plain
-use Rattle.bound_members.specs.bound_forms.specs.ExpressionsBound.{bound_as_given, givens, indexed, term_of, place_told}
-use Rattle.bound_members.specs.bound_forms.specs.StatementsBound.{broken_target, is_sub, is_unassignable, may_refer, no_reference, not_assignable, object_set, set_by, set_given, set_target, set_to, set_value, target_before, target_of_call}
+use Rattle.bound_members.specs.bound_calls.specs.bound_declarations.specs.constant_values.specs.declared_names.specs.binder.specs.Options.{or_else}
+use Rattle.bound_members.specs.bound_calls.specs.bound_declarations.specs.constant_values.specs.declared_names.specs.binder.specs.Types.{is_object}
+use Rattle.bound_members.specs.bound_calls.specs.bound_declarations.specs.constant_values.specs.declared_names.specs.binder.specs.Constants.{is_variant}
+use Rattle.bound_members.specs.bound_calls.specs.bound_declarations.specs.constant_values.specs.declared_names.specs.binder.specs.Signatures.{is_property}
+use Rattle.bound_members.specs.bound_calls.specs.bound_forms.specs.Terms.{Env, Given, a_host_member, a_method, a_place, a_routine, a_value, expression_of, no_term}
+use Rattle.bound_members.specs.bound_calls.specs.bound_forms.specs.Terms as plain
+use Rattle.bound_members.specs.bound_calls.specs.bound_forms.specs.ExpressionsBound.{bound_as_given, givens, indexed, term_of, place_told}
+use Rattle.bound_members.specs.bound_calls.specs.bound_forms.specs.StatementsBound.{broken_target, is_sub, is_unassignable, may_refer, no_reference, not_assignable, object_set, set_by, set_given, set_target, set_to, set_value, target_before, target_of_call}
 use Rattle.bound_members.specs.bound_calls.specs.declared.term.Ending.{Ending}
 use Rattle.bound_members.specs.bound_calls.specs.declared.term.HostMember.{HostMember}
 use Rattle.bound_members.specs.bound_calls.specs.declared.term.Term.TheVariants as term

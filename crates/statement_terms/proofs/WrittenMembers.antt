@@ -23,12 +23,12 @@ use Rattle.bound_project.specs.Pieces.{Piece, Tables, a_member, an_expr, by_name
 use Rattle.bound_project.specs.Drafts.{Drafted}
 use Rattle.bound_project.specs.Statements.{Action, assign_default, assign_member}
 use Rattle.bound_project.specs.View.{declared_view}
-use Rattle.bound_members.specs.binder.specs.Options.{or_else}
-use Rattle.bound_members.specs.binder.specs.Types.{is_object}
-use Rattle.bound_members.specs.bound_forms.specs.Terms.{Env, Given, a_host_member, expression_of, has_names}
-use Rattle.bound_members.specs.bound_forms.specs.Terms as plain
-use Rattle.bound_members.specs.bound_forms.specs.ExpressionsBound.{arguments_rule, callee, givens, item_of, member_takes, host_arguments, indexed, mark_members, named_called, takes_arguments, term_of, place_told, host_given, may_be_instance}
-use Rattle.bound_members.specs.bound_forms.specs.StatementsBound.{arguments_written, assigned, assigned_to, broken_target, fits_written, has_written_default, is_given_with, is_no_target, is_param_array, is_sub, is_variant_place, is_written_member, member_written, named_written, takes_value, target_before, unwritten_rule, written_rule, wrong_written}
+use Rattle.bound_members.specs.bound_calls.specs.bound_declarations.specs.constant_values.specs.declared_names.specs.binder.specs.Options.{or_else}
+use Rattle.bound_members.specs.bound_calls.specs.bound_declarations.specs.constant_values.specs.declared_names.specs.binder.specs.Types.{is_object}
+use Rattle.bound_members.specs.bound_calls.specs.bound_forms.specs.Terms.{Env, Given, a_host_member, expression_of, has_names}
+use Rattle.bound_members.specs.bound_calls.specs.bound_forms.specs.Terms as plain
+use Rattle.bound_members.specs.bound_calls.specs.bound_forms.specs.ExpressionsBound.{arguments_rule, callee, givens, is_item_name, item_of, member_takes, host_arguments, indexed, mark_members, named_called, takes_arguments, term_of, place_told, may_be_instance}
+use Rattle.bound_members.specs.bound_calls.specs.bound_forms.specs.StatementsBound.{arguments_written, assigned, assigned_to, broken_target, fits_written, has_written_default, is_given_with, is_no_target, is_param_array, is_sub, is_variant_place, is_written_member, member_written, named_written, takes_value, target_before, unwritten_rule, written_rule, wrong_written}
 use Rattle.bound_members.specs.bound_calls.specs.declared.term.HostMember.{HostMember}
 use Rattle.bound_members.specs.bound_calls.specs.declared.term.MemberCall.{MemberCall}
 use Rattle.bound_members.specs.bound_calls.specs.declared.term.Item.TheVariants as item
@@ -37,14 +37,14 @@ use Rattle.bound_members.specs.bound_calls.specs.declared.term.Term.{Term}
 use Rattle.bound_members.specs.bound_calls.specs.declared.term.Term.TheVariants as term
 use Rattle.bound_members.specs.bound_calls.specs.declared.term.Tree.{Tree}
 use Rattle.bound_members.specs.bound_calls.specs.Calls.{node_of}
-use Rattle.bound_members.specs.bound_calls.specs.Standing.{AllGiven, MemberNamed, MemberStands, NamesCame, Stands, looked_for, member_is, names_told, on_pieces}
+use Rattle.bound_members.specs.bound_calls.specs.Standing.{HostGiven, MemberNamed, MemberStands, NamesCame, Stands, looked_for, member_is, names_told, on_pieces}
 use Rattle.bound_members.specs.bound_calls.specs.Shapes.{shape_given, shapes_given}
 use Rattle.bound_members.specs.bound_calls.specs.Taking.{PushesSheet, broken_ending, sheet_expression}
 use Rattle.bound_members.specs.bound_calls.proofs.Growing.{grown_pieces, grown_same, grown_twice}
 use Rattle.bound_members.specs.bound_calls.proofs.Taking.{sheet_stands}
 use Rattle.bound_members.proofs.Listing.{all_written}
 use Rattle.bound_members.proofs.MemberSteps.{by_name_called, named_ends}
-use Rattle.bound_members.proofs.Naming.{given_listed, given_long, none_named}
+use Rattle.bound_members.proofs.Naming.{host_listed, host_long, none_named}
 use Rattle.bound_members.specs.MemberCalls.{NamesFit}
 use Rattle.statement_terms.specs.Called.{ActionIs}
 use Rattle.statement_terms.specs.Members.{AssignsTerm, AssignsTree, GivesMember, IsWritten, WritesBroken, WritesCall, is_written, taken_rule}
@@ -52,13 +52,14 @@ use Rattle.statement_terms.proofs.Assigned.{a_target, bare_assigned, bare_given}
 
 -- ---- which members are written
 
--- a member of an object of an unknown kind, or one that gives an object with a default member
-late_or_default : (late named object written mark : Bool) → (late || object) ≡ true → written ≡ true → (((late || named) || (object && written)) || mark) ≡ true
-late_or_default true named object written mark h k = refl
-late_or_default false true object written mark h k = refl
-late_or_default false false true true mark h k = refl
-late_or_default false false true false mark h k = let e : false ≡ true = k in absurd cc
-late_or_default false false false written mark h k = let e : false ≡ true = h in absurd cc
+-- a member of an object of an unknown kind, one that gives an object with a default member, or an item
+late_or_default : (late named object written item mark : Bool) → ((late || object) || item) ≡ true → written ≡ true → ((((late || named) || (object && written)) || item) || mark) ≡ true
+late_or_default true named object written item mark h k = refl
+late_or_default false true object written item mark h k = refl
+late_or_default false false true true item mark h k = refl
+late_or_default false false true false item mark h k = let e : false ≡ true = k in absurd cc
+late_or_default false false false written true mark h k = refl
+late_or_default false false false written false mark h k = let e : false ≡ true = h in absurd cc
 
 -- ---- without arguments
 
@@ -203,28 +204,28 @@ some_fit m (g ∷ gs) some takes k = ap (λ (b : Bool). b && has_written_default
 
 -- a member with arguments is written with what these are
 is_arguments : (env : Env) (place : Place) (object : bound.Expr) (m : plain.HostMember) (count : ℕ) (gs : List Given) (value : bound.Expr) → count ≡ length gs → count ≢ 0 → takes_arguments m count ≡ true → has_written_default m.of ≡ true
-    → (not (is_some m.greatest) || is_object m.of) ≡ true → may_be_instance env value ≡ false → (made : Action) → arguments_written env place object m gs value ≡ Some made → member_written env place object m gs value ≡ Some made
+    → (not (is_some m.greatest) || is_object m.of || is_item_name m.name) ≡ true → may_be_instance env value ≡ false → (made : Action) → arguments_written env place object m gs value ≡ Some made → member_written env place object m gs value ≡ Some made
 is_arguments env place object m count gs value long some takes k late free made given =
     let N : ℕ → Type 0 = λ (n : ℕ). n ≢ 0 in
     let T : ℕ → Type 0 = λ (n : ℕ). takes_arguments m n ≡ true in
     let written : is_written_member m ≡ true =
-    late_or_default (not (is_some m.greatest)) (bytes_eq m.name (codes "value")) (is_object m.of) (has_written_default m.of) (list_any (λ (w : plain.HostMember). bytes_eq m.name w.name) mark_members) late k in
+    late_or_default (not (is_some m.greatest)) (bytes_eq m.name (codes "value")) (is_object m.of) (has_written_default m.of) (is_item_name m.name) (list_any (λ (w : plain.HostMember). bytes_eq m.name w.name) mark_members) late k in
     let fits : fits_written m gs ≡ true = some_fit m gs (subst N long some) (subst T long takes) k in
     let done = arguments_written env place object m gs value in
     let wrong = wrong_written env place object (written_rule m gs) gs value in
     ap (λ (b : Bool). or_else (if b && (fits_written m gs && not (may_be_instance env value)) then done else None) wrong) written
     ∙ ap (λ (b : Bool). or_else (if b && not (may_be_instance env value) then done else None) wrong) fits ∙ ap (λ (b : Bool). or_else (if not b then done else None) wrong) free ∙ ap (λ (o : Option Action). or_else o wrong) given
 
-call_written : (env : Env) (place : Place) (object : bound.Expr) (m : plain.HostMember) (named : ℕ) (gs : List Given) (es : List bound.Expr) (value : bound.Expr) → NamesCame [] named gs → AllGiven (host_given env) gs es
+call_written : (env : Env) (place : Place) (object : bound.Expr) (m : plain.HostMember) (named : ℕ) (gs : List Given) (es : List bound.Expr) (value : bound.Expr) → NamesCame [] named gs → HostGiven 0 env m gs es
     → arguments_written env place object m gs value ≡ Some (assign_member object m.name (exprs_of es) value)
 call_written env place object m named gs es value came values =
     let done : Option Exprs → Option Action = λ (o : Option Exprs). option_map (λ (xs : Exprs). assign_member object m.name xs value) o in
-    ap (λ (b : Bool). if b then named_written env place object m gs value else done (host_arguments env gs)) (none_named named gs came) ∙ ap done (given_listed (host_given env) gs es values)
+    ap (λ (b : Bool). if b then named_written env place object m gs value else done (host_arguments env m gs)) (none_named named gs came) ∙ ap done (host_listed 0 env m gs es values)
 
 by_name_written : (env : Env) (place : Place) (object : bound.Expr) (m : plain.HostMember) (gs : List Given) (made : bound.Node) (value : bound.Expr) → bytes_eq m.name (codes "raise") ≡ false → named_called env object m gs ≡ Some made → has_names gs ≡ true
     → arguments_written env place object m gs value ≡ Some (assign_default (expression_of made place m.of) value)
 by_name_written env place object m gs made value other called names =
-    let plainly : Option Action = option_map (λ (xs : Exprs). assign_member object m.name xs value) (host_arguments env gs) in
+    let plainly : Option Action = option_map (λ (xs : Exprs). assign_member object m.name xs value) (host_arguments env m gs) in
     let done : Option bound.Node → Option Action = λ (o : Option bound.Node). option_map (λ (node : bound.Node). assign_default (expression_of node place m.of) value) o in
     ap (λ (b : Bool). if b then named_written env place object m gs value else plainly) names ∙ ap (λ (b : Bool). if b then None else done (named_called env object m gs)) other ∙ ap done called
 
@@ -256,7 +257,7 @@ indexed_assigned env base left right args object m value h =
     ∙ ap (λ (t : plain.Term). if takes_value env t then assigned env p value (givens env args) t else assigned env p value [] (indexed env p t (givens env args))) h
 
 -- an assignment to a member whose arguments have no names
-pub writes_plain : (x : MemberCall) (d : Drafted) → MemberNamed d.tables x → x.names ≡ None → IsWritten x → WritesCall x d d (action.AssignMember x.member.name x.count)
+pub writes_plain : (x : MemberCall) (d : Drafted) → MemberNamed d.tables x → x.names ≡ None → IsWritten d.tables x → WritesCall x d d (action.AssignMember x.member.name x.count)
 writes_plain x d named none w = record {
   grown = grown_same d;
   named = named.0;
@@ -266,10 +267,10 @@ writes_plain x d named none w = record {
       let gs = givens env args in
       let place = place_told base in
       let N : Option ArgumentNames → Type 0 = λ (o : Option ArgumentNames). NamesCame (names_told t o) x.named gs in
-      let long : x.count ≡ length gs = omega (arith, s.count_is, given_long (host_given env) gs s.made s.values) in
+      let long : x.count ≡ length gs = omega (arith, s.count_is, host_long 0 env m gs s.made s.values) in
       record {
         made = assign_member s.object m.name (exprs_of s.made) value;
-        is = is_arguments env place s.object m x.count gs value long w.some (w.takes t) w.default w.written goes (assign_member s.object m.name (exprs_of s.made) value)
+        is = is_arguments env place s.object m x.count gs value long w.some w.takes w.default w.written goes (assign_member s.object m.name (exprs_of s.made) value)
             (call_written env place s.object m x.named gs s.made value (subst N none s.names) s.values);
         fits = call_fits t x.member.name x.given x.count s.object value s.made d.pieces s.count_is (w.given_is ∙ sym (all_written s.made x.written s.written_is))
             (s.on_top ∙ ap (λ (o : Option ArgumentNames). above (map an_expr s.made) (looked_for t x.member.name o x.given s.object ∷ an_expr value ∷ [])) none);
@@ -277,7 +278,7 @@ writes_plain x d named none w = record {
 }
 
 -- an assignment to what a member gives whose last arguments have names
-pub writes_named : (x : MemberCall) (by : ArgumentNames) (d e : Drafted) → x.names ≡ Some by → IsWritten x → bytes_eq (name_in d.tables x.member.name) (codes "raise") ≡ false → NamesFit d.tables x by
+pub writes_named : (x : MemberCall) (by : ArgumentNames) (d e : Drafted) → x.names ≡ Some by → IsWritten d.tables x → bytes_eq (name_in d.tables x.member.name) (codes "raise") ≡ false → NamesFit d.tables x by
     → e ≡ record d { pieces = put d.tables (node_of (kinds.NamedMember x.member.name by x.count) x.place x.member.of) d.pieces } → WritesCall x d e action.AssignDefault
 writes_named x by d e told w other fit eq =
     let t = d.tables in
@@ -291,7 +292,7 @@ writes_named x by d e told w other fit eq =
           let gs = givens env args in
           let how = by_name_in t by in
           let N : Option ArgumentNames → Type 0 = λ (o : Option ArgumentNames). NamesCame (names_told t o) x.named gs in
-          let long : x.count ≡ length gs = omega (arith, s.count_is, given_long (host_given env) gs s.made s.values) in
+          let long : x.count ≡ length gs = omega (arith, s.count_is, host_long 0 env m gs s.made s.values) in
           let all : x.named ≡ length how.names = fit.all ∙ sym (length-map (order_in t by.order) (name_in t)) in
           let count : length gs ≡ by.before + x.named = omega (arith, fit.count, long) in
           let r = by_name_called env s.object m how x.named gs s.made fit.some all count fit.takes (subst N told s.names) s.values in
@@ -302,7 +303,7 @@ writes_named x by d e told w other fit eq =
           let A : Place → Type 0 = λ (place : Place). ActionIs action.AssignDefault (member_written env place s.object m gs value) t (put t n d.pieces) in
           subst A s.place_is (record {
             made = assign_default (expression_of made x.place m.of) value;
-            is = is_arguments env x.place s.object m x.count gs value long w.some (w.takes t) w.default w.written goes (assign_default (expression_of made x.place m.of) value)
+            is = is_arguments env x.place s.object m x.count gs value long w.some w.takes w.default w.written goes (assign_default (expression_of made x.place m.of) value)
                 (by_name_written env x.place s.object m gs made value other r.0 r.1);
             fits = ap (λ (ps : List Piece). action_of t action.AssignDefault ps) top;
           });

@@ -16,11 +16,11 @@ use Rattle.bound_project.specs.Pieces.{Piece, Tables, an_expr, arguments_off, as
 use Rattle.bound_project.specs.Drafts.{Drafted}
 use Rattle.bound_project.specs.Statements.{assign, assign_default, assign_item}
 use Rattle.bound_project.specs.View.{base_view, declared_view}
-use Rattle.bound_members.specs.binder.specs.Types.{is_object}
-use Rattle.bound_members.specs.bound_forms.specs.Terms.{Env, expression_of, read_of}
-use Rattle.bound_members.specs.bound_forms.specs.Terms as plain
-use Rattle.bound_members.specs.bound_forms.specs.ExpressionsBound.{HostKind, has_object, host_kind, kind_by_type, may_be_instance}
-use Rattle.bound_members.specs.bound_forms.specs.StatementsBound.{assigned, broken_target, default_written, has_written_default, is_unassignable, not_assignable, takes_value, value_written, write_rule, written_or_broken}
+use Rattle.bound_members.specs.bound_calls.specs.bound_declarations.specs.constant_values.specs.declared_names.specs.binder.specs.Types.{is_object}
+use Rattle.bound_members.specs.bound_calls.specs.bound_forms.specs.Terms.{Env, expression_of, read_of}
+use Rattle.bound_members.specs.bound_calls.specs.bound_forms.specs.Terms as plain
+use Rattle.bound_members.specs.bound_calls.specs.bound_forms.specs.ExpressionsBound.{HostKind, has_object, host_kind, kind_by_type, may_be_instance}
+use Rattle.bound_members.specs.bound_calls.specs.bound_forms.specs.StatementsBound.{assigned, broken_target, default_written, has_written_default, is_unassignable, not_assignable, takes_value, value_written, write_rule, written_or_broken}
 use Rattle.bound_members.specs.bound_calls.specs.declared.term.Ending.{Ending}
 use Rattle.bound_members.specs.declared.kinds.HostKind as declared
 use Rattle.bound_members.specs.Kinds.{EndingOfKind, kind_view}
@@ -94,7 +94,7 @@ to_object env place v t x of bounded lends makes e h k none =
 
 pub object_assigned : (place : Place) (at : Ending) (makes : Bool) (d f e : Drafted) → is_object (declared_view at.of) ≡ true → has_written_default (declared_view at.of) ≡ true
     → f ≡ record d { pieces = put d.tables (node_of at.kind place at.of) d.pieces } → e ≡ record f { pieces = put f.tables (node_of (read_kind makes) place at.of) f.pieces }
-    → (has bounded lends : Bool) → NoInstance has (record { kind = read_kind makes; of = at.of }) → AssignsTerm has place (term.Place at.kind at.of bounded lends makes) d e action.AssignDefault false
+    → (has bounded lends : Bool) → NoInstance has d.tables (record { kind = read_kind makes; of = at.of }) → AssignsTerm has place (term.Place at.kind at.of bounded lends makes) d e action.AssignDefault false
 object_assigned place at makes d f e object written first second has bounded lends free =
     let n = node_of at.kind place at.of in
     let m = node_of (read_kind makes) place at.of in
@@ -111,7 +111,7 @@ object_assigned place at makes d f e object written first second has bounded len
           let made = read_of makes h.at in
           let target = expression_of made place (declared_view at.of) in
           let ends = read_ends makes d.tables h.at low below (h.ends n) in
-          let none = free env d.tables made place low below known ends in
+          let none = free env made place low below known ends in
           record {
             made = assign_default target value;
             is = to_object env place value z h.at (declared_view at.of) bounded lends makes h.is object written none;
@@ -128,34 +128,33 @@ mark_node rule place = node_of (broken_ending rule place 2).kind place (broken_e
 evaluated : (t : Tables) (rule : ℕ) (place : Place) (v target : bound.Expr) (ps : List Piece) → ps ≡ an_expr target ∷ an_expr v ∷ [] → action_of t action.Evaluate (put t (mark_node rule place) ps) ≡ Some (broken_target rule place v (also target no_exprs))
 evaluated t rule place v target ps h = ap (λ (st : List Piece). action_of t action.Evaluate (put t (mark_node rule place) st)) h
 
--- a variable of a sheet
-to_sheet : (env : Env) (place : Place) (v : bound.Expr) (t : plain.Term) (x : Lvalue) (of : Declared) (bounded lends makes : Bool) → t ≡ plain.a_place x of bounded lends makes → of ≡ type.worksheet
-    → assigned env place v [] t ≡ Some (broken_target 34 place v (also (expression_of (read_of makes x) place of) no_exprs))
-to_sheet env place v t x of bounded lends makes e h =
-    let A : Declared → Type 0 = λ (u : Declared). assigned env place v [] (plain.a_place x u bounded lends makes) ≡ Some (broken_target 34 place v (also (expression_of (read_of makes x) place u) no_exprs)) in
-    ap (λ (z : plain.Term). assigned env place v [] z) e
-    ∙ subst A (sym h) (ap (λ (k : Option HostKind). written_or_broken env (write_rule k) place (expression_of (read_of makes x) place type.worksheet) type.worksheet v) (read_kind_of makes x type.worksheet))
+-- a variable of an object whose default member isn't written
+to_unwritten : (env : Env) (place : Place) (v : bound.Expr) (t : plain.Term) (x : Lvalue) (of : Declared) (bounded lends makes : Bool) (rule : ℕ) → t ≡ plain.a_place x of bounded lends makes → is_object of ≡ true → write_rule (kind_by_type of) ≡ Some rule
+    → assigned env place v [] t ≡ Some (broken_target rule place v (also (expression_of (read_of makes x) place of) no_exprs))
+to_unwritten env place v t x of bounded lends makes rule e object broken =
+    ap (λ (z : plain.Term). assigned env place v [] z) e ∙ ap (λ (b : Bool). if b then default_written env place (read_of makes x) of v else Some (assign x v)) object
+    ∙ kind_written env place (read_of makes x) of v (kind_by_type of) (Some rule) (read_kind_of makes x of) broken
 
-pub sheet_assigned : (place : Place) (at : Ending) (makes : Bool) (d f g e : Drafted) → declared_view at.of ≡ type.worksheet → f ≡ record d { pieces = put d.tables (node_of at.kind place at.of) d.pieces }
-    → g ≡ record f { pieces = put f.tables (node_of (read_kind makes) place at.of) f.pieces } → e ≡ record g { pieces = put g.tables (mark_node 34 place) g.pieces }
-    → (has bounded lends : Bool) → AssignsTerm has place (term.Place at.kind at.of bounded lends makes) d e action.Evaluate false
-sheet_assigned place at makes d f g e sheet first second third has bounded lends =
+pub unwritten_assigned : (place : Place) (at : Ending) (makes : Bool) (rule : ℕ) (d f g e : Drafted) → is_object (declared_view at.of) ≡ true → write_rule (kind_by_type (declared_view at.of)) ≡ Some rule
+    → f ≡ record d { pieces = put d.tables (node_of at.kind place at.of) d.pieces } → g ≡ record f { pieces = put f.tables (node_of (read_kind makes) place at.of) f.pieces }
+    → e ≡ record g { pieces = put g.tables (mark_node rule place) g.pieces } → (has bounded lends : Bool) → AssignsTerm has place (term.Place at.kind at.of bounded lends makes) d e action.Evaluate false
+unwritten_assigned place at makes rule d f g e object broken first second third has bounded lends =
     let n = node_of at.kind place at.of in
     let m = node_of (read_kind makes) place at.of in
     let low = put d.tables m (put d.tables n d.pieces) in
     let two : g ≡ record d { pieces = low } = second ∙ ap (λ (z : Drafted). record z { pieces = put z.tables m z.pieces }) first in
-    let is : e ≡ record d { pieces = put d.tables (mark_node 34 place) low } = third ∙ ap (λ (z : Drafted). record z { pieces = put z.tables (mark_node 34 place) z.pieces }) two in
+    let is : e ≡ record d { pieces = put d.tables (mark_node rule place) low } = third ∙ ap (λ (z : Drafted). record z { pieces = put z.tables (mark_node rule place) z.pieces }) two in
     let P : Drafted → Type 0 = λ (z : Drafted). AssignsTerm has place (term.Place at.kind at.of bounded lends makes) d z action.Evaluate false in
     subst P (sym is) (record {
-      grown = grown_pieces d (put d.tables (mark_node 34 place) low);
+      grown = grown_pieces d (put d.tables (mark_node rule place) low);
       named = tt;
       takes = λ env z ps below h. ap (λ (y : plain.Term). takes_value env y) h.is;
       stands = λ env known z value goes h.
           let target = expression_of (read_of makes h.at) place (declared_view at.of) in
           record {
-            made = broken_target 34 place value (also target no_exprs);
-            is = to_sheet env place value z h.at (declared_view at.of) bounded lends makes h.is sheet;
-            fits = evaluated d.tables 34 place value target low (read_ends makes d.tables h.at (put d.tables n d.pieces) (an_expr value ∷ []) (h.ends n) m);
+            made = broken_target rule place value (also target no_exprs);
+            is = to_unwritten env place value z h.at (declared_view at.of) bounded lends makes rule h.is object broken;
+            fits = evaluated d.tables rule place value target low (read_ends makes d.tables h.at (put d.tables n d.pieces) (an_expr value ∷ []) (h.ends n) m);
           };
     })
 
@@ -280,7 +279,7 @@ value_default env place v (element_value x es) of h = ap (λ (b : Bool). if b th
 value_default env place v (library f text_form es compare base) of h = let e : false ≡ true = h in absurd cc
 value_default env place v made of h = ap (λ (b : Bool). if b then default_written env place made of v else (if is_unassignable made then Some (not_assignable place v made of) else None)) h
 
-pub value_assigned : (has : Bool) (place : Place) (ending : Ending) (kind : declared.HostKind) (d e : Drafted) → NoInstance has ending → EndsObject ending → EndingOfKind ending kind → write_rule (Some (kind_view kind)) ≡ None
+pub value_assigned : (has : Bool) (place : Place) (ending : Ending) (kind : declared.HostKind) (d e : Drafted) → NoInstance has d.tables ending → EndsObject ending → EndingOfKind ending kind → write_rule (Some (kind_view kind)) ≡ None
     → has_written_default (declared_view ending.of) ≡ true → e ≡ record d { pieces = put d.tables (node_of ending.kind place ending.of) d.pieces } → AssignsTerm has place (term.Value ending) d e action.AssignDefault false
 value_assigned has place ending kind d e free gives known_kind rule written eq =
     let P : Drafted → Type 0 = λ (z : Drafted). AssignsTerm has place (term.Value ending) d z action.AssignDefault false in
@@ -292,7 +291,7 @@ value_assigned has place ending kind d e free gives known_kind rule written eq =
       stands = λ env known z value goes h.
           let of = declared_view ending.of in
           let below : List Piece = an_expr value ∷ [] in
-          let none = free env d.tables h.made place d.pieces below known h.ends in
+          let none = free env h.made place d.pieces below known h.ends in
           record {
             made = assign_default (expression_of h.made place of) value;
             is = ap (λ (y : plain.Term). assigned env place value [] y) h.is ∙ value_default env place value h.made of (gives d.tables h.made d.pieces below h.ends)

@@ -6,9 +6,9 @@ use Rattle.bound_project.specs.declared.declared_type.DeclaredType.{DeclaredType
 use Rattle.bound_project.specs.Expressions as bound
 use Rattle.bound_project.specs.Drafts.{Drafted}
 use Rattle.bound_project.specs.Pieces.{Piece, an_expr}
-use Rattle.bound_members.specs.bound_forms.specs.Terms.{Env}
-use Rattle.bound_members.specs.bound_forms.specs.Terms as plain
-use Rattle.bound_members.specs.bound_forms.specs.ExpressionsBound.{given_as, operand_of, term_of, place_told, may_be_instance}
+use Rattle.bound_members.specs.bound_calls.specs.bound_forms.specs.Terms.{Env}
+use Rattle.bound_members.specs.bound_calls.specs.bound_forms.specs.Terms as plain
+use Rattle.bound_members.specs.bound_calls.specs.bound_forms.specs.ExpressionsBound.{given_as, operand_of, term_of, place_told, may_be_instance}
 use Rattle.bound_members.specs.bound_calls.specs.declared.term.Term.{Term}
 use Rattle.bound_members.specs.bound_calls.specs.declared.term.Term.TheVariants as term
 use Rattle.bound_members.specs.bound_calls.specs.declared.term.Tree.{Tree}
@@ -16,7 +16,7 @@ use Rattle.bound_members.specs.bound_calls.specs.Standing.{TermStands, TreeStand
 use Rattle.statement_terms.specs.Terms.{may_be_object}
 use Rattle.bound_project.specs.declared.statement.ActionKind.{ActionKind}
 use Rattle.bound_project.specs.declared.statement.ActionKind.TheVariants as action
-use Rattle.bound_members.specs.binder.specs.Classes.{has_class}
+use Rattle.bound_members.specs.bound_calls.specs.bound_declarations.specs.constant_values.specs.declared_names.specs.binder.specs.Classes.{has_class}
 
 -- an expression that was pushed
 pub record ExprPushed (found : Option bound.Expr) (ps below : List Piece) : Type 0 where

@@ -19,11 +19,11 @@ use Rattle.bound_project.specs.Lists.{above, args_of}
 use Rattle.bound_project.specs.Pieces.{Argument, Piece, Tables, an_argument, an_expr}
 use Rattle.bound_project.specs.Project as project
 use Rattle.bound_project.specs.Statements.{Action}
-use Rattle.bound_members.specs.binder.specs.Options.{or_else}
-use Rattle.bound_members.specs.bound_forms.specs.Terms.{Env, Given, bound_arguments, has_names}
-use Rattle.bound_members.specs.bound_forms.specs.Terms as plain
-use Rattle.bound_members.specs.bound_forms.specs.ExpressionsBound.{argument_of, behind_base, givens, may_be_instance}
-use Rattle.bound_members.specs.bound_forms.specs.StatementsBound.{assigned, assigned_to, broken_target, untaken, called_term, called_with, is_given_with, property_given, set_by}
+use Rattle.bound_members.specs.bound_calls.specs.bound_declarations.specs.constant_values.specs.declared_names.specs.binder.specs.Options.{or_else}
+use Rattle.bound_members.specs.bound_calls.specs.bound_forms.specs.Terms.{Env, Given, bound_arguments, has_names}
+use Rattle.bound_members.specs.bound_calls.specs.bound_forms.specs.Terms as plain
+use Rattle.bound_members.specs.bound_calls.specs.bound_forms.specs.ExpressionsBound.{argument_of, behind_base, givens, may_be_instance}
+use Rattle.bound_members.specs.bound_calls.specs.bound_forms.specs.StatementsBound.{assigned, assigned_to, broken_target, untaken, called_term, called_with, is_given_with, property_given, set_by}
 use Rattle.statement_terms.specs.declared.trees.Split.{Split}
 use Rattle.bound_members.specs.bound_calls.specs.declared.term.Item.TheVariants as item
 use Rattle.bound_members.specs.bound_calls.specs.declared.term.Ordered.{Ordered}

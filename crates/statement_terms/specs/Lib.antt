@@ -1,5 +1,4 @@
 pub use Rattle.statement_nodes
-pub use Rattle.statement_nodes.specs.statement_numbers
 pub mod Called
 pub mod Terms
 pub mod Kept

@@ -14,12 +14,12 @@ use Rattle.bound_project.specs.Bodies.{action_of}
 use Rattle.bound_project.specs.Drafts.{Drafted, ActionNamed}
 use Rattle.bound_project.specs.Expressions as bound
 use Rattle.bound_project.specs.Lists.{above, exprs_of}
-use Rattle.bound_project.specs.Pieces.{Piece, Tables, an_expr}
-use Rattle.bound_members.specs.binder.specs.Types.{is_object}
-use Rattle.bound_members.specs.bound_forms.specs.Terms.{Env}
-use Rattle.bound_members.specs.bound_forms.specs.Terms as plain
-use Rattle.bound_members.specs.bound_forms.specs.ExpressionsBound.{callee, givens, takes_arguments, term_of, place_told}
-use Rattle.bound_members.specs.bound_forms.specs.StatementsBound.{assigned, assigned_to, broken_target, has_written_default, is_given_with, is_no_target, is_written_member, member_written, takes_value, unwritten_rule}
+use Rattle.bound_project.specs.Pieces.{Piece, Tables, an_expr, name_in}
+use Rattle.bound_members.specs.bound_calls.specs.bound_declarations.specs.constant_values.specs.declared_names.specs.binder.specs.Types.{is_object}
+use Rattle.bound_members.specs.bound_calls.specs.bound_forms.specs.Terms.{Env}
+use Rattle.bound_members.specs.bound_calls.specs.bound_forms.specs.Terms as plain
+use Rattle.bound_members.specs.bound_calls.specs.bound_forms.specs.ExpressionsBound.{callee, givens, is_item_name, takes_arguments, term_of, place_told}
+use Rattle.bound_members.specs.bound_calls.specs.bound_forms.specs.StatementsBound.{assigned, assigned_to, broken_target, has_written_default, is_given_with, is_no_target, is_written_member, member_written, takes_value, unwritten_rule}
 use Rattle.bound_members.specs.bound_calls.specs.declared.term.MemberCall.{MemberCall}
 use Rattle.bound_members.specs.bound_calls.specs.declared.term.Term.{Term}
 use Rattle.bound_members.specs.bound_calls.specs.declared.term.Tree.{Tree}
@@ -27,7 +27,7 @@ use Rattle.bound_members.specs.bound_calls.specs.declared.term.Item.TheVariants 
 use Rattle.bound_members.specs.bound_calls.specs.Standing.{MemberStands, TermStands, TreeStands, Grown, member_is}
 use Rattle.bound_members.specs.bound_calls.specs.Steps.{Goes}
 use Rattle.statement_terms.specs.Called.{ActionIs, IsBare, GoesThere}
-use Rattle.bound_members.specs.binder.specs.Classes.{has_class}
+use Rattle.bound_members.specs.bound_calls.specs.bound_declarations.specs.constant_values.specs.declared_names.specs.binder.specs.Classes.{has_class}
 
 -- whether a member is written, by its name, the type of what it gives and the greatest number of its arguments
 abbrev pub is_written : List ℕ → Declared → (greatest : Option ℕ) → Bool
@@ -71,12 +71,12 @@ pub record ReadsOnto (env : Env) (x : MemberCall) (ns : List ExpressionNode) (d 
   pub goes : Goes env d (item.Member x ∷ []) e (item.Member y ∷ []) (λ is. behind_nodes is behind)
 
 -- a member has all its arguments, some, and what it gives is written
-pub record IsWritten (x : MemberCall) : Type 0 where
+pub record IsWritten (t : Tables) (x : MemberCall) : Type 0 where
   pub given_is : x.given ≡ x.written
   pub some : x.count ≢ 0
-  pub takes : (t : Tables) → takes_arguments (member_is t x.member) x.count ≡ true
+  pub takes : takes_arguments (member_is t x.member) x.count ≡ true
   pub default : has_written_default (declared_view x.member.of) ≡ true
-  pub written : (not (is_some x.member.greatest) || is_object (declared_view x.member.of)) ≡ true
+  pub written : (not (is_some x.member.greatest) || is_object (declared_view x.member.of) || is_item_name (name_in t x.member.name)) ≡ true
 
 -- a member with its arguments is assigned the value below its object
 pub record WritesCall (x : MemberCall) (d e : Drafted) (kind : ActionKind) : Type 0 where

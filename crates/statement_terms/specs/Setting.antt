@@ -10,10 +10,10 @@ use Rattle.bound_project.specs.Expressions.{no_exprs}
 use Rattle.bound_project.specs.Expressions as bound
 use Rattle.bound_project.specs.Pieces.{an_expr}
 use Rattle.bound_project.specs.Statements.{Action}
-use Rattle.bound_members.specs.bound_forms.specs.Terms.{Env}
-use Rattle.bound_members.specs.bound_forms.specs.Terms as plain
-use Rattle.bound_members.specs.bound_forms.specs.ExpressionsBound.{place_told}
-use Rattle.bound_members.specs.bound_forms.specs.StatementsBound.{broken_target, is_sub, set_to, target_of_call, object_set}
+use Rattle.bound_members.specs.bound_calls.specs.bound_forms.specs.Terms.{Env}
+use Rattle.bound_members.specs.bound_calls.specs.bound_forms.specs.Terms as plain
+use Rattle.bound_members.specs.bound_calls.specs.bound_forms.specs.ExpressionsBound.{place_told}
+use Rattle.bound_members.specs.bound_calls.specs.bound_forms.specs.StatementsBound.{broken_target, is_sub, set_to, target_of_call, object_set}
 use Rattle.bound_members.specs.bound_calls.specs.declared.term.Term.{Term}
 use Rattle.bound_members.specs.bound_calls.specs.Standing.{Grown, TermStands}
 use Rattle.statement_terms.specs.Called.{ActionIs}

@@ -10,9 +10,9 @@ use Rattle.bound_project.specs.Drafts.{Drafted}
 use Rattle.bound_project.specs.Expressions as bound
 use Rattle.bound_project.specs.Pieces.{Piece}
 use Rattle.bound_project.specs.View.{declared_view}
-use Rattle.bound_members.specs.bound_forms.specs.Terms.{given_to}
-use Rattle.bound_members.specs.bound_forms.specs.Terms as plain
-use Rattle.bound_members.specs.bound_forms.specs.StatementsBound.{given_to_term}
+use Rattle.bound_members.specs.bound_calls.specs.bound_forms.specs.Terms.{given_to}
+use Rattle.bound_members.specs.bound_calls.specs.bound_forms.specs.Terms as plain
+use Rattle.bound_members.specs.bound_calls.specs.bound_forms.specs.StatementsBound.{given_to_term}
 use Rattle.bound_members.specs.bound_calls.specs.declared.term.Term.{Term}
 use Rattle.bound_members.specs.bound_calls.specs.declared.term.Term.TheVariants as term
 use Rattle.bound_members.specs.bound_calls.specs.Standing.{Grown, PushedIs}

@@ -10,19 +10,19 @@ use Rattle.bound_project.specs.Expressions.{element_value, library, no_exprs, al
 use Rattle.bound_project.specs.Expressions as bound
 use Rattle.bound_project.specs.Pieces.{Piece, Tables, an_expr}
 use Rattle.bound_project.specs.Drafts.{Drafted, ActionNamed}
-use Rattle.bound_members.specs.binder.specs.Types.{is_object}
-use Rattle.bound_members.specs.binder.specs.Constants.{is_variant}
-use Rattle.bound_members.specs.bound_forms.specs.Terms.{Env, expression_of}
-use Rattle.bound_members.specs.bound_forms.specs.Terms as plain
-use Rattle.bound_members.specs.bound_forms.specs.ExpressionsBound.{has_object}
-use Rattle.bound_members.specs.bound_forms.specs.StatementsBound.{assigned, broken_target, value_written}
+use Rattle.bound_members.specs.bound_calls.specs.bound_declarations.specs.constant_values.specs.declared_names.specs.binder.specs.Types.{is_object}
+use Rattle.bound_members.specs.bound_calls.specs.bound_declarations.specs.constant_values.specs.declared_names.specs.binder.specs.Constants.{is_variant}
+use Rattle.bound_members.specs.bound_calls.specs.bound_forms.specs.Terms.{Env, expression_of}
+use Rattle.bound_members.specs.bound_calls.specs.bound_forms.specs.Terms as plain
+use Rattle.bound_members.specs.bound_calls.specs.bound_forms.specs.ExpressionsBound.{has_object}
+use Rattle.bound_members.specs.bound_calls.specs.bound_forms.specs.StatementsBound.{assigned, broken_target, value_written}
 use Rattle.bound_members.specs.bound_calls.specs.declared.term.Ending.{Ending}
 use Rattle.bound_members.specs.bound_calls.specs.declared.term.Term.{Term}
 use Rattle.bound_members.specs.bound_calls.specs.declared.term.Term.TheVariants as term
 use Rattle.bound_members.specs.bound_calls.specs.References.{is_typed_kind}
 use Rattle.bound_members.specs.bound_calls.specs.Standing.{TermStands, ValueEnds, Grown}
 use Rattle.statement_terms.specs.Called.{ActionIs, GoesThere}
-use Rattle.bound_members.specs.binder.specs.Classes.{has_class}
+use Rattle.bound_members.specs.bound_calls.specs.bound_declarations.specs.constant_values.specs.declared_names.specs.binder.specs.Classes.{has_class}
 
 -- the last node of a value, other than an element, that may give an object
 abbrev pub ends_value : NodeKind → Bool

@@ -6,10 +6,10 @@ ghost use Rattle.statement_terms.specs.Assigning.{PushesFor, is_plain};
 ghost use Rattle.bound_members.specs.bound_calls.specs.Standing.{TermNamed};
 
 use crate::targets::may_be_object;
+use bound_members::bound_calls::bound_declarations::NotYet;
 use bound_members::bound_calls::{
     Term, Tree, given_ending, may_be_instance, push_node, push_operand,
 };
-use bound_members::bound_declarations::NotYet;
 use bound_project::{DeclaredType, Draft};
 use std::alloc::Global;
 use vba_base::OrMemory;
@@ -39,8 +39,9 @@ pub fn push_assigned<'a>(
 {
     if given {
         let ending = given_ending(alloc, draft, tree)?;
+        let may_be = may_be_instance(has_class, draft, ending);
         push_node(draft, ending.kind, ending.of, tree.place)?;
-        return Ok((ending.of, may_be_instance(has_class, ending)));
+        return Ok((ending.of, may_be));
     }
     let Some(of) = push_operand(alloc, draft, tree)? else {
         return Err(OrMemory::Fault(NotYet));

@@ -8,8 +8,8 @@ ghost use Rattle.bound_members.specs.bound_calls.specs.Standing.{TermNamed};
 
 use crate::member_targets::{assign_member, assign_sheet};
 use crate::targets::{assign_place, assign_value};
+use bound_members::bound_calls::bound_declarations::NotYet;
 use bound_members::bound_calls::{Ending, Ordered, Receiver, Term, Tree, push_broken};
-use bound_members::bound_declarations::NotYet;
 use bound_project::{ActionKind, DeclaredType, Draft};
 use vba_base::OrMemory;
 

@@ -33,4 +33,3 @@ pub use trees::{Split, adds_one, ends_bare, split_call};
 
 // What stands below, for the crates above.
 pub use statement_nodes;
-pub use statement_nodes::statement_numbers;

@@ -1,23 +1,25 @@
 //! Members of objects that are assigned to, once their arguments were read.
 
-ghost use Rattle.std.specs.Prelude.{◌≡◌, ◌≢◌, ◌<◌, [], true, not, length, is_some, IfOk, MatchBool, Some, Bool, bytes_eq};
+ghost use Rattle.std.specs.Prelude.{◌≡◌, ◌≢◌, ◌<◌, ◌||◌, [], true, not, length, is_some, IfOk, MatchBool, Some, Bool, bytes_eq};
 ghost use Rattle.std.specs.List.{list_any};
 ghost use Rattle.bound_project.specs.DraftView.{draft_view};
+ghost use Rattle.bound_project.specs.Pieces.{name_in};
 ghost use Rattle.bound_project.specs.View.{declared_view};
-ghost use Rattle.bound_members.specs.bound_forms.specs.ExpressionsBound.{mark_members};
-ghost use Rattle.bound_members.specs.bound_forms.specs.StatementsBound as plain;
-ghost use Rattle.bound_members.specs.bound_forms.specs.Terms as terms;
+ghost use Rattle.bound_members.specs.bound_calls.specs.bound_declarations.specs.constant_values.specs.declared_names.specs.binder.specs.Types.{is_object};
+ghost use Rattle.bound_members.specs.bound_calls.specs.bound_forms.specs.ExpressionsBound.{is_item_name, mark_members};
+ghost use Rattle.bound_members.specs.bound_calls.specs.bound_forms.specs.StatementsBound as plain;
+ghost use Rattle.bound_members.specs.bound_calls.specs.bound_forms.specs.Terms as terms;
 ghost use Rattle.bound_members.specs.bound_calls.specs.Shapes.{shapes_given};
 ghost use Rattle.statement_terms.specs.Members.{AssignsTerm, IsWritten, WritesBroken, WritesCall, is_written, taken_rule};
 ghost use Rattle.bound_members.specs.bound_calls.specs.declared.term.Term.TheVariants as term;
 ghost use Rattle.bound_members.specs.bound_calls.specs.Standing.{MemberNamed, member_is};
 
 use crate::targets::has_written_default;
+use bound_members::bound_calls::bound_declarations::NotYet;
+use bound_members::bound_calls::bound_declarations::constant_values::declared_names::is_object;
 use bound_members::bound_calls::{
-    HostMember, MemberCall, Shape, push_broken, push_node, push_sheet, sum,
+    HostMember, MemberCall, Shape, is_item_name, push_broken, push_node, push_sheet, sum,
 };
-use bound_members::bound_declarations::NotYet;
-use bound_members::declared_names::is_object;
 use bound_members::{arguments_rule, is_word, member_takes, names_fit, takes_arguments};
 use bound_project::{ActionKind, ArgumentNames, DeclaredType, Draft, ElementType, NodeKind};
 use vba_base::{NoMemory, OrMemory, Place};
@@ -45,7 +47,8 @@ fn is_written(name: &[u16], of: DeclaredType, greatest: Option<u32>) -> bool
     ensures { result ≡ is_written name.now (declared_view of) greatest }
 {
     let gives_default = is_object(of) && has_written_default(of);
-    ((is_late(greatest) || is_word(name, b"value")) || gives_default) || is_mark(name)
+    let is_default = (is_late(greatest) || is_word(name, b"value")) || gives_default;
+    (is_default || is_item_name(name)) || is_mark(name)
 }
 
 /// The rule that an assignment breaks to what a member gives of a type, and can't be written; none where the run decides.
@@ -180,9 +183,16 @@ pub fn assign_sheet(
     assign_member(draft, member, place)
 }
 
+/// Is what a member gives of arguments written by its default member: of a member that the run finds, an object, or an item?
+fn gives_written(draft: &Draft, member: HostMember) -> bool
+    ensures { result ≡ (not (is_some member.greatest) || is_object (declared_view member.of) || is_item_name (name_in (draft_view draft.now).tables member.name)) }
+{
+    (is_late(member.greatest) || is_object(member.of)) || is_item_name(draft.name(member.name))
+}
+
 /// Is the default member written of what a member gives of the arguments that were read?
-fn is_written_call(call: MemberCall) -> bool
-    ensures { MatchBool result (IsWritten call) (Unit {0}) }
+fn is_written_call(draft: &Draft, call: MemberCall) -> bool
+    ensures { MatchBool result (IsWritten (draft_view draft.now).tables call) (Unit {0}) }
 {
     if call.written != call.given || call.count == 0 {
         return false;
@@ -191,7 +201,7 @@ fn is_written_call(call: MemberCall) -> bool
     if !takes_arguments(member, call.count) || !has_written_default(member.of) {
         return false;
     }
-    if !(is_late(member.greatest) || is_object(member.of)) {
+    if !gives_written(draft, member) {
         return false;
     }
     true
@@ -205,7 +215,7 @@ fn write_named(
 ) -> Result<ActionKind, OrMemory<NotYet>>
     requires named { MemberNamed (draft_view draft.old).tables call }
     requires told { call.names ≡ Some names }
-    requires written { IsWritten call }
+    requires written { IsWritten (draft_view draft.old).tables call }
     ensures { IfOk result (λ kind. WritesCall call (draft_view draft.old) (draft_view draft.new) kind) }
 {
     if is_word(draft.name(call.member.name), b"raise") {
@@ -228,7 +238,7 @@ pub fn write_call(draft: &mut Draft, call: MemberCall) -> Result<ActionKind, OrM
     requires { MemberNamed (draft_view draft.old).tables call }
     ensures { IfOk result (λ kind. WritesCall call (draft_view draft.old) (draft_view draft.new) kind) }
 {
-    if !is_written_call(call) {
+    if !is_written_call(draft, call) {
         return Err(OrMemory::Fault(NotYet));
     }
     match call.names {

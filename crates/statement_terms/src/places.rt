@@ -3,7 +3,7 @@
 ghost use Rattle.std.specs.Prelude.{◌≡◌, false, OnOk};
 ghost use Rattle.bound_project.specs.DraftView.{draft_view};
 ghost use Rattle.bound_project.specs.Drafts.{NodeNamed};
-ghost use Rattle.bound_members.specs.bound_forms.specs.StatementsBound as plain;
+ghost use Rattle.bound_members.specs.bound_calls.specs.bound_forms.specs.StatementsBound as plain;
 ghost use Rattle.statement_terms.specs.Terms.{may_be_object};
 ghost use Rattle.statement_terms.specs.Kept.{WithPlacePushed, place_ending};
 

@@ -3,8 +3,8 @@ ghost use Rattle.bound_project.specs.DraftView.{draft_view};
 ghost use Rattle.statement_terms.specs.Assigning.{GivenPushed};
 ghost use Rattle.bound_members.specs.bound_calls.specs.Standing.{TermNamed};
 
+use bound_members::bound_calls::bound_declarations::NotYet;
 use bound_members::bound_calls::{Term, Tree, given_ending, push_node};
-use bound_members::bound_declarations::NotYet;
 use bound_project::Draft;
 use std::alloc::Global;
 use vba_base::{OrMemory, Place};

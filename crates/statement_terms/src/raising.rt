@@ -4,7 +4,7 @@ ghost use Rattle.std.specs.Prelude.{◌≡◌, IfOk, map, option_map};
 ghost use Rattle.vba_base.specs.Fold.{folded};
 ghost use Rattle.vba_values.specs.View.{view as value_view};
 ghost use Rattle.bound_project.specs.View.{declared_view, parameter_view};
-ghost use Rattle.bound_members.specs.bound_forms.specs.StatementsBound as plain;
+ghost use Rattle.bound_members.specs.bound_calls.specs.bound_forms.specs.StatementsBound as plain;
 
 use bound_project::{DeclaredType, ElementType, Parameter, Spelled};
 use std::alloc::Global;

@@ -17,8 +17,8 @@ ghost use Rattle.bound_project.specs.Pieces.{put};
 use crate::member_targets::is_late;
 use crate::targets::{is_unassignable, may_be_object};
 use bound_members::bound_calls;
+use bound_members::bound_calls::bound_declarations::NotYet;
 use bound_members::bound_calls::{Ending, HostMember, Term, push_node};
-use bound_members::bound_declarations::NotYet;
 use bound_project::{ActionKind, DeclaredType, Draft, ElementType, NodeKind};
 use vba_base::{NoMemory, OrMemory, Place, Refusal};
 
@@ -104,7 +104,7 @@ fn set_constant(
 {
     push_node(draft, ending.kind, ending.of, place)?;
     if may_be_object(ending.of) {
-        bound_calls::push_broken(draft, 27, place, 2)?;
+        bound_members::bound_calls::push_broken(draft, 27, place, 2)?;
         return Ok(ActionKind::Evaluate);
     }
     push_broken(draft, set_word, 2)?;

@@ -3,17 +3,17 @@
 ghost use Rattle.std.specs.Prelude.{◌≡◌, ◌≢◌, [], ◌∷◌, IfOk, MatchBool, OnOk, reverse};
 ghost use Rattle.vba_expression.specs.declared.node.ExpressionNode.TheVariants as node;
 ghost use Rattle.bound_project.specs.DraftView.{draft_view};
-ghost use Rattle.bound_members.specs.bound_forms.specs.Terms as plain;
+ghost use Rattle.bound_members.specs.bound_calls.specs.bound_forms.specs.Terms as plain;
 ghost use Rattle.statement_terms.specs.Called.{Acts, RestPushed};
 ghost use Rattle.statement_terms.specs.NamedCalls.{PushesCall, PushesNamed};
 ghost use Rattle.bound_members.specs.bound_calls.specs.Standing.{TermNamed};
 ghost use Rattle.bound_members.specs.bound_calls.specs.declared.term.Term.TheVariants as term;
 
 use crate::pushed_terms::push_term;
+use bound_members::bound_calls::bound_declarations::NotYet;
 use bound_members::bound_calls::{
     Passed, Routine, Term, call_ending, count_of, named_ending, pass_rest, push_broken, sum,
 };
-use bound_members::bound_declarations::NotYet;
 use bound_project::{ActionKind, Draft};
 use std::alloc::Global;
 use vba_base::{OrMemory, Place};

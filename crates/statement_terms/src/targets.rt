@@ -2,12 +2,12 @@
 
 ghost use Rattle.std.specs.Prelude.{◌≡◌, true, false, Bool, Some, None, IfOk, IfSome, MatchBool};
 ghost use Rattle.vba_base.specs.declared.place.Place as told;
-ghost use Rattle.vba_values.specs.Types as type;
 ghost use Rattle.bound_project.specs.DraftView.{draft_view};
 ghost use Rattle.bound_project.specs.Drafts.{NodeNamed};
 ghost use Rattle.bound_project.specs.View.{declared_view};
-ghost use Rattle.bound_members.specs.bound_forms.specs.StatementsBound as plain;
-ghost use Rattle.bound_members.specs.binder.specs.Types as types;
+ghost use Rattle.bound_members.specs.bound_calls.specs.bound_forms.specs.ExpressionsBound.{kind_by_type};
+ghost use Rattle.bound_members.specs.bound_calls.specs.bound_forms.specs.StatementsBound as plain;
+ghost use Rattle.bound_members.specs.bound_calls.specs.bound_declarations.specs.constant_values.specs.declared_names.specs.binder.specs.Types as types;
 ghost use Rattle.statement_terms.specs.Terms.{may_be_object};
 ghost use Rattle.statement_terms.specs.Members.{AssignsTerm};
 ghost use Rattle.statement_terms.specs.Targets.{AssignsIndexed, EndsItem, EndsObject, EndsValue, EndsWrong, ends_unassignable, ends_value, is_library, is_value_kind, is_variant_term};
@@ -18,13 +18,13 @@ ghost use Rattle.bound_members.specs.bound_calls.specs.Standing.{TermNamed};
 ghost use Rattle.bound_members.specs.declared.kinds.HostKind as declared;
 ghost use Rattle.bound_members.specs.Kinds.{EndingOfKind, kind_view};
 
+use bound_members::bound_calls::bound_declarations::NotYet;
+use bound_members::bound_calls::bound_declarations::constant_values::declared_names::is_object;
 use bound_members::bound_calls::{
     Ending, Term, has_object, is_typed_kind, is_variant, may_be_instance, push_broken, push_node,
     read_kind,
 };
-use bound_members::bound_declarations::NotYet;
-use bound_members::declared_names::is_object;
-use bound_members::{HostKind, kind_of_ending};
+use bound_members::{HostKind, kind_of_ending, kind_of_type};
 use bound_project::{ActionKind, DeclaredType, Draft, ElementType, NodeKind};
 use vba_base::{NoMemory, OrMemory, Place};
 
@@ -160,7 +160,7 @@ fn assign_object(
     requires named { NodeNamed (draft_view draft.old).tables at.kind }
     requires object { types.is_object (declared_view at.of) ≡ true }
     requires written { plain.has_written_default (declared_view at.of) ≡ true }
-    ensures { IfOk result (λ kind. (has bounded lends : Bool) → NoInstance has (record { kind = read_kind makes; of = at.of })
+    ensures { IfOk result (λ kind. (has bounded lends : Bool) → NoInstance has (draft_view draft.old).tables (record { kind = read_kind makes; of = at.of })
         → AssignsTerm has place (term.Place at.kind at.of bounded lends makes) (draft_view draft.old) (draft_view draft.new) kind false) }
 {
     push_node(draft, at.kind, at.of, place)?;
@@ -168,31 +168,48 @@ fn assign_object(
     Ok(ActionKind::AssignDefault)
 }
 
-/// A place of a sheet, which has no default member, behind the value that it is given.
-fn assign_sheet(
+/// A place of an object that has no default member, or none that is written, behind the value that it is given.
+fn assign_unwritten(
     draft: &mut Draft,
     at: Ending,
     makes: bool,
+    rule: u8,
     place: Place,
 ) -> Result<ActionKind, NoMemory>
     requires named { NodeNamed (draft_view draft.old).tables at.kind }
-    requires sheet { declared_view at.of ≡ type.worksheet }
+    requires object { types.is_object (declared_view at.of) ≡ true }
+    requires broken { plain.write_rule (kind_by_type (declared_view at.of)) ≡ Some rule }
     ensures { IfOk result (λ kind. (has bounded lends : Bool)
         → AssignsTerm has place (term.Place at.kind at.of bounded lends makes) (draft_view draft.old) (draft_view draft.new) kind false) }
 {
     push_node(draft, at.kind, at.of, place)?;
     push_node(draft, read_kind(makes), at.of, place)?;
-    push_broken(draft, 34, place, 2)?;
+    push_broken(draft, rule, place, 2)?;
     Ok(ActionKind::Evaluate)
 }
 
-/// Is a type that of a sheet?
-fn is_sheet(of: DeclaredType) -> bool
-    ensures { MatchBool result (declared_view of ≡ type.worksheet) (Unit {0}) }
+/// The rule that an assignment to the default member of an object of a kind breaks before the run.
+fn write_rule(kind: HostKind) -> Option<u8>
+    ensures { result ≡ plain.write_rule (Some (kind_view kind)) }
 {
-    match of {
-        DeclaredType::Plain(ElementType::Worksheet) => true,
-        _ => false,
+    match kind {
+        HostKind::Application => Some(34),
+        HostKind::Workbook => Some(34),
+        HostKind::Sheets => Some(27),
+        HostKind::Sheet => Some(34),
+        HostKind::Collection => Some(27),
+        HostKind::Area => None,
+        HostKind::AnyObject => None,
+    }
+}
+
+/// The same of an object of a type.
+fn type_rule(of: DeclaredType) -> Option<u8>
+    ensures { result ≡ plain.write_rule (kind_by_type (declared_view of)) }
+{
+    match kind_of_type(of) {
+        Some(kind) => write_rule(kind),
+        None => None,
     }
 }
 
@@ -209,8 +226,8 @@ fn assign_default(
     ensures { IfOk result (λ kind. (bounded lends : Bool)
         → AssignsTerm has_class place (term.Place at.kind at.of bounded lends makes) (draft_view draft.old) (draft_view draft.new) kind false) }
 {
-    if is_sheet(at.of) {
-        let broken = assign_sheet(draft, at, makes, place)?;
+    if let Some(rule) = type_rule(at.of) {
+        let broken = assign_unwritten(draft, at, makes, rule, place)?;
         return Ok(broken);
     }
     let read = Ending {
@@ -220,7 +237,7 @@ fn assign_default(
     if !has_written_default(at.of) {
         return Err(OrMemory::Fault(NotYet));
     }
-    if may_be_instance(has_class, read) {
+    if may_be_instance(has_class, draft, read) {
         return Err(OrMemory::Fault(NotYet));
     }
     let done = assign_object(draft, at, makes, place)?;
@@ -246,20 +263,6 @@ pub fn assign_place(
     assign_default(draft, at, makes, place, has_class)
 }
 
-/// The rule that an assignment to the default member of an object of a kind breaks before the run.
-fn write_rule(kind: HostKind) -> Option<u8>
-    ensures { result ≡ plain.write_rule (Some (kind_view kind)) }
-{
-    match kind {
-        HostKind::Application => Some(34),
-        HostKind::Workbook => Some(34),
-        HostKind::Sheets => Some(27),
-        HostKind::Sheet => Some(34),
-        HostKind::Area => None,
-        HostKind::AnyObject => None,
-    }
-}
-
 /// What a value gives, whose default member is written where its type has one, behind the value that it is given.
 fn assign_written(
     draft: &mut Draft,
@@ -274,7 +277,7 @@ fn assign_written(
     if !has_written_default(ending.of) {
         return Err(OrMemory::Fault(NotYet));
     }
-    if may_be_instance(has_class, ending) {
+    if may_be_instance(has_class, draft, ending) {
         return Err(OrMemory::Fault(NotYet));
     }
     push_node(draft, ending.kind, ending.of, place)?;

@@ -6,11 +6,11 @@ use Rattle.vba_base.specs.declared.place.Place.{Place}
 use Rattle.vba_words.specs.declared.identifier.Identifier.{Identifier}
 use Rattle.vba_expression.specs.Tree.{Expr, literal, me, name, with_member, member, index, parenthesised, new, type_of, unary, binary, Args, no_args, missing, plain}
 use Rattle.vba_expression.specs.Tree as expr
-use Rattle.binder.specs.LeftOut.{behind_left_out, names_left_out, left_out_in_args, said_left_out, suffix_left_out}
-use Rattle.binder.specs.Said.{Said, declares, type_named, new_named, constant_expression, expression, redimmed, goes_to, raises}
-use Rattle.binder.specs.Said as say
-use Rattle.binder.specs.Scopes.{Scope, Use, plainly, called, before_dot, Qualifier, qualifier_of}
-use Rattle.binder.specs.Violations.{behind_fault, names_said, names_unknown, unknown_in_args}
+use Rattle.declared_names.specs.binder.specs.LeftOut.{behind_left_out, names_left_out, left_out_in_args, said_left_out, suffix_left_out}
+use Rattle.declared_names.specs.binder.specs.Said.{Said, declares, type_named, new_named, constant_expression, expression, redimmed, goes_to, raises}
+use Rattle.declared_names.specs.binder.specs.Said as say
+use Rattle.declared_names.specs.binder.specs.Scopes.{Scope, Use, plainly, called, before_dot, Qualifier, qualifier_of}
+use Rattle.declared_names.specs.binder.specs.Violations.{behind_fault, names_said, names_unknown, unknown_in_args}
 use Rattle.use_rules.specs.Asked.{at_dotted, names_asked, asked_in_args, said_asked, said_faults}
 use Rattle.use_rules.specs.declared.question.Question.{Question}
 use Rattle.use_rules.specs.declared.question.Question.TheVariants.{IsUnknown, IsLeftOut}

@@ -12,7 +12,7 @@ use Rattle.vba_expression.specs.declared.tree.TypeQualifier.{TypeQualifier}
 use Rattle.vba_expression.specs.Nodes.{Item, tree, arguments, as_tree, as_arguments, last_tree, last_arguments, rest, behind_node, behind_nodes, tree_in, arguments_in}
 use Rattle.vba_expression.specs.Reader.{behind_dot}
 use Rattle.vba_expression.specs.Tree.{Expr, Args, literal, me, name, with_member, member, index, parenthesised, new, type_of, unary, binary}
-use Rattle.binder.specs.Scopes.{Scope, Use, plainly, called, before_dot, Qualifier, qualifier_of, enum_behind}
+use Rattle.declared_names.specs.binder.specs.Scopes.{Scope, Use, plainly, called, before_dot, Qualifier, qualifier_of, enum_behind}
 use Rattle.use_rules.specs.Asked.{rule_of, at_suffix, at_dotted, names_asked, asked_in_args}
 use Rattle.use_rules.specs.Found.{noted}
 use Rattle.use_rules.specs.declared.question.Question.{Question}

@@ -7,7 +7,7 @@ use Rattle.refusal_order.specs.Least.{lesser, least_of, least_of_both, broken_if
 use Rattle.refusal_order.proofs.LeastFound.{least_of_two, least_of_alone}
 use Rattle.vba_module.specs.Misplaced.{place_if}
 use Rattle.vba_module.specs.Verdict.{broken}
-use Rattle.binder.specs.Violations.{unless_true}
+use Rattle.declared_names.specs.binder.specs.Violations.{unless_true}
 use Rattle.use_rules.specs.Found.{noted}
 
 pub noted_if : (found : Option Refusal) (b : Bool) (rule : ℕ) (place : Place) → least_of found (broken_if b rule place) ≡ noted rule found (place_if b place)

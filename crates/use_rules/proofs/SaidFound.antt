@@ -7,9 +7,9 @@ use Rattle.vba_base.specs.declared.place.Place.{Place}
 use Rattle.vba_expression.specs.Tree.{Expr, Args, no_args, missing, plain}
 use Rattle.vba_expression.specs.Tree as expr
 use Rattle.vba_tree.specs.declared.line.LineLabel.{LineLabel}
-use Rattle.binder.specs.Said.{Said, expression, arguments_said}
-use Rattle.binder.specs.Scopes.{Scope}
-use Rattle.binder.specs.Violations.{types_said, types_in, types_in_args, label_said}
+use Rattle.declared_names.specs.binder.specs.Said.{Said, expression, arguments_said}
+use Rattle.declared_names.specs.binder.specs.Scopes.{Scope}
+use Rattle.declared_names.specs.binder.specs.Violations.{types_said, types_in, types_in_args, label_said}
 use Rattle.use_rules.specs.Asked.{asked_in_args, said_asked}
 use Rattle.use_rules.specs.declared.question.Question.{Question}
 

@@ -5,7 +5,7 @@ use Rattle.std.proofs.lemmas.List.{drop_more}
 use Rattle.std.proofs.lemmas.List.Concat.{flat_map-append}
 use Rattle.vba_base.specs.declared.place.Place.{Place}
 use Rattle.vba_base.specs.declared.place.Refusal.{Refusal}
-use Rattle.binder.specs.Said as plain
+use Rattle.declared_names.specs.binder.specs.Said as plain
 use Rattle.said_parts.specs.declared.said.Said.{Said}
 use Rattle.said_parts.specs.View.{all_said, said_view}
 use Rattle.use_rules.specs.Found.{noted}

@@ -8,12 +8,12 @@ use Rattle.vba_base.specs.declared.place.Place.{Place}
 use Rattle.vba_base.specs.declared.place.Refusal.{Refusal}
 use Rattle.vba_module.specs.Blocks.{Kind, with_block, same_kind, Role, opens, divides, closes, stands, role_of}
 use Rattle.vba_module.specs.Parts as parts
-use Rattle.module_parts.specs.Brackets.{IsRole}
-use Rattle.module_parts.specs.declared.bracket.Bracket.TheVariants as bracket
-use Rattle.module_parts.specs.declared.part.Part.{Part}
-use Rattle.module_parts.specs.View.{part_view, parts_view}
-use Rattle.binder.specs.Numbering.{Opened, Standing, opened_behind, part_count, standings, in_with}
-use Rattle.binder.specs.Said.{Said, said_in_part}
+use Rattle.declared_names.specs.module_parts.specs.Brackets.{IsRole}
+use Rattle.declared_names.specs.module_parts.specs.declared.bracket.Bracket.TheVariants as bracket
+use Rattle.declared_names.specs.module_parts.specs.declared.part.Part.{Part}
+use Rattle.declared_names.specs.module_parts.specs.View.{part_view, parts_view}
+use Rattle.declared_names.specs.binder.specs.Numbering.{Opened, Standing, opened_behind, part_count, standings, in_with}
+use Rattle.declared_names.specs.binder.specs.Said.{Said, said_in_part}
 use Rattle.use_rules.specs.Found.{noted}
 use Rattle.use_rules.specs.Stacks.{below}
 use Rattle.use_rules.specs.Walked.{kinds_behind, is_within, walked}

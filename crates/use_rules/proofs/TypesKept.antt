@@ -11,8 +11,8 @@ use Rattle.vba_expression.specs.declared.tree.TypeQualifier.{TypeQualifier}
 use Rattle.vba_expression.specs.Nodes.{Item, tree, arguments, as_tree, as_arguments, last_tree, last_arguments, rest, behind_node, behind_nodes, tree_in, arguments_in}
 use Rattle.vba_expression.specs.Reader.{behind_dot}
 use Rattle.vba_expression.specs.Tree.{Expr, Args, literal, me, name, with_member, member, index, parenthesised, new, type_of, unary, binary}
-use Rattle.binder.specs.Scopes.{Scope}
-use Rattle.binder.specs.Violations.{types_in, types_in_args}
+use Rattle.declared_names.specs.binder.specs.Scopes.{Scope}
+use Rattle.declared_names.specs.binder.specs.Violations.{types_in, types_in_args}
 use Rattle.use_rules.specs.Found.{noted}
 use Rattle.use_rules.specs.Stacks.{top, below}
 use Rattle.use_rules.specs.TypesFound.{TypesItem, ended, a_type_of, in_arguments, in_expression, in_given, asked_faults, with_dot, no_item, top_expression, top_given, types_behind, types_through, kept_tree, kept}

@@ -7,14 +7,14 @@ use Rattle.vba_words.specs.declared.identifier.Identifier.{Identifier}
 use Rattle.vba_expression.specs.declared.tree.TypeName.{TypeName}
 use Rattle.vba_expression.specs.Tree.{Expr, literal, me, name, with_member, member, index, parenthesised, new, type_of, unary, binary, Args, no_args, missing, plain}
 use Rattle.vba_expression.specs.Tree as expr
-use Rattle.binder.specs.Constants.{unless}
-use Rattle.binder.specs.LeftOut.{meaning_left_out, suffix_left_out, type_left_out, said_left_out}
-use Rattle.binder.specs.Said.{Said, declares, type_named, constant_expression, expression, redimmed, raises}
-use Rattle.binder.specs.Said as say
-use Rattle.binder.specs.Scopes.{Scope, Use, plainly, called, before_dot, Qualifier, behind, qualifier_of}
-use Rattle.binder.specs.Scopes as scopes
-use Rattle.binder.specs.Types.{type_meant}
-use Rattle.binder.specs.Violations.{is_event, name_fault, names_said, place_of_name, unless_true}
+use Rattle.declared_names.specs.binder.specs.Constants.{unless}
+use Rattle.declared_names.specs.binder.specs.LeftOut.{meaning_left_out, suffix_left_out, type_left_out, said_left_out}
+use Rattle.declared_names.specs.binder.specs.Said.{Said, declares, type_named, constant_expression, expression, redimmed, raises}
+use Rattle.declared_names.specs.binder.specs.Said as say
+use Rattle.declared_names.specs.binder.specs.Scopes.{Scope, Use, plainly, called, before_dot, Qualifier, behind, qualifier_of}
+use Rattle.declared_names.specs.binder.specs.Scopes as scopes
+use Rattle.declared_names.specs.binder.specs.Types.{type_meant}
+use Rattle.declared_names.specs.binder.specs.Violations.{is_event, name_fault, names_said, place_of_name, unless_true}
 use Rattle.use_rules.specs.declared.question.Question.{Question}
 use Rattle.use_rules.specs.declared.question.Question.TheVariants.{IsUnknown, IsLeftOut}
 

@@ -9,7 +9,7 @@ use Rattle.vba_expression.specs.declared.node.ExpressionNode.{ExpressionNode}
 use Rattle.vba_expression.specs.declared.node.ExpressionNode.TheVariants as node
 use Rattle.vba_expression.specs.Nodes.{Item, tree, arguments}
 use Rattle.vba_expression.specs.Tree.{Expr, name, member}
-use Rattle.binder.specs.Scopes.{Scope, Use, plainly, called, before_dot, Qualifier, declares, as_qualifier, enum_behind, qualifier_of}
+use Rattle.declared_names.specs.binder.specs.Scopes.{Scope, Use, plainly, called, before_dot, Qualifier, declares, as_qualifier, enum_behind, qualifier_of}
 use Rattle.use_rules.specs.Asked.{rule_of, at_suffix, at_name, at_member, at_me, at_with_member, names_asked, asked_in_args}
 use Rattle.use_rules.specs.Found.{noted}
 use Rattle.use_rules.specs.declared.question.Question.{Question}

@@ -12,9 +12,9 @@ use Rattle.vba_expression.specs.declared.tree.TypeQualifier.{TypeQualifier}
 use Rattle.vba_expression.specs.Nodes.{Item, tree, arguments}
 use Rattle.vba_expression.specs.Reader.{short_type}
 use Rattle.vba_expression.specs.Tree.{Expr, new, type_of}
-use Rattle.binder.specs.Scopes.{Scope}
-use Rattle.binder.specs.Types.{type_meant, type_behind, is_made, is_asked}
-use Rattle.binder.specs.Violations.{unless_true, place_of_name, place_of_type, types_in, types_in_args}
+use Rattle.declared_names.specs.binder.specs.Scopes.{Scope}
+use Rattle.declared_names.specs.binder.specs.Types.{type_meant, type_behind, is_made, is_asked}
+use Rattle.declared_names.specs.binder.specs.Violations.{unless_true, place_of_name, place_of_type, types_in, types_in_args}
 use Rattle.use_rules.specs.Found.{noted}
 use Rattle.use_rules.specs.Stacks.{top, below}
 

@@ -1,8 +1,8 @@
 -- Serves the code: the plain data that its own stand for.
 use Rattle.std.specs.Prelude.{List, map, reverse}
 use Rattle.vba_module.specs.Blocks.{Kind}
-use Rattle.module_parts.specs.Brackets.{kind_view}
-use Rattle.module_parts.specs.declared.bracket.BlockKind.{BlockKind}
+use Rattle.declared_names.specs.module_parts.specs.Brackets.{kind_view}
+use Rattle.declared_names.specs.module_parts.specs.declared.bracket.BlockKind.{BlockKind}
 use Rattle.declared_names.specs.View.{qualifier_view}
 use Rattle.use_rules.specs.TypesFound as types
 use Rattle.use_rules.specs.NamesFound as names

@@ -4,7 +4,7 @@ use Rattle.std.specs.List.{list_any}
 use Rattle.vba_base.specs.declared.place.Place.{Place}
 use Rattle.vba_module.specs.Blocks.{Kind, with_block, same_kind, Role, opens, divides, closes, stands, role_of}
 use Rattle.vba_module.specs.Parts.{Part}
-use Rattle.binder.specs.Said.{Said, said_in_part}
+use Rattle.declared_names.specs.binder.specs.Said.{Said, said_in_part}
 use Rattle.use_rules.specs.Stacks.{below}
 
 -- the kinds that stand open behind a part, the innermost first

@@ -1,12 +1,12 @@
 //! S16, S17, S18 and S23 in the body of a procedure.
 
 ghost use Rattle.std.specs.Prelude.{◌≡◌, [], List, map, reverse, OnOk, flat_map};
-ghost use Rattle.binder.specs.LeftOut.{said_left_out};
-ghost use Rattle.binder.specs.Said as plain;
-ghost use Rattle.binder.specs.Violations.{label_said, names_said, types_said};
+ghost use Rattle.declared_names.specs.binder.specs.LeftOut.{said_left_out};
+ghost use Rattle.declared_names.specs.binder.specs.Said as plain;
+ghost use Rattle.declared_names.specs.binder.specs.Violations.{label_said, names_said, types_said};
 ghost use Rattle.declared_names.specs.View.{scope_view};
-ghost use Rattle.module_parts.specs.Brackets.{kind_view};
-ghost use Rattle.module_parts.specs.View.{part_view, parts_view};
+ghost use Rattle.declared_names.specs.module_parts.specs.Brackets.{kind_view};
+ghost use Rattle.declared_names.specs.module_parts.specs.View.{part_view, parts_view};
 ghost use Rattle.use_rules.specs.Found.{noted};
 ghost use Rattle.use_rules.specs.Stacks.{below};
 ghost use Rattle.use_rules.specs.View.{kinds_stack};
@@ -18,7 +18,7 @@ use crate::question::Question;
 use crate::said_names::note_all_names;
 use crate::said_types::note_all_types;
 use declared_names::Scope;
-use module_parts::{BlockKind, Bracket, Part, bracket_of};
+use declared_names::module_parts::{BlockKind, Bracket, Part, bracket_of};
 use said_parts::push_part;
 use std::alloc::Global;
 use vba_base::{NoMemory, Refusal};

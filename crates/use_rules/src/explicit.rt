@@ -1,12 +1,12 @@
 //! The option Explicit.
 
 ghost use Rattle.std.specs.Prelude.{◌≡◌};
-ghost use Rattle.binder.specs.Sources as sources;
+ghost use Rattle.declared_names.specs.binder.specs.Sources as sources;
 ghost use Rattle.declared_names.specs.View.{scope_view};
-ghost use Rattle.module_parts.specs.View.{parts_view};
+ghost use Rattle.declared_names.specs.module_parts.specs.View.{parts_view};
 
 use declared_names::Scope;
-use module_parts::Part;
+use declared_names::module_parts::Part;
 use vba_tree::{LineTree, OptionChoice};
 
 /// Has the module of a scope the option Explicit?

@@ -2,14 +2,14 @@
 
 ghost use Rattle.std.specs.Prelude.{◌≡◌, map, IfOk, flat_map};
 ghost use Rattle.std.specs.List.{list_any};
-ghost use Rattle.binder.specs.Violations as violations;
-ghost use Rattle.binder.specs.Violations.{label_said, labels_in, place_of_label, place_of_target, same_label, same_label_name, same_number, unless_true};
-ghost use Rattle.module_parts.specs.View.{parts_view};
+ghost use Rattle.declared_names.specs.binder.specs.Violations as violations;
+ghost use Rattle.declared_names.specs.binder.specs.Violations.{label_said, labels_in, place_of_label, place_of_target, same_label, same_label_name, same_number, unless_true};
+ghost use Rattle.declared_names.specs.module_parts.specs.View.{parts_view};
 ghost use Rattle.use_rules.specs.Found.{noted};
 ghost use Rattle.said_parts.specs.View.{all_said, said_view};
 
 use crate::noting::note_place;
-use module_parts::Part;
+use declared_names::module_parts::Part;
 use said_parts::Said;
 use std::alloc::Global;
 use vba_base::{NoMemory, Place, Refusal};

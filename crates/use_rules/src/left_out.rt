@@ -1,7 +1,7 @@
 //! S23 at a name: what it means, and its suffix.
 
 ghost use Rattle.std.specs.Prelude.{◌≡◌, ◌++◌, option_map};
-ghost use Rattle.binder.specs.LeftOut.{meaning_left_out, suffix_left_out};
+ghost use Rattle.declared_names.specs.binder.specs.LeftOut.{meaning_left_out, suffix_left_out};
 ghost use Rattle.declared_names.specs.Outside.{the_outside};
 ghost use Rattle.declared_names.specs.View.{meant_view};
 ghost use Rattle.use_rules.specs.Asked.{at_suffix, rule_of};

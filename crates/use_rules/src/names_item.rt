@@ -1,8 +1,8 @@
 //! What is kept of an item of an expression, where something is asked of its names.
 
 ghost use Rattle.std.specs.Prelude.{◌≡◌, ◌∷◌, OnOk, Some, None, option_map};
-ghost use Rattle.binder.specs.Scopes as scopes;
-ghost use Rattle.binder.specs.Violations as violations;
+ghost use Rattle.declared_names.specs.binder.specs.Scopes as scopes;
+ghost use Rattle.declared_names.specs.binder.specs.Violations as violations;
 ghost use Rattle.declared_names.specs.View.{local_view, meant_view, qualifier_view, scope_view, use_view};
 ghost use Rattle.use_rules.specs.Asked.{at_me, at_member, at_name, at_with_member, rule_of};
 ghost use Rattle.use_rules.specs.Found.{noted};

@@ -1,7 +1,7 @@
 //! What is asked of the names in expressions.
 
 ghost use Rattle.std.specs.Prelude.{◌≡◌, [], ◌∷◌, OnOk, IfOk};
-ghost use Rattle.binder.specs.Scopes.{plainly, called, before_dot};
+ghost use Rattle.declared_names.specs.binder.specs.Scopes.{plainly, called, before_dot};
 ghost use Rattle.declared_names.specs.View.{scope_view, use_view};
 ghost use Rattle.use_rules.specs.Asked.{asked_in_args, names_asked, rule_of};
 ghost use Rattle.use_rules.specs.Found.{noted};

@@ -2,8 +2,8 @@
 
 ghost use Rattle.std.specs.Prelude.{◌≡◌, List, map, OnOk, flat_map};
 ghost use Rattle.std.specs.List.{list_any};
-ghost use Rattle.binder.specs.Scopes.{plainly};
-ghost use Rattle.binder.specs.Violations as violations;
+ghost use Rattle.declared_names.specs.binder.specs.Scopes.{plainly};
+ghost use Rattle.declared_names.specs.binder.specs.Violations as violations;
 ghost use Rattle.declared_names.specs.View.{entry_view, scope_view};
 ghost use Rattle.use_rules.specs.Asked.{at_name, at_raised, at_type, rule_of, said_asked, said_faults};
 ghost use Rattle.use_rules.specs.Found.{noted};

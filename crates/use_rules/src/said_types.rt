@@ -1,9 +1,9 @@
 //! S16 at what is said: unknown types.
 
 ghost use Rattle.std.specs.Prelude.{◌≡◌, OnOk, flat_map};
-ghost use Rattle.binder.specs.Constants.{unless};
-ghost use Rattle.binder.specs.Types as types;
-ghost use Rattle.binder.specs.Violations.{place_of_type, types_said};
+ghost use Rattle.declared_names.specs.binder.specs.Constants.{unless};
+ghost use Rattle.declared_names.specs.binder.specs.Types as types;
+ghost use Rattle.declared_names.specs.binder.specs.Violations.{place_of_type, types_said};
 ghost use Rattle.declared_names.specs.View.{scope_view};
 ghost use Rattle.use_rules.specs.Found.{noted};
 ghost use Rattle.use_rules.specs.TypesFound.{new_faults};

@@ -1,7 +1,7 @@
 //! S16 in expressions: what New may not make and TypeOf may not ask for.
 
 ghost use Rattle.std.specs.Prelude.{◌≡◌, [], ◌∷◌, OnOk, IfOk};
-ghost use Rattle.binder.specs.Violations.{types_in, types_in_args};
+ghost use Rattle.declared_names.specs.binder.specs.Violations.{types_in, types_in_args};
 ghost use Rattle.declared_names.specs.View.{scope_view};
 ghost use Rattle.use_rules.specs.Found.{noted};
 ghost use Rattle.use_rules.specs.TypesFound as found;

@@ -11,26 +11,26 @@ use Rattle.vba_base.specs.declared.place.Refusal.{Refusal}
 use Rattle.bound_project.specs.Project.{Project}
 use Rattle.bound_project.specs.declared.project.Project.{Project as Program}
 use Rattle.bound_project.specs.Bodies.{Fits, project_view}
-use Rattle.bind_project.specs.binder.specs.Sources.{Source}
-use Rattle.bind_project.specs.binder.specs.Scopes.{Space, spaces_from}
-use Rattle.bind_project.specs.binder.specs.Names.{scope_of}
-use Rattle.bind_project.specs.binder.specs.Violations.{violations, first_broken}
-use Rattle.bind_project.specs.binder.specs.Options.{or_else}
-use Rattle.bind_project.specs.bound_forms.specs.Bind.{Answer, refused, answer_by, bound_as, not_built, not_built_at, project_of}
-use Rattle.bind_project.specs.binder.specs.Projects.{Startup, startup_fault}
-use Rattle.bind_project.specs.binder.specs.LeftOut.{first_left_out}
+use Rattle.constant_values.specs.declared_names.specs.binder.specs.Sources.{Source}
+use Rattle.constant_values.specs.declared_names.specs.binder.specs.Scopes.{Space, spaces_from}
+use Rattle.constant_values.specs.declared_names.specs.binder.specs.Names.{scope_of}
+use Rattle.constant_values.specs.declared_names.specs.binder.specs.Violations.{violations, first_broken}
+use Rattle.constant_values.specs.declared_names.specs.binder.specs.Options.{or_else}
+use Rattle.bound_forms.specs.Bind.{Answer, refused, answer_by, bound_as, not_built, not_built_at, project_of}
+use Rattle.constant_values.specs.declared_names.specs.binder.specs.Projects.{Startup, startup_fault}
+use Rattle.constant_values.specs.declared_names.specs.binder.specs.LeftOut.{first_left_out}
 use Rattle.refusal_order.specs.Least.{least_of_both, lesser}
 use Rattle.signature_rules.specs.Signatures.{first_signature}
-use Rattle.bind_project.specs.constant_values.specs.Rounds.{AreNumbered}
-use Rattle.bind_project.specs.constant_values.proofs.Looked.{spaces_from_numbered}
-use Rattle.bind_project.specs.declared_names.specs.Outside.{the_outside}
+use Rattle.constant_values.specs.Rounds.{AreNumbered}
+use Rattle.constant_values.proofs.Looked.{spaces_from_numbered}
+use Rattle.constant_values.specs.declared_names.specs.Outside.{the_outside}
 use Rattle.bind_project.specs.Bound.{IsBound}
 use Rattle.bind_project.specs.declared.bound.Bound.{Bound}
 use Rattle.bind_project.specs.declared.bound.Bound.TheVariants as bound
 use Rattle.list_file.specs.Lists.{Start}
 use Rattle.list_file.specs.Plans.{ModuleFile}
-use Rattle.bind_project.specs.declared_names.specs.View.{source_view}
-use Rattle.bind_project.specs.declared_names.specs.declared.space.Source as declared_names
+use Rattle.constant_values.specs.declared_names.specs.View.{source_view}
+use Rattle.constant_values.specs.declared_names.specs.declared.space.Source as declared_names
 use Rattle.vba_cli.specs.Program.{Kept, begins_at, bound_kept, bound_modules, bound_sources, bound_rule, each, first_of_two, judged_by, kept_of, main_of, module_of, named_rule, program_of}
 use Rattle.vba_cli.specs.Programs.{IsFitted, IsProgram, IsRefused, IsWhole, rule_of, first_fold, unless_refused}
 

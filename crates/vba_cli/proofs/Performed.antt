@@ -8,7 +8,7 @@ use Rattle.vba_base.specs.Decode.{decoded}
 use Rattle.vba_base.specs.Map.{FileMap}
 use Rattle.vba_base.specs.Outside.{Told}
 use Rattle.vba_base.specs.declared.place.Place.{Place}
-use Rattle.bind_project.specs.bound_forms.specs.Bind as bind
+use Rattle.bound_forms.specs.Bind as bind
 use Rattle.command_words.specs.Words.{Command, run, check, code}
 use Rattle.list_file.specs.declared.files.ReadStop.{ReadStop}
 use Rattle.list_file.specs.declared.files.ReadStop.TheVariants as read

@@ -6,7 +6,7 @@ use Rattle.vba_base.specs.declared.fault.OrMemory.TheVariants.{NoMemory}
 use Rattle.vba_base.specs.declared.place.Place.{Place}
 use Rattle.vba_base.specs.declared.place.Refusal.{Refusal}
 use Rattle.bound_project.specs.Project.{Project}
-use Rattle.bind_project.specs.bound_forms.specs.Bind.{Answer, refused, not_built_at, bound_as}
+use Rattle.bound_forms.specs.Bind.{Answer, refused, not_built_at, bound_as}
 use Rattle.bind_project.specs.declared.bound.Bound.{Bound}
 use Rattle.bind_project.specs.declared.bound.Bound.TheVariants as bound
 use Rattle.command_words.specs.Words.{check, code}

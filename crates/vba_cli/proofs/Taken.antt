@@ -11,7 +11,7 @@ use Rattle.vba_base.specs.declared.place.Place.{Place}
 use Rattle.vba_base.specs.declared.place.Refusal.{Refusal}
 use Rattle.sheet_host.specs.Books.{Sheets}
 use Rattle.bound_project.specs.Project.{Project}
-use Rattle.bind_project.specs.bound_forms.specs.Bind as bind
+use Rattle.bound_forms.specs.Bind as bind
 use Rattle.project_run.specs.declared.outcome.Outcome.{Outcome}
 use Rattle.project_run.specs.declared.outcome.Outcome.TheVariants as outcome
 use Rattle.command_words.specs.Words.{Command, run}

@@ -5,7 +5,7 @@ use Rattle.vba_base.specs.declared.place.Place.{Place}
 use Rattle.vba_base.specs.Map.{FileMap, bytes_of}
 use Rattle.sheet_host.specs.Books.{Sheets}
 use Rattle.bound_project.specs.Project.{Project}
-use Rattle.bind_project.specs.bound_forms.specs.Bind as bind
+use Rattle.bound_forms.specs.Bind as bind
 use Rattle.project_run.specs.pcode.specs.Layout.{code_of}
 use Rattle.code_listing.specs.Listing.{listing_of}
 use Rattle.project_run.specs.pcode_run.specs.declared.texts.Shows.{Shows}

@@ -13,15 +13,15 @@ use Rattle.module_parser.specs.Parsed.{verdict, read_lexed}
 use Rattle.refusal_order.specs.Least.{least_of_both}
 use Rattle.bound_project.specs.Project.{Project}
 use Rattle.static_rules.specs.Broken.{first_broken}
-use Rattle.bind_project.specs.binder.specs.Sources.{Source, given_name, name_or}
-use Rattle.bind_project.specs.binder.specs.Options.{or_else}
-use Rattle.bind_project.specs.binder.specs.Scopes.{Space, spaces_from}
-use Rattle.bind_project.specs.binder.specs.Violations as names
-use Rattle.bind_project.specs.binder.specs.LeftOut.{first_left_out}
-use Rattle.bind_project.specs.bound_forms.specs.Bind.{Answer, refused, answer_by, not_built, project_of}
-use Rattle.bind_project.specs.binder.specs.Projects.{Startup, startup_fault}
+use Rattle.constant_values.specs.declared_names.specs.binder.specs.Sources.{Source, given_name, name_or}
+use Rattle.constant_values.specs.declared_names.specs.binder.specs.Options.{or_else}
+use Rattle.constant_values.specs.declared_names.specs.binder.specs.Scopes.{Space, spaces_from}
+use Rattle.constant_values.specs.declared_names.specs.binder.specs.Violations as names
+use Rattle.constant_values.specs.declared_names.specs.binder.specs.LeftOut.{first_left_out}
+use Rattle.bound_forms.specs.Bind.{Answer, refused, answer_by, not_built, project_of}
+use Rattle.constant_values.specs.declared_names.specs.binder.specs.Projects.{Startup, startup_fault}
 use Rattle.signature_rules.specs.Signatures.{first_signature}
-use Rattle.bind_project.specs.declared_names.specs.Outside.{the_outside}
+use Rattle.constant_values.specs.declared_names.specs.Outside.{the_outside}
 use Rattle.list_file.specs.Lists.{Start}
 use Rattle.list_file.specs.Plans.{ModuleFile}
 

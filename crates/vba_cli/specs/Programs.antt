@@ -7,12 +7,12 @@ use Rattle.vba_base.specs.declared.place.Place.{Place}
 use Rattle.vba_base.specs.declared.place.Refusal.{Refusal}
 use Rattle.bound_project.specs.Bodies.{Fits, project_view}
 use Rattle.bound_project.specs.Project.{Project}
-use Rattle.bind_project.specs.bound_forms.specs.Bind.{Answer, refused, not_built_at, bound_as}
+use Rattle.bound_forms.specs.Bind.{Answer, refused, not_built_at, bound_as}
 use Rattle.bind_project.specs.declared.bound.Bound.{Bound}
 use Rattle.bind_project.specs.declared.bound.Bound.TheVariants as bound
-use Rattle.bind_project.specs.binder.specs.Scopes.{Space}
-use Rattle.bind_project.specs.binder.specs.Sources.{Source}
-use Rattle.module_parts.specs.View.{parts_view}
+use Rattle.constant_values.specs.declared_names.specs.binder.specs.Scopes.{Space}
+use Rattle.constant_values.specs.declared_names.specs.binder.specs.Sources.{Source}
+use Rattle.constant_values.specs.declared_names.specs.module_parts.specs.View.{parts_view}
 use Rattle.vba_lexer.specs.Lexed.{lines_view}
 use Rattle.vba_cli.specs.declared.kept.Kept.{Kept}
 use Rattle.vba_cli.specs.declared.modules.ReadModule.{ReadModule}

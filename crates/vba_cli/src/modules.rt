@@ -1,4 +1,4 @@
-use module_parts::Part;
+use constant_values::declared_names::module_parts::Part;
 use vba_base::Units;
 
 /// A module that breaks no rule of tokens, directives, lines and modules: whether it is a class, its text and its parts.

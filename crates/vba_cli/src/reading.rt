@@ -1,27 +1,27 @@
 //! The project that the files of modules are.
 
 ghost use Rattle.std.specs.Prelude.{◌≡◌, ◌≤◌, [], ◌∷◌, ◌++◌, length, map, option_map, IfOk, List, OnOk, Option};
-ghost use Rattle.bind_project.specs.binder.specs.Projects.{startup_fault as plain_fault};
-ghost use Rattle.bind_project.specs.binder.specs.LeftOut.{first_left_out as plain_left_out};
-ghost use Rattle.bind_project.specs.binder.specs.Sources.{Source as PlainSource};
-ghost use Rattle.bind_project.specs.binder.specs.Scopes.{spaces_from};
-ghost use Rattle.bind_project.specs.constant_values.specs.Rounds.{AreNumbered};
-ghost use Rattle.bind_project.specs.declared_names.specs.Outside.{the_outside};
-ghost use Rattle.bind_project.specs.declared_names.specs.View.{source_view, space_view};
+ghost use Rattle.constant_values.specs.declared_names.specs.binder.specs.Projects.{startup_fault as plain_fault};
+ghost use Rattle.constant_values.specs.declared_names.specs.binder.specs.LeftOut.{first_left_out as plain_left_out};
+ghost use Rattle.constant_values.specs.declared_names.specs.binder.specs.Sources.{Source as PlainSource};
+ghost use Rattle.constant_values.specs.declared_names.specs.binder.specs.Scopes.{spaces_from};
+ghost use Rattle.constant_values.specs.Rounds.{AreNumbered};
+ghost use Rattle.constant_values.specs.declared_names.specs.Outside.{the_outside};
+ghost use Rattle.constant_values.specs.declared_names.specs.View.{source_view, space_view};
 ghost use Rattle.list_file.specs.Sources.{files_view};
 ghost use Rattle.list_file.specs.View.{start_view};
 ghost use Rattle.bind_project.specs.Bound.{IsBound};
-ghost use Rattle.bind_project.specs.project_tables.specs.Startups.{startup_view};
+ghost use Rattle.project_tables.specs.Startups.{startup_view};
 ghost use Rattle.signature_rules.specs.Signatures.{first_signature as plain_signature};
-ghost use Rattle.bind_project.specs.bound_forms.specs.Bind.{not_built, project_of};
-ghost use Rattle.bind_project.specs.binder.specs.Options.{or_else};
+ghost use Rattle.bound_forms.specs.Bind.{not_built, project_of};
+ghost use Rattle.constant_values.specs.declared_names.specs.binder.specs.Options.{or_else};
 ghost use Rattle.vba_cli.specs.Program.{begins_at, bound_modules, first_of_two, judged_by, program_of};
 ghost use Rattle.vba_cli.specs.Programs.{IsFitted, IsProgram, rule_of, first_fold, module_view, unless_refused};
 
 use crate::modules::ReadModule;
 use crate::phases::{keep_all, read_all};
-use bind_project::declared_names::{Source, Space, spaces_of};
 use bind_project::{Bound, Startup as BoundStartup, bind, startup_fault};
+use constant_values::declared_names::{Source, Space, spaces_of};
 use list_file::{ModuleBytes, Startup};
 use name_rules::{first_left_out, verdict};
 use refusal_order::note_both;

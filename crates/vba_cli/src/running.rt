@@ -7,7 +7,7 @@ ghost use Rattle.command_words.specs.Words as words;
 ghost use Rattle.list_file.specs.Files.{FilesAt};
 ghost use Rattle.list_file.specs.Sources.{files_view, sheets_view};
 ghost use Rattle.list_file.specs.View.{start_view};
-ghost use Rattle.bind_project.specs.bound_forms.specs.Bind.{Answer};
+ghost use Rattle.bound_forms.specs.Bind.{Answer};
 ghost use Rattle.code_listing.specs.Listing.{listing_of};
 ghost use Rattle.project_run.specs.pcode.specs.Layout.{code_of};
 ghost use Rattle.vba_cli.specs.Answer.{all_right, no_book, saved_by, shown_of_code, shown_of_run, shows_of, status_of, unread};

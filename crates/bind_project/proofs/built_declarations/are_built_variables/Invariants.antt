@@ -2,8 +2,8 @@ use Rattle.std.proofs.Common.{◌≡◌, length, map}
 use Rattle.std.specs.List.{list_all}
 use Rattle.vba_module.specs.Headers.{all_of, items_of}
 use Rattle.vba_tree.specs.View.{listed_view, variable_view}
-use Rattle.bound_actions.specs.bound_forms.specs.Bind.{is_built_variable}
-use Rattle.bound_actions.specs.declared_names.specs.View.{scope_view}
+use Rattle.bound_names.specs.bound_members.specs.bound_calls.specs.bound_forms.specs.Bind.{is_built_variable}
+use Rattle.bound_names.specs.bound_members.specs.bound_calls.specs.bound_declarations.specs.constant_values.specs.declared_names.specs.View.{scope_view}
 use Rattle.bind_project.proofs.built_declarations.are_built_variables.Given as goal
 
 abbrev pub invariant-variables : goal.invariant-variables

@@ -1,4 +1,4 @@
-use Rattle.bound_actions.specs.declared_names.specs.View.{scope_view}
+use Rattle.bound_names.specs.bound_members.specs.bound_calls.specs.bound_declarations.specs.constant_values.specs.declared_names.specs.View.{scope_view}
 use Rattle.module_parts.specs.View.{part_view}
 use Rattle.bind_project.proofs.Rows.{row_there, row_fits, next_walked}
 use Rattle.bind_project.proofs.modules.bind_headed.Goals as goal

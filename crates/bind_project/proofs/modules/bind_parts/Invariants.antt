@@ -1,6 +1,6 @@
 use Rattle.std.proofs.Common.{length, drop, map}
 use Rattle.bound_project.specs.DraftView.{draft_view}
-use Rattle.bound_actions.specs.declared_names.specs.View.{scope_view}
+use Rattle.bound_names.specs.bound_members.specs.bound_calls.specs.bound_declarations.specs.constant_values.specs.declared_names.specs.View.{scope_view}
 use Rattle.module_parts.specs.View.{parts_view}
 use Rattle.bind_project.specs.Modules.{PartsWalked}
 use Rattle.bind_project.specs.Procedures.{numbered_view}

@@ -1,15 +1,15 @@
 use Rattle.std.proofs.Common.{◌≡◌, ℕ, ◌+◌, refl, sym, ap, subst, ◌∙◌}
 use Rattle.bound_project.specs.DraftView.{draft_view}
-use Rattle.bound_actions.specs.bound_forms.specs.StatementsBound.{bound_statement}
-use Rattle.bound_actions.specs.statement_numbers.specs.View.{standing_view}
+use Rattle.bound_names.specs.bound_members.specs.bound_calls.specs.bound_forms.specs.StatementsBound.{bound_statement}
+use Rattle.statement_nodes.specs.statement_numbers.specs.View.{standing_view}
 use Rattle.vba_expression.specs.View.{view as expression_view}
 use Rattle.vba_tree.specs.View.{list_view, statement_view}
 use Rattle.vba_tree.specs.Tree.{Stmt}
-use Rattle.bound_actions.specs.bound_names.specs.View.{env_view}
+use Rattle.bound_names.specs.View.{env_view}
 use Rattle.bound_lines.specs.Round.{around_view}
 use Rattle.statement_nodes.specs.Walks.{Added}
 use Rattle.vba_tree.specs.declared.statement.Statement as line
-use Rattle.bound_actions.specs.binder.specs.Numbering.{count}
+use Rattle.binder.specs.Numbering.{count}
 use Rattle.statement_nodes.proofs.Lists.{list_added, others_counted}
 use Rattle.statement_nodes.proofs.Ifs.{view-SingleLineIf, view-SingleLineIfElse, if_then_added, if_else_added}
 use Rattle.bind_project.proofs.single_line_ifs.+bound_statements.Goals as goal

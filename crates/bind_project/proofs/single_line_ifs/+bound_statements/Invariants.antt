@@ -1,6 +1,6 @@
 use Rattle.std.proofs.Common.{drop, map}
 use Rattle.bound_project.specs.DraftView.{draft_view}
-use Rattle.bound_actions.specs.statement_numbers.specs.View.{standing_view}
+use Rattle.statement_nodes.specs.statement_numbers.specs.View.{standing_view}
 use Rattle.vba_tree.specs.View.{next_view}
 use Rattle.statement_nodes.specs.Nexts.{OthersWalked}
 use Rattle.bound_lines.specs.Round.{around_view}

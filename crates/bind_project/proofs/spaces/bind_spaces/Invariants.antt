@@ -1,10 +1,10 @@
 use Rattle.std.proofs.Common.{length, map}
-use Rattle.bound_actions.specs.binder.specs.Projects.{no_space}
-use Rattle.bound_actions.specs.binder.specs.Names.{scope_of}
+use Rattle.binder.specs.Projects.{no_space}
+use Rattle.binder.specs.Names.{scope_of}
 use Rattle.bound_project.specs.DraftView.{draft_view}
-use Rattle.bound_actions.specs.declared_names.specs.Outside.{the_outside}
-use Rattle.bound_actions.specs.declared_names.specs.View.{space_view}
-use Rattle.bound_actions.specs.project_tables.specs.Rows.{AreRowsFrom}
+use Rattle.bound_names.specs.bound_members.specs.bound_calls.specs.bound_declarations.specs.constant_values.specs.declared_names.specs.Outside.{the_outside}
+use Rattle.bound_names.specs.bound_members.specs.bound_calls.specs.bound_declarations.specs.constant_values.specs.declared_names.specs.View.{space_view}
+use Rattle.bound_names.specs.project_tables.specs.Rows.{AreRowsFrom}
 use Rattle.bind_project.specs.Modules.{SpacesWalked}
 use Rattle.bind_project.specs.Procedures.{AllPlaced}
 use Rattle.bind_project.proofs.spaces.bind_spaces.Given as goal

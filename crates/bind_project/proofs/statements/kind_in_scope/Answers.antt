@@ -5,11 +5,11 @@ use Rattle.vba_tree.specs.View.{simple_view}
 use Rattle.vba_expression.specs.View.{view as expression_view}
 use Rattle.bound_project.specs.declared.statement.ActionKind.{ActionKind}
 use Rattle.bound_project.specs.DraftView.{draft_view}
-use Rattle.bound_actions.specs.bound_forms.specs.ExpressionsBound.{bound_as_given}
-use Rattle.bound_actions.specs.bound_forms.specs.StatementsBound.{assigned_to, set_given, value_given}
-use Rattle.bound_actions.specs.bound_names.specs.View.{env_view}
+use Rattle.bound_names.specs.bound_members.specs.bound_calls.specs.bound_forms.specs.ExpressionsBound.{bound_as_given}
+use Rattle.bound_names.specs.bound_members.specs.bound_calls.specs.bound_forms.specs.StatementsBound.{assigned_to, set_given, value_given}
+use Rattle.bound_names.specs.View.{env_view}
 use Rattle.statement_nodes.specs.Pushed.{ActionPushed, ActionStands}
-use Rattle.bound_actions.specs.statement_numbers.specs.View.{standing_view}
+use Rattle.statement_nodes.specs.statement_numbers.specs.View.{standing_view}
 use Rattle.statement_nodes.specs.Actions.{simple_in}
 use Rattle.bound_lines.specs.Round.{around_view}
 use Rattle.std.specs.Result.{IfOk}

@@ -1,6 +1,6 @@
 use Rattle.std.proofs.Common.{length}
 use Rattle.bound_project.specs.DraftView.{draft_view}
-use Rattle.bound_actions.specs.statement_numbers.specs.View.{walk_view}
+use Rattle.statement_nodes.specs.statement_numbers.specs.View.{walk_view}
 use Rattle.bound_lines.specs.Round.{around_view}
 use Rattle.statement_nodes.specs.Walks.{Walked}
 use Rattle.bind_project.proofs.walk.bind_body.Given as goal

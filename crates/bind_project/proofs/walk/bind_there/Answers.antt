@@ -1,9 +1,9 @@
 use Rattle.std.proofs.Common.{◌≡◌, ℕ, subst}
-use Rattle.bound_actions.specs.bound_forms.specs.StatementsBound.{Around}
-use Rattle.bound_actions.specs.binder.specs.Blocks.{next_number}
+use Rattle.bound_names.specs.bound_members.specs.bound_calls.specs.bound_forms.specs.StatementsBound.{Around}
+use Rattle.binder.specs.Blocks.{next_number}
 use Rattle.bound_project.specs.DraftView.{draft_view}
 use Rattle.module_parts.specs.View.{part_view}
-use Rattle.bound_actions.specs.statement_numbers.specs.View.{standing_view}
+use Rattle.statement_nodes.specs.statement_numbers.specs.View.{standing_view}
 use Rattle.statement_nodes.specs.Walks.{Added, statements_of}
 use Rattle.bind_project.proofs.walk.bind_there.Goals as goal
 

@@ -1,7 +1,7 @@
 use Rattle.std.proofs.Common.{Option, sym, ap, subst, ◌∙◌}
 use Rattle.bound_project.specs.DraftView.{draft_view}
 use Rattle.bound_project.specs.declared.node.NodeKind.{NodeKind}
-use Rattle.bound_members.specs.bound_calls.specs.declared.term.Term.{Term}
+use Rattle.bound_names.specs.bound_members.specs.bound_calls.specs.declared.term.Term.{Term}
 use Rattle.bound_accesses.specs.Fields.{FieldOrNone, PlacesField}
 use Rattle.bound_names.specs.View.{env_view}
 use Rattle.bound_accesses.proofs.Fielding.{places_found, places_none}

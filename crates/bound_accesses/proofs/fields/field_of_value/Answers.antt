@@ -1,8 +1,8 @@
 use Rattle.bound_project.specs.DraftView.{draft_view}
 use Rattle.bound_names.specs.View.{env_view}
 use Rattle.std.proofs.Common.{Option, sym, subst}
-use Rattle.bound_members.specs.bound_calls.specs.declared.term.Term.{Term}
-use Rattle.bound_members.specs.bound_calls.specs.declared.term.Term.TheVariants as term
+use Rattle.bound_names.specs.bound_members.specs.bound_calls.specs.declared.term.Term.{Term}
+use Rattle.bound_names.specs.bound_members.specs.bound_calls.specs.declared.term.Term.TheVariants as term
 use Rattle.bound_accesses.specs.Fields.{MakesBehind, ValueOrNone}
 use Rattle.bound_accesses.proofs.Fielding.{behind_no_value, behind_value}
 use Rattle.bound_accesses.proofs.fields.field_of_value.Goals as goal

@@ -1,5 +1,5 @@
 use Rattle.std.proofs.Common.{◌≡◌, map, drop}
-use Rattle.bound_members.specs.binder.specs.Scopes.{first_at}
+use Rattle.binder.specs.Scopes.{first_at}
 use Rattle.bound_project.specs.View.{declaration_view}
 use Rattle.bound_accesses.specs.Fields.{is_field_named}
 use Rattle.bound_accesses.proofs.fields.first_field.Given as goal

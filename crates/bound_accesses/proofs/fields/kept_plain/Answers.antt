@@ -2,7 +2,7 @@ use Rattle.std.proofs.Common.{ℕ, false, List, sym, subst}
 use Rattle.std.proofs.lemmas.Result.{IfOk-weaker}
 use Rattle.bound_project.specs.declared.node.NodeKind.TheVariants as kinds
 use Rattle.bound_project.specs.DraftView.{draft_view}
-use Rattle.bound_members.specs.bound_calls.specs.declared.term.Term.{Term}
+use Rattle.bound_names.specs.bound_members.specs.bound_calls.specs.declared.term.Term.{Term}
 use Rattle.bound_accesses.specs.Fields.{KeepsField}
 use Rattle.bound_accesses.specs.Items.{FindsBehindPlace}
 use Rattle.bound_names.specs.View.{env_view}

@@ -1,5 +1,5 @@
 use Rattle.std.proofs.Common.{Option, sym, subst}
-use Rattle.bound_members.specs.bound_calls.specs.declared.term.Term.{Term}
+use Rattle.bound_names.specs.bound_members.specs.bound_calls.specs.declared.term.Term.{Term}
 use Rattle.bound_accesses.specs.Fields.{FieldOrNone}
 use Rattle.bound_names.specs.View.{env_view}
 use Rattle.bound_accesses.proofs.Fielding.{field_or_none}

@@ -1,6 +1,6 @@
 use Rattle.std.proofs.Common.{ℕ, List, sym, subst}
 use Rattle.bound_project.specs.DraftView.{draft_view}
-use Rattle.bound_members.specs.bound_calls.specs.declared.term.Term.{Term}
+use Rattle.bound_names.specs.bound_members.specs.bound_calls.specs.declared.term.Term.{Term}
 use Rattle.bound_accesses.specs.Items.{FindsBehindValue, MakesValueItem}
 use Rattle.bound_names.specs.View.{env_view}
 use Rattle.bound_accesses.proofs.ItemTerms.{value_item}

@@ -1,7 +1,7 @@
 use Rattle.std.proofs.Common.{ℕ, List, sym, subst}
 use Rattle.bound_project.specs.DraftView.{draft_view}
-use Rattle.bound_members.specs.bound_calls.specs.declared.term.Term.{Term}
-use Rattle.bound_members.specs.bound_calls.specs.declared.term.Term.TheVariants as term
+use Rattle.bound_names.specs.bound_members.specs.bound_calls.specs.declared.term.Term.{Term}
+use Rattle.bound_names.specs.bound_members.specs.bound_calls.specs.declared.term.Term.TheVariants as term
 use Rattle.bound_accesses.specs.Fields.{MakesBehind}
 use Rattle.bound_accesses.specs.Items.{FindsBehindValue}
 use Rattle.bound_names.specs.View.{env_view}

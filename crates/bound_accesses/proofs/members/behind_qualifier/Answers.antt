@@ -1,11 +1,11 @@
 use Rattle.std.proofs.Common.{Option, sym, subst}
 use Rattle.bound_project.specs.DraftView.{draft_view}
-use Rattle.bound_members.specs.binder.specs.Scopes.{Meant, behind, plainly}
-use Rattle.bound_members.specs.bound_forms.specs.ExpressionsBound.{meant_term}
-use Rattle.bound_members.specs.constant_values.specs.Rounds.{IsThere}
-use Rattle.bound_members.specs.constant_values.proofs.Looked.{behind_there}
-use Rattle.bound_members.specs.declared_names.specs.View.{qualifier_view, scope_view}
-use Rattle.bound_members.specs.bound_calls.specs.Steps.{MakesLeaf}
+use Rattle.binder.specs.Scopes.{Meant, behind, plainly}
+use Rattle.bound_names.specs.bound_members.specs.bound_calls.specs.bound_forms.specs.ExpressionsBound.{meant_term}
+use Rattle.bound_names.specs.bound_members.specs.bound_calls.specs.bound_declarations.specs.constant_values.specs.Rounds.{IsThere}
+use Rattle.bound_names.specs.bound_members.specs.bound_calls.specs.bound_declarations.specs.constant_values.proofs.Looked.{behind_there}
+use Rattle.bound_names.specs.bound_members.specs.bound_calls.specs.bound_declarations.specs.constant_values.specs.declared_names.specs.View.{qualifier_view, scope_view}
+use Rattle.bound_names.specs.bound_members.specs.bound_calls.specs.Steps.{MakesLeaf}
 use Rattle.bound_names.specs.View.{env_view}
 use Rattle.bound_accesses.proofs.Dotted.{makes_behind}
 use Rattle.bound_accesses.proofs.members.behind_qualifier.Goals as goal

@@ -1,6 +1,6 @@
 use Rattle.std.proofs.lemmas.Result.{IfOk-weaker}
 use Rattle.bound_project.specs.DraftView.{draft_view}
-use Rattle.bound_members.specs.bound_calls.proofs.Taking.{named_still}
+use Rattle.bound_names.specs.bound_members.specs.bound_calls.proofs.Taking.{named_still}
 use Rattle.bound_accesses.proofs.Fielding.{behind_sheet}
 use Rattle.bound_accesses.proofs.members.behind_sheet_member.Goals as goal
 use Rattle.bound_names.specs.View.{env_view}

@@ -2,7 +2,7 @@ use Rattle.std.proofs.Common.{sym, subst}
 use Rattle.std.specs.Prelude.{IfOk}
 use Rattle.std.proofs.lemmas.Result.{IfOk-weaker}
 use Rattle.bound_project.specs.DraftView.{draft_view}
-use Rattle.bound_members.specs.bound_calls.specs.declared.term.Term.{Term}
+use Rattle.bound_names.specs.bound_members.specs.bound_calls.specs.declared.term.Term.{Term}
 use Rattle.bound_accesses.specs.Fields.{MakesBehind}
 use Rattle.bound_names.specs.View.{env_view}
 use Rattle.bound_accesses.proofs.Fielding.{behind_err}

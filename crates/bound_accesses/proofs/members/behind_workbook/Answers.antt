@@ -1,8 +1,8 @@
 use Rattle.bound_project.specs.DraftView.{draft_view}
 use Rattle.std.proofs.Common.{sym, subst, ◌∙◌}
-use Rattle.bound_members.specs.bound_forms.specs.Terms as plain
-use Rattle.bound_members.specs.bound_calls.specs.declared.term.Term.{Term}
-use Rattle.bound_members.specs.bound_calls.specs.declared.term.Term.TheVariants as term
+use Rattle.bound_names.specs.bound_members.specs.bound_calls.specs.bound_forms.specs.Terms as plain
+use Rattle.bound_names.specs.bound_members.specs.bound_calls.specs.declared.term.Term.{Term}
+use Rattle.bound_names.specs.bound_members.specs.bound_calls.specs.declared.term.Term.TheVariants as term
 use Rattle.bound_accesses.specs.Fields.{MakesBehind}
 use Rattle.bound_accesses.proofs.Fielding.{behind_book, behind_workbook}
 use Rattle.bound_accesses.proofs.members.behind_workbook.Goals as goal

@@ -1,9 +1,9 @@
 use Rattle.std.proofs.Common.{Option, sym, ap, subst, ◌∙◌}
 use Rattle.std.specs.Prelude.{option_map}
-use Rattle.bound_members.specs.binder.specs.Scopes.{Qualifier, enum_behind}
-use Rattle.bound_members.specs.constant_values.specs.Rounds.{IsPlace}
-use Rattle.bound_members.specs.constant_values.proofs.Looked.{enum_behind_place}
-use Rattle.bound_members.specs.declared_names.specs.View.{qualifier_view, scope_view}
+use Rattle.binder.specs.Scopes.{Qualifier, enum_behind}
+use Rattle.bound_names.specs.bound_members.specs.bound_calls.specs.bound_declarations.specs.constant_values.specs.Rounds.{IsPlace}
+use Rattle.bound_names.specs.bound_members.specs.bound_calls.specs.bound_declarations.specs.constant_values.proofs.Looked.{enum_behind_place}
+use Rattle.bound_names.specs.bound_members.specs.bound_calls.specs.bound_declarations.specs.constant_values.specs.declared_names.specs.View.{qualifier_view, scope_view}
 use Rattle.bound_accesses.proofs.members.dotted_qualifier.Goals as goal
 
 pub returns-clause-place : goal.returns-clause-place

@@ -1,9 +1,9 @@
 use Rattle.std.proofs.Common.{Option, subst, ap}
 use Rattle.std.specs.Prelude.{option_map}
 use Rattle.std.proofs.lemmas.Result.{IfOk-weaker}
-use Rattle.bound_members.specs.binder.specs.Scopes.{Qualifier}
-use Rattle.bound_members.specs.constant_values.specs.Rounds.{IsPlace}
-use Rattle.bound_members.specs.declared_names.specs.View.{qualifier_view, scope_view}
+use Rattle.binder.specs.Scopes.{Qualifier}
+use Rattle.bound_names.specs.bound_members.specs.bound_calls.specs.bound_declarations.specs.constant_values.specs.Rounds.{IsPlace}
+use Rattle.bound_names.specs.bound_members.specs.bound_calls.specs.bound_declarations.specs.constant_values.specs.declared_names.specs.View.{qualifier_view, scope_view}
 use Rattle.bound_accesses.specs.Qualified.{IsQualifier}
 use Rattle.bound_accesses.proofs.members.member_tree.Goals as goal
 

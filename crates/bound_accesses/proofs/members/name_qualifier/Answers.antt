@@ -1,8 +1,8 @@
 use Rattle.std.proofs.Common.{Option, sym, ap, subst, ◌∙◌}
-use Rattle.bound_members.specs.binder.specs.Scopes.{Qualifier, before_dot, declares, as_qualifier}
-use Rattle.bound_members.specs.constant_values.specs.Rounds.{IsPlace}
-use Rattle.bound_members.specs.constant_values.proofs.Looked.{declared_there, qualifier_place}
-use Rattle.bound_members.specs.declared_names.specs.View.{scope_view}
+use Rattle.binder.specs.Scopes.{Qualifier, before_dot, declares, as_qualifier}
+use Rattle.bound_names.specs.bound_members.specs.bound_calls.specs.bound_declarations.specs.constant_values.specs.Rounds.{IsPlace}
+use Rattle.bound_names.specs.bound_members.specs.bound_calls.specs.bound_declarations.specs.constant_values.proofs.Looked.{declared_there, qualifier_place}
+use Rattle.bound_names.specs.bound_members.specs.bound_calls.specs.bound_declarations.specs.constant_values.specs.declared_names.specs.View.{scope_view}
 use Rattle.bound_accesses.proofs.members.name_qualifier.Goals as goal
 
 pub returns-clause-place : goal.returns-clause-place

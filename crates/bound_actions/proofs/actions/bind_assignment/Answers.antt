@@ -1,6 +1,6 @@
 use Rattle.vba_expression.specs.View.{view as expression_view}
 use Rattle.bound_project.specs.DraftView.{draft_view}
-use Rattle.bound_terms.specs.bound_names.specs.View.{env_view}
+use Rattle.bound_terms.specs.bound_accesses.specs.bound_names.specs.View.{env_view}
 use Rattle.statement_terms.proofs.Assigned.{action_assigned}
 use Rattle.bound_actions.proofs.actions.bind_assignment.Goals as goal
 use Rattle.std.proofs.Common.{sym}

@@ -1,12 +1,12 @@
 use Rattle.std.proofs.Common.{subst}
 use Rattle.bound_project.specs.DraftView.{draft_view}
-use Rattle.bound_terms.specs.bound_forms.specs.ExpressionsBound.{givens}
-use Rattle.bound_terms.specs.bound_forms.specs.StatementsBound.{called_with}
+use Rattle.bound_terms.specs.bound_accesses.specs.bound_names.specs.bound_members.specs.bound_calls.specs.bound_forms.specs.ExpressionsBound.{givens}
+use Rattle.bound_terms.specs.bound_accesses.specs.bound_names.specs.bound_members.specs.bound_calls.specs.bound_forms.specs.StatementsBound.{called_with}
 use Rattle.vba_expression.specs.Tree.{Args}
 use Rattle.vba_expression.specs.View.{view}
 use Rattle.std.proofs.Common.{Some}
 use Rattle.statement_terms.specs.statement_nodes.specs.Pushed.{ActionStands}
-use Rattle.bound_terms.specs.bound_names.specs.View.{env_view}
+use Rattle.bound_terms.specs.bound_accesses.specs.bound_names.specs.View.{env_view}
 use Rattle.statement_terms.proofs.Called.{call_bound}
 use Rattle.bound_actions.proofs.actions.bind_call.Goals as goal
 

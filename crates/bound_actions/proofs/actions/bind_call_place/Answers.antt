@@ -4,8 +4,8 @@ use Rattle.vba_expression.specs.Tree.{Expr}
 use Rattle.vba_expression.specs.Nodes.{tree_in}
 use Rattle.vba_expression.specs.View.{view}
 use Rattle.bound_project.specs.DraftView.{draft_view}
-use Rattle.bound_terms.specs.bound_forms.specs.StatementsBound.{called_place}
-use Rattle.bound_terms.specs.bound_names.specs.View.{env_view}
+use Rattle.bound_terms.specs.bound_accesses.specs.bound_names.specs.bound_members.specs.bound_calls.specs.bound_forms.specs.StatementsBound.{called_place}
+use Rattle.bound_terms.specs.bound_accesses.specs.bound_names.specs.View.{env_view}
 use Rattle.statement_terms.specs.statement_nodes.specs.Pushed.{ActionStands}
 use Rattle.statement_terms.specs.Called.{IsBare}
 use Rattle.statement_terms.proofs.Called.{bare_bound, place_bound}

@@ -1,7 +1,7 @@
 use Rattle.std.proofs.Common.{Option, subst}
 use Rattle.bound_project.specs.DraftView.{draft_view}
 use Rattle.bound_project.specs.declared.declared_type.DeclaredType.{DeclaredType}
-use Rattle.bound_terms.specs.bound_calls.specs.Steps.{PushesValue}
+use Rattle.bound_terms.specs.bound_accesses.specs.bound_names.specs.bound_members.specs.bound_calls.specs.Steps.{PushesValue}
 use Rattle.statement_terms.proofs.GivenValues.{plain_pushed}
 use Rattle.bound_actions.proofs.assigned_values.push_plain.Goals as goal
 

@@ -2,7 +2,7 @@ use Rattle.std.proofs.Common.{Bool, true, sym, subst, ◌∙◌}
 use Rattle.std.proofs.lemmas.Result.{IfOk-weaker}
 use Rattle.bound_project.specs.DraftView.{draft_view}
 use Rattle.vba_expression.specs.View.{view}
-use Rattle.bound_terms.specs.bound_names.specs.View.{env_view}
+use Rattle.bound_terms.specs.bound_accesses.specs.bound_names.specs.View.{env_view}
 use Rattle.bound_actions.specs.Assigning.{IsNoTarget}
 use Rattle.bound_actions.proofs.Assigned.{assigns_bare}
 use Rattle.bound_actions.proofs.Letting.{assigns_other}

@@ -4,8 +4,8 @@ use Rattle.vba_expression.specs.Nodes.{tree_in}
 use Rattle.std.specs.Prelude.{◌||◌}
 use Rattle.statement_terms.specs.Targets.{is_variant_term}
 use Rattle.bound_terms.specs.bound_accesses.specs.Items.{lacks_item}
-use Rattle.bound_terms.specs.bound_names.specs.View.{env_view}
-use Rattle.bound_terms.specs.bound_forms.specs.ExpressionsBound.{callee, term_of}
+use Rattle.bound_terms.specs.bound_accesses.specs.bound_names.specs.View.{env_view}
+use Rattle.bound_terms.specs.bound_accesses.specs.bound_names.specs.bound_members.specs.bound_calls.specs.bound_forms.specs.ExpressionsBound.{callee, term_of}
 use Rattle.bound_actions.specs.NoTargets.{IsSub}
 use Rattle.bound_actions.proofs.Assigned.{assigns_indexed, assigns_member, assigns_split}
 use Rattle.bound_actions.proofs.NoTargets.{split_refused}

@@ -4,7 +4,7 @@ use Rattle.vba_expression.specs.Tree.{Expr}
 use Rattle.vba_expression.specs.Nodes.{tree_in}
 use Rattle.bound_project.specs.DraftView.{draft_view}
 use Rattle.statement_terms.specs.Called.{AssignsTo, IsBare}
-use Rattle.bound_terms.specs.bound_names.specs.View.{env_view}
+use Rattle.bound_terms.specs.bound_accesses.specs.bound_names.specs.View.{env_view}
 use Rattle.bound_actions.proofs.assigning.assign_to.Goals as goal
 
 pub assign_bare-requires-clause-bare : goal.assign_bare-requires-clause-bare

@@ -1,7 +1,7 @@
 use Rattle.std.proofs.Common.{[], sym, subst, ◌∙◌}
 use Rattle.bound_project.specs.DraftView.{draft_view}
 use Rattle.bound_project.specs.declared.statement.ActionKind.{ActionKind}
-use Rattle.bound_terms.specs.bound_names.specs.View.{env_view}
+use Rattle.bound_terms.specs.bound_accesses.specs.bound_names.specs.View.{env_view}
 use Rattle.statement_terms.specs.Called.{Lets}
 use Rattle.bound_actions.proofs.Assigned.{lets_bare, lets_refused}
 use Rattle.bound_actions.proofs.assigning.let_bare.Goals as goal

@@ -2,7 +2,7 @@ use Rattle.std.proofs.lemmas.Result.{IfOk-weaker}
 use Rattle.std.specs.Prelude.{map}
 use Rattle.bound_project.specs.DraftView.{draft_view}
 use Rattle.bound_project.specs.View.{parameter_view}
-use Rattle.bound_terms.specs.bound_names.specs.View.{env_view}
+use Rattle.bound_terms.specs.bound_accesses.specs.bound_names.specs.View.{env_view}
 use Rattle.bound_actions.proofs.Assigned.{lets_taken}
 use Rattle.bound_actions.proofs.assigning.let_passed.Goals as goal
 

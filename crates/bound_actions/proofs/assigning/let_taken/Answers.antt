@@ -5,7 +5,7 @@ use Rattle.std.specs.Prelude.{map}
 use Rattle.bound_project.specs.DraftView.{draft_view}
 use Rattle.bound_project.specs.View.{parameter_view}
 use Rattle.bound_project.specs.declared.statement.ActionKind.{ActionKind}
-use Rattle.bound_terms.specs.bound_names.specs.View.{env_view}
+use Rattle.bound_terms.specs.bound_accesses.specs.bound_names.specs.View.{env_view}
 use Rattle.statement_terms.specs.Called.{LetsTaken, is_method}
 use Rattle.statement_terms.proofs.NamedLets.{lets_named, lets_plain}
 use Rattle.bound_actions.proofs.assigning.let_taken.Goals as goal

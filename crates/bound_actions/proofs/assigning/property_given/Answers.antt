@@ -1,7 +1,7 @@
 use Rattle.std.proofs.Common.{List, map, refl, sym, ap, ◌∙◌}
 use Rattle.bound_project.specs.declared.declarations.Parameter.{Parameter}
 use Rattle.bound_project.specs.View.{parameter_view}
-use Rattle.bound_terms.specs.declared_names.specs.View.{written_view}
+use Rattle.declared_names.specs.View.{written_view}
 use Rattle.bound_actions.proofs.assigning.property_given.Goals as goal
 
 pub returns : goal.returns

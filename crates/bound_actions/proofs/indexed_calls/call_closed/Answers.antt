@@ -1,5 +1,5 @@
 use Rattle.bound_project.specs.DraftView.{draft_view}
-use Rattle.bound_terms.specs.bound_names.specs.View.{env_view}
+use Rattle.bound_terms.specs.bound_accesses.specs.bound_names.specs.View.{env_view}
 use Rattle.statement_terms.proofs.IndexedCalls.{calls_closed}
 use Rattle.bound_actions.proofs.indexed_calls.call_closed.Goals as goal
 

@@ -1,6 +1,6 @@
 use Rattle.std.proofs.lemmas.Result.{IfOk-weaker}
 use Rattle.bound_project.specs.DraftView.{draft_view}
-use Rattle.bound_terms.specs.bound_names.specs.View.{env_view}
+use Rattle.bound_terms.specs.bound_accesses.specs.bound_names.specs.View.{env_view}
 use Rattle.statement_terms.specs.Members.{AssignsItem, WritesCall}
 use Rattle.bound_actions.proofs.RefusedMembers.{item_refused}
 use Rattle.bound_actions.proofs.WrittenMembers.{item_assigned}

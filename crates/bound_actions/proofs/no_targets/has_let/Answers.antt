@@ -1,4 +1,4 @@
-use Rattle.bound_terms.specs.bound_names.specs.View.{env_view}
+use Rattle.bound_terms.specs.bound_accesses.specs.bound_names.specs.View.{env_view}
 use Rattle.bound_actions.proofs.Letting.{let_absent, let_there}
 use Rattle.bound_actions.proofs.no_targets.has_let.Goals as goal
 

@@ -1,5 +1,5 @@
 use Rattle.std.proofs.Common.{Bool, true, refl, sym, subst}
-use Rattle.bound_terms.specs.bound_names.specs.View.{env_view}
+use Rattle.bound_terms.specs.bound_accesses.specs.bound_names.specs.View.{env_view}
 use Rattle.bound_actions.specs.Assigning.{IsNoTarget}
 use Rattle.bound_actions.specs.NoTargets.{IsSub}
 use Rattle.bound_actions.proofs.NoTargets.{no_target_is}

@@ -1,5 +1,5 @@
 use Rattle.std.proofs.Common.{sym, subst}
-use Rattle.bound_terms.specs.bound_calls.specs.declared.term.Term.{Term}
+use Rattle.bound_terms.specs.bound_accesses.specs.bound_names.specs.bound_members.specs.bound_calls.specs.declared.term.Term.{Term}
 use Rattle.bound_actions.specs.NoTargets.{IsSub}
 use Rattle.bound_actions.proofs.NoTargets.{other_sub, routine_sub}
 use Rattle.bound_actions.proofs.no_targets.is_sub.Goals as goal

@@ -3,10 +3,10 @@ use Rattle.std.specs.Prelude.{IfOk}
 use Rattle.bound_project.specs.DraftView.{draft_view}
 use Rattle.bound_project.specs.View.{parameter_view}
 use Rattle.bound_project.specs.Project.{Parameter}
-use Rattle.bound_terms.specs.bound_forms.specs.StatementsBound.{raise_parameters}
+use Rattle.bound_terms.specs.bound_accesses.specs.bound_names.specs.bound_members.specs.bound_calls.specs.bound_forms.specs.StatementsBound.{raise_parameters}
 use Rattle.bound_project.specs.declared.declarations.Parameter.{Parameter as Held}
 use Rattle.statement_terms.specs.Called.{PassesAll}
-use Rattle.bound_terms.specs.bound_names.specs.View.{env_view}
+use Rattle.bound_terms.specs.bound_accesses.specs.bound_names.specs.View.{env_view}
 use Rattle.bound_actions.proofs.raising.push_raised.Goals as goal
 
 pub returns : goal.returns

@@ -1,5 +1,5 @@
 use Rattle.bound_project.specs.DraftView.{draft_view}
-use Rattle.bound_terms.specs.bound_names.specs.View.{env_view}
+use Rattle.bound_terms.specs.bound_accesses.specs.bound_names.specs.View.{env_view}
 use Rattle.statement_terms.proofs.Called.{acts_number}
 use Rattle.bound_actions.proofs.raising.raise_number.Goals as goal
 

@@ -1,5 +1,5 @@
 use Rattle.std.proofs.Common.{true, sym, subst}
-use Rattle.bound_terms.specs.bound_calls.specs.declared.term.Term.{Term}
+use Rattle.bound_terms.specs.bound_accesses.specs.bound_names.specs.bound_members.specs.bound_calls.specs.declared.term.Term.{Term}
 use Rattle.bound_actions.specs.NoTargets.{IsProperty}
 use Rattle.bound_actions.proofs.NoTargets.{other_property, property_property, routine_property}
 use Rattle.bound_actions.proofs.setting.is_property_term.Goals as goal

@@ -2,7 +2,7 @@ use Rattle.std.proofs.Common.{◌∙◌}
 use Rattle.std.proofs.lemmas.Result.{IfOk-weaker}
 use Rattle.vba_expression.specs.View.{view}
 use Rattle.bound_project.specs.DraftView.{draft_view}
-use Rattle.bound_terms.specs.bound_names.specs.View.{env_view}
+use Rattle.bound_terms.specs.bound_accesses.specs.bound_names.specs.View.{env_view}
 use Rattle.bound_actions.proofs.SetTargets.{sets_bare_routine, sets_bare_sub, sets_other, sets_property_bare}
 use Rattle.bound_actions.proofs.setting.set_bare.Goals as goal
 

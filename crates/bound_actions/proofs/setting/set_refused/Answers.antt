@@ -2,13 +2,13 @@ use Rattle.std.proofs.Common.{List, length, sym, ap, subst, ◌∙◌}
 use Rattle.std.proofs.lemmas.Result.{IfOk-weaker}
 use Rattle.bound_project.specs.DraftView.{draft_view}
 use Rattle.bound_project.specs.Drafts.{NodeNamed}
-use Rattle.bound_terms.specs.bound_names.specs.View.{env_view}
-use Rattle.bound_terms.specs.bound_calls.specs.declared.term.Ending.{Ending}
-use Rattle.bound_terms.specs.bound_calls.specs.declared.term.Refuser.TheVariants as refuser
-use Rattle.bound_terms.specs.bound_calls.specs.declared.term.Shape.{Shape}
-use Rattle.bound_terms.specs.bound_calls.specs.declared.term.Term.TheVariants as term
-use Rattle.bound_terms.specs.bound_calls.specs.Shapes.{shapes_given}
-use Rattle.bound_terms.specs.bound_calls.specs.Standing.{refused_rule}
+use Rattle.bound_terms.specs.bound_accesses.specs.bound_names.specs.View.{env_view}
+use Rattle.bound_terms.specs.bound_accesses.specs.bound_names.specs.bound_members.specs.bound_calls.specs.declared.term.Ending.{Ending}
+use Rattle.bound_terms.specs.bound_accesses.specs.bound_names.specs.bound_members.specs.bound_calls.specs.declared.term.Refuser.TheVariants as refuser
+use Rattle.bound_terms.specs.bound_accesses.specs.bound_names.specs.bound_members.specs.bound_calls.specs.declared.term.Shape.{Shape}
+use Rattle.bound_terms.specs.bound_accesses.specs.bound_names.specs.bound_members.specs.bound_calls.specs.declared.term.Term.TheVariants as term
+use Rattle.bound_terms.specs.bound_accesses.specs.bound_names.specs.bound_members.specs.bound_calls.specs.Shapes.{shapes_given}
+use Rattle.bound_terms.specs.bound_accesses.specs.bound_names.specs.bound_members.specs.bound_calls.specs.Standing.{refused_rule}
 use Rattle.statement_terms.specs.Setting.{SetsTerm, is_marked}
 use Rattle.bound_actions.proofs.RefusedMembers.{set_refused}
 use Rattle.bound_actions.proofs.setting.set_refused.Goals as goal

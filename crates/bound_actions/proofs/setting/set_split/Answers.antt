@@ -1,7 +1,7 @@
 use Rattle.std.proofs.Common.{sym, ◌∙◌}
 use Rattle.std.proofs.lemmas.Result.{IfOk-weaker}
 use Rattle.bound_project.specs.DraftView.{draft_view}
-use Rattle.bound_terms.specs.bound_names.specs.View.{env_view}
+use Rattle.bound_terms.specs.bound_accesses.specs.bound_names.specs.View.{env_view}
 use Rattle.bound_actions.proofs.SetTargets.{sets_split, sets_split_member, sets_split_refused, sets_split_sub, sets_property_split}
 use Rattle.statement_terms.proofs.NodeTrees.{still_named}
 use Rattle.bound_actions.proofs.setting.set_split.Goals as goal

@@ -5,7 +5,7 @@ use Rattle.vba_expression.specs.Nodes.{tree_in}
 use Rattle.bound_project.specs.DraftView.{draft_view}
 use Rattle.statement_terms.specs.Called.{IsBare}
 use Rattle.statement_terms.specs.Setting.{SetsTo}
-use Rattle.bound_terms.specs.bound_names.specs.View.{env_view}
+use Rattle.bound_terms.specs.bound_accesses.specs.bound_names.specs.View.{env_view}
 use Rattle.bound_actions.proofs.setting.set_to.Goals as goal
 
 pub set_bare-requires-clause-bare : goal.set_bare-requires-clause-bare

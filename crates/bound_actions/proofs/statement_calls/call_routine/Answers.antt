@@ -4,7 +4,7 @@ use Rattle.std.proofs.lemmas.Bool.{eqb-true}
 use Rattle.std.proofs.lemmas.List.{nil_from_length}
 use Rattle.bound_project.specs.DraftView.{draft_view}
 use Rattle.bound_project.specs.View.{parameter_view}
-use Rattle.bound_terms.specs.bound_names.specs.View.{env_view}
+use Rattle.bound_terms.specs.bound_accesses.specs.bound_names.specs.View.{env_view}
 use Rattle.statement_terms.proofs.NamedCalls.{acts_routine}
 use Rattle.bound_actions.proofs.NamedCalls.{acts_values, reads_named}
 use Rattle.bound_actions.proofs.statement_calls.call_routine.Goals as goal

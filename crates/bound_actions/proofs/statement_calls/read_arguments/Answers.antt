@@ -4,7 +4,7 @@ use Rattle.std.proofs.lemmas.List.{nil_from_length}
 use Rattle.bound_project.specs.DraftView.{draft_view}
 use Rattle.bound_project.specs.View.{parameter_view}
 use Rattle.std.specs.Prelude.{map}
-use Rattle.bound_terms.specs.bound_names.specs.View.{env_view}
+use Rattle.bound_terms.specs.bound_accesses.specs.bound_names.specs.View.{env_view}
 use Rattle.statement_terms.proofs.NamedCalls.{reads_plain}
 use Rattle.bound_actions.proofs.statement_calls.read_arguments.Goals as goal
 

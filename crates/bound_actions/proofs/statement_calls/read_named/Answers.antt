@@ -1,7 +1,7 @@
 use Rattle.bound_project.specs.DraftView.{draft_view}
 use Rattle.bound_project.specs.View.{parameter_view}
 use Rattle.std.specs.Prelude.{map}
-use Rattle.bound_terms.specs.bound_names.specs.View.{env_view}
+use Rattle.bound_terms.specs.bound_accesses.specs.bound_names.specs.View.{env_view}
 use Rattle.bound_actions.proofs.NamedCalls.{reads_named}
 use Rattle.bound_actions.proofs.statement_calls.read_named.Goals as goal
 

@@ -6,12 +6,12 @@ use Rattle.vba_expression.specs.Nodes.{behind_nodes}
 use Rattle.vba_expression.specs.declared.node.ExpressionNode.{ExpressionNode}
 use Rattle.bound_project.specs.DraftView.{draft_view}
 use Rattle.bound_project.specs.View.{parameter_view}
-use Rattle.bound_terms.specs.bound_calls.specs.declared.term.Passed.{Passed}
-use Rattle.bound_terms.specs.bound_calls.specs.declared.term.Item.{Item}
-use Rattle.bound_terms.specs.bound_calls.specs.declared.term.Item.TheVariants as item
-use Rattle.bound_terms.specs.bound_calls.specs.Steps.{Goes}
+use Rattle.bound_terms.specs.bound_accesses.specs.bound_names.specs.bound_members.specs.bound_calls.specs.declared.term.Passed.{Passed}
+use Rattle.bound_terms.specs.bound_accesses.specs.bound_names.specs.bound_members.specs.bound_calls.specs.declared.term.Item.{Item}
+use Rattle.bound_terms.specs.bound_accesses.specs.bound_names.specs.bound_members.specs.bound_calls.specs.declared.term.Item.TheVariants as item
+use Rattle.bound_terms.specs.bound_accesses.specs.bound_names.specs.bound_members.specs.bound_calls.specs.Steps.{Goes}
 use Rattle.bound_actions.specs.NamedCalls.{ReadsWritten}
-use Rattle.bound_terms.specs.bound_names.specs.View.{env_view}
+use Rattle.bound_terms.specs.bound_accesses.specs.bound_names.specs.View.{env_view}
 use Rattle.bound_actions.proofs.NamedCalls.{reads_written}
 use Rattle.bound_actions.proofs.statement_calls.read_written.Goals as goal
 

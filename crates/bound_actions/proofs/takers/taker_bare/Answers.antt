@@ -1,6 +1,6 @@
 use Rattle.bound_project.specs.DraftView.{draft_view}
 use Rattle.vba_expression.specs.View.{view}
-use Rattle.bound_terms.specs.bound_names.specs.View.{env_view}
+use Rattle.bound_terms.specs.bound_accesses.specs.bound_names.specs.View.{env_view}
 use Rattle.bound_actions.proofs.Takings.{tree_taken}
 use Rattle.bound_actions.proofs.takers.taker_bare.Goals as goal
 

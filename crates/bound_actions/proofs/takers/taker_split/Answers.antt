@@ -1,6 +1,6 @@
 use Rattle.std.proofs.Common.{sym, ◌∙◌}
 use Rattle.bound_project.specs.DraftView.{draft_view}
-use Rattle.bound_terms.specs.bound_names.specs.View.{env_view}
+use Rattle.bound_terms.specs.bound_accesses.specs.bound_names.specs.View.{env_view}
 use Rattle.statement_terms.proofs.NodeTrees.{still_named}
 use Rattle.bound_actions.proofs.Takings.{indexed_taken, member_taken, property_taken}
 use Rattle.bound_actions.proofs.takers.taker_split.Goals as goal

@@ -2,8 +2,8 @@ use Rattle.std.proofs.Common.{subst, Bool}
 use Rattle.std.specs.Prelude.{IfOk, MatchBool}
 use Rattle.vba_expression.specs.Tree.{Expr}
 use Rattle.vba_expression.specs.Nodes.{tree_in}
-use Rattle.bound_terms.specs.bound_forms.specs.StatementsBound.{target_term}
-use Rattle.bound_terms.specs.bound_names.specs.View.{env_view}
+use Rattle.bound_terms.specs.bound_accesses.specs.bound_names.specs.bound_members.specs.bound_calls.specs.bound_forms.specs.StatementsBound.{target_term}
+use Rattle.bound_terms.specs.bound_accesses.specs.bound_names.specs.View.{env_view}
 use Rattle.statement_terms.specs.Called.{IsBare}
 use Rattle.statement_terms.specs.Takers.{TakenBy}
 use Rattle.bound_actions.proofs.takers.taker_there.Goals as goal

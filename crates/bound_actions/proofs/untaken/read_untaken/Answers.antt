@@ -5,11 +5,11 @@ use Rattle.std.proofs.lemmas.List.{nil_from_length}
 use Rattle.vba_expression.specs.Nodes.{behind_nodes}
 use Rattle.vba_expression.specs.declared.node.ExpressionNode.{ExpressionNode}
 use Rattle.bound_project.specs.DraftView.{draft_view}
-use Rattle.bound_terms.specs.bound_calls.specs.declared.term.Item.{Item}
-use Rattle.bound_terms.specs.bound_calls.specs.declared.term.Item.TheVariants as item
-use Rattle.bound_terms.specs.bound_calls.specs.Standing.{AllNamed}
-use Rattle.bound_terms.specs.bound_calls.specs.Steps.{Goes}
-use Rattle.bound_terms.specs.bound_names.specs.View.{env_view}
+use Rattle.bound_terms.specs.bound_accesses.specs.bound_names.specs.bound_members.specs.bound_calls.specs.declared.term.Item.{Item}
+use Rattle.bound_terms.specs.bound_accesses.specs.bound_names.specs.bound_members.specs.bound_calls.specs.declared.term.Item.TheVariants as item
+use Rattle.bound_terms.specs.bound_accesses.specs.bound_names.specs.bound_members.specs.bound_calls.specs.Standing.{AllNamed}
+use Rattle.bound_terms.specs.bound_accesses.specs.bound_names.specs.bound_members.specs.bound_calls.specs.Steps.{Goes}
+use Rattle.bound_terms.specs.bound_accesses.specs.bound_names.specs.View.{env_view}
 use Rattle.bound_actions.specs.Untaken.{ReadsUntaken}
 use Rattle.bound_actions.proofs.Refusing.{untaken_read}
 use Rattle.bound_actions.proofs.untaken.read_untaken.Goals as goal

@@ -2,10 +2,10 @@ use Rattle.std.proofs.Common.{◌≡◌, List, false, length, sym, ap, ◌∙◌
 use Rattle.std.specs.Prelude.{map}
 use Rattle.bound_project.specs.DraftView.{draft_view}
 use Rattle.bound_project.specs.View.{parameter_view}
-use Rattle.bound_terms.specs.bound_forms.specs.Terms.{takes}
-use Rattle.bound_terms.specs.bound_calls.specs.declared.term.Shape.{Shape}
-use Rattle.bound_terms.specs.bound_calls.specs.Shapes.{shapes_given}
-use Rattle.bound_terms.specs.bound_names.specs.View.{env_view}
+use Rattle.bound_terms.specs.bound_accesses.specs.bound_names.specs.bound_members.specs.bound_calls.specs.bound_forms.specs.Terms.{takes}
+use Rattle.bound_terms.specs.bound_accesses.specs.bound_names.specs.bound_members.specs.bound_calls.specs.declared.term.Shape.{Shape}
+use Rattle.bound_terms.specs.bound_accesses.specs.bound_names.specs.bound_members.specs.bound_calls.specs.Shapes.{shapes_given}
+use Rattle.bound_terms.specs.bound_accesses.specs.bound_names.specs.View.{env_view}
 use Rattle.bound_actions.proofs.Refusing.{arguments_refused}
 use Rattle.bound_actions.proofs.untaken.refuse_arguments.Goals as goal
 

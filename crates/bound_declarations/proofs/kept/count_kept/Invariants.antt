@@ -1,6 +1,6 @@
 use Rattle.std.proofs.Common.{◌≡◌, ◌+◌, map, drop}
-use Rattle.binder.specs.Types.{counted}
-use Rattle.declared_names.specs.View.{local_view}
+use Rattle.constant_values.specs.declared_names.specs.binder.specs.Types.{counted}
+use Rattle.constant_values.specs.declared_names.specs.View.{local_view}
 use Rattle.bound_declarations.specs.Kept.{is_kept}
 use Rattle.bound_declarations.proofs.kept.count_kept.Given as goal
 

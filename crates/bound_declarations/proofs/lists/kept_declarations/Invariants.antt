@@ -1,8 +1,8 @@
 use Rattle.std.proofs.Common.{◌≡◌, ◌++◌, map, drop}
-use Rattle.binder.specs.Storage.{declarations_if}
+use Rattle.constant_values.specs.declared_names.specs.binder.specs.Storage.{declarations_if}
 use Rattle.bound_declarations.specs.Kept.{is_kept}
 use Rattle.bound_project.specs.View.{declaration_view}
-use Rattle.declared_names.specs.View.{local_view, scope_view}
+use Rattle.constant_values.specs.declared_names.specs.View.{local_view, scope_view}
 use Rattle.bound_declarations.proofs.lists.kept_declarations.Given as goal
 
 abbrev pub invariant-loop-local : goal.invariant-loop-local

@@ -1,7 +1,7 @@
 use Rattle.std.proofs.Common.{◌≡◌, ◌++◌, map, drop}
-use Rattle.binder.specs.Storage.{module_declarations}
+use Rattle.constant_values.specs.declared_names.specs.binder.specs.Storage.{module_declarations}
 use Rattle.bound_project.specs.View.{declaration_view}
-use Rattle.declared_names.specs.View.{entry_view, scope_view}
+use Rattle.constant_values.specs.declared_names.specs.View.{entry_view, scope_view}
 use Rattle.bound_declarations.proofs.lists.module_variables.Given as goal
 
 abbrev pub invariant-loop-entry : goal.invariant-loop-entry

@@ -1,8 +1,8 @@
 use Rattle.std.proofs.Common.{◌≡◌, ◌++◌, length, map}
-use Rattle.binder.specs.Storage.{bound_parameters}
+use Rattle.constant_values.specs.declared_names.specs.binder.specs.Storage.{bound_parameters}
 use Rattle.bound_declarations.specs.Parameters.{next_items}
 use Rattle.bound_project.specs.View as bound
-use Rattle.declared_names.specs.View.{scope_view}
+use Rattle.constant_values.specs.declared_names.specs.View.{scope_view}
 use Rattle.vba_module.specs.Headers.{all_of}
 use Rattle.vba_tree.specs.View.{listed_view, parameter_view}
 use Rattle.bound_declarations.proofs.parameters.push_parameters.Given as goal

@@ -1,7 +1,7 @@
 use Rattle.std.proofs.Common.{◌≡◌, ◌++◌, map, drop}
-use Rattle.binder.specs.Storage.{declared_field}
+use Rattle.constant_values.specs.declared_names.specs.binder.specs.Storage.{declared_field}
 use Rattle.bound_project.specs.View.{declaration_view}
-use Rattle.declared_names.specs.View.{scope_view}
+use Rattle.constant_values.specs.declared_names.specs.View.{scope_view}
 use Rattle.said_parts.specs.View.{field_view}
 use Rattle.bound_declarations.proofs.user_types.declared_fields.Given as goal
 

@@ -1,6 +1,6 @@
-use Rattle.bound_terms.specs.bound_forms.specs.ExpressionsBound.{bound_operand}
+use Rattle.bound_terms.specs.bound_accesses.specs.bound_names.specs.bound_members.specs.bound_calls.specs.bound_forms.specs.ExpressionsBound.{bound_operand}
 use Rattle.bound_project.specs.DraftView.{draft_view}
-use Rattle.bound_terms.specs.bound_names.specs.View.{env_view}
+use Rattle.bound_terms.specs.bound_accesses.specs.bound_names.specs.View.{env_view}
 use Rattle.vba_expression.specs.View.{view as expression_view}
 use Rattle.statement_nodes.proofs.Arrays.{bound_read}
 use Rattle.bound_lines.proofs.bounds.push_bound.Goals as goal

@@ -1,9 +1,9 @@
 use Rattle.std.proofs.Common.{◌∷◌, ap, subst}
-use Rattle.bound_terms.specs.bound_forms.specs.StatementsBound.{redim_bounds}
+use Rattle.bound_terms.specs.bound_accesses.specs.bound_names.specs.bound_members.specs.bound_calls.specs.bound_forms.specs.StatementsBound.{redim_bounds}
 use Rattle.bound_project.specs.DraftView.{draft_view}
 use Rattle.bound_project.specs.Expressions.{Exprs}
 use Rattle.bound_project.specs.Pieces.{exprs_off}
-use Rattle.bound_terms.specs.bound_names.specs.View.{env_view}
+use Rattle.bound_terms.specs.bound_accesses.specs.bound_names.specs.View.{env_view}
 use Rattle.vba_tree.specs.Tree as tree
 use Rattle.vba_tree.specs.View.{dim_view}
 use Rattle.statement_nodes.specs.Reads.{Read}

@@ -3,8 +3,8 @@ use Rattle.bound_project.specs.DraftView.{draft_view}
 use Rattle.bound_project.specs.Drafts.{Drafted}
 use Rattle.bound_project.specs.Pieces.{tests_off}
 use Rattle.bound_project.specs.Statements.{Tests}
-use Rattle.bound_terms.specs.bound_forms.specs.StatementsBound.{case_tests}
-use Rattle.bound_terms.specs.bound_names.specs.View.{env_view}
+use Rattle.bound_terms.specs.bound_accesses.specs.bound_names.specs.bound_members.specs.bound_calls.specs.bound_forms.specs.StatementsBound.{case_tests}
+use Rattle.bound_terms.specs.bound_accesses.specs.bound_names.specs.View.{env_view}
 use Rattle.vba_module.specs.Headers.{items_of}
 use Rattle.vba_tree.specs.View.{test_view}
 use Rattle.statement_nodes.specs.Reads.{Read}

@@ -1,6 +1,6 @@
 use Rattle.std.proofs.lemmas.Result.{IfOk-weaker}
-use Rattle.bound_terms.specs.bound_names.specs.View.{env_view}
-use Rattle.statement_terms.specs.statement_numbers.specs.View.{standing_view}
+use Rattle.bound_terms.specs.bound_accesses.specs.bound_names.specs.View.{env_view}
+use Rattle.statement_nodes.specs.statement_numbers.specs.View.{standing_view}
 use Rattle.bound_lines.specs.Round.{around_view}
 use Rattle.statement_nodes.proofs.Ended.{selected_operand}
 use Rattle.bound_lines.proofs.case_lines.selected_type.Goals as goal

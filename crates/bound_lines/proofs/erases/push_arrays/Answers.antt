@@ -1,7 +1,7 @@
 use Rattle.std.proofs.Common.{map}
-use Rattle.bound_terms.specs.bound_forms.specs.StatementsBound.{erased_arrays}
+use Rattle.bound_terms.specs.bound_accesses.specs.bound_names.specs.bound_members.specs.bound_calls.specs.bound_forms.specs.StatementsBound.{erased_arrays}
 use Rattle.bound_project.specs.DraftView.{draft_view}
-use Rattle.bound_terms.specs.bound_names.specs.View.{env_view}
+use Rattle.bound_terms.specs.bound_accesses.specs.bound_names.specs.View.{env_view}
 use Rattle.vba_expression.specs.View.{view as expression_view}
 use Rattle.vba_module.specs.Headers.{all_of, items_of}
 use Rattle.vba_tree.specs.View.{listed_view}

@@ -3,8 +3,8 @@ use Rattle.vba_expression.specs.View.{view as expression_view}
 use Rattle.vba_tree.specs.View.{step_view}
 use Rattle.bound_project.specs.DraftView.{draft_view}
 use Rattle.bound_project.specs.View.{variable_view}
-use Rattle.bound_terms.specs.bound_names.specs.View.{env_view}
-use Rattle.statement_terms.specs.statement_numbers.specs.View.{standing_view}
+use Rattle.bound_terms.specs.bound_accesses.specs.bound_names.specs.View.{env_view}
+use Rattle.statement_nodes.specs.statement_numbers.specs.View.{standing_view}
 use Rattle.statement_nodes.proofs.Broken.{for_broken, for_counted}
 use Rattle.bound_lines.proofs.for_lines.bind_for.Goals as goal
 

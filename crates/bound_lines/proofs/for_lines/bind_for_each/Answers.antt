@@ -3,12 +3,12 @@ use Rattle.std.specs.Prelude.{option_and_then}
 use Rattle.vba_expression.specs.View.{view as expression_view}
 use Rattle.bound_project.specs.declared.statement.ActionKind.TheVariants as kind
 use Rattle.bound_project.specs.DraftView.{draft_view}
-use Rattle.bound_terms.specs.bound_forms.specs.ExpressionsBound.{bound_as_given, place_told}
-use Rattle.bound_terms.specs.binder.specs.Numbering.{behind_block, here, sought_behind}
-use Rattle.bound_terms.specs.bound_forms.specs.StatementsBound.{for_each_of, loop_variable}
+use Rattle.bound_terms.specs.bound_accesses.specs.bound_names.specs.bound_members.specs.bound_calls.specs.bound_forms.specs.ExpressionsBound.{bound_as_given, place_told}
+use Rattle.constant_values.specs.declared_names.specs.binder.specs.Numbering.{behind_block, here, sought_behind}
+use Rattle.bound_terms.specs.bound_accesses.specs.bound_names.specs.bound_members.specs.bound_calls.specs.bound_forms.specs.StatementsBound.{for_each_of, loop_variable}
 use Rattle.statement_nodes.specs.Pushed.{ActionPushed}
-use Rattle.bound_terms.specs.bound_names.specs.View.{env_view}
-use Rattle.statement_terms.specs.statement_numbers.specs.View.{standing_view}
+use Rattle.bound_terms.specs.bound_accesses.specs.bound_names.specs.View.{env_view}
+use Rattle.statement_nodes.specs.statement_numbers.specs.View.{standing_view}
 use Rattle.statement_nodes.proofs.Broken.{each_goes, each_stays}
 use Rattle.bound_lines.proofs.for_lines.bind_for_each.Goals as goal
 

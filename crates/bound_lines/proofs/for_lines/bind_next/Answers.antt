@@ -5,10 +5,10 @@ use Rattle.vba_words.specs.declared.identifier.Identifier.{Identifier}
 use Rattle.bound_project.specs.DraftView.{draft_view}
 use Rattle.bound_project.specs.Expressions.{no_exprs}
 use Rattle.bound_project.specs.Statements as to
-use Rattle.bound_terms.specs.bound_forms.specs.Terms.{broken_rule}
-use Rattle.bound_terms.specs.bound_forms.specs.StatementsBound as plain
-use Rattle.bound_terms.specs.bound_names.specs.View.{env_view}
-use Rattle.statement_terms.specs.statement_numbers.specs.View.{standing_view}
+use Rattle.bound_terms.specs.bound_accesses.specs.bound_names.specs.bound_members.specs.bound_calls.specs.bound_forms.specs.Terms.{broken_rule}
+use Rattle.bound_terms.specs.bound_accesses.specs.bound_names.specs.bound_members.specs.bound_calls.specs.bound_forms.specs.StatementsBound as plain
+use Rattle.bound_terms.specs.bound_accesses.specs.bound_names.specs.View.{env_view}
+use Rattle.statement_nodes.specs.statement_numbers.specs.View.{standing_view}
 use Rattle.statement_nodes.specs.Pushed.{ActionPushed}
 use Rattle.statement_nodes.proofs.Broken.{other_named, same_named}
 use Rattle.statement_nodes.proofs.Ended.{plainly}

@@ -3,8 +3,8 @@ use Rattle.std.specs.Prelude.{option_map}
 use Rattle.std.specs.Result.{IfOk}
 use Rattle.bound_project.specs.DraftView.{draft_view}
 use Rattle.bound_project.specs.Statements as to
-use Rattle.bound_terms.specs.bound_forms.specs.ExpressionsBound.{bound_operand}
-use Rattle.bound_terms.specs.bound_names.specs.View.{env_view}
+use Rattle.bound_terms.specs.bound_accesses.specs.bound_names.specs.bound_members.specs.bound_calls.specs.bound_forms.specs.ExpressionsBound.{bound_operand}
+use Rattle.bound_terms.specs.bound_accesses.specs.bound_names.specs.View.{env_view}
 use Rattle.statement_nodes.specs.Pushed.{ActionPushed}
 use Rattle.vba_expression.specs.View.{view as expression_view}
 use Rattle.bound_lines.proofs.lines.bind_branch.Goals as goal

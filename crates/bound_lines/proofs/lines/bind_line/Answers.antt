@@ -3,9 +3,9 @@ use Rattle.std.specs.Result.{IfOk}
 use Rattle.vba_tree.specs.declared.block.BlockLine.{BlockLine}
 use Rattle.vba_tree.specs.View.{block_line_view}
 use Rattle.bound_project.specs.DraftView.{draft_view}
-use Rattle.bound_terms.specs.bound_names.specs.View.{env_view}
+use Rattle.bound_terms.specs.bound_accesses.specs.bound_names.specs.View.{env_view}
 use Rattle.statement_nodes.specs.Pushed.{ActionPushed}
-use Rattle.statement_terms.specs.statement_numbers.specs.View.{standing_view}
+use Rattle.statement_nodes.specs.statement_numbers.specs.View.{standing_view}
 use Rattle.statement_nodes.specs.Actions.{block_in}
 use Rattle.bound_lines.specs.Round.{around_view}
 use Rattle.bound_lines.proofs.lines.bind_line.Goals as goal

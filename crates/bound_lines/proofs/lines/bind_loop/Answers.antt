@@ -5,9 +5,9 @@ use Rattle.vba_tree.specs.declared.block.LoopCondition.{LoopCondition}
 use Rattle.vba_tree.specs.View.{loop_condition_view}
 use Rattle.bound_project.specs.DraftView.{draft_view}
 use Rattle.bound_project.specs.Statements as to
-use Rattle.bound_terms.specs.bound_forms.specs.ExpressionsBound.{bound_operand}
-use Rattle.bound_terms.specs.bound_forms.specs.StatementsBound as plain
-use Rattle.bound_terms.specs.bound_names.specs.View.{env_view}
+use Rattle.bound_terms.specs.bound_accesses.specs.bound_names.specs.bound_members.specs.bound_calls.specs.bound_forms.specs.ExpressionsBound.{bound_operand}
+use Rattle.bound_terms.specs.bound_accesses.specs.bound_names.specs.bound_members.specs.bound_calls.specs.bound_forms.specs.StatementsBound as plain
+use Rattle.bound_terms.specs.bound_accesses.specs.bound_names.specs.View.{env_view}
 use Rattle.statement_nodes.specs.Pushed.{ActionPushed}
 use Rattle.vba_expression.specs.View.{view as expression_view}
 use Rattle.bound_lines.proofs.lines.bind_loop.Goals as goal

@@ -3,14 +3,14 @@ use Rattle.std.specs.Prelude.{option_map}
 use Rattle.bound_project.specs.declared.variable.Variable.{Variable}
 use Rattle.bound_project.specs.Drafts.{Drafted, no_tables}
 use Rattle.bound_project.specs.View.{variable_view}
-use Rattle.bound_terms.specs.binder.specs.Scopes.{Meant, declares, plainly}
-use Rattle.bound_terms.specs.bound_forms.specs.ExpressionsBound.{meant_term}
-use Rattle.bound_terms.specs.bound_forms.specs.StatementsBound.{plain_variable}
-use Rattle.bound_terms.specs.constant_values.specs.Rounds.{IsThere}
-use Rattle.bound_terms.specs.constant_values.proofs.Looked.{declared_there}
-use Rattle.bound_terms.specs.declared_names.specs.View.{meant_view, scope_view}
+use Rattle.constant_values.specs.declared_names.specs.binder.specs.Scopes.{Meant, declares, plainly}
+use Rattle.bound_terms.specs.bound_accesses.specs.bound_names.specs.bound_members.specs.bound_calls.specs.bound_forms.specs.ExpressionsBound.{meant_term}
+use Rattle.bound_terms.specs.bound_accesses.specs.bound_names.specs.bound_members.specs.bound_calls.specs.bound_forms.specs.StatementsBound.{plain_variable}
+use Rattle.constant_values.specs.Rounds.{IsThere}
+use Rattle.constant_values.proofs.Looked.{declared_there}
+use Rattle.constant_values.specs.declared_names.specs.View.{meant_view, scope_view}
 use Rattle.statement_terms.specs.Terms.{IsVariable}
-use Rattle.bound_terms.specs.bound_names.specs.View.{env_view}
+use Rattle.bound_terms.specs.bound_accesses.specs.bound_names.specs.View.{env_view}
 use Rattle.bound_lines.proofs.loop_variables.loop_variable.Goals as goal
 
 pub meant_variable-requires-clause-there : goal.meant_variable-requires-clause-there

@@ -2,7 +2,7 @@ use Rattle.std.proofs.Common.{Bool, ◌&&◌, not, ap, sym, ◌∙◌}
 use Rattle.std.proofs.lemmas.Bool.{or_parts}
 use Rattle.vba_expression.specs.View.{view}
 use Rattle.bound_project.specs.DraftView.{draft_view}
-use Rattle.bound_terms.specs.bound_names.specs.View.{env_view}
+use Rattle.bound_terms.specs.bound_accesses.specs.bound_names.specs.View.{env_view}
 use Rattle.statement_terms.specs.Kept.{is_of_object, lends}
 use Rattle.statement_terms.specs.Terms.{may_be_object}
 use Rattle.statement_terms.proofs.Placing.{with_object_bound, with_place_bound, with_value_bound}

@@ -1,6 +1,6 @@
 use Rattle.vba_expression.specs.View.{view}
 use Rattle.bound_project.specs.DraftView.{draft_view}
-use Rattle.bound_terms.specs.bound_names.specs.View.{env_view}
+use Rattle.bound_terms.specs.bound_accesses.specs.bound_names.specs.View.{env_view}
 use Rattle.bound_lines.proofs.Placing.{kept_is}
 use Rattle.bound_lines.proofs.places.kept_in.Goals as goal
 

@@ -1,7 +1,7 @@
 use Rattle.std.proofs.Common.{sym, subst}
 use Rattle.std.specs.Prelude.{IfOk}
 use Rattle.bound_project.specs.DraftView.{draft_view}
-use Rattle.bound_terms.specs.bound_calls.specs.declared.term.Term.{Term}
+use Rattle.bound_terms.specs.bound_accesses.specs.bound_names.specs.bound_members.specs.bound_calls.specs.declared.term.Term.{Term}
 use Rattle.bound_lines.specs.Kept.{Keeps}
 use Rattle.bound_lines.proofs.Placing.{keeps_member, keeps_place, keeps_sheet, keeps_value}
 use Rattle.bound_lines.proofs.places.kept_term.Goals as goal

@@ -1,8 +1,8 @@
 use Rattle.std.proofs.Common.{map}
 use Rattle.std.specs.Prelude.{option_map}
-use Rattle.bound_terms.specs.bound_forms.specs.StatementsBound.{ends_line, items_shown, value_shown}
+use Rattle.bound_terms.specs.bound_accesses.specs.bound_names.specs.bound_members.specs.bound_calls.specs.bound_forms.specs.StatementsBound.{ends_line, items_shown, value_shown}
 use Rattle.bound_project.specs.DraftView.{draft_view}
-use Rattle.bound_terms.specs.bound_names.specs.View.{env_view}
+use Rattle.bound_terms.specs.bound_accesses.specs.bound_names.specs.View.{env_view}
 use Rattle.vba_expression.specs.View.{view as expression_view}
 use Rattle.vba_tree.specs.View.{print_item_view}
 use Rattle.statement_nodes.proofs.Ended.{print_pushed}

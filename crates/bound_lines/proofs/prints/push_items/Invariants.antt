@@ -3,8 +3,8 @@ use Rattle.bound_project.specs.DraftView.{draft_view}
 use Rattle.bound_project.specs.Drafts.{Drafted}
 use Rattle.bound_project.specs.Expressions.{Prints}
 use Rattle.bound_project.specs.Pieces.{prints_off}
-use Rattle.bound_terms.specs.bound_forms.specs.StatementsBound.{items_shown}
-use Rattle.bound_terms.specs.bound_names.specs.View.{env_view}
+use Rattle.bound_terms.specs.bound_accesses.specs.bound_names.specs.bound_members.specs.bound_calls.specs.bound_forms.specs.StatementsBound.{items_shown}
+use Rattle.bound_terms.specs.bound_accesses.specs.bound_names.specs.View.{env_view}
 use Rattle.vba_tree.specs.View.{print_item_view}
 use Rattle.statement_nodes.specs.Reads.{Read}
 use Rattle.bound_lines.proofs.prints.push_items.Given as goal

@@ -1,4 +1,4 @@
-use Rattle.bound_terms.specs.bound_names.specs.View.{env_view}
+use Rattle.bound_terms.specs.bound_accesses.specs.bound_names.specs.View.{env_view}
 use Rattle.vba_tree.specs.View.{array_view}
 use Rattle.statement_nodes.proofs.Arrays.{array_pushed}
 use Rattle.bound_lines.proofs.redims.push_array.Goals as goal

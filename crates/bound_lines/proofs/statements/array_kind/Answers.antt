@@ -6,10 +6,10 @@ use Rattle.vba_tree.specs.View.{array_view, listed_view, simple_view}
 use Rattle.vba_module.specs.Headers.{all_of}
 use Rattle.bound_project.specs.DraftView.{draft_view}
 use Rattle.bound_project.specs.Statements as to
-use Rattle.bound_terms.specs.bound_forms.specs.StatementsBound.{redim_arrays}
-use Rattle.bound_terms.specs.bound_names.specs.View.{env_view}
+use Rattle.bound_terms.specs.bound_accesses.specs.bound_names.specs.bound_members.specs.bound_calls.specs.bound_forms.specs.StatementsBound.{redim_arrays}
+use Rattle.bound_terms.specs.bound_accesses.specs.bound_names.specs.View.{env_view}
 use Rattle.statement_nodes.specs.Pushed.{ActionPushed}
-use Rattle.statement_terms.specs.statement_numbers.specs.View.{standing_view}
+use Rattle.statement_nodes.specs.statement_numbers.specs.View.{standing_view}
 use Rattle.statement_nodes.specs.Actions.{simple_in}
 use Rattle.bound_lines.specs.Round.{around_view}
 use Rattle.bound_lines.proofs.statements.array_kind.Goals as goal

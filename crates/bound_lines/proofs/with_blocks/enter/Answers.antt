@@ -1,7 +1,7 @@
 use Rattle.std.specs.Prelude.{option_map}
-use Rattle.bound_terms.specs.bound_forms.specs.StatementsBound.{with_object}
-use Rattle.bound_terms.specs.bound_names.specs.View.{env_view, within_view}
-use Rattle.statement_terms.specs.statement_numbers.specs.View.{part_at}
+use Rattle.bound_terms.specs.bound_accesses.specs.bound_names.specs.bound_members.specs.bound_calls.specs.bound_forms.specs.StatementsBound.{with_object}
+use Rattle.bound_terms.specs.bound_accesses.specs.bound_names.specs.View.{env_view, within_view}
+use Rattle.statement_nodes.specs.statement_numbers.specs.View.{part_at}
 use Rattle.vba_expression.specs.View.{view as expression_view}
 use Rattle.bound_lines.proofs.Rounds.{no_with, with_kept}
 use Rattle.bound_lines.proofs.with_blocks.enter.Goals as goal

@@ -1,5 +1,5 @@
 use Rattle.std.proofs.Common.{List, subst}
-use Rattle.statement_terms.specs.statement_numbers.specs.declared.opened.Opened.{Opened}
+use Rattle.statement_nodes.specs.statement_numbers.specs.declared.opened.Opened.{Opened}
 use Rattle.bound_lines.specs.Round.{Inside}
 use Rattle.bound_lines.proofs.Rounds.{inside_goes_on}
 use Rattle.bound_lines.proofs.with_blocks.env_inside.Goals as goal

@@ -1,6 +1,7 @@
 use Rattle.std.proofs.Common.{◌≡◌, ℕ, List, length, ap, ◌∙◌, arith}
 use Rattle.std.proofs.lemmas.List.{length-map}
 use Rattle.bound_project.specs.DraftView.{draft_view}
+use Rattle.bound_calls.specs.bound_forms.specs.ExpressionsBound.{is_add}
 use Rattle.bound_calls.specs.Shapes.{shape_given, shapes_given}
 use Rattle.bound_calls.specs.Standing.{member_is}
 use Rattle.bound_members.specs.Shapes.{takes_named}
@@ -28,4 +29,4 @@ returns c =
     let m = c.args.member in
     let long : c.in-Ok.count ≡ length gs = omega (arith, c.in-Ok.ensures, length-map c.args.shapes.now shape_given) in
     takes_all_named (member_is t m) gs c.in-Ok.count c.takes_arguments.result c.has_names.result c.takes_named.result long (c.takes_arguments.ensures t) c.if-not-takes_arguments.false c.has_names.ensures c.if-not-has_names.false
-    (c.takes_named.ensures ∙ ap (λ (n : List ℕ). takes_named n m.greatest gs) c.name.ensures)
+    (c.takes_named.ensures t ∙ ap (λ (n : List ℕ). takes_named n m.greatest (is_add (member_is t m)) gs) c.name.ensures)

@@ -1,8 +1,8 @@
 use Rattle.std.proofs.Common.{sym, subst, Option}
-use Rattle.bound_members.specs.binder.specs.Scopes.{Meant, called}
-use Rattle.bound_members.specs.declared_names.specs.View.{scope_view}
-use Rattle.bound_members.specs.constant_values.specs.Rounds.{IsThere}
-use Rattle.bound_members.specs.constant_values.proofs.Looked.{declared_there}
+use Rattle.bound_members.specs.bound_calls.specs.bound_declarations.specs.constant_values.specs.declared_names.specs.binder.specs.Scopes.{Meant, called}
+use Rattle.bound_members.specs.bound_calls.specs.bound_declarations.specs.constant_values.specs.declared_names.specs.View.{scope_view}
+use Rattle.bound_members.specs.bound_calls.specs.bound_declarations.specs.constant_values.specs.Rounds.{IsThere}
+use Rattle.bound_members.specs.bound_calls.specs.bound_declarations.specs.constant_values.proofs.Looked.{declared_there}
 use Rattle.bound_names.proofs.callee.named_term.Goals as goal
 
 pub meant_term-requires-clause-there : goal.meant_term-requires-clause-there

@@ -1,7 +1,7 @@
 use Rattle.std.proofs.Common.{sym, ◌∙◌}
 use Rattle.std.proofs.lemmas.Option.{slice_get-map}
 use Rattle.bound_project.specs.View.{class_view, declaration_view}
-use Rattle.bound_members.specs.declared_names.specs.View.{entry_view, space_view}
+use Rattle.bound_members.specs.bound_calls.specs.bound_declarations.specs.constant_values.specs.declared_names.specs.View.{entry_view, space_view}
 use Rattle.vba_tree.specs.View.{variable_view}
 use Rattle.bound_names.proofs.Objects.{field_is}
 use Rattle.bound_names.proofs.classes.field_shape.Goals as goal

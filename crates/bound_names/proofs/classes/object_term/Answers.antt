@@ -4,8 +4,8 @@ use Rattle.std.proofs.lemmas.Result.{IfOk-weaker}
 use Rattle.bound_project.specs.DraftView.{draft_view}
 use Rattle.bound_project.specs.declared.declared_type.DeclaredType.TheVariants.{Plain}
 use Rattle.bound_project.specs.declared.declared_type.ElementType.TheVariants as element
-use Rattle.bound_members.specs.declared_names.specs.declared.entry.What.{What}
-use Rattle.bound_members.specs.declared_names.specs.View.{space_view, what_view, written_view}
+use Rattle.bound_members.specs.bound_calls.specs.bound_declarations.specs.constant_values.specs.declared_names.specs.declared.entry.What.{What}
+use Rattle.bound_members.specs.bound_calls.specs.bound_declarations.specs.constant_values.specs.declared_names.specs.View.{space_view, what_view, written_view}
 use Rattle.bound_names.specs.ClassMembers.{MakesEntryOf}
 use Rattle.bound_names.specs.View.{env_view}
 use Rattle.bound_names.proofs.Objects.{procedure_there}

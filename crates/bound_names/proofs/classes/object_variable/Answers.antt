@@ -2,8 +2,8 @@ use Rattle.std.proofs.Common.{true, false, sym, subst}
 use Rattle.vba_tree.specs.View.{variable_view}
 use Rattle.bound_project.specs.DraftView.{draft_view}
 use Rattle.bound_project.specs.declared.node.NodeKind.TheVariants as kinds
-use Rattle.bound_members.specs.binder.specs.Declarations.{What}
-use Rattle.bound_members.specs.declared_names.specs.View.{space_view}
+use Rattle.bound_members.specs.bound_calls.specs.bound_declarations.specs.constant_values.specs.declared_names.specs.binder.specs.Declarations.{What}
+use Rattle.bound_members.specs.bound_calls.specs.bound_declarations.specs.constant_values.specs.declared_names.specs.View.{space_view}
 use Rattle.bound_members.specs.bound_calls.specs.declared.term.Term.TheVariants as term
 use Rattle.bound_names.specs.ClassMembers.{MakesEntryOf}
 use Rattle.bound_names.specs.View.{env_view}

@@ -2,10 +2,10 @@ use Rattle.std.proofs.Common.{ℕ, sym, ap, ◌∙◌}
 use Rattle.vba_tree.specs.View.{variable_view}
 use Rattle.bound_project.specs.Expressions.{own}
 use Rattle.bound_project.specs.View.{declared_view}
-use Rattle.bound_members.specs.binder.specs.Classes.{field_number}
-use Rattle.bound_members.specs.binder.specs.Constants.{home}
-use Rattle.bound_members.specs.bound_forms.specs.ExpressionsBound.{variable_term}
-use Rattle.bound_members.specs.declared_names.specs.View.{scope_view, space_view}
+use Rattle.bound_members.specs.bound_calls.specs.bound_declarations.specs.constant_values.specs.declared_names.specs.binder.specs.Classes.{field_number}
+use Rattle.bound_members.specs.bound_calls.specs.bound_declarations.specs.constant_values.specs.declared_names.specs.binder.specs.Constants.{home}
+use Rattle.bound_members.specs.bound_calls.specs.bound_forms.specs.ExpressionsBound.{variable_term}
+use Rattle.bound_members.specs.bound_calls.specs.bound_declarations.specs.constant_values.specs.declared_names.specs.View.{scope_view, space_view}
 use Rattle.bound_names.specs.declared.names.Making.{Making}
 use Rattle.bound_names.specs.Owned.{made_term, making_of}
 use Rattle.bound_names.specs.View.{env_view}

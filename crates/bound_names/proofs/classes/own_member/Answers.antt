@@ -4,10 +4,10 @@ use Rattle.std.proofs.lemmas.Result.{IfOk-weaker}
 use Rattle.vba_words.specs.declared.identifier.Identifier.{Identifier}
 use Rattle.vba_tree.specs.View.{variable_view}
 use Rattle.bound_project.specs.Drafts.{Drafted}
-use Rattle.bound_members.specs.bound_forms.specs.Terms.{a_method}
-use Rattle.bound_members.specs.bound_forms.specs.ExpressionsBound.{entry_term, own_object}
-use Rattle.bound_members.specs.declared_names.specs.declared.entry.What.{What}
-use Rattle.bound_members.specs.declared_names.specs.View.{space_view, what_view, written_view}
+use Rattle.bound_members.specs.bound_calls.specs.bound_forms.specs.Terms.{a_method}
+use Rattle.bound_members.specs.bound_calls.specs.bound_forms.specs.ExpressionsBound.{entry_term, own_object}
+use Rattle.bound_members.specs.bound_calls.specs.bound_declarations.specs.constant_values.specs.declared_names.specs.declared.entry.What.{What}
+use Rattle.bound_members.specs.bound_calls.specs.bound_declarations.specs.constant_values.specs.declared_names.specs.View.{space_view, what_view, written_view}
 use Rattle.bound_members.specs.bound_calls.specs.Steps.{MakesLeaf}
 use Rattle.bound_names.specs.View.{env_view}
 use Rattle.bound_names.proofs.NamedTerms.{leaf_as, own_entry_variable, own_entry_procedure}

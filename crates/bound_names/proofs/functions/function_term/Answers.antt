@@ -1,7 +1,7 @@
 use Rattle.std.proofs.Common.{ℕ, Bool, sym, ap, ◌∙◌}
-use Rattle.bound_members.specs.bound_forms.specs.Terms.{a_function}
-use Rattle.bound_members.specs.binder.specs.Scopes.{has_dollar}
-use Rattle.bound_members.specs.bound_forms.specs.ExpressionsBound.{array_base}
+use Rattle.bound_members.specs.bound_calls.specs.bound_forms.specs.Terms.{a_function}
+use Rattle.bound_members.specs.bound_calls.specs.bound_declarations.specs.constant_values.specs.declared_names.specs.binder.specs.Scopes.{has_dollar}
+use Rattle.bound_members.specs.bound_calls.specs.bound_forms.specs.ExpressionsBound.{array_base}
 use Rattle.bound_names.specs.View.{env_view}
 use Rattle.bound_names.proofs.Library.{function_leaf}
 use Rattle.bound_names.proofs.functions.function_term.Goals as goal

@@ -1,6 +1,6 @@
 use Rattle.std.proofs.Common.{◌≡◌, ℕ, ◌==◌, sym, ap, subst, ◌∙◌}
 use Rattle.vba_lib.specs.declared.function.LibraryFunction.{LibraryFunction}
-use Rattle.bound_members.specs.bound_forms.specs.ExpressionsBound.{array_base}
+use Rattle.bound_members.specs.bound_calls.specs.bound_forms.specs.ExpressionsBound.{array_base}
 use Rattle.bound_members.specs.bound_calls.specs.Standing.{base_number}
 use Rattle.bound_names.specs.View.{env_view}
 use Rattle.bound_names.proofs.Library.{base_one_is, no_array}

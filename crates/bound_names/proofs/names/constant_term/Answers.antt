@@ -2,8 +2,8 @@ use Rattle.std.proofs.Common.{Some, sym, ap, ◌∙◌}
 use Rattle.std.specs.Prelude.{option_map}
 use Rattle.vba_values.specs.View.{view as value_view}
 use Rattle.bound_project.specs.DraftView.{draft_view}
-use Rattle.bound_members.specs.constant_values.specs.View.{known_view}
-use Rattle.bound_members.specs.declared_names.specs.View.{meant_view}
+use Rattle.bound_members.specs.bound_calls.specs.bound_declarations.specs.constant_values.specs.View.{known_view}
+use Rattle.bound_members.specs.bound_calls.specs.bound_declarations.specs.constant_values.specs.declared_names.specs.View.{meant_view}
 use Rattle.bound_names.specs.View.{env_view}
 use Rattle.bound_names.proofs.NamedTerms.{constant_leaf}
 use Rattle.bound_names.proofs.names.constant_term.Goals as goal

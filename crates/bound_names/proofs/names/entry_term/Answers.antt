@@ -4,10 +4,10 @@ use Rattle.bound_project.specs.DraftView.{draft_view}
 use Rattle.vba_expression.specs.View.{view as expression_view}
 use Rattle.vba_tree.specs.View.{constant_view}
 use Rattle.std.specs.Prelude.{option_map}
-use Rattle.bound_members.specs.binder.specs.Scopes.{of_module}
-use Rattle.bound_members.specs.bound_forms.specs.ExpressionsBound.{entry_term, constant_term}
-use Rattle.bound_members.specs.declared_names.specs.declared.entry.What.{What}
-use Rattle.bound_members.specs.declared_names.specs.View.{entry_view, space_view, what_view}
+use Rattle.bound_members.specs.bound_calls.specs.bound_declarations.specs.constant_values.specs.declared_names.specs.binder.specs.Scopes.{of_module}
+use Rattle.bound_members.specs.bound_calls.specs.bound_forms.specs.ExpressionsBound.{entry_term, constant_term}
+use Rattle.bound_members.specs.bound_calls.specs.bound_declarations.specs.constant_values.specs.declared_names.specs.declared.entry.What.{What}
+use Rattle.bound_members.specs.bound_calls.specs.bound_declarations.specs.constant_values.specs.declared_names.specs.View.{entry_view, space_view, what_view}
 use Rattle.bound_names.specs.View.{env_view}
 use Rattle.bound_names.proofs.NamedTerms.{leaf_as, entry_constant, entry_member}
 use Rattle.bound_names.proofs.names.entry_term.Goals as goal

@@ -3,7 +3,7 @@ use Rattle.std.specs.Prelude.{codes}
 use Rattle.vba_values.specs.declared.object.HostRef.TheVariants as host
 use Rattle.vba_values.specs.Types as type
 use Rattle.bound_project.specs.Expressions.{active_sheet, host_object}
-use Rattle.bound_members.specs.bound_forms.specs.Terms.{a_value}
+use Rattle.bound_members.specs.bound_calls.specs.bound_forms.specs.Terms.{a_value}
 use Rattle.bound_names.specs.Owned.{host_rest}
 use Rattle.bound_names.proofs.HostNames.{active_is, workbook_is, application_is, named_is, either_is}
 use Rattle.bound_names.proofs.NamedTerms.{leaf_as}

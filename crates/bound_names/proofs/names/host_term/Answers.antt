@@ -2,7 +2,7 @@ use Rattle.std.proofs.Common.{true, false, sym}
 use Rattle.std.specs.Prelude.{codes}
 use Rattle.std.proofs.lemmas.Result.{IfOk-weaker}
 use Rattle.bound_project.specs.DraftView.{draft_view}
-use Rattle.bound_members.specs.bound_forms.specs.ExpressionsBound.{host_term, sheet_term}
+use Rattle.bound_members.specs.bound_calls.specs.bound_forms.specs.ExpressionsBound.{host_term, sheet_term}
 use Rattle.bound_names.specs.Owned.{host_rest}
 use Rattle.bound_names.proofs.HostNames.{sheet_member_is, rest_is, named_is, either_is}
 use Rattle.bound_names.proofs.NamedTerms.{leaf_as}

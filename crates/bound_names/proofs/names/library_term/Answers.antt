@@ -1,9 +1,9 @@
 use Rattle.std.proofs.Common.{true, false, Some, sym}
 use Rattle.std.proofs.lemmas.Result.{IfOk-weaker}
 use Rattle.bound_project.specs.DraftView.{draft_view}
-use Rattle.bound_members.specs.binder.specs.Scopes.{has_dollar, of_library}
-use Rattle.bound_members.specs.bound_forms.specs.Terms.{a_function}
-use Rattle.bound_members.specs.bound_forms.specs.ExpressionsBound.{array_base, constant_term, library_term}
+use Rattle.bound_members.specs.bound_calls.specs.bound_declarations.specs.constant_values.specs.declared_names.specs.binder.specs.Scopes.{has_dollar, of_library}
+use Rattle.bound_members.specs.bound_calls.specs.bound_forms.specs.Terms.{a_function}
+use Rattle.bound_members.specs.bound_calls.specs.bound_forms.specs.ExpressionsBound.{array_base, constant_term, library_term}
 use Rattle.bound_names.specs.View.{env_view}
 use Rattle.bound_names.proofs.Library.{error_leaf, library_constant, library_function, word_is}
 use Rattle.bound_names.proofs.NamedTerms.{leaf_as}

@@ -2,10 +2,10 @@ use Rattle.std.proofs.Common.{Some, sym, subst}
 use Rattle.std.specs.Prelude.{IfOk}
 use Rattle.vba_words.specs.declared.identifier.Identifier.{Identifier}
 use Rattle.bound_project.specs.Drafts.{Drafted}
-use Rattle.bound_members.specs.bound_forms.specs.ExpressionsBound.{meant_term}
-use Rattle.bound_members.specs.constant_values.specs.Rounds.{IsThere}
-use Rattle.bound_members.specs.declared_names.specs.declared.scope.Meant.{Meant}
-use Rattle.bound_members.specs.declared_names.specs.View.{meant_view, scope_view}
+use Rattle.bound_members.specs.bound_calls.specs.bound_forms.specs.ExpressionsBound.{meant_term}
+use Rattle.bound_members.specs.bound_calls.specs.bound_declarations.specs.constant_values.specs.Rounds.{IsThere}
+use Rattle.bound_members.specs.bound_calls.specs.bound_declarations.specs.constant_values.specs.declared_names.specs.declared.scope.Meant.{Meant}
+use Rattle.bound_members.specs.bound_calls.specs.bound_declarations.specs.constant_values.specs.declared_names.specs.View.{meant_view, scope_view}
 use Rattle.bound_members.specs.bound_calls.specs.Steps.{MakesLeaf}
 use Rattle.bound_names.specs.View.{env_view}
 use Rattle.bound_names.proofs.names.meant_variable.Goals as goal

@@ -1,13 +1,13 @@
 use Rattle.bound_project.specs.View.{declared_view, storage_view}
-use Rattle.bound_members.specs.binder.specs.Constants.{home}
-use Rattle.bound_members.specs.binder.specs.Storage.{module_storage}
+use Rattle.bound_members.specs.bound_calls.specs.bound_declarations.specs.constant_values.specs.declared_names.specs.binder.specs.Constants.{home}
+use Rattle.bound_members.specs.bound_calls.specs.bound_declarations.specs.constant_values.specs.declared_names.specs.binder.specs.Storage.{module_storage}
 use Rattle.vba_tree.specs.View.{variable_view}
-use Rattle.bound_members.specs.declared_names.specs.View.{entry_view, scope_view, space_view}
+use Rattle.bound_members.specs.bound_calls.specs.bound_declarations.specs.constant_values.specs.declared_names.specs.View.{entry_view, scope_view, space_view}
 use Rattle.bound_names.specs.View.{env_view}
 use Rattle.bound_names.proofs.NamedTerms.{leaf_as, declared_kept}
 use Rattle.bound_names.proofs.Sharing.{shared_is}
 use Rattle.bound_names.proofs.names.module_variable.Goals as goal
-use Rattle.bound_members.specs.bound_forms.specs.ExpressionsBound.{variable_term}
+use Rattle.bound_members.specs.bound_calls.specs.bound_forms.specs.ExpressionsBound.{variable_term}
 use Rattle.std.proofs.Common.{sym, ap, ◌∙◌}
 use Rattle.bound_names.specs.declared.names.Making.{Making}
 use Rattle.bound_names.specs.Owned.{made_term, making_of}

@@ -1,9 +1,9 @@
 use Rattle.std.proofs.Common.{option_map, sym, subst, ap, ◌∙◌}
 use Rattle.vba_tree.specs.View.{parameter_view, type_clause_view, variable_view}
 use Rattle.bound_project.specs.View.{declared_view}
-use Rattle.bound_members.specs.binder.specs.Declarations.{a_local, a_parameter}
-use Rattle.bound_members.specs.declared_names.specs.declared.local.Own.{Own}
-use Rattle.bound_members.specs.declared_names.specs.View.{scope_view, own_view, written_view}
+use Rattle.bound_members.specs.bound_calls.specs.bound_declarations.specs.constant_values.specs.declared_names.specs.binder.specs.Declarations.{a_local, a_parameter}
+use Rattle.bound_members.specs.bound_calls.specs.bound_declarations.specs.constant_values.specs.declared_names.specs.declared.local.Own.{Own}
+use Rattle.bound_members.specs.bound_calls.specs.bound_declarations.specs.constant_values.specs.declared_names.specs.View.{scope_view, own_view, written_view}
 use Rattle.bound_names.specs.Owned.{OwnShaped, making_of, making_through}
 use Rattle.bound_names.proofs.NamedTerms.{own_result, own_parameter, own_variable, own_array, own_undeclared}
 use Rattle.bound_names.proofs.names.own_shape.Goals as goal
@@ -26,7 +26,7 @@ returns-in_ok-shape-in-Parameter c =
     let x = c.in_ok-shape-in-Parameter.shape in
     let P : Own → Type 0 = λ (o : Own). OwnShaped s (record { name = n; own = own_view o }) (declared_view x.of) x.is_bounded c.making_through.result in
     subst P (sym c.in-Parameter.is)
-    (subst (λ (m : Making). OwnShaped s (record { name = n; own = a_parameter p }) (declared_view x.of) x.is_bounded m) (sym (c.making_through.ensures ∙ ap making_through c.made_through-through.ensures)) (own_parameter s n p c.args.env.has_class x (sym c.args.env.has_class_is) c.in_ok-shape-in-Parameter.ensures))
+    (subst (λ (m : Making). OwnShaped s (record { name = n; own = a_parameter p }) (declared_view x.of) x.is_bounded m) (sym (c.making_through.ensures ∙ ap making_through c.made_through-through.ensures)) (own_parameter s n p c.args.env.has_new x (sym c.args.env.has_new_is) c.in_ok-shape-in-Parameter.ensures))
 
 pub returns-in_ok-shape-in-Variable : goal.returns-in_ok-shape-in-Variable
 returns-in_ok-shape-in-Variable c =

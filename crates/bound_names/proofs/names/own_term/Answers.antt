@@ -1,10 +1,10 @@
 use Rattle.std.proofs.Common.{◌≡◌, Some, refl, sym, subst}
 use Rattle.std.proofs.lemmas.Result.{IfOk-weaker}
 use Rattle.bound_project.specs.DraftView.{draft_view}
-use Rattle.bound_members.specs.binder.specs.Scopes.{of_procedure}
-use Rattle.bound_members.specs.bound_forms.specs.ExpressionsBound.{own_term, constant_term}
-use Rattle.bound_members.specs.declared_names.specs.declared.local.Own.{Own}
-use Rattle.bound_members.specs.declared_names.specs.View.{local_view, own_view}
+use Rattle.bound_members.specs.bound_calls.specs.bound_declarations.specs.constant_values.specs.declared_names.specs.binder.specs.Scopes.{of_procedure}
+use Rattle.bound_members.specs.bound_calls.specs.bound_forms.specs.ExpressionsBound.{own_term, constant_term}
+use Rattle.bound_members.specs.bound_calls.specs.bound_declarations.specs.constant_values.specs.declared_names.specs.declared.local.Own.{Own}
+use Rattle.bound_members.specs.bound_calls.specs.bound_declarations.specs.constant_values.specs.declared_names.specs.View.{local_view, own_view}
 use Rattle.bound_members.specs.bound_calls.specs.Steps.{MakesLeaf}
 use Rattle.bound_names.specs.View.{env_view}
 use Rattle.bound_names.proofs.NamedTerms.{leaf_as}

@@ -1,7 +1,7 @@
 use Rattle.std.proofs.Common.{refl, sym, ap, ◌∙◌}
 use Rattle.bound_project.specs.View.{declared_view, storage_view}
-use Rattle.bound_members.specs.bound_forms.specs.ExpressionsBound.{own_term}
-use Rattle.bound_members.specs.declared_names.specs.View.{local_view}
+use Rattle.bound_members.specs.bound_calls.specs.bound_forms.specs.ExpressionsBound.{own_term}
+use Rattle.bound_members.specs.bound_calls.specs.bound_declarations.specs.constant_values.specs.declared_names.specs.View.{local_view}
 use Rattle.bound_names.specs.View.{env_view}
 use Rattle.bound_names.proofs.NamedTerms.{leaf_as}
 use Rattle.bound_names.proofs.names.own_variable.Goals as goal

@@ -1,10 +1,10 @@
 use Rattle.std.proofs.Common.{◌≡◌, ◌&&◌, map, drop}
-use Rattle.bound_members.specs.binder.specs.Declarations.{Entry}
-use Rattle.bound_members.specs.binder.specs.Scopes.{first_at, is_named}
-use Rattle.bound_members.specs.declared_names.specs.View.{entry_view, scope_view, space_view}
+use Rattle.bound_members.specs.bound_calls.specs.bound_declarations.specs.constant_values.specs.declared_names.specs.binder.specs.Declarations.{Entry}
+use Rattle.bound_members.specs.bound_calls.specs.bound_declarations.specs.constant_values.specs.declared_names.specs.binder.specs.Scopes.{first_at, is_named}
+use Rattle.bound_members.specs.bound_calls.specs.bound_declarations.specs.constant_values.specs.declared_names.specs.View.{entry_view, scope_view, space_view}
 use Rattle.bound_names.specs.Properties.{first_wanted, wants}
 use Rattle.bound_names.proofs.properties.first_wanted.Given as goal
-use Rattle.bound_members.specs.binder.specs.Classes.{reaches}
+use Rattle.bound_members.specs.bound_calls.specs.bound_declarations.specs.constant_values.specs.declared_names.specs.binder.specs.Classes.{reaches}
 
 abbrev pub invariant-loop-number : goal.invariant-loop-number
 invariant-loop-number l =

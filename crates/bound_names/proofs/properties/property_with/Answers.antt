@@ -1,7 +1,7 @@
 use Rattle.std.proofs.Common.{sym, ap, ◌∙◌}
 use Rattle.std.specs.Prelude.{option_map}
-use Rattle.bound_members.specs.declared_names.specs.Lookup.{found_view}
-use Rattle.bound_members.specs.declared_names.specs.View.{entry_view, scope_view, space_view, what_view, written_view}
+use Rattle.bound_members.specs.bound_calls.specs.bound_declarations.specs.constant_values.specs.declared_names.specs.Lookup.{found_view}
+use Rattle.bound_members.specs.bound_calls.specs.bound_declarations.specs.constant_values.specs.declared_names.specs.View.{entry_view, scope_view, space_view, what_view, written_view}
 use Rattle.bound_names.proofs.Lookups.{entry_found, no_procedure, property_is, property_none}
 use Rattle.bound_names.proofs.properties.property_with.Goals as goal
 

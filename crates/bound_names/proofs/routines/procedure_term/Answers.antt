@@ -1,6 +1,6 @@
 use Rattle.std.proofs.Common.{sym, ◌∙◌}
 use Rattle.std.proofs.lemmas.Result.{IfOk-weaker}
-use Rattle.bound_members.specs.declared_names.specs.View.{entry_view, space_view, written_view}
+use Rattle.bound_members.specs.bound_calls.specs.bound_declarations.specs.constant_values.specs.declared_names.specs.View.{entry_view, space_view, written_view}
 use Rattle.bound_names.specs.View.{env_view}
 use Rattle.bound_names.proofs.RoutineTerms.{plain_procedure}
 use Rattle.bound_names.proofs.routines.procedure_term.Goals as goal

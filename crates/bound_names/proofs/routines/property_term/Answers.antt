@@ -1,6 +1,6 @@
 use Rattle.std.proofs.Common.{ℕ}
-use Rattle.bound_members.specs.binder.specs.Declarations.{Written}
-use Rattle.bound_members.specs.declared_names.specs.View.{space_view, written_view}
+use Rattle.bound_members.specs.bound_calls.specs.bound_declarations.specs.constant_values.specs.declared_names.specs.binder.specs.Declarations.{Written}
+use Rattle.bound_members.specs.bound_calls.specs.bound_declarations.specs.constant_values.specs.declared_names.specs.View.{space_view, written_view}
 use Rattle.bound_names.specs.View.{env_view}
 use Rattle.bound_names.proofs.RoutineTerms.{property_read, property_unread}
 use Rattle.bound_names.proofs.routines.property_term.Goals as goal

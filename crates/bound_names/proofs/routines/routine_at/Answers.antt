@@ -1,5 +1,5 @@
 use Rattle.std.proofs.Common.{refl}
-use Rattle.bound_members.specs.declared_names.specs.View.{written_view}
+use Rattle.bound_members.specs.bound_calls.specs.bound_declarations.specs.constant_values.specs.declared_names.specs.View.{written_view}
 use Rattle.bound_names.proofs.routines.routine_at.Goals as goal
 
 pub returns : goal.returns

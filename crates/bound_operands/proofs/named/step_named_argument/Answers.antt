@@ -5,13 +5,13 @@ use Rattle.vba_lexer.specs.declared.token.Token.{Token}
 use Rattle.vba_expression.specs.declared.node.ExpressionNode.TheVariants as node
 use Rattle.vba_expression.specs.Nodes.{behind_node}
 use Rattle.bound_project.specs.DraftView.{draft_view}
-use Rattle.bound_members.specs.bound_forms.specs.Terms as plain
+use Rattle.bound_members.specs.bound_calls.specs.bound_forms.specs.Terms as plain
 use Rattle.bound_members.specs.bound_calls.specs.declared.term.Item.{Item}
 use Rattle.bound_members.specs.bound_calls.specs.declared.term.Item.TheVariants as item
 use Rattle.bound_members.specs.bound_calls.specs.Standing.{AllNamed}
 use Rattle.bound_members.specs.bound_calls.specs.Steps.{Goes}
 use Rattle.bound_operands.proofs.named.step_named_argument.Goals as goal
-use Rattle.bound_members.specs.binder.specs.Classes.{has_class}
+use Rattle.bound_members.specs.bound_calls.specs.bound_declarations.specs.constant_values.specs.declared_names.specs.binder.specs.Classes.{has_class}
 
 pub give_named-requires : goal.give_named-requires
 give_named-requires c =

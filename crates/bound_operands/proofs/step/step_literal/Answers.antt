@@ -3,7 +3,7 @@ use Rattle.std.specs.Prelude.{reverse}
 use Rattle.vba_values.specs.View.{view as value_view}
 use Rattle.vba_expression.specs.Tree.{literal}
 use Rattle.bound_project.specs.DraftView.{draft_view}
-use Rattle.bound_members.specs.binder.specs.Constants.{literal_meant}
+use Rattle.bound_members.specs.bound_calls.specs.bound_declarations.specs.constant_values.specs.declared_names.specs.binder.specs.Constants.{literal_meant}
 use Rattle.bound_members.specs.bound_calls.proofs.Steps.{goes_leaf, literal_leaf}
 use Rattle.bound_operands.proofs.step.step_literal.Goals as goal
 

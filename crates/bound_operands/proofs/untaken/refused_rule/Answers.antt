@@ -1,6 +1,6 @@
 use Rattle.std.proofs.Common.{None, if◌then◌else◌, sym, ap, ◌∙◌}
 use Rattle.bound_project.specs.DraftView.{draft_view}
-use Rattle.bound_members.specs.bound_forms.specs.ExpressionsBound.{arguments_rule}
+use Rattle.bound_members.specs.bound_calls.specs.bound_forms.specs.ExpressionsBound.{arguments_rule}
 use Rattle.bound_members.specs.bound_calls.specs.Shapes.{shapes_given}
 use Rattle.bound_members.specs.bound_calls.specs.Standing.{member_is, refused_rule}
 use Rattle.bound_operands.proofs.untaken.refused_rule.Goals as goal

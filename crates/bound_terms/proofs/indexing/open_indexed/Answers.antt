@@ -3,11 +3,11 @@ use Rattle.bound_project.specs.declared.node.NodeKind.{NodeKind}
 use Rattle.bound_project.specs.Drafts.{Drafted}
 use Rattle.bound_project.specs.Pieces.{put}
 use Rattle.bound_project.specs.DraftView.{draft_view}
-use Rattle.bound_names.specs.bound_calls.specs.declared.term.Item.{Item}
-use Rattle.bound_names.specs.bound_calls.specs.declared.term.Term.TheVariants as term
-use Rattle.bound_names.specs.bound_calls.specs.Calls.{node_of}
-use Rattle.bound_names.specs.bound_calls.specs.Indexing.{OpensTerm}
-use Rattle.bound_names.specs.View.{env_view}
+use Rattle.bound_accesses.specs.bound_names.specs.bound_members.specs.bound_calls.specs.declared.term.Item.{Item}
+use Rattle.bound_accesses.specs.bound_names.specs.bound_members.specs.bound_calls.specs.declared.term.Term.TheVariants as term
+use Rattle.bound_accesses.specs.bound_names.specs.bound_members.specs.bound_calls.specs.Calls.{node_of}
+use Rattle.bound_accesses.specs.bound_names.specs.bound_members.specs.bound_calls.specs.Indexing.{OpensTerm}
+use Rattle.bound_accesses.specs.bound_names.specs.View.{env_view}
 use Rattle.bound_terms.proofs.Refused.{place_untaken}
 use Rattle.bound_terms.proofs.indexing.open_indexed.Goals as goal
 

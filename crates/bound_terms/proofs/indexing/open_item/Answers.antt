@@ -1,7 +1,7 @@
 use Rattle.std.proofs.Common.{sym, subst}
 use Rattle.bound_project.specs.DraftView.{draft_view}
-use Rattle.bound_names.specs.bound_forms.specs.Terms.{Env}
-use Rattle.bound_names.specs.bound_calls.specs.declared.term.Item.{Item}
+use Rattle.bound_accesses.specs.bound_names.specs.bound_members.specs.bound_calls.specs.bound_forms.specs.Terms.{Env}
+use Rattle.bound_accesses.specs.bound_names.specs.bound_members.specs.bound_calls.specs.declared.term.Item.{Item}
 use Rattle.bound_terms.specs.Indexing.{OpensItem}
 use Rattle.bound_terms.proofs.Refused.{member_opened, member_untaken}
 use Rattle.bound_terms.proofs.indexing.open_item.Goals as goal

@@ -1,9 +1,9 @@
 use Rattle.std.proofs.Common.{sym, subst}
 use Rattle.bound_project.specs.DraftView.{draft_view}
-use Rattle.bound_names.specs.bound_calls.specs.declared.term.Term.{Term}
-use Rattle.bound_names.specs.bound_calls.specs.Standing.{TermNamed}
+use Rattle.bound_accesses.specs.bound_names.specs.bound_members.specs.bound_calls.specs.declared.term.Term.{Term}
+use Rattle.bound_accesses.specs.bound_names.specs.bound_members.specs.bound_calls.specs.Standing.{TermNamed}
 use Rattle.bound_accesses.specs.Items.{MakesItem}
-use Rattle.bound_names.specs.View.{env_view}
+use Rattle.bound_accesses.specs.bound_names.specs.View.{env_view}
 use Rattle.bound_terms.proofs.LackingItems.{opens_lacking}
 use Rattle.bound_terms.proofs.indexing.open_lacking.Goals as goal
 

@@ -3,7 +3,7 @@ use Rattle.std.specs.Prelude.{MatchBool}
 use Rattle.std.proofs.lemmas.Result.{IfOk-weaker}
 use Rattle.bound_terms.specs.Indexing.{IndexesValue, NotIndexed}
 use Rattle.bound_terms.proofs.indexing.open_routine.Goals as goal
-use Rattle.bound_names.specs.View.{env_view}
+use Rattle.bound_accesses.specs.bound_names.specs.View.{env_view}
 
 pub open_procedure-requires : goal.open_procedure-requires
 open_procedure-requires c = (let A : Bool → Type 0 = λ (b : Bool). MatchBool b (IndexesValue c.args.routine) (NotIndexed c.args.routine) in subst A c.if-not-indexes_value.true c.indexes_value.ensures)

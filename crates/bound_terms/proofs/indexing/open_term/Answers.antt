@@ -2,12 +2,12 @@ use Rattle.std.proofs.Common.{sym, subst}
 use Rattle.std.specs.Prelude.{IfOk}
 use Rattle.std.proofs.lemmas.Result.{IfOk-weaker}
 use Rattle.bound_project.specs.DraftView.{draft_view}
-use Rattle.bound_names.specs.View.{env_view}
-use Rattle.bound_names.specs.bound_calls.specs.declared.term.Term.{Term}
-use Rattle.bound_names.specs.bound_calls.specs.declared.term.Item.{Item}
-use Rattle.bound_names.specs.bound_calls.specs.declared.term.Item.TheVariants as item
-use Rattle.bound_names.specs.bound_calls.specs.declared.term.Term.TheVariants as term
-use Rattle.bound_names.specs.bound_calls.specs.Indexing.{OpensTerm}
+use Rattle.bound_accesses.specs.bound_names.specs.View.{env_view}
+use Rattle.bound_accesses.specs.bound_names.specs.bound_members.specs.bound_calls.specs.declared.term.Term.{Term}
+use Rattle.bound_accesses.specs.bound_names.specs.bound_members.specs.bound_calls.specs.declared.term.Item.{Item}
+use Rattle.bound_accesses.specs.bound_names.specs.bound_members.specs.bound_calls.specs.declared.term.Item.TheVariants as item
+use Rattle.bound_accesses.specs.bound_names.specs.bound_members.specs.bound_calls.specs.declared.term.Term.TheVariants as term
+use Rattle.bound_accesses.specs.bound_names.specs.bound_members.specs.bound_calls.specs.Indexing.{OpensTerm}
 use Rattle.bound_terms.proofs.Refused.{clear_untaken, error_untaken}
 use Rattle.bound_terms.proofs.indexing.open_term.Goals as goal
 

@@ -1,7 +1,7 @@
 use Rattle.vba_expression.specs.View.{view as expression_view}
 use Rattle.bound_project.specs.DraftView.{draft_view}
-use Rattle.bound_names.specs.View.{env_view}
-use Rattle.bound_names.specs.bound_calls.proofs.Steps.{binds_value}
+use Rattle.bound_accesses.specs.bound_names.specs.View.{env_view}
+use Rattle.bound_accesses.specs.bound_names.specs.bound_members.specs.bound_calls.proofs.Steps.{binds_value}
 use Rattle.bound_terms.proofs.pass.bind_value.Goals as goal
 
 pub returns : goal.returns

@@ -1,5 +1,5 @@
 use Rattle.bound_project.specs.DraftView.{draft_view}
-use Rattle.bound_names.specs.bound_calls.proofs.Steps.{pushes_value}
+use Rattle.bound_accesses.specs.bound_names.specs.bound_members.specs.bound_calls.proofs.Steps.{pushes_value}
 use Rattle.bound_terms.proofs.pass.push_value.Goals as goal
 
 pub returns : goal.returns

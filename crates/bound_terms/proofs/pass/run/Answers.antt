@@ -1,7 +1,7 @@
 use Rattle.std.specs.Prelude.{reverse}
 use Rattle.bound_project.specs.DraftView.{draft_view}
-use Rattle.bound_names.specs.View.{env_view}
-use Rattle.bound_names.specs.bound_calls.proofs.Steps.{reading_starts, reading_next, reading_done}
+use Rattle.bound_accesses.specs.bound_names.specs.View.{env_view}
+use Rattle.bound_accesses.specs.bound_names.specs.bound_members.specs.bound_calls.proofs.Steps.{reading_starts, reading_next, reading_done}
 use Rattle.bound_terms.proofs.pass.run.Goals as goal
 
 pub loop-node-init : goal.loop-node-init

@@ -1,8 +1,8 @@
 use Rattle.std.proofs.Common.{drop}
 use Rattle.std.specs.Prelude.{reverse}
 use Rattle.bound_project.specs.DraftView.{draft_view}
-use Rattle.bound_names.specs.View.{env_view}
-use Rattle.bound_names.specs.bound_calls.proofs.Steps.{Reading}
+use Rattle.bound_accesses.specs.bound_names.specs.View.{env_view}
+use Rattle.bound_accesses.specs.bound_names.specs.bound_members.specs.bound_calls.proofs.Steps.{Reading}
 use Rattle.bound_terms.proofs.pass.run.Given as goal
 
 abbrev pub invariant-loop-node : goal.invariant-loop-node

@@ -4,8 +4,8 @@ use Rattle.std.proofs.lemmas.Result.{on_ok_weaker}
 use Rattle.vba_expression.specs.declared.node.ExpressionNode.{ExpressionNode}
 use Rattle.vba_expression.specs.Nodes.{behind_node}
 use Rattle.bound_project.specs.DraftView.{draft_view}
-use Rattle.bound_names.specs.bound_calls.specs.Steps.{Goes}
-use Rattle.bound_names.specs.View.{env_view}
+use Rattle.bound_accesses.specs.bound_names.specs.bound_members.specs.bound_calls.specs.Steps.{Goes}
+use Rattle.bound_accesses.specs.bound_names.specs.View.{env_view}
 use Rattle.bound_terms.proofs.pass.step.Goals as goal
 
 pub returns-in-Literal : goal.returns-in-Literal

@@ -5,10 +5,10 @@ use Rattle.std.proofs.lemmas.List.{nil_from_length}
 use Rattle.vba_expression.specs.Nodes.{behind_nodes}
 use Rattle.vba_expression.specs.Tree.{Expr}
 use Rattle.bound_project.specs.DraftView.{draft_view}
-use Rattle.bound_names.specs.bound_calls.specs.declared.term.Item.{Item}
-use Rattle.bound_names.specs.bound_calls.specs.Steps.{Goes, Leaves}
-use Rattle.bound_names.specs.View.{env_view}
-use Rattle.bound_names.specs.bound_calls.proofs.Steps.{leaves_tree}
+use Rattle.bound_accesses.specs.bound_names.specs.bound_members.specs.bound_calls.specs.declared.term.Item.{Item}
+use Rattle.bound_accesses.specs.bound_names.specs.bound_members.specs.bound_calls.specs.Steps.{Goes, Leaves}
+use Rattle.bound_accesses.specs.bound_names.specs.View.{env_view}
+use Rattle.bound_accesses.specs.bound_names.specs.bound_members.specs.bound_calls.proofs.Steps.{leaves_tree}
 use Rattle.bound_terms.proofs.pass.tree_of.Goals as goal
 
 pub returns-then-is_empty : goal.returns-then-is_empty

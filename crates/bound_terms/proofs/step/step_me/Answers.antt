@@ -1,6 +1,6 @@
 use Rattle.std.specs.Prelude.{reverse}
 use Rattle.bound_project.specs.DraftView.{draft_view}
-use Rattle.bound_names.specs.View.{env_view}
+use Rattle.bound_accesses.specs.bound_names.specs.View.{env_view}
 use Rattle.bound_terms.proofs.TypesAsked.{goes_me}
 use Rattle.bound_terms.proofs.step.step_me.Goals as goal
 

@@ -2,14 +2,14 @@ use Rattle.std.proofs.Common.{refl, sym, subst, Option, Some, None}
 use Rattle.std.specs.Prelude.{reverse}
 use Rattle.vba_expression.specs.Tree.{name}
 use Rattle.bound_project.specs.DraftView.{draft_view}
-use Rattle.bound_names.specs.binder.specs.Scopes.{Meant, plainly}
-use Rattle.bound_names.specs.bound_forms.specs.ExpressionsBound.{meant_term}
-use Rattle.bound_names.specs.declared_names.specs.View.{scope_view}
-use Rattle.bound_names.specs.constant_values.specs.Rounds.{IsThere}
-use Rattle.bound_names.specs.constant_values.proofs.Looked.{declared_there}
-use Rattle.bound_names.specs.bound_calls.specs.Steps.{MakesLeaf}
-use Rattle.bound_names.specs.View.{env_view}
-use Rattle.bound_names.specs.bound_calls.proofs.Steps.{goes_leaf}
+use Rattle.declared_names.specs.binder.specs.Scopes.{Meant, plainly}
+use Rattle.bound_accesses.specs.bound_names.specs.bound_members.specs.bound_calls.specs.bound_forms.specs.ExpressionsBound.{meant_term}
+use Rattle.declared_names.specs.View.{scope_view}
+use Rattle.bound_accesses.specs.bound_names.specs.bound_members.specs.bound_calls.specs.bound_declarations.specs.constant_values.specs.Rounds.{IsThere}
+use Rattle.bound_accesses.specs.bound_names.specs.bound_members.specs.bound_calls.specs.bound_declarations.specs.constant_values.proofs.Looked.{declared_there}
+use Rattle.bound_accesses.specs.bound_names.specs.bound_members.specs.bound_calls.specs.Steps.{MakesLeaf}
+use Rattle.bound_accesses.specs.bound_names.specs.View.{env_view}
+use Rattle.bound_accesses.specs.bound_names.specs.bound_members.specs.bound_calls.proofs.Steps.{goes_leaf}
 use Rattle.bound_terms.proofs.step.step_name.Goals as goal
 
 pub meant_term-requires-clause-there : goal.meant_term-requires-clause-there

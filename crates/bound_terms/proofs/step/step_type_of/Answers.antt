@@ -1,8 +1,8 @@
 use Rattle.std.proofs.Common.{Option, ◌∷◌, ap, ◌∙◌}
 use Rattle.std.specs.Prelude.{reverse}
 use Rattle.bound_project.specs.DraftView.{draft_view}
-use Rattle.bound_names.specs.binder.specs.Types.{TypeMeant, meant_type}
-use Rattle.bound_names.specs.View.{env_view}
+use Rattle.declared_names.specs.binder.specs.Types.{TypeMeant, meant_type}
+use Rattle.bound_accesses.specs.bound_names.specs.View.{env_view}
 use Rattle.bound_terms.proofs.TypesAsked.{goes_type_of}
 use Rattle.bound_terms.proofs.step.step_type_of.Goals as goal
 

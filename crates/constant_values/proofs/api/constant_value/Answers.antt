@@ -1,7 +1,7 @@
 use Rattle.std.proofs.Common.{◌≡◌, subst, Option}
 use Rattle.std.specs.Prelude.{IfOk}
 use Rattle.vba_tree.specs.View.{constant_view}
-use Rattle.binder.specs.Constants.{Known}
+use Rattle.declared_names.specs.binder.specs.Constants.{Known}
 use Rattle.constant_values.specs.View.{names_view, slot_view}
 use Rattle.constant_values.proofs.ByTables.{constant_known}
 use Rattle.constant_values.proofs.api.constant_value.Goals as goal

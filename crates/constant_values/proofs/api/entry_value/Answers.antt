@@ -1,6 +1,6 @@
 use Rattle.std.proofs.Common.{◌≡◌, Option, refl, subst}
 use Rattle.std.specs.Prelude.{IfOk}
-use Rattle.binder.specs.Constants.{Known}
+use Rattle.declared_names.specs.binder.specs.Constants.{Known}
 use Rattle.declared_names.specs.View.{space_view, what_view}
 use Rattle.constant_values.specs.View.{slot_view}
 use Rattle.constant_values.proofs.ByTables.{entry_known}

@@ -3,7 +3,7 @@ use Rattle.vba_module.specs.Headers.{all_of, items_of}
 use Rattle.vba_tree.specs.View.{dim_view, listed_view}
 use Rattle.vba_tree.specs.declared.declaration.Dim.{Dim}
 use Rattle.vba_tree.specs.declared.list.Next.{Next}
-use Rattle.binder.specs.Constants.{known_bound, all_bounds}
+use Rattle.declared_names.specs.binder.specs.Constants.{known_bound, all_bounds}
 use Rattle.declared_names.specs.View.{scope_view}
 use Rattle.constant_values.specs.Bounds.{all_behind}
 use Rattle.constant_values.proofs.bounds.all_bounds.Given as goal

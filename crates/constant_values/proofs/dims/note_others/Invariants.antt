@@ -6,7 +6,7 @@ use Rattle.vba_module.specs.Verdict.{broken}
 use Rattle.vba_tree.specs.View.{dim_view}
 use Rattle.vba_tree.specs.declared.declaration.Dim.{Dim}
 use Rattle.vba_tree.specs.declared.list.Next.{Next}
-use Rattle.binder.specs.Constants.{dim_faults}
+use Rattle.declared_names.specs.binder.specs.Constants.{dim_faults}
 use Rattle.declared_names.specs.View.{scope_view}
 use Rattle.constant_values.proofs.dims.note_others.Given as goal
 

@@ -2,7 +2,7 @@ use Rattle.std.proofs.Common.{◌≡◌, List, Option, subst, ap, ◌∙◌}
 use Rattle.std.specs.Prelude.{IfOk}
 use Rattle.std.specs.declared.alloc.Global.{Global}
 use Rattle.std.specs.declared.vec.Vec.{Vec}
-use Rattle.binder.specs.Constants.{Known}
+use Rattle.declared_names.specs.binder.specs.Constants.{Known}
 use Rattle.declared_names.specs.View.{scope_view}
 use Rattle.constant_values.specs.declared.known.Known.{Known as Slot}
 use Rattle.constant_values.specs.Tables.{passed, rounds_view}

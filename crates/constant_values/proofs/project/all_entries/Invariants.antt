@@ -1,5 +1,5 @@
 use Rattle.std.proofs.Common.{◌≡◌, ◌+◌, map, length}
-use Rattle.binder.specs.Constants.{all_entries}
+use Rattle.declared_names.specs.binder.specs.Constants.{all_entries}
 use Rattle.declared_names.specs.View.{space_view}
 use Rattle.constant_values.proofs.project.all_entries.Given as goal
 

@@ -1,6 +1,6 @@
 use Rattle.std.proofs.Common.{◌≡◌, ◌++◌, map, length}
-use Rattle.binder.specs.Declarations.{Local}
-use Rattle.binder.specs.Constants.{own_by}
+use Rattle.declared_names.specs.binder.specs.Declarations.{Local}
+use Rattle.declared_names.specs.binder.specs.Constants.{own_by}
 use Rattle.declared_names.specs.View.{local_view, scope_view}
 use Rattle.constant_values.specs.Names.{names_from, locals_by}
 use Rattle.constant_values.specs.View.{names_view, slots_view}

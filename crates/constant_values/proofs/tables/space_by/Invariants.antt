@@ -1,6 +1,6 @@
 use Rattle.std.proofs.Common.{◌≡◌, ◌++◌, map, length}
-use Rattle.binder.specs.Declarations.{Entry}
-use Rattle.binder.specs.Constants.{entry_by}
+use Rattle.declared_names.specs.binder.specs.Declarations.{Entry}
+use Rattle.declared_names.specs.binder.specs.Constants.{entry_by}
 use Rattle.declared_names.specs.View.{entry_view, scope_view}
 use Rattle.constant_values.specs.Names.{names_from}
 use Rattle.constant_values.specs.View.{names_view, slots_view}

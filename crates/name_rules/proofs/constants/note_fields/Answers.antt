@@ -1,6 +1,6 @@
 use Rattle.std.proofs.Common.{Bor}
-use Rattle.binder.specs.Violations.{field_faults}
-use Rattle.declared_names.specs.View.{scope_view}
+use Rattle.constant_values.specs.declared_names.specs.binder.specs.Violations.{field_faults}
+use Rattle.constant_values.specs.declared_names.specs.View.{scope_view}
 use Rattle.said_parts.specs.View.{field_view}
 use Rattle.vba_tree.specs.declared.line.TypeMember.{TypeMember}
 use Rattle.name_rules.proofs.Gathered.{item_noted}

@@ -1,7 +1,7 @@
 use Rattle.std.proofs.Common.{◌≡◌, drop, map}
 use Rattle.std.specs.Prelude.{flat_map}
-use Rattle.binder.specs.Violations.{field_faults}
-use Rattle.declared_names.specs.View.{scope_view}
+use Rattle.constant_values.specs.declared_names.specs.binder.specs.Violations.{field_faults}
+use Rattle.constant_values.specs.declared_names.specs.View.{scope_view}
 use Rattle.said_parts.specs.View.{field_view}
 use Rattle.use_rules.specs.Found.{noted}
 use Rattle.name_rules.proofs.constants.note_fields.Given as goal

@@ -1,7 +1,7 @@
 use Rattle.std.proofs.Common.{◌≡◌, drop}
 use Rattle.std.specs.Prelude.{flat_map}
-use Rattle.binder.specs.Violations.{parameter_faults}
-use Rattle.declared_names.specs.View.{scope_view}
+use Rattle.constant_values.specs.declared_names.specs.binder.specs.Violations.{parameter_faults}
+use Rattle.constant_values.specs.declared_names.specs.View.{scope_view}
 use Rattle.said_parts.specs.View.{behind}
 use Rattle.vba_module.specs.Headers.{all_of}
 use Rattle.vba_tree.specs.View.{listed_view, parameter_view}

@@ -1,6 +1,6 @@
-use Rattle.binder.specs.Declarations as plain
-use Rattle.binder.specs.Violations.{own_faults}
-use Rattle.declared_names.specs.View.{local_view, scope_view}
+use Rattle.constant_values.specs.declared_names.specs.binder.specs.Declarations as plain
+use Rattle.constant_values.specs.declared_names.specs.binder.specs.Violations.{own_faults}
+use Rattle.constant_values.specs.declared_names.specs.View.{local_view, scope_view}
 use Rattle.name_rules.proofs.Gathered.{item_noted}
 use Rattle.name_rules.proofs.constants.note_locals.Goals as goal
 

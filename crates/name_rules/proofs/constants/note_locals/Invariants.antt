@@ -1,8 +1,8 @@
 use Rattle.std.proofs.Common.{◌≡◌, drop, map}
 use Rattle.std.specs.Prelude.{flat_map}
-use Rattle.binder.specs.Declarations as plain
-use Rattle.binder.specs.Violations.{own_faults}
-use Rattle.declared_names.specs.View.{local_view, scope_view}
+use Rattle.constant_values.specs.declared_names.specs.binder.specs.Declarations as plain
+use Rattle.constant_values.specs.declared_names.specs.binder.specs.Violations.{own_faults}
+use Rattle.constant_values.specs.declared_names.specs.View.{local_view, scope_view}
 use Rattle.use_rules.specs.Found.{noted}
 use Rattle.name_rules.proofs.constants.note_locals.Given as goal
 

@@ -1,9 +1,9 @@
 use Rattle.std.proofs.Common.{◌≡◌, false, drop, map}
 use Rattle.std.specs.Prelude.{flat_map}
-use Rattle.binder.specs.Declarations as plain
-use Rattle.binder.specs.Said.{entry_said}
-use Rattle.binder.specs.Violations.{names_said, twice_inside, types_said}
-use Rattle.declared_names.specs.View.{entry_view, scope_view}
+use Rattle.constant_values.specs.declared_names.specs.binder.specs.Declarations as plain
+use Rattle.constant_values.specs.declared_names.specs.binder.specs.Said.{entry_said}
+use Rattle.constant_values.specs.declared_names.specs.binder.specs.Violations.{names_said, twice_inside, types_said}
+use Rattle.constant_values.specs.declared_names.specs.View.{entry_view, scope_view}
 use Rattle.use_rules.specs.Found.{noted}
 use Rattle.name_rules.proofs.entries.note_entries.Given as goal
 

@@ -1,5 +1,5 @@
 use Rattle.std.proofs.Common.{sym}
-use Rattle.declared_names.specs.View.{scope_view}
+use Rattle.constant_values.specs.declared_names.specs.View.{scope_view}
 use Rattle.name_rules.proofs.DeclaredHere.{event_inside, type_inside}
 use Rattle.name_rules.proofs.Gathered.{noted_same}
 use Rattle.name_rules.proofs.entries.note_twice_inside.Goals as goal

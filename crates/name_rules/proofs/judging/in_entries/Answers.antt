@@ -1,10 +1,10 @@
 use Rattle.std.proofs.Common.{List, None, false, map, ap, ◌∙◌}
 use Rattle.std.specs.Prelude.{flat_map}
-use Rattle.binder.specs.Declarations as plain
-use Rattle.binder.specs.Said.{entry_said}
-use Rattle.binder.specs.Violations.{names_said, types_said}
-use Rattle.declared_names.specs.View.{entry_view, scope_view}
-use Rattle.declared_names.specs.declared.entry.Entry.{Entry}
+use Rattle.constant_values.specs.declared_names.specs.binder.specs.Declarations as plain
+use Rattle.constant_values.specs.declared_names.specs.binder.specs.Said.{entry_said}
+use Rattle.constant_values.specs.declared_names.specs.binder.specs.Violations.{names_said, types_said}
+use Rattle.constant_values.specs.declared_names.specs.View.{entry_view, scope_view}
+use Rattle.constant_values.specs.declared_names.specs.declared.entry.Entry.{Entry}
 use Rattle.use_rules.specs.Found.{noted}
 use Rattle.name_rules.proofs.judging.in_entries.Goals as goal
 

@@ -1,12 +1,12 @@
 use Rattle.std.proofs.Common.{List, [], None, false, map, ap, ◌∙◌}
 use Rattle.std.specs.Prelude.{flat_map}
-use Rattle.binder.specs.Declarations as plain
-use Rattle.binder.specs.Declarations.{Written}
-use Rattle.binder.specs.Names.{scope_in}
-use Rattle.binder.specs.Said.{entry_said}
-use Rattle.binder.specs.Violations.{clashes, entry_faults, in_body, later, module_named_twice, names_said, place_of_name, procedure_faults, twice_in_procedure, twice_inside, types_said}
-use Rattle.declared_names.specs.View.{entry_view, scope_view}
-use Rattle.declared_names.specs.declared.entry.Entry.{Entry}
+use Rattle.constant_values.specs.declared_names.specs.binder.specs.Declarations as plain
+use Rattle.constant_values.specs.declared_names.specs.binder.specs.Declarations.{Written}
+use Rattle.constant_values.specs.declared_names.specs.binder.specs.Names.{scope_in}
+use Rattle.constant_values.specs.declared_names.specs.binder.specs.Said.{entry_said}
+use Rattle.constant_values.specs.declared_names.specs.binder.specs.Violations.{clashes, entry_faults, in_body, later, module_named_twice, names_said, place_of_name, procedure_faults, twice_in_procedure, twice_inside, types_said}
+use Rattle.constant_values.specs.declared_names.specs.View.{entry_view, scope_view}
+use Rattle.constant_values.specs.declared_names.specs.declared.entry.Entry.{Entry}
 use Rattle.use_rules.specs.Found.{noted}
 use Rattle.name_rules.proofs.Gathered.{after_noted, behind_noted}
 use Rattle.name_rules.proofs.judging.in_module.Goals as goal

@@ -1,9 +1,9 @@
 use Rattle.std.proofs.Common.{◌≡◌, drop, map}
 use Rattle.std.specs.Prelude.{bytes_eq}
 use Rattle.std.specs.List.{list_any}
-use Rattle.binder.specs.Scopes as plain
-use Rattle.binder.specs.Violations.{named_before}
-use Rattle.declared_names.specs.View.{space_view}
+use Rattle.constant_values.specs.declared_names.specs.binder.specs.Scopes as plain
+use Rattle.constant_values.specs.declared_names.specs.binder.specs.Violations.{named_before}
+use Rattle.constant_values.specs.declared_names.specs.View.{space_view}
 use Rattle.name_rules.proofs.judging.is_named_before.Given as goal
 
 abbrev pub invariant-loop-space : goal.invariant-loop-space

@@ -1,6 +1,6 @@
 use Rattle.std.proofs.Common.{map}
 use Rattle.constant_values.proofs.Looked.{placed_at}
-use Rattle.declared_names.specs.View.{space_view}
+use Rattle.constant_values.specs.declared_names.specs.View.{space_view}
 use Rattle.name_rules.proofs.Judged.{get_mapped}
 use Rattle.name_rules.proofs.judging.verdict.Goals as goal
 

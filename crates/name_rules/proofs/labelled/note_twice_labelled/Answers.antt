@@ -1,7 +1,7 @@
 use Rattle.std.proofs.Common.{Bor, ap, ◌∙◌}
 use Rattle.vba_tree.specs.declared.line.LineLabel.{LineLabel}
 use Rattle.vba_module.specs.Misplaced.{place_if}
-use Rattle.binder.specs.Violations.{place_of_label, same_label}
+use Rattle.constant_values.specs.declared_names.specs.binder.specs.Violations.{place_of_label, same_label}
 use Rattle.use_rules.specs.Found.{noted}
 use Rattle.name_rules.proofs.Later.{later_noted}
 use Rattle.name_rules.proofs.labelled.note_twice_labelled.Goals as goal

@@ -1,5 +1,5 @@
 use Rattle.std.proofs.Common.{◌≡◌, [], drop, take, map, reverse}
-use Rattle.binder.specs.Violations.{later, same_label, place_of_label}
+use Rattle.constant_values.specs.declared_names.specs.binder.specs.Violations.{later, same_label, place_of_label}
 use Rattle.use_rules.specs.Found.{noted}
 use Rattle.name_rules.proofs.labelled.note_twice_labelled.Given as goal
 

@@ -1,6 +1,6 @@
 use Rattle.std.proofs.Common.{◌≡◌, drop, map}
 use Rattle.std.specs.List.{list_any}
-use Rattle.binder.specs.Violations.{same_label}
+use Rattle.constant_values.specs.declared_names.specs.binder.specs.Violations.{same_label}
 use Rattle.name_rules.proofs.labelled.stands_among.Given as goal
 
 abbrev pub invariant-loop-other : goal.invariant-loop-other

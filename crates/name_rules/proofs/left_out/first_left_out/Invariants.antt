@@ -1,11 +1,11 @@
 use Rattle.std.proofs.Common.{◌≡◌, drop, map}
 use Rattle.vba_module.specs.Verdict.{broken}
-use Rattle.binder.specs.LeftOut.{left_out_in}
-use Rattle.binder.specs.Names.{scope_of}
-use Rattle.binder.specs.Scopes as plain
-use Rattle.binder.specs.Violations.{first_broken}
-use Rattle.declared_names.specs.Outside.{the_outside}
-use Rattle.declared_names.specs.View.{space_view}
+use Rattle.constant_values.specs.declared_names.specs.binder.specs.LeftOut.{left_out_in}
+use Rattle.constant_values.specs.declared_names.specs.binder.specs.Names.{scope_of}
+use Rattle.constant_values.specs.declared_names.specs.binder.specs.Scopes as plain
+use Rattle.constant_values.specs.declared_names.specs.binder.specs.Violations.{first_broken}
+use Rattle.constant_values.specs.declared_names.specs.Outside.{the_outside}
+use Rattle.constant_values.specs.declared_names.specs.View.{space_view}
 use Rattle.name_rules.proofs.left_out.first_left_out.Given as goal
 
 abbrev pub invariant-loop-space : goal.invariant-loop-space

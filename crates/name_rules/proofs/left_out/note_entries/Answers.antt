@@ -1,5 +1,5 @@
-use Rattle.binder.specs.LeftOut.{entry_left_out}
-use Rattle.declared_names.specs.View.{entry_view, scope_view}
+use Rattle.constant_values.specs.declared_names.specs.binder.specs.LeftOut.{entry_left_out}
+use Rattle.constant_values.specs.declared_names.specs.View.{entry_view, scope_view}
 use Rattle.name_rules.proofs.Gathered.{item_noted}
 use Rattle.name_rules.proofs.left_out.note_entries.Goals as goal
 

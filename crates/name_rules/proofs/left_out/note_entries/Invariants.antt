@@ -1,7 +1,7 @@
 use Rattle.std.proofs.Common.{◌≡◌, drop, map}
 use Rattle.std.specs.Prelude.{flat_map}
-use Rattle.binder.specs.LeftOut.{entry_left_out}
-use Rattle.declared_names.specs.View.{entry_view, scope_view}
+use Rattle.constant_values.specs.declared_names.specs.binder.specs.LeftOut.{entry_left_out}
+use Rattle.constant_values.specs.declared_names.specs.View.{entry_view, scope_view}
 use Rattle.use_rules.specs.Found.{noted}
 use Rattle.name_rules.proofs.left_out.note_entries.Given as goal
 

@@ -1,6 +1,6 @@
 use Rattle.std.proofs.Common.{◌≡◌, ◌++◌, ap, ◌∙◌}
-use Rattle.binder.specs.Said.{entry_said}
-use Rattle.declared_names.specs.View.{scope_view, what_view}
+use Rattle.constant_values.specs.declared_names.specs.binder.specs.Said.{entry_said}
+use Rattle.constant_values.specs.declared_names.specs.View.{scope_view, what_view}
 use Rattle.said_parts.specs.View.{all_said}
 use Rattle.name_rules.proofs.LeftOut.{entry_ended}
 use Rattle.name_rules.proofs.left_out.note_entry.Goals as goal

@@ -1,4 +1,4 @@
-use Rattle.declared_names.specs.View.{scope_view}
+use Rattle.constant_values.specs.declared_names.specs.View.{scope_view}
 use Rattle.name_rules.proofs.LeftOut.{module_noted}
 use Rattle.name_rules.proofs.left_out.note_module.Goals as goal
 

@@ -1,7 +1,7 @@
 use Rattle.std.proofs.Common.{ap, ◌∙◌}
-use Rattle.binder.specs.LeftOut.{procedure_left_out}
-use Rattle.binder.specs.Scopes.{Scope}
-use Rattle.declared_names.specs.View.{written_view}
+use Rattle.constant_values.specs.declared_names.specs.binder.specs.LeftOut.{procedure_left_out}
+use Rattle.constant_values.specs.declared_names.specs.binder.specs.Scopes.{Scope}
+use Rattle.constant_values.specs.declared_names.specs.View.{written_view}
 use Rattle.use_rules.specs.Found.{noted}
 use Rattle.name_rules.proofs.left_out.note_procedure.Goals as goal
 

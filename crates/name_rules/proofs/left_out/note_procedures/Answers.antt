@@ -1,7 +1,7 @@
-use Rattle.binder.specs.Declarations.{Written}
-use Rattle.binder.specs.LeftOut.{procedure_left_out}
-use Rattle.binder.specs.Names.{scope_in}
-use Rattle.declared_names.specs.View.{scope_view}
+use Rattle.constant_values.specs.declared_names.specs.binder.specs.Declarations.{Written}
+use Rattle.constant_values.specs.declared_names.specs.binder.specs.LeftOut.{procedure_left_out}
+use Rattle.constant_values.specs.declared_names.specs.binder.specs.Names.{scope_in}
+use Rattle.constant_values.specs.declared_names.specs.View.{scope_view}
 use Rattle.name_rules.proofs.Gathered.{procedure_noted}
 use Rattle.name_rules.proofs.left_out.note_procedures.Goals as goal
 

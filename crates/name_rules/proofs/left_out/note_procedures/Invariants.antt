@@ -1,10 +1,10 @@
 use Rattle.std.proofs.Common.{◌≡◌, drop, map}
 use Rattle.std.specs.Prelude.{flat_map}
-use Rattle.binder.specs.Declarations.{Written}
-use Rattle.binder.specs.LeftOut.{procedure_left_out}
-use Rattle.binder.specs.Names.{scope_in}
-use Rattle.binder.specs.Violations.{procedures_in}
-use Rattle.declared_names.specs.View.{entry_view, scope_view}
+use Rattle.constant_values.specs.declared_names.specs.binder.specs.Declarations.{Written}
+use Rattle.constant_values.specs.declared_names.specs.binder.specs.LeftOut.{procedure_left_out}
+use Rattle.constant_values.specs.declared_names.specs.binder.specs.Names.{scope_in}
+use Rattle.constant_values.specs.declared_names.specs.binder.specs.Violations.{procedures_in}
+use Rattle.constant_values.specs.declared_names.specs.View.{entry_view, scope_view}
 use Rattle.use_rules.specs.Found.{noted}
 use Rattle.name_rules.proofs.left_out.note_procedures.Given as goal
 

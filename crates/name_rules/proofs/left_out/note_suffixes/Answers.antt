@@ -1,6 +1,6 @@
 use Rattle.std.proofs.Common.{Bor}
 use Rattle.vba_words.specs.declared.identifier.Identifier.{Identifier}
-use Rattle.binder.specs.LeftOut.{suffix_left_out}
+use Rattle.constant_values.specs.declared_names.specs.binder.specs.LeftOut.{suffix_left_out}
 use Rattle.name_rules.proofs.Gathered.{item_noted}
 use Rattle.name_rules.proofs.left_out.note_suffixes.Goals as goal
 

@@ -1,6 +1,6 @@
 use Rattle.std.proofs.Common.{◌≡◌, drop, map}
 use Rattle.std.specs.Prelude.{flat_map}
-use Rattle.binder.specs.LeftOut.{suffix_left_out}
+use Rattle.constant_values.specs.declared_names.specs.binder.specs.LeftOut.{suffix_left_out}
 use Rattle.use_rules.specs.Found.{noted}
 use Rattle.name_rules.proofs.left_out.note_suffixes.Given as goal
 

@@ -1,5 +1,5 @@
 use Rattle.std.proofs.Common.{◌≡◌, ◌++◌, drop, map}
-use Rattle.binder.specs.Declarations.{FieldWritten}
+use Rattle.constant_values.specs.declared_names.specs.binder.specs.Declarations.{FieldWritten}
 use Rattle.said_parts.specs.View.{field_view}
 use Rattle.name_rules.proofs.names_of.names_of_fields.Given as goal
 

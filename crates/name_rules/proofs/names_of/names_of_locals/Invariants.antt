@@ -1,6 +1,6 @@
 use Rattle.std.proofs.Common.{◌≡◌, ◌++◌, drop, map}
-use Rattle.binder.specs.Declarations.{Local}
-use Rattle.declared_names.specs.View.{local_view}
+use Rattle.constant_values.specs.declared_names.specs.binder.specs.Declarations.{Local}
+use Rattle.constant_values.specs.declared_names.specs.View.{local_view}
 use Rattle.name_rules.proofs.names_of.names_of_locals.Given as goal
 
 abbrev pub invariant-loop-local : goal.invariant-loop-local

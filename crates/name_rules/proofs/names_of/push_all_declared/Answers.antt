@@ -1,6 +1,6 @@
 use Rattle.std.proofs.Common.{Bor, map}
 use Rattle.vba_words.specs.declared.identifier.Identifier.{Identifier}
-use Rattle.binder.specs.Declarations.{Local}
+use Rattle.constant_values.specs.declared_names.specs.binder.specs.Declarations.{Local}
 use Rattle.said_parts.specs.View.{all_said, said_view}
 use Rattle.name_rules.specs.Naming.{declared_in}
 use Rattle.name_rules.proofs.DeclaredHere.{named_append}

@@ -1,5 +1,5 @@
 use Rattle.std.proofs.Common.{◌≡◌, ◌++◌, drop, map}
-use Rattle.binder.specs.Declarations.{Local}
+use Rattle.constant_values.specs.declared_names.specs.binder.specs.Declarations.{Local}
 use Rattle.name_rules.specs.Naming.{declared_in}
 use Rattle.said_parts.specs.View.{all_said}
 use Rattle.name_rules.proofs.names_of.push_all_declared.Given as goal

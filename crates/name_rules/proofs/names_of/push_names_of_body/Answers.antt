@@ -1,9 +1,9 @@
 use Rattle.std.proofs.Common.{Bor, map}
 use Rattle.std.specs.Prelude.{flat_map}
 use Rattle.vba_words.specs.declared.identifier.Identifier.{Identifier}
-use Rattle.binder.specs.Declarations.{Local}
-use Rattle.binder.specs.Said.{said_in_part}
-use Rattle.module_parts.specs.View.{part_view, parts_view}
+use Rattle.constant_values.specs.declared_names.specs.binder.specs.Declarations.{Local}
+use Rattle.constant_values.specs.declared_names.specs.binder.specs.Said.{said_in_part}
+use Rattle.constant_values.specs.declared_names.specs.module_parts.specs.View.{part_view, parts_view}
 use Rattle.name_rules.specs.Naming.{declared_in}
 use Rattle.name_rules.proofs.DeclaredHere.{named_append}
 use Rattle.name_rules.proofs.Gathered.{collected_all}

@@ -1,8 +1,8 @@
 use Rattle.std.proofs.Common.{◌≡◌, ◌++◌, drop, map}
 use Rattle.std.specs.Prelude.{flat_map}
-use Rattle.binder.specs.Declarations.{Local}
-use Rattle.binder.specs.Said.{said_in_part}
-use Rattle.module_parts.specs.View.{parts_view}
+use Rattle.constant_values.specs.declared_names.specs.binder.specs.Declarations.{Local}
+use Rattle.constant_values.specs.declared_names.specs.binder.specs.Said.{said_in_part}
+use Rattle.constant_values.specs.declared_names.specs.module_parts.specs.View.{parts_view}
 use Rattle.name_rules.specs.Naming.{declared_in}
 use Rattle.name_rules.proofs.names_of.push_names_of_body.Given as goal
 

@@ -1,9 +1,9 @@
 use Rattle.std.proofs.Common.{◌≡◌, ◌++◌, ap, ◌∙◌, rules}
 use Rattle.std.specs.Prelude.{is_some}
-use Rattle.binder.specs.Said.{header_said}
-use Rattle.binder.specs.Violations.{types_said}
-use Rattle.declared_names.specs.View.{scope_view, written_view}
-use Rattle.module_parts.specs.View.{parts_view}
+use Rattle.constant_values.specs.declared_names.specs.binder.specs.Said.{header_said}
+use Rattle.constant_values.specs.declared_names.specs.binder.specs.Violations.{types_said}
+use Rattle.constant_values.specs.declared_names.specs.View.{scope_view, written_view}
+use Rattle.constant_values.specs.declared_names.specs.module_parts.specs.View.{parts_view}
 use Rattle.said_parts.specs.View.{all_said}
 use Rattle.name_rules.proofs.Inside.{inside_noted}
 use Rattle.name_rules.proofs.procedures.note_inside.Goals as goal

@@ -1,8 +1,8 @@
 use Rattle.std.proofs.Common.{sym, ap, ◌∙◌}
-use Rattle.binder.specs.Names.{scope_in}
-use Rattle.binder.specs.Scopes.{Scope}
-use Rattle.binder.specs.Violations.{in_body, names_said, types_said}
-use Rattle.declared_names.specs.View.{scope_view, written_view}
+use Rattle.constant_values.specs.declared_names.specs.binder.specs.Names.{scope_in}
+use Rattle.constant_values.specs.declared_names.specs.binder.specs.Scopes.{Scope}
+use Rattle.constant_values.specs.declared_names.specs.binder.specs.Violations.{in_body, names_said, types_said}
+use Rattle.constant_values.specs.declared_names.specs.View.{scope_view, written_view}
 use Rattle.use_rules.specs.Found.{noted}
 use Rattle.name_rules.proofs.DeclaredHere.{procedure_named}
 use Rattle.name_rules.proofs.procedures.note_procedure.Goals as goal

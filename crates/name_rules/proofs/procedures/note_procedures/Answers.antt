@@ -1,10 +1,10 @@
 use Rattle.std.proofs.Common.{[]}
 use Rattle.std.specs.Prelude.{flat_map}
-use Rattle.binder.specs.Declarations.{Written}
-use Rattle.binder.specs.Names.{scope_in}
-use Rattle.binder.specs.Said.{said_in_body}
-use Rattle.binder.specs.Violations.{in_body, label_said, labels_in, later, names_said, place_of_label, procedure_faults, same_label, twice_in_procedure, types_said}
-use Rattle.declared_names.specs.View.{scope_view}
+use Rattle.constant_values.specs.declared_names.specs.binder.specs.Declarations.{Written}
+use Rattle.constant_values.specs.declared_names.specs.binder.specs.Names.{scope_in}
+use Rattle.constant_values.specs.declared_names.specs.binder.specs.Said.{said_in_body}
+use Rattle.constant_values.specs.declared_names.specs.binder.specs.Violations.{in_body, label_said, labels_in, later, names_said, place_of_label, procedure_faults, same_label, twice_in_procedure, types_said}
+use Rattle.constant_values.specs.declared_names.specs.View.{scope_view}
 use Rattle.name_rules.proofs.Gathered.{procedure_noted}
 use Rattle.name_rules.proofs.procedures.note_procedures.Goals as goal
 

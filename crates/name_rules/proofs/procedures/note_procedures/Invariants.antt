@@ -1,10 +1,10 @@
 use Rattle.std.proofs.Common.{◌≡◌, [], drop, map}
 use Rattle.std.specs.Prelude.{flat_map}
-use Rattle.binder.specs.Declarations.{Written}
-use Rattle.binder.specs.Names.{scope_in}
-use Rattle.binder.specs.Said.{said_in_body}
-use Rattle.binder.specs.Violations.{in_body, label_said, labels_in, later, names_said, place_of_label, procedure_faults, procedures_in, same_label, twice_in_procedure, types_said}
-use Rattle.declared_names.specs.View.{entry_view, scope_view}
+use Rattle.constant_values.specs.declared_names.specs.binder.specs.Declarations.{Written}
+use Rattle.constant_values.specs.declared_names.specs.binder.specs.Names.{scope_in}
+use Rattle.constant_values.specs.declared_names.specs.binder.specs.Said.{said_in_body}
+use Rattle.constant_values.specs.declared_names.specs.binder.specs.Violations.{in_body, label_said, labels_in, later, names_said, place_of_label, procedure_faults, procedures_in, same_label, twice_in_procedure, types_said}
+use Rattle.constant_values.specs.declared_names.specs.View.{entry_view, scope_view}
 use Rattle.use_rules.specs.Found.{noted}
 use Rattle.name_rules.proofs.procedures.note_procedures.Given as goal
 

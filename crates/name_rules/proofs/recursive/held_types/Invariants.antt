@@ -1,7 +1,7 @@
 use Rattle.std.proofs.Common.{◌≡◌, ◌+◌, [], ◌++◌, length, drop, take, map}
-use Rattle.binder.specs.Violations as violations
-use Rattle.declared_names.specs.Outside.{the_outside}
-use Rattle.declared_names.specs.View.{space_view}
+use Rattle.constant_values.specs.declared_names.specs.binder.specs.Violations as violations
+use Rattle.constant_values.specs.declared_names.specs.Outside.{the_outside}
+use Rattle.constant_values.specs.declared_names.specs.View.{space_view}
 use Rattle.name_rules.proofs.recursive.held_types.Given as goal
 
 abbrev pub invariant-loop-space : goal.invariant-loop-space

@@ -1,6 +1,6 @@
 use Rattle.std.proofs.Common.{◌≡◌, ◌+◌, [], ◌++◌, length, drop, take, map}
-use Rattle.binder.specs.Violations as violations
-use Rattle.declared_names.specs.View.{entry_view}
+use Rattle.constant_values.specs.declared_names.specs.binder.specs.Violations as violations
+use Rattle.constant_values.specs.declared_names.specs.View.{entry_view}
 use Rattle.use_rules.specs.Found.{noted}
 use Rattle.name_rules.proofs.recursive.note_recursive.Given as goal
 

@@ -1,7 +1,7 @@
 use Rattle.std.proofs.Common.{[], ◌∷◌, map}
-use Rattle.binder.specs.Declarations as plain
-use Rattle.binder.specs.Violations as violations
-use Rattle.declared_names.specs.View.{entry_view, scope_view}
+use Rattle.constant_values.specs.declared_names.specs.binder.specs.Declarations as plain
+use Rattle.constant_values.specs.declared_names.specs.binder.specs.Violations as violations
+use Rattle.constant_values.specs.declared_names.specs.View.{entry_view, scope_view}
 use Rattle.name_rules.proofs.Gathered.{collected}
 use Rattle.name_rules.proofs.TypesHeld.{types_split}
 use Rattle.name_rules.proofs.recursive.push_types_of.Goals as goal

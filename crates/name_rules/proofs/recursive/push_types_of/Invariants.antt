@@ -1,6 +1,6 @@
 use Rattle.std.proofs.Common.{◌≡◌, ◌+◌, [], ◌++◌, length, drop, take, map}
-use Rattle.binder.specs.Violations as violations
-use Rattle.declared_names.specs.View.{entry_view, scope_view}
+use Rattle.constant_values.specs.declared_names.specs.binder.specs.Violations as violations
+use Rattle.constant_values.specs.declared_names.specs.View.{entry_view, scope_view}
 use Rattle.name_rules.proofs.recursive.push_types_of.Given as goal
 
 abbrev pub invariant-loop-entry : goal.invariant-loop-entry

@@ -1,6 +1,6 @@
 use Rattle.std.proofs.Common.{◌≡◌, drop, map}
-use Rattle.binder.specs.Violations.{class_has_events}
-use Rattle.declared_names.specs.View.{space_view}
+use Rattle.constant_values.specs.declared_names.specs.binder.specs.Violations.{class_has_events}
+use Rattle.constant_values.specs.declared_names.specs.View.{space_view}
 use Rattle.name_rules.proofs.sources.class_has_events.Given as goal
 
 abbrev pub invariant-loop-space : goal.invariant-loop-space

@@ -1,8 +1,8 @@
 use Rattle.std.proofs.Common.{◌≡◌, drop, map}
 use Rattle.std.specs.List.{list_any}
-use Rattle.binder.specs.Declarations.{Entry}
-use Rattle.binder.specs.Violations.{is_event_entry}
-use Rattle.declared_names.specs.View.{entry_view}
+use Rattle.constant_values.specs.declared_names.specs.binder.specs.Declarations.{Entry}
+use Rattle.constant_values.specs.declared_names.specs.binder.specs.Violations.{is_event_entry}
+use Rattle.constant_values.specs.declared_names.specs.View.{entry_view}
 use Rattle.name_rules.proofs.sources.has_event.Given as goal
 
 abbrev pub invariant-loop-entry : goal.invariant-loop-entry

@@ -1,5 +1,5 @@
-use Rattle.binder.specs.Violations.{entry_sources}
-use Rattle.declared_names.specs.View.{entry_view, scope_view}
+use Rattle.constant_values.specs.declared_names.specs.binder.specs.Violations.{entry_sources}
+use Rattle.constant_values.specs.declared_names.specs.View.{entry_view, scope_view}
 use Rattle.name_rules.proofs.Gathered.{item_noted}
 use Rattle.name_rules.proofs.sources.note_sources.Goals as goal
 

@@ -1,7 +1,7 @@
 use Rattle.std.proofs.Common.{◌≡◌, drop, map}
 use Rattle.std.specs.List.{list_any}
-use Rattle.binder.specs.Violations.{clashes}
-use Rattle.declared_names.specs.View.{entry_view}
+use Rattle.constant_values.specs.declared_names.specs.binder.specs.Violations.{clashes}
+use Rattle.constant_values.specs.declared_names.specs.View.{entry_view}
 use Rattle.name_rules.proofs.twice.clashes_among.Given as goal
 
 abbrev pub invariant-loop-other : goal.invariant-loop-other

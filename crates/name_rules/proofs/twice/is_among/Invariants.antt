@@ -1,6 +1,6 @@
 use Rattle.std.proofs.Common.{◌≡◌, drop, map}
 use Rattle.std.specs.List.{list_any}
-use Rattle.binder.specs.Violations.{same_name}
+use Rattle.constant_values.specs.declared_names.specs.binder.specs.Violations.{same_name}
 use Rattle.name_rules.proofs.twice.is_among.Given as goal
 
 abbrev pub invariant-loop-other : goal.invariant-loop-other

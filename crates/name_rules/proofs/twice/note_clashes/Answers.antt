@@ -1,8 +1,8 @@
 use Rattle.std.proofs.Common.{ap, ◌∙◌}
 use Rattle.vba_module.specs.Misplaced.{place_if}
-use Rattle.binder.specs.Declarations as plain
-use Rattle.binder.specs.Violations.{clashes, place_of_name}
-use Rattle.declared_names.specs.View.{entry_view}
+use Rattle.constant_values.specs.declared_names.specs.binder.specs.Declarations as plain
+use Rattle.constant_values.specs.declared_names.specs.binder.specs.Violations.{clashes, place_of_name}
+use Rattle.constant_values.specs.declared_names.specs.View.{entry_view}
 use Rattle.use_rules.specs.Found.{noted}
 use Rattle.name_rules.proofs.Later.{later_noted}
 use Rattle.name_rules.proofs.twice.note_clashes.Goals as goal

@@ -1,7 +1,7 @@
 use Rattle.std.proofs.Common.{◌≡◌, [], drop, take, map, reverse}
-use Rattle.binder.specs.Violations.{later, clashes, place_of_name}
-use Rattle.binder.specs.Declarations.{Entry}
-use Rattle.declared_names.specs.View.{entry_view}
+use Rattle.constant_values.specs.declared_names.specs.binder.specs.Violations.{later, clashes, place_of_name}
+use Rattle.constant_values.specs.declared_names.specs.binder.specs.Declarations.{Entry}
+use Rattle.constant_values.specs.declared_names.specs.View.{entry_view}
 use Rattle.use_rules.specs.Found.{noted}
 use Rattle.name_rules.proofs.twice.note_clashes.Given as goal
 

@@ -1,7 +1,7 @@
 use Rattle.std.proofs.Common.{Bor, ap, ◌∙◌}
 use Rattle.vba_words.specs.declared.identifier.Identifier.{Identifier}
 use Rattle.vba_module.specs.Misplaced.{place_if}
-use Rattle.binder.specs.Violations.{place_of_name, same_name}
+use Rattle.constant_values.specs.declared_names.specs.binder.specs.Violations.{place_of_name, same_name}
 use Rattle.use_rules.specs.Found.{noted}
 use Rattle.name_rules.proofs.Later.{later_noted}
 use Rattle.name_rules.proofs.twice.note_twice.Goals as goal

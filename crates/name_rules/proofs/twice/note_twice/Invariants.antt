@@ -1,5 +1,5 @@
 use Rattle.std.proofs.Common.{◌≡◌, [], drop, take, map, reverse}
-use Rattle.binder.specs.Violations.{later, same_name, place_of_name}
+use Rattle.constant_values.specs.declared_names.specs.binder.specs.Violations.{later, same_name, place_of_name}
 use Rattle.use_rules.specs.Found.{noted}
 use Rattle.name_rules.proofs.twice.note_twice.Given as goal
 

@@ -21,7 +21,7 @@ returns c =
     let m = memory_view old.memory in
     let o = c.args.object in
     let after = after_view c.args.after in
-    let last : is_last m o ≡ true = sym c.in_ok-last.ensures ∙ c.if-not-last.false in
+    let last : is_last m o ≡ true = sym c.is_last-last.ensures ∙ c.if-not-last.false in
     let room : nat_lt old.begun c.args.turns ≡ true = lt-ltb old.begun c.args.turns c.if-machine-turns.false in
     carried c.args.turns
     (lets_one_by looking code o c.args.count after (backs_view old.backs) (state_view old))

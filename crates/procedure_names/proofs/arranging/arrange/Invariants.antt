@@ -1,6 +1,6 @@
 use Rattle.std.proofs.Common.{◌≡◌, [], ◌++◌, drop, map}
 use Rattle.std.specs.Prelude.{reverse}
-use Rattle.binder.specs.Names.{arranged}
+use Rattle.declared_names.specs.binder.specs.Names.{arranged}
 use Rattle.declared_names.specs.View.{local_view, scope_view}
 use Rattle.procedure_names.specs.Added.{known_in}
 use Rattle.procedure_names.specs.Using.{using_view}

@@ -1,5 +1,5 @@
 use Rattle.std.proofs.Common.{◌≡◌, drop, map}
-use Rattle.binder.specs.Names.{has_name}
+use Rattle.declared_names.specs.binder.specs.Names.{has_name}
 use Rattle.declared_names.specs.View.{local_view}
 use Rattle.procedure_names.proofs.arranging.has_name.Given as goal
 

@@ -1,5 +1,5 @@
 use Rattle.std.proofs.Common.{◌≡◌, drop, map}
-use Rattle.binder.specs.Names.{has_redim}
+use Rattle.declared_names.specs.binder.specs.Names.{has_redim}
 use Rattle.procedure_names.specs.Using.{using_view}
 use Rattle.procedure_names.proofs.arranging.has_redim.Given as goal
 

@@ -1,5 +1,5 @@
 use Rattle.std.proofs.Common.{◌≡◌, ◌++◌, drop, map}
-use Rattle.binder.specs.Names.{declared_here}
+use Rattle.declared_names.specs.binder.specs.Names.{declared_here}
 use Rattle.declared_names.specs.View.{local_view}
 use Rattle.procedure_names.specs.Using.{using_view}
 use Rattle.procedure_names.proofs.arranging.push_declared.Given as goal

@@ -1,7 +1,7 @@
 use Rattle.std.proofs.Common.{◌≡◌, ◌++◌, drop}
 use Rattle.std.specs.Prelude.{flat_map}
-use Rattle.module_parts.specs.View.{parts_view}
-use Rattle.binder.specs.Said.{said_in_part}
+use Rattle.declared_names.specs.module_parts.specs.View.{parts_view}
+use Rattle.declared_names.specs.binder.specs.Said.{said_in_part}
 use Rattle.said_parts.specs.View.{all_said}
 use Rattle.procedure_names.proofs.body.said_in.Given as goal
 

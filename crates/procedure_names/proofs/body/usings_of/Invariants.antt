@@ -1,6 +1,6 @@
 use Rattle.std.proofs.Common.{◌≡◌, ◌++◌, drop, map}
 use Rattle.std.specs.Prelude.{flat_map}
-use Rattle.binder.specs.Names.{usings}
+use Rattle.declared_names.specs.binder.specs.Names.{usings}
 use Rattle.said_parts.specs.View.{all_said}
 use Rattle.procedure_names.specs.Using.{using_view}
 use Rattle.procedure_names.proofs.body.usings_of.Given as goal

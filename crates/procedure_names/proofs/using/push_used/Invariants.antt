@@ -1,5 +1,5 @@
 use Rattle.std.proofs.Common.{◌≡◌, ◌++◌, drop, map}
-use Rattle.binder.specs.Names.{uses_of}
+use Rattle.declared_names.specs.binder.specs.Names.{uses_of}
 use Rattle.procedure_names.specs.Used.{used_view}
 use Rattle.procedure_names.specs.Using.{using_view}
 use Rattle.procedure_names.proofs.using.push_used.Given as goal

@@ -1,6 +1,6 @@
 use Rattle.std.proofs.Common.{◌≡◌, map, drop}
-use Rattle.bound_declarations.specs.binder.specs.ClassTables.{is_among}
-use Rattle.bound_declarations.specs.declared_names.specs.View.{entry_view}
+use Rattle.bound_declarations.specs.constant_values.specs.declared_names.specs.binder.specs.ClassTables.{is_among}
+use Rattle.bound_declarations.specs.constant_values.specs.declared_names.specs.View.{entry_view}
 use Rattle.project_tables.proofs.class_tables.is_among.Given as goal
 
 abbrev pub invariant-loop-entry : goal.invariant-loop-entry

@@ -1,7 +1,7 @@
 use Rattle.std.proofs.Common.{◌≡◌, ◌++◌, map, drop}
-use Rattle.bound_declarations.specs.binder.specs.ClassTables.{public_members}
-use Rattle.bound_declarations.specs.bound_project.specs.View.{named_view}
-use Rattle.bound_declarations.specs.declared_names.specs.View.{entry_view, scope_view}
+use Rattle.bound_declarations.specs.constant_values.specs.declared_names.specs.binder.specs.ClassTables.{public_members}
+use Rattle.bound_project.specs.View.{named_view}
+use Rattle.bound_declarations.specs.constant_values.specs.declared_names.specs.View.{entry_view, scope_view}
 use Rattle.project_tables.proofs.class_tables.public_members.Given as goal
 
 abbrev pub invariant-loop-number : goal.invariant-loop-number

@@ -1,6 +1,6 @@
 use Rattle.std.proofs.Common.{◌≡◌, ℕ, ◌+◌, IfOk, length, subst}
-use Rattle.bound_declarations.specs.binder.specs.Storage.{shared_of}
-use Rattle.bound_declarations.specs.declared_names.specs.View.{scope_view}
+use Rattle.bound_declarations.specs.constant_values.specs.declared_names.specs.binder.specs.Storage.{shared_of}
+use Rattle.bound_declarations.specs.constant_values.specs.declared_names.specs.View.{scope_view}
 use Rattle.project_tables.proofs.Counts.{shared_length}
 use Rattle.project_tables.proofs.counting.shared_count.Goals as goal
 

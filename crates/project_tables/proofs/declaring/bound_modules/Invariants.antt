@@ -1,7 +1,7 @@
 use Rattle.std.proofs.Common.{◌≡◌, ◌++◌, map, drop}
-use Rattle.bound_declarations.specs.binder.specs.Projects.{bound_module}
-use Rattle.bound_declarations.specs.bound_project.specs.View.{module_view}
-use Rattle.bound_declarations.specs.declared_names.specs.View.{space_view}
+use Rattle.bound_declarations.specs.constant_values.specs.declared_names.specs.binder.specs.Projects.{bound_module}
+use Rattle.bound_project.specs.View.{module_view}
+use Rattle.bound_declarations.specs.constant_values.specs.declared_names.specs.View.{space_view}
 use Rattle.project_tables.proofs.declaring.bound_modules.Given as goal
 
 abbrev pub invariant-loop-space : goal.invariant-loop-space

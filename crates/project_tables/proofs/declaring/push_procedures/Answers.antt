@@ -1,7 +1,7 @@
 use Rattle.std.proofs.Common.{◌≡◌, List, [], ◌++◌, map, sym, ap, ◌∙◌, drop, append-nil, arith}
 use Rattle.std.proofs.lemmas.List.{drop_all}
-use Rattle.bound_declarations.specs.bound_project.specs.Project.{Procedure}
-use Rattle.bound_declarations.specs.bound_project.specs.View.{procedure_view}
+use Rattle.bound_project.specs.Project.{Procedure}
+use Rattle.bound_project.specs.View.{procedure_view}
 use Rattle.project_tables.specs.declared.rows.ProcedureRow.{ProcedureRow}
 use Rattle.project_tables.specs.Rows.{row_view}
 use Rattle.project_tables.specs.Steps.{module_scope, procedure_of}

@@ -1,6 +1,6 @@
 use Rattle.std.proofs.Common.{◌≡◌, ◌++◌, map, drop}
-use Rattle.bound_declarations.specs.bound_project.specs.View.{procedure_view}
-use Rattle.bound_declarations.specs.declared_names.specs.View.{scope_view}
+use Rattle.bound_project.specs.View.{procedure_view}
+use Rattle.bound_declarations.specs.constant_values.specs.declared_names.specs.View.{scope_view}
 use Rattle.project_tables.specs.Rows.{row_view}
 use Rattle.project_tables.specs.Steps.{HaveOwnValues, procedure_of}
 use Rattle.project_tables.proofs.declaring.push_procedures.Given as goal

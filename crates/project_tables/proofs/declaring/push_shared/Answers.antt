@@ -1,7 +1,7 @@
 use Rattle.std.proofs.Common.{List, [], ◌++◌, map, ap, ◌∙◌, if◌then◌else◌, append_assoc}
-use Rattle.bound_declarations.specs.bound_project.specs.Project.{Declaration}
-use Rattle.bound_declarations.specs.bound_project.specs.View.{declaration_view}
-use Rattle.bound_declarations.specs.binder.specs.Storage.{module_declarations}
+use Rattle.bound_project.specs.Project.{Declaration}
+use Rattle.bound_project.specs.View.{declaration_view}
+use Rattle.bound_declarations.specs.constant_values.specs.declared_names.specs.binder.specs.Storage.{module_declarations}
 use Rattle.project_tables.specs.Rows.{row_view}
 use Rattle.project_tables.specs.Steps.{module_scope, statics_in}
 use Rattle.project_tables.proofs.Shared.{shared_is}

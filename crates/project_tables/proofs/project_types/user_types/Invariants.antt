@@ -1,7 +1,7 @@
 use Rattle.std.proofs.Common.{◌≡◌, ◌++◌, map, drop}
-use Rattle.bound_declarations.specs.binder.specs.Storage.{types_from}
-use Rattle.bound_declarations.specs.bound_project.specs.View.{user_type_view}
-use Rattle.bound_declarations.specs.declared_names.specs.View.{space_view}
+use Rattle.bound_declarations.specs.constant_values.specs.declared_names.specs.binder.specs.Storage.{types_from}
+use Rattle.bound_project.specs.View.{user_type_view}
+use Rattle.bound_declarations.specs.constant_values.specs.declared_names.specs.View.{space_view}
 use Rattle.project_tables.specs.Signed.{whole_scope}
 use Rattle.project_tables.proofs.project_types.user_types.Given as goal
 

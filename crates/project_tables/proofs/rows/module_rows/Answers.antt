@@ -1,9 +1,9 @@
 use Rattle.std.proofs.Common.{◌≡◌, ℕ, ◌+◌, List, [], ◌++◌, map, sym, ap, ◌∙◌, drop, length, append-nil, arith}
 use Rattle.std.proofs.lemmas.List.{drop_all}
-use Rattle.bound_declarations.specs.binder.specs.Projects.{numbered}
-use Rattle.bound_declarations.specs.binder.specs.Storage.{shared_before}
-use Rattle.bound_declarations.specs.declared_names.specs.View.{entry_view, scope_view}
-use Rattle.bound_declarations.specs.declared_names.specs.declared.entry.Entry.{Entry as EntryHere}
+use Rattle.bound_declarations.specs.constant_values.specs.declared_names.specs.binder.specs.Projects.{numbered}
+use Rattle.bound_declarations.specs.constant_values.specs.declared_names.specs.binder.specs.Storage.{shared_before}
+use Rattle.bound_declarations.specs.constant_values.specs.declared_names.specs.View.{entry_view, scope_view}
+use Rattle.bound_declarations.specs.constant_values.specs.declared_names.specs.declared.entry.Entry.{Entry as EntryHere}
 use Rattle.project_tables.specs.Rows.{Row, row_view}
 use Rattle.project_tables.specs.Steps.{own_variables, rows_from}
 use Rattle.project_tables.proofs.Steps.{module_rows_are}

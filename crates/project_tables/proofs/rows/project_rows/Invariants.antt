@@ -1,6 +1,6 @@
 use Rattle.std.proofs.Common.{◌≡◌, map, take, length}
-use Rattle.bound_declarations.specs.binder.specs.Storage.{shared_from}
-use Rattle.bound_declarations.specs.declared_names.specs.View.{space_view}
+use Rattle.bound_declarations.specs.constant_values.specs.declared_names.specs.binder.specs.Storage.{shared_from}
+use Rattle.bound_declarations.specs.constant_values.specs.declared_names.specs.View.{space_view}
 use Rattle.project_tables.specs.Rows.{AreRowsFrom}
 use Rattle.project_tables.specs.Signed.{whole_scope}
 use Rattle.project_tables.specs.Steps.{row_lists}

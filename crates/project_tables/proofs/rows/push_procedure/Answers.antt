@@ -1,4 +1,4 @@
-use Rattle.bound_declarations.specs.declared_names.specs.View.{scope_view}
+use Rattle.bound_declarations.specs.constant_values.specs.declared_names.specs.View.{scope_view}
 use Rattle.project_tables.proofs.rows.push_procedure.Goals as goal
 
 pub returns-clause-values : goal.returns-clause-values

@@ -1,6 +1,6 @@
 use Rattle.std.proofs.Common.{◌≡◌, List, [], ◌++◌, map, sym, ap, ◌∙◌, drop, append-nil, arith}
 use Rattle.std.proofs.lemmas.List.{drop_all}
-use Rattle.bound_declarations.specs.declared_names.specs.View.{scope_view}
+use Rattle.bound_declarations.specs.constant_values.specs.declared_names.specs.View.{scope_view}
 use Rattle.project_tables.specs.declared.rows.ProcedureRow.{ProcedureRow}
 use Rattle.project_tables.specs.Rows.{row_view}
 use Rattle.project_tables.specs.Signed.{Signed, signed_view}

@@ -1,5 +1,5 @@
 use Rattle.std.proofs.Common.{◌≡◌, ◌++◌, map, drop}
-use Rattle.bound_declarations.specs.declared_names.specs.View.{scope_view}
+use Rattle.bound_declarations.specs.constant_values.specs.declared_names.specs.View.{scope_view}
 use Rattle.project_tables.specs.Rows.{row_view}
 use Rattle.project_tables.specs.Signed.{signed_view}
 use Rattle.project_tables.specs.Steps.{HaveOwnValues, signed_row}

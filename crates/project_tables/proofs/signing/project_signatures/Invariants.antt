@@ -1,8 +1,8 @@
 use Rattle.std.proofs.Common.{◌≡◌, ◌+◌, ◌++◌, map, drop, length}
-use Rattle.bound_declarations.specs.binder.specs.Names.{scope_of}
-use Rattle.bound_declarations.specs.binder.specs.Storage.{shared_from}
-use Rattle.bound_declarations.specs.declared_names.specs.Outside.{the_outside}
-use Rattle.bound_declarations.specs.declared_names.specs.View.{space_view}
+use Rattle.bound_declarations.specs.constant_values.specs.declared_names.specs.binder.specs.Names.{scope_of}
+use Rattle.bound_declarations.specs.constant_values.specs.declared_names.specs.binder.specs.Storage.{shared_from}
+use Rattle.bound_declarations.specs.constant_values.specs.declared_names.specs.Outside.{the_outside}
+use Rattle.bound_declarations.specs.constant_values.specs.declared_names.specs.View.{space_view}
 use Rattle.project_tables.specs.Signed.{befores, signed_in, signed_lists, whole_scope}
 use Rattle.project_tables.proofs.signing.project_signatures.Given as goal
 

@@ -1,7 +1,7 @@
 use Rattle.std.proofs.Common.{◌≡◌, length, map}
 use Rattle.std.specs.List.{list_any}
-use Rattle.bound_declarations.specs.vba_module.specs.Headers.{all_of, is_required, items_of}
-use Rattle.bound_declarations.specs.vba_tree.specs.View.{listed_view, parameter_view}
+use Rattle.vba_module.specs.Headers.{all_of, is_required, items_of}
+use Rattle.vba_tree.specs.View.{listed_view, parameter_view}
 use Rattle.project_tables.proofs.startup.requires_one.Given as goal
 
 abbrev pub invariant-parameters : goal.invariant-parameters

@@ -1,6 +1,6 @@
 use Rattle.std.proofs.Common.{◌≡◌, map, drop}
-use Rattle.bound_declarations.specs.binder.specs.Projects as projects
-use Rattle.bound_declarations.specs.declared_names.specs.View.{space_view}
+use Rattle.bound_declarations.specs.constant_values.specs.declared_names.specs.binder.specs.Projects as projects
+use Rattle.bound_declarations.specs.constant_values.specs.declared_names.specs.View.{space_view}
 use Rattle.project_tables.specs.Signed.{whole_scope}
 use Rattle.project_tables.specs.Startups.{startup_view}
 use Rattle.project_tables.proofs.startup.startup_number.Given as goal

@@ -1,9 +1,9 @@
 use Rattle.std.proofs.Common.{◌≡◌, drop, map}
-use Rattle.bound_declarations.specs.binder.specs.Names.{scope_of}
-use Rattle.bound_declarations.specs.binder.specs.Scopes as plain
-use Rattle.bound_declarations.specs.binder.specs.Violations.{first_broken}
-use Rattle.bound_declarations.specs.declared_names.specs.Outside.{the_outside}
-use Rattle.bound_declarations.specs.declared_names.specs.View.{space_view}
+use Rattle.bound_declarations.specs.constant_values.specs.declared_names.specs.binder.specs.Names.{scope_of}
+use Rattle.bound_declarations.specs.constant_values.specs.declared_names.specs.binder.specs.Scopes as plain
+use Rattle.bound_declarations.specs.constant_values.specs.declared_names.specs.binder.specs.Violations.{first_broken}
+use Rattle.bound_declarations.specs.constant_values.specs.declared_names.specs.Outside.{the_outside}
+use Rattle.bound_declarations.specs.constant_values.specs.declared_names.specs.View.{space_view}
 use Rattle.signature_rules.specs.Signatures.{signature_faults}
 use Rattle.signature_rules.proofs.first.first_signature.Given as goal
 

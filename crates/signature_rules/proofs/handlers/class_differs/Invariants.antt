@@ -1,5 +1,5 @@
 use Rattle.std.proofs.Common.{◌≡◌, drop, map}
-use Rattle.bound_declarations.specs.declared_names.specs.View.{scope_view, space_view}
+use Rattle.bound_declarations.specs.constant_values.specs.declared_names.specs.View.{scope_view, space_view}
 use Rattle.signature_rules.specs.Signatures.{class_differs}
 use Rattle.signature_rules.specs.View.{signature_view}
 use Rattle.signature_rules.proofs.handlers.class_differs.Given as goal

@@ -1,4 +1,4 @@
-use Rattle.bound_declarations.specs.declared_names.specs.View.{entry_view, scope_view}
+use Rattle.bound_declarations.specs.constant_values.specs.declared_names.specs.View.{entry_view, scope_view}
 use Rattle.signature_rules.proofs.Placed.{item_noted}
 use Rattle.signature_rules.specs.Signatures.{wrong_handler}
 use Rattle.signature_rules.proofs.handlers.note_handlers.Goals as goal

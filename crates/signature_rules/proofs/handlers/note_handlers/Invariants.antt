@@ -1,6 +1,6 @@
 use Rattle.std.proofs.Common.{◌≡◌, drop, map}
 use Rattle.std.specs.Prelude.{flat_map}
-use Rattle.bound_declarations.specs.declared_names.specs.View.{entry_view, scope_view}
+use Rattle.bound_declarations.specs.constant_values.specs.declared_names.specs.View.{entry_view, scope_view}
 use Rattle.signature_rules.specs.Signatures.{wrong_handler}
 use Rattle.use_rules.specs.Found.{noted}
 use Rattle.signature_rules.proofs.handlers.note_handlers.Given as goal

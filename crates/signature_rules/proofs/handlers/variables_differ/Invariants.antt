@@ -1,6 +1,6 @@
 use Rattle.std.proofs.Common.{◌≡◌, drop, map}
 use Rattle.std.specs.List.{list_any}
-use Rattle.bound_declarations.specs.declared_names.specs.View.{entry_view, scope_view}
+use Rattle.bound_declarations.specs.constant_values.specs.declared_names.specs.View.{entry_view, scope_view}
 use Rattle.signature_rules.specs.Signatures.{entry_differs}
 use Rattle.signature_rules.specs.View.{signature_view}
 use Rattle.signature_rules.proofs.handlers.variables_differ.Given as goal

@@ -1,6 +1,6 @@
 use Rattle.std.proofs.Common.{◌≡◌, drop, map}
 use Rattle.std.specs.List.{list_any}
-use Rattle.bound_declarations.specs.declared_names.specs.View.{entry_view, scope_view}
+use Rattle.bound_declarations.specs.constant_values.specs.declared_names.specs.View.{entry_view, scope_view}
 use Rattle.signature_rules.specs.Signatures.{differ}
 use Rattle.signature_rules.proofs.properties.differs_among.Given as goal
 

@@ -1,8 +1,8 @@
 use Rattle.std.proofs.Common.{ap, ◌∙◌}
 use Rattle.vba_module.specs.Misplaced.{place_if}
-use Rattle.bound_declarations.specs.binder.specs.Declarations as plain
-use Rattle.bound_declarations.specs.binder.specs.Violations.{place_of_name}
-use Rattle.bound_declarations.specs.declared_names.specs.View.{entry_view, scope_view}
+use Rattle.bound_declarations.specs.constant_values.specs.declared_names.specs.binder.specs.Declarations as plain
+use Rattle.bound_declarations.specs.constant_values.specs.declared_names.specs.binder.specs.Violations.{place_of_name}
+use Rattle.bound_declarations.specs.constant_values.specs.declared_names.specs.View.{entry_view, scope_view}
 use Rattle.signature_rules.specs.Signatures.{differ}
 use Rattle.use_rules.specs.Found.{noted}
 use Rattle.signature_rules.proofs.Later.{later_noted}

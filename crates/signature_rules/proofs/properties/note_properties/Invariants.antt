@@ -1,7 +1,7 @@
 use Rattle.std.proofs.Common.{◌≡◌, [], drop, take, map, reverse}
-use Rattle.bound_declarations.specs.binder.specs.Violations.{later, place_of_name}
-use Rattle.bound_declarations.specs.binder.specs.Declarations.{Entry}
-use Rattle.bound_declarations.specs.declared_names.specs.View.{entry_view, scope_view}
+use Rattle.bound_declarations.specs.constant_values.specs.declared_names.specs.binder.specs.Violations.{later, place_of_name}
+use Rattle.bound_declarations.specs.constant_values.specs.declared_names.specs.binder.specs.Declarations.{Entry}
+use Rattle.bound_declarations.specs.constant_values.specs.declared_names.specs.View.{entry_view, scope_view}
 use Rattle.signature_rules.specs.Signatures.{differ}
 use Rattle.use_rules.specs.Found.{noted}
 use Rattle.signature_rules.proofs.properties.note_properties.Given as goal

@@ -1,6 +1,6 @@
 use Rattle.std.proofs.Common.{◌≡◌, ◌++◌, length}
 use Rattle.bound_declarations.specs.Parameters.{next_items}
-use Rattle.bound_declarations.specs.declared_names.specs.View.{scope_view}
+use Rattle.bound_declarations.specs.constant_values.specs.declared_names.specs.View.{scope_view}
 use Rattle.signature_rules.specs.Signatures.{all_passed}
 use Rattle.signature_rules.specs.View.{signature_view}
 use Rattle.vba_module.specs.Headers.{all_of}

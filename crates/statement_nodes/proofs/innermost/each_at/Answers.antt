@@ -1,4 +1,4 @@
-use Rattle.module_parts.specs.View.{part_view}
+use Rattle.bound_calls.specs.bound_declarations.specs.constant_values.specs.declared_names.specs.module_parts.specs.View.{part_view}
 use Rattle.vba_tree.specs.View.{block_line_view}
 use Rattle.statement_nodes.proofs.Blocks.{each_there, no_each}
 use Rattle.statement_nodes.proofs.innermost.each_at.Goals as goal

@@ -1,5 +1,5 @@
 use Rattle.std.specs.Prelude.{option_map}
-use Rattle.module_parts.specs.View.{part_view}
+use Rattle.bound_calls.specs.bound_declarations.specs.constant_values.specs.declared_names.specs.module_parts.specs.View.{part_view}
 use Rattle.vba_expression.specs.View.{view as expression_view}
 use Rattle.vba_tree.specs.View.{block_line_view}
 use Rattle.statement_nodes.proofs.Blocks.{object_there, no_object}

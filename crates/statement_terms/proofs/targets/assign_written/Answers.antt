@@ -7,4 +7,4 @@ use Rattle.statement_terms.proofs.targets.assign_written.Goals as goal
 pub returns : goal.returns
 returns c = λ of gives known rule.
     value_assigned c.args.has_class c.args.place c.args.ending of (draft_view c.args.draft.now) (draft_view c.push_node.new.draft)
-    (no_instance c.args.has_class c.args.ending (sym c.may_be_instance.ensures ∙ c.if-may_be_instance.false)) gives known rule (sym c.if-not-has_written_default.ensures) c.in_ok-push_node.ensures
+    (no_instance c.args.has_class (draft_view c.args.draft.now).tables c.args.ending (sym c.may_be_instance.ensures ∙ c.if-may_be_instance.false)) gives known rule (sym c.if-not-has_written_default.ensures) c.in_ok-push_node.ensures

@@ -1,5 +1,5 @@
 use Rattle.std.proofs.Common.{map, refl}
-use Rattle.binder.specs.Violations.{label_said, names_said, types_said}
+use Rattle.declared_names.specs.binder.specs.Violations.{label_said, names_said, types_said}
 use Rattle.declared_names.specs.View.{scope_view}
 use Rattle.use_rules.specs.View.{kinds_stack}
 use Rattle.use_rules.specs.Walked.{is_within}

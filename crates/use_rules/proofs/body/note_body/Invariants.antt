@@ -1,9 +1,9 @@
 use Rattle.std.proofs.Common.{◌≡◌, [], drop, map}
 use Rattle.std.specs.Prelude.{flat_map}
-use Rattle.binder.specs.Said.{said_in_part}
-use Rattle.binder.specs.Violations.{label_said, names_said, types_said}
+use Rattle.declared_names.specs.binder.specs.Said.{said_in_part}
+use Rattle.declared_names.specs.binder.specs.Violations.{label_said, names_said, types_said}
 use Rattle.declared_names.specs.View.{scope_view}
-use Rattle.module_parts.specs.View.{parts_view}
+use Rattle.declared_names.specs.module_parts.specs.View.{parts_view}
 use Rattle.use_rules.specs.Found.{noted}
 use Rattle.use_rules.specs.View.{kinds_stack}
 use Rattle.use_rules.specs.Walked.{walked}

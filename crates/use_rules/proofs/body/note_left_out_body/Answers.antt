@@ -1,4 +1,4 @@
-use Rattle.binder.specs.LeftOut.{said_left_out}
+use Rattle.declared_names.specs.binder.specs.LeftOut.{said_left_out}
 use Rattle.declared_names.specs.View.{scope_view}
 use Rattle.use_rules.proofs.Standing.{more_plain}
 use Rattle.use_rules.proofs.body.note_left_out_body.Goals as goal

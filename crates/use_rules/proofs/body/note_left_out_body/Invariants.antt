@@ -1,7 +1,7 @@
 use Rattle.std.proofs.Common.{◌≡◌, [], drop}
-use Rattle.binder.specs.LeftOut.{said_left_out}
+use Rattle.declared_names.specs.binder.specs.LeftOut.{said_left_out}
 use Rattle.declared_names.specs.View.{scope_view}
-use Rattle.module_parts.specs.View.{parts_view}
+use Rattle.declared_names.specs.module_parts.specs.View.{parts_view}
 use Rattle.use_rules.specs.Found.{noted}
 use Rattle.use_rules.specs.Walked.{walked}
 use Rattle.use_rules.proofs.body.note_left_out_body.Given as goal

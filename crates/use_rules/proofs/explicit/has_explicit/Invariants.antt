@@ -1,6 +1,6 @@
 use Rattle.std.proofs.Common.{◌≡◌, drop}
-use Rattle.binder.specs.Sources as sources
-use Rattle.module_parts.specs.View.{parts_view}
+use Rattle.declared_names.specs.binder.specs.Sources as sources
+use Rattle.declared_names.specs.module_parts.specs.View.{parts_view}
 use Rattle.use_rules.proofs.explicit.has_explicit.Given as goal
 
 abbrev pub invariant-loop-part : goal.invariant-loop-part

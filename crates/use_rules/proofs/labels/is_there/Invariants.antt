@@ -1,6 +1,6 @@
 use Rattle.std.proofs.Common.{◌≡◌, drop, map}
 use Rattle.std.specs.List.{list_any}
-use Rattle.binder.specs.Violations.{same_label_name}
+use Rattle.declared_names.specs.binder.specs.Violations.{same_label_name}
 use Rattle.use_rules.proofs.labels.is_there.Given as goal
 
 abbrev pub invariant-loop-label : goal.invariant-loop-label

@@ -1,6 +1,6 @@
 use Rattle.std.proofs.Common.{◌≡◌, ◌++◌, drop, map}
-use Rattle.binder.specs.Violations.{labels_in}
-use Rattle.module_parts.specs.View.{parts_view}
+use Rattle.declared_names.specs.binder.specs.Violations.{labels_in}
+use Rattle.declared_names.specs.module_parts.specs.View.{parts_view}
 use Rattle.use_rules.proofs.labels.labels_of.Given as goal
 
 abbrev pub invariant-loop-part : goal.invariant-loop-part

@@ -1,5 +1,5 @@
 use Rattle.std.proofs.Common.{map}
-use Rattle.binder.specs.Violations.{label_said}
+use Rattle.declared_names.specs.binder.specs.Violations.{label_said}
 use Rattle.use_rules.proofs.SaidMore.{said_noted}
 use Rattle.use_rules.proofs.labels.note_all_labels.Goals as goal
 

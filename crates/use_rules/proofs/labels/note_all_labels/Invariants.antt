@@ -1,6 +1,6 @@
 use Rattle.std.proofs.Common.{◌≡◌, drop, map}
 use Rattle.std.specs.Prelude.{flat_map}
-use Rattle.binder.specs.Violations.{label_said}
+use Rattle.declared_names.specs.binder.specs.Violations.{label_said}
 use Rattle.said_parts.specs.View.{all_said}
 use Rattle.use_rules.specs.Found.{noted}
 use Rattle.use_rules.proofs.labels.note_all_labels.Given as goal

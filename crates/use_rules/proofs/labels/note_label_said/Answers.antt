@@ -1,6 +1,6 @@
 use Rattle.std.proofs.Common.{map, sym, ap, ◌∙◌}
 use Rattle.std.specs.Prelude.{flat_map}
-use Rattle.binder.specs.Violations.{label_said}
+use Rattle.declared_names.specs.binder.specs.Violations.{label_said}
 use Rattle.said_parts.specs.View.{said_view}
 use Rattle.use_rules.specs.Found.{noted}
 use Rattle.use_rules.proofs.SaidFound.{arguments_labels}

@@ -1,6 +1,6 @@
 use Rattle.std.proofs.Common.{◌≡◌, drop, map}
 use Rattle.std.specs.List.{list_any}
-use Rattle.binder.specs.Violations as violations
+use Rattle.declared_names.specs.binder.specs.Violations as violations
 use Rattle.declared_names.specs.View.{entry_view}
 use Rattle.use_rules.proofs.said_names.has_event.Given as goal
 

@@ -1,4 +1,4 @@
-use Rattle.binder.specs.Violations.{types_said}
+use Rattle.declared_names.specs.binder.specs.Violations.{types_said}
 use Rattle.declared_names.specs.View.{scope_view}
 use Rattle.use_rules.proofs.SaidMore.{said_noted}
 use Rattle.use_rules.proofs.said_types.note_all_types.Goals as goal

@@ -1,6 +1,6 @@
 use Rattle.std.proofs.Common.{◌≡◌, drop}
 use Rattle.std.specs.Prelude.{flat_map}
-use Rattle.binder.specs.Violations.{types_said}
+use Rattle.declared_names.specs.binder.specs.Violations.{types_said}
 use Rattle.declared_names.specs.View.{scope_view}
 use Rattle.said_parts.specs.View.{all_said}
 use Rattle.use_rules.specs.Found.{noted}

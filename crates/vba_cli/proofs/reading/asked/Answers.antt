@@ -1,9 +1,9 @@
 use Rattle.std.proofs.Common.{map, subst, sym, ap, ◌∙◌}
 use Rattle.std.specs.Prelude.{None, option_map}
-use Rattle.bind_project.specs.bound_forms.specs.Bind.{not_built, project_of}
-use Rattle.bind_project.specs.binder.specs.Options.{or_else}
-use Rattle.bind_project.specs.declared_names.specs.Outside.{the_outside}
-use Rattle.bind_project.specs.declared_names.specs.View.{space_view}
+use Rattle.bound_forms.specs.Bind.{not_built, project_of}
+use Rattle.constant_values.specs.declared_names.specs.binder.specs.Options.{or_else}
+use Rattle.constant_values.specs.declared_names.specs.Outside.{the_outside}
+use Rattle.constant_values.specs.declared_names.specs.View.{space_view}
 use Rattle.list_file.specs.View.{start_view}
 use Rattle.vba_cli.specs.Program.{begins_at, first_of_two, judged_by}
 use Rattle.vba_cli.specs.Programs.{IsProgram}

@@ -1,6 +1,6 @@
 use Rattle.std.proofs.Common.{ap, map, subst, ◌∙◌}
 use Rattle.std.specs.Prelude.{option_map}
-use Rattle.bind_project.specs.declared_names.specs.View.{source_view}
+use Rattle.constant_values.specs.declared_names.specs.View.{source_view}
 use Rattle.list_file.specs.View.{start_view}
 use Rattle.vba_cli.specs.Program.{bound_modules}
 use Rattle.vba_cli.specs.Programs.{IsProgram}

@@ -1,5 +1,5 @@
 use Rattle.std.proofs.Common.{ap, map, ◌∙◌}
-use Rattle.bind_project.specs.declared_names.specs.View.{source_view, space_view}
+use Rattle.constant_values.specs.declared_names.specs.View.{source_view, space_view}
 use Rattle.vba_cli.proofs.reading.bound_sources.Goals as goal
 
 pub returns : goal.returns

@@ -1,6 +1,6 @@
 use Rattle.std.proofs.Common.{map, sym, ◌∙◌}
 use Rattle.std.specs.Prelude.{option_map}
-use Rattle.bind_project.specs.declared_names.specs.View.{space_view}
+use Rattle.constant_values.specs.declared_names.specs.View.{space_view}
 use Rattle.list_file.specs.View.{start_view}
 use Rattle.vba_cli.proofs.Bound.{modules_broken, modules_faulty, modules_named}
 use Rattle.vba_cli.proofs.reading.judged.Goals as goal

@@ -1,5 +1,5 @@
 use Rattle.std.proofs.Common.{◌≡◌, map, take}
-use Rattle.bind_project.specs.declared_names.specs.View.{source_view}
+use Rattle.constant_values.specs.declared_names.specs.View.{source_view}
 use Rattle.vba_cli.specs.Programs.{module_view}
 use Rattle.vba_cli.proofs.reading.sources_of.Given as goal
 

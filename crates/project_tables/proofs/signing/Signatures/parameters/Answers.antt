@@ -1,5 +1,5 @@
 use Rattle.std.proofs.Common.{◌∙◌, map}
-use Rattle.bound_declarations.specs.declared_names.specs.View.{space_view}
+use Rattle.bound_declarations.specs.constant_values.specs.declared_names.specs.View.{space_view}
 use Rattle.project_tables.specs.Signed.{signed_view}
 use Rattle.project_tables.proofs.Found.{parameters_are}
 use Rattle.project_tables.proofs.signing.Signatures.parameters.Goals as goal

@@ -5,8 +5,8 @@ use Rattle.bound_members.specs.bound_calls.proofs.Taking.{read_named}
 use Rattle.bound_project.specs.Pieces.{put}
 use Rattle.bound_members.specs.bound_calls.specs.Calls.{node_of}
 use Rattle.bound_project.specs.DraftView.{draft_view}
-use Rattle.statement_terms.proofs.WrittenTargets.{sheet_assigned}
-use Rattle.statement_terms.proofs.targets.assign_sheet.Goals as goal
+use Rattle.statement_terms.proofs.WrittenTargets.{unwritten_assigned}
+use Rattle.statement_terms.proofs.targets.assign_unwritten.Goals as goal
 
 pub push_node-requires-2 : goal.push_node-requires-2
 push_node-requires-2 c =
@@ -17,5 +17,5 @@ push_node-requires-2 c =
 pub returns : goal.returns
 returns c =
     let f = draft_view c.push_node.new.draft in
-    sheet_assigned c.args.place c.args.at c.args.makes (draft_view c.args.draft.now) (draft_view c.push_node.new.draft) (draft_view c.push_node-2.new.draft) (draft_view c.push_broken.new.draft) c.requires.sheet c.in_ok-push_node.ensures
+    unwritten_assigned c.args.place c.args.at c.args.makes c.args.rule (draft_view c.args.draft.now) (draft_view c.push_node.new.draft) (draft_view c.push_node-2.new.draft) (draft_view c.push_broken.new.draft) c.requires.object c.requires.broken c.in_ok-push_node.ensures
     (c.in_ok-push_node-2.ensures ∙ ap (λ k. record f { pieces = put f.tables (node_of k c.args.place c.args.at.of) f.pieces }) c.read_kind.ensures) c.in_ok-push_broken.ensures
