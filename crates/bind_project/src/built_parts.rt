@@ -1,23 +1,21 @@
 //! Parts that declare nothing of a type that doesn't run yet.
 
-ghost use Rattle.std.specs.Prelude.{◌≡◌, ◌&&◌, IfOk, option_map, is_some, not};
+ghost use Rattle.std.specs.Prelude.{◌≡◌, ◌&&◌, IfOk, option_map};
 ghost use Rattle.std.specs.List.{list_all};
 ghost use Rattle.bound_names.specs.bound_members.specs.bound_calls.specs.bound_forms.specs.Bind as plain;
 ghost use Rattle.bound_names.specs.bound_members.specs.bound_calls.specs.bound_declarations.specs.constant_values.specs.declared_names.specs.View.{scope_view};
 ghost use Rattle.module_parts.specs.View.{part_view};
 ghost use Rattle.vba_module.specs.Headers.{parameters_of};
 ghost use Rattle.vba_module.specs.Parts as parts;
-ghost use Rattle.vba_tree.specs.View.{parameters_view, result_type_view, statement_view, view, listed_view};
-ghost use Rattle.binder.specs.ClassTables as classes;
+ghost use Rattle.vba_tree.specs.View.{parameters_view, result_type_view, statement_view, view};
 
 use crate::built_declarations::{
     are_built_parameters, are_built_variables, is_built_result, is_built_suffix, is_built_written,
 };
 use bound_names::bound_members::bound_calls::bound_declarations::constant_values::declared_names::Scope;
-use bound_names::project_tables::{Mark, attribute_name};
 use module_parts::Part;
 use vba_base::NoMemory;
-use vba_tree::{AttributeLine, LineTree, ProcedureHeader, SimpleStatement, Statement};
+use vba_tree::{LineTree, ProcedureHeader, SimpleStatement, Statement};
 
 fn is_built_header(scope: Scope, header: &ProcedureHeader) -> Result<bool, NoMemory>
     ensures { IfOk result (λ built. built ≡ (plain.is_built_suffix header.now.name.suffix
@@ -31,13 +29,6 @@ fn is_built_header(scope: Scope, header: &ProcedureHeader) -> Result<bool, NoMem
         return Ok(false);
     }
     are_built_parameters(scope, &header.parameters)
-}
-
-/// Does an attribute of a class mark anything but an enumerator?
-fn is_built_attribute(scope: Scope, line: &AttributeLine) -> bool
-    ensures { result ≡ not (is_some (classes.name_marked classes.is_minus_four (listed_view (λ name. name) line.now.names) (listed_view (λ value. value) line.now.values)) && (scope_view scope.entry).here.source.is_class) }
-{
-    !(attribute_name(Mark::Enumerator, line).is_some() && scope.here.source.is_class)
 }
 
 fn is_built_line(scope: Scope, line: &LineTree) -> Result<bool, NoMemory>
@@ -54,7 +45,7 @@ fn is_built_line(scope: Scope, line: &LineTree) -> Result<bool, NoMemory>
         LineTree::TypeHeader(_) => Ok(true),
         LineTree::TypeEnd { .. } => Ok(true),
         LineTree::Event(_) => Ok(false),
-        LineTree::Attribute(line) => Ok(is_built_attribute(scope, line)),
+        LineTree::Attribute(_) => Ok(true),
         LineTree::ProcedureEnd(_) => Ok(true),
         LineTree::Statements(_) => Ok(true),
     }

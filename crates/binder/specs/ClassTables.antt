@@ -1,4 +1,4 @@
--- The table of a class: the procedures that begin and end its objects, its public members, and its default member.
+-- The table of a class: the procedures that begin and end its objects, its public members, its default member and its enumerator.
 use Rattle.std.specs.Prelude.{ℕ, suc, length, take, ◌==◌, Bool, true, false, ◌&&◌, not, ℤ, pos, List, [], ◌∷◌, ◌++◌, codes, Option, Some, None, option_map, option_and_then, bytes_eq, if◌then◌else◌}
 use Rattle.std.specs.List.{list_any}
 use Rattle.vba_lexer.specs.declared.token.Token.{Token}
@@ -127,7 +127,7 @@ abbrev pub first_marked : (Option Token → LiteralValue → Bool) → List Part
 first_marked test [] = None
 first_marked test (part ∷ parts) = or_else (marked_name test part) (first_marked test parts)
 
--- the default member, which may be Private
+-- the default member and the enumerator, which may be Private
 abbrev pub every_entry : Entry → Bool
 every_entry e = true
 
@@ -137,9 +137,12 @@ member_named s x = option_and_then (λ f. member_of s every_entry f.0 f.1) (firs
 abbrev pub default_member : Scope → Option Member
 default_member s = option_and_then (member_named s) (first_marked is_zero s.here.source.parts)
 
+abbrev pub enumerator : Scope → Option Member
+enumerator s = option_and_then (member_named s) (first_marked is_minus_four s.here.source.parts)
+
 -- ---- the table
 
--- enumerators and events aren't built
+-- events aren't built
 abbrev pub class_table : Scope → Class
 class_table s = record {
   name = s.here.name;
@@ -148,7 +151,7 @@ class_table s = record {
   terminate = plain_sub s (codes "class_terminate");
   members = public_members s 0 s.here.entries;
   default = default_member s;
-  enumerator = None;
+  enumerator = enumerator s;
   events = [];
   with_events = [];
   handlers = [];

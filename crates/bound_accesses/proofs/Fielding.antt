@@ -1,6 +1,6 @@
 -- Fields of places and values, and names behind dots that begin an expression.
 use Rattle.std.specs.Prelude.{◌==◌}
-use Rattle.std.proofs.Common.{◌≡◌, ℕ, Bool, true, false, List, [], ◌∷◌, ◌++◌, map, Option, Some, None, is_some, if◌then◌else◌, refl, sym, ap, subst, ◌∙◌, ◌&&◌}
+use Rattle.std.proofs.Common.{◌≡◌, ℕ, Bool, true, false, List, [], ◌∷◌, ◌++◌, map, Option, Some, None, is_some, if◌then◌else◌, refl, sym, ap, subst, ◌∙◌, ◌&&◌, not}
 use Rattle.vba_base.specs.declared.place.Place.{Place}
 use Rattle.vba_lexer.specs.declared.token.Token.{Token}
 use Rattle.vba_words.specs.declared.identifier.Identifier.{Identifier}
@@ -22,17 +22,17 @@ use Rattle.bound_project.specs.declared.node.NodeKind.TheVariants as kinds
 use Rattle.bound_project.specs.Project.{Declaration, UserType}
 use Rattle.bound_project.specs.Project as project
 use Rattle.bound_project.specs.View.{declared_view, declarations_view, user_type_view}
-use Rattle.bound_project.specs.Expressions.{host_member, host_object, load, no_exprs, Lvalue, field, field_value, kept_place}
+use Rattle.bound_project.specs.Expressions.{host_object, load, Lvalue, field, field_value, kept_place}
 use Rattle.bound_project.specs.Expressions as bound
-use Rattle.bound_project.specs.Pieces.{Piece, Tables, expr_of, name_in, put, put_kind}
+use Rattle.bound_project.specs.Pieces.{Piece, Tables, expr_of, put, put_kind}
 use Rattle.bound_project.specs.Drafts.{Drafted}
 use Rattle.binder.specs.Projects.{declarations_of}
 use Rattle.binder.specs.Constants.{home}
 use Rattle.binder.specs.Scopes.{Space, Qualifier, qualifier_of, enum_behind}
 use Rattle.binder.specs.Storage.{types_from, types_of_space, user_types, has_bounds}
-use Rattle.bound_names.specs.bound_members.specs.bound_calls.specs.bound_forms.specs.Terms.{Env, Within, a_place as a_place_term, a_value, no_term, expression_of, read_of, routine_term}
+use Rattle.bound_names.specs.bound_members.specs.bound_calls.specs.bound_forms.specs.Terms.{Env, Within, a_place as a_place_term, a_value, no_term, expression_of, member_read, read_of, routine_term}
 use Rattle.bound_names.specs.bound_members.specs.bound_calls.specs.bound_forms.specs.Terms as terms
-use Rattle.bound_names.specs.bound_members.specs.bound_calls.specs.bound_forms.specs.ExpressionsBound.{bare_call, behind_term, err_member, field_named, field_of_place, field_of_value, kept_member, member_of, node_or, object_member, sheets_value, unknown_member, term_of, with_field, given_as, typed_term, place_told, class_member, host_behind, is_instance_type, new_term}
+use Rattle.bound_names.specs.bound_members.specs.bound_calls.specs.bound_forms.specs.ExpressionsBound.{bare_call, behind_term, err_member, field_named, field_of_place, field_of_value, kept_member, member_of, node_or, object_member, sheets_value, unknown_member, term_of, with_field, given_as, typed_term, place_told, class_member, host_behind, is_instance_type, is_of_class, new_term}
 use Rattle.binder.specs.Types.{meant_type, type_meant}
 use Rattle.bound_names.specs.bound_members.specs.bound_calls.specs.bound_declarations.specs.constant_values.specs.declared_names.specs.Outside.{the_outside}
 use Rattle.bound_names.specs.bound_members.specs.bound_calls.specs.bound_declarations.specs.constant_values.specs.declared_names.specs.View.{scope_view}
@@ -52,7 +52,7 @@ use Rattle.bound_accesses.specs.Fields.{FieldFound, FieldIs, FieldOrNone, KeepsF
 use Rattle.bound_accesses.specs.Items.{FindsBehindPlace, FindsBehindValue, found_term, is_before_dot, may_be_class}
 use Rattle.bound_names.specs.ClassMembers.{MakesMemberOf, unknown_term}
 use Rattle.bound_accesses.specs.Qualified.{IsQualifier, MakesMember, names_sheets}
-use Rattle.bound_names.specs.bound_members.specs.bound_calls.specs.Standing.{TermStands, TreeStands, Stands, Base, ValueEnds}
+use Rattle.bound_names.specs.bound_members.specs.bound_calls.specs.Standing.{TermStands, TreeStands, Stands, Base, ValueEnds, member_is}
 use Rattle.bound_names.specs.bound_members.specs.bound_calls.specs.Steps.{Goes, MakesLeaf}
 use Rattle.bound_names.specs.bound_members.specs.bound_calls.specs.Taking.{CallsRoutine, PushesSheet, ReadsMember, read_kind}
 use Rattle.bound_names.specs.bound_members.specs.bound_calls.proofs.Growing.{grown_same, grown_twice, grown_pieces, all_named, stands_grows}
@@ -393,22 +393,17 @@ behind_class_value env place dot v class f d b e y is before one m =
 read_when : (b : Bool) (t : terms.Term) → b ≡ true → (if b then t else no_term) ≡ t
 read_when b t h = ap (λ (c : Bool). if c then t else no_term) h
 
-never : (has b : Bool) → (has && (b && false)) ≡ false
-never true true = refl
-never true false = refl
-never false b = refl
-
 pub behind_member : (env : Env) (place dot : Place) (read : HostMember) (v : Ending) (f : Identifier) (d b e : Drafted) (found : Option HostMember) → ReadsMember read d b v → FindsBehindValue env place v f.name b e found
     → MakesBehind env place dot (term.HostMember read) f d e (found_term found dot)
 behind_member env place dot read v f d b e found r h = record {
   grown = grown_twice d b e r.grown h.grown;
   named = h.named dot;
   stands = λ z below k.
-      let node = host_member k.object (name_in d.tables read.name) no_exprs in
-      let T : DeclaredType → terms.Term = λ (of : DeclaredType). object_member place dot node (declared_view of) f.name in
+      let node = member_read k.object (member_is d.tables read) in
+      let T : DeclaredType → terms.Term = λ (of : DeclaredType). host_behind env place dot node (declared_view of) f.name in
       let A : terms.Term → Type 0 = λ (w : terms.Term). TermStands env e.tables (found_term found dot) w e.pieces below in
       subst A (sym (ap (λ (w : terms.Term). member_of env place dot w f) k.is ∙ read_when (read.least == 0) (T read.of) (ap (λ (n : ℕ). n == 0) r.least_is) ∙ ap T (sym r.of_is)))
-      (subst A (hosted env place dot node (declared_view v.of) f.name (h.none node below (r.ends k.object below k.on_top))) (h.stands dot node below (r.ends k.object below k.on_top)));
+      (h.stands dot node below (r.ends k.object below k.on_top));
   there = λ z below k. ap (λ (w : terms.Term). may_be_class w) k.is;
 }
 
@@ -434,9 +429,15 @@ sheets_of place dot of f h = ap (λ (b : Bool). if b then sheets_value else unkn
 none_of : (place dot : Place) (of : Declared) (f : Identifier) → names_sheets f ≡ false → object_member place dot (host_object host.Workbook) of f.name ≡ unknown_member dot (expression_of (host_object host.Workbook) place of)
 none_of place dot of f h = ap (λ (b : Bool). if b then sheets_value else unknown_member dot (expression_of (host_object host.Workbook) place of)) h
 
+-- what is always there isn't found late
+never : (own has b : Bool) → (own && (has && (b && false))) ≡ false
+never true true true = refl
+never true true false = refl
+never true false b = refl
+never false has b = refl
+
 object_hosted : (env : Env) (place dot : Place) (r : HostRef) (of : Declared) (fold : List ℕ) → host_behind env place dot (host_object r) of fold ≡ object_member place dot (host_object r) of fold
-object_hosted env place dot r of fold =
-    ap (λ (b : Bool). if b then no_term else object_member place dot (host_object r) of fold) (never (has_class env.scope.spaces) (is_instance_type (host_object r) of))
+object_hosted env place dot r of fold = hosted env place dot (host_object r) of fold (never (not (is_of_class of)) (has_class env.scope.spaces) (is_instance_type (host_object r) of))
 
 -- the last node of a value that is the workbook
 book_made : (t : Tables) (v : Ending) (made : bound.Node) (ps below : List Piece) → v.kind ≡ kinds.HostObject host.Workbook → ValueEnds t v.kind made ps below → made ≡ host_object host.Workbook
@@ -552,13 +553,13 @@ tree_stands : (env : Env) (x : Tree) (dot : Token) (f : Identifier) (d e : Draft
     → (base : Expr) (below : List Piece) → TreeStands env d.tables x base d.pieces below → TreeStands env e.tables (made_tree x None y) (behind_dot base dot f) e.pieces below
 tree_stands env x dot f d e y m k base below h =
     let none : qualifier_of env.scope base ≡ None = looked env d.tables x base d.pieces below h ∙ sym k in
-    let member_is : term_of env (member base dot f) ≡ member_of env (place_told base) dot.place (term_of env base) f =
+    let dotted_is : term_of env (member base dot f) ≡ member_of env (place_told base) dot.place (term_of env base) f =
     ap (λ (o : Option Qualifier). behind_term env o f (member_of env (place_told base) dot.place (term_of env base) f)) none in
     let P : Place → Type 0 = λ (place : Place). TermStands env e.tables y (member_of env place dot.place (term_of env base) f) e.pieces below in
     let Q : terms.Term → Type 0 = λ (z : terms.Term). TermStands env e.tables y z e.pieces below in
     let A : Expr → Type 0 = λ (z : Expr). TreeStands env e.tables (made_tree x None y) z e.pieces below in
     subst A (sym (dotted_base env base dot f (m.there (term_of env base) below h.term_is))) (record {
-      term_is = subst Q (sym member_is) (subst P h.place_is (m.stands (term_of env base) below h.term_is));
+      term_is = subst Q (sym dotted_is) (subst P h.place_is (m.stands (term_of env base) below h.term_is));
       place_is = h.place_is;
       name_is = refl;
       qualifier_is = ap (λ (o : Option Qualifier). enum_behind env.scope o f) none;

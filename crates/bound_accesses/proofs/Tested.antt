@@ -5,12 +5,13 @@ use Rattle.vba_values.specs.Types.{Declared}
 use Rattle.bound_project.specs.declared.node.Node.{Node}
 use Rattle.bound_project.specs.declared.node.NodeKind.{NodeKind}
 use Rattle.bound_project.specs.declared.node.NodeKind.TheVariants as node
-use Rattle.bound_project.specs.Expressions.{expr, load, load_made, method, new_object, element_value, field_value, unary, binary, call, same, is_type, library, host_member, named_member, no_args, in_order, no_exprs, marked}
+use Rattle.bound_project.specs.declared.node.LateUse.TheVariants.{Reading}
+use Rattle.bound_project.specs.Expressions.{expr, load, load_made, method, new_object, element_value, field_value, unary, binary, call, same, is_type, library, host_member, named_member, late_member, late_item, no_args, in_order, no_exprs, none_given, marked}
 use Rattle.bound_project.specs.Expressions as bound
-use Rattle.bound_project.specs.Pieces.{Piece, an_expr, Tables, arguments_off, as_operand, expr_of, exprs_off, by_name_in, name_in, order_in, put_kind}
+use Rattle.bound_project.specs.Pieces.{Piece, an_expr, Tables, arguments_off, as_operand, expr_of, exprs_off, given_off, by_name_in, name_in, order_in, put_kind, sought_in}
 use Rattle.bound_project.specs.View.{base_view, declared_view}
 use Rattle.bound_names.specs.bound_members.specs.bound_calls.specs.bound_forms.specs.Terms.{a_value}
-use Rattle.bound_names.specs.bound_members.specs.bound_calls.proofs.LastNodes.{value_passes, place_passes, both_pass, found_passes, value_found_passes, member_found_passes, named_found_passes, object_found_passes}
+use Rattle.bound_names.specs.bound_members.specs.bound_calls.proofs.LastNodes.{value_passes, place_passes, both_pass, found_passes, value_found_passes, member_found_passes, named_found_passes, object_found_passes, late_found_passes}
 use Rattle.bound_accesses.specs.Items.{is_before_dot, may_be_class}
 
 dotted_on_top : List Piece → Bool
@@ -55,6 +56,10 @@ kind_tested t n (node.HostMember i count) st h =
     member_found_passes dotted_on_top refl (name_in t i) (λ e es. expr_of n (host_member e (name_in t i) es)) (λ e es rest. refl) (exprs_off count st no_exprs)
 kind_tested t n (node.NamedMember i by count) st h =
     named_found_passes dotted_on_top refl (name_in t i) (by_name_in t by) (λ e es. expr_of n (named_member e (name_in t i) (by_name_in t by) es)) (λ e es rest. refl) (exprs_off count st no_exprs)
+kind_tested t n (node.ItemAlong count) st h = value_found_passes dotted_on_top refl (λ e es. expr_of n (late_item e es)) (λ e es rest. refl) (exprs_off count st no_exprs)
+kind_tested t n (node.LateMember x) st h =
+    late_found_passes dotted_on_top refl (sought_in t Reading x) (λ e given. expr_of n (late_member e (name_in t x.name) (by_name_in t x.names) given)) (λ e given rest. refl)
+    (given_off (sought_in t Reading x) x.arguments st none_given)
 kind_tested t n k st h = let e : false ≡ true = h in absurd cc
 
 pub no_class_made : (t : Tables) (n : Node) (k : NodeKind) (made : bound.Node) (ps below : List Piece) → is_before_dot k ≡ true → put_kind t n k ps ≡ expr_of n made ∷ below → (u : Declared) → may_be_class (a_value made u) ≡ false

@@ -1,5 +1,5 @@
 -- Serves the code: members of objects, behind a dot and before brackets.
-use Rattle.std.specs.Prelude.{◌≡◌, ℕ, Bool, true, false, ◌&&◌, not, List, Option, Some, None, if◌then◌else◌}
+use Rattle.std.specs.Prelude.{◌≡◌, ℕ, Bool, true, false, ◌&&◌, List, Option, Some, None, if◌then◌else◌}
 use Rattle.vba_base.specs.declared.place.Place.{Place}
 use Rattle.vba_values.specs.Types as type
 use Rattle.vba_values.specs.declared.object.HostRef.TheVariants as host
@@ -11,12 +11,13 @@ use Rattle.bound_project.specs.declared.node.NodeKind.TheVariants as kinds
 use Rattle.bound_project.specs.View.{declared_view}
 use Rattle.bound_project.specs.Expressions.{is_type, new_object, Lvalue}
 use Rattle.bound_project.specs.Expressions as bound
-use Rattle.bound_project.specs.Pieces.{Piece}
+use Rattle.bound_project.specs.Pieces.{Piece, Tables}
 use Rattle.bound_project.specs.Drafts.{Drafted}
-use Rattle.bound_names.specs.bound_members.specs.bound_calls.specs.bound_forms.specs.Terms.{Env, a_value, expression_of, no_term, read_of}
+use Rattle.bound_names.specs.bound_members.specs.bound_calls.specs.bound_forms.specs.Terms.{Env, a_host_member, a_value, expression_of, no_term, read_of}
 use Rattle.bound_names.specs.bound_members.specs.bound_calls.specs.bound_forms.specs.Terms as plain
 use Rattle.binder.specs.Types.{is_object}
-use Rattle.bound_names.specs.bound_members.specs.bound_calls.specs.bound_forms.specs.ExpressionsBound.{is_host_type, item_of, kind_by_type, may_be_instance, unknown_member, host_behind}
+use Rattle.bound_names.specs.bound_members.specs.bound_calls.specs.bound_forms.specs.ExpressionsBound.{found_member, is_host_type, item_of, kind_by_type, object_member, unknown_member, host_behind}
+use Rattle.binder.specs.Classes.{has_class}
 use Rattle.bound_names.specs.bound_members.specs.bound_calls.specs.declared.term.Ending.{Ending}
 use Rattle.bound_names.specs.bound_members.specs.bound_calls.specs.declared.term.HostMember.{HostMember}
 use Rattle.bound_names.specs.bound_members.specs.bound_calls.specs.declared.term.Term.{Term}
@@ -56,22 +57,42 @@ pub record ValueLacks (e : Ending) (found : Option HostMember) : Type 0 where
   pub no_kind : kind_by_type (declared_view e.of) ≡ None
   pub typed : is_typed_kind e.kind ≡ true
 
--- a member of the object at a place, and of the object that a value gives, which are pushed and are none of a class; or that
--- there is none
-pub record FindsBehindPlace (env : Env) (place : Place) (at : Ending) (makes : Bool) (fold : List ℕ) (d e : Drafted) (found : Option HostMember) : Type 0 where
+-- a member of the object at a place, and of the object that a value gives, which are pushed; or that there is none. What the
+-- member is the object says
+pub record FindsAtPlace (env : Env) (member : (dot : Place) → bound.Node → plain.Term) (at : Ending) (makes : Bool) (d e : Drafted) (found : Option HostMember) : Type 0 where
   pub grown : Grown d e
   pub named : (dot : Place) → TermNamed e.tables (found_term found dot)
-  pub stands : (dot : Place) (x : Lvalue) (below : List Piece) → PlaceEnds d.tables at.kind x d.pieces below
-      → TermStands env e.tables (found_term found dot) (host_behind env place dot (read_of makes x) (declared_view at.of) fold) e.pieces below
+  pub stands : (dot : Place) (x : Lvalue) (below : List Piece) → PlaceEnds d.tables at.kind x d.pieces below → TermStands env e.tables (found_term found dot) (member dot (read_of makes x)) e.pieces below
 
-pub record FindsBehindValue (env : Env) (place : Place) (ending : Ending) (fold : List ℕ) (d e : Drafted) (found : Option HostMember) : Type 0 where
+pub record FindsInValue (env : Env) (member : (dot : Place) → bound.Node → plain.Term) (ending : Ending) (d e : Drafted) (found : Option HostMember) : Type 0 where
   pub grown : Grown d e
   pub named : (dot : Place) → TermNamed e.tables (found_term found dot)
-  pub stands : (dot : Place) (made : bound.Node) (below : List Piece) → ValueEnds d.tables ending.kind made d.pieces below
-      → TermStands env e.tables (found_term found dot) (host_behind env place dot made (declared_view ending.of) fold) e.pieces below
-  pub none : (made : bound.Node) (below : List Piece) → ValueEnds d.tables ending.kind made d.pieces below → may_be_instance env (expression_of made place (declared_view ending.of)) ≡ false
+  pub stands : (dot : Place) (made : bound.Node) (below : List Piece) → ValueEnds d.tables ending.kind made d.pieces below → TermStands env e.tables (found_term found dot) (member dot made) e.pieces below
 
--- whether a term is an object, behind which brackets take a member
+-- where no object of a class is there
+abbrev pub FindsOfPlace : Place → Ending → (makes : Bool) → (fold : List ℕ) → (d e : Drafted) → Option HostMember → Type 0
+FindsOfPlace place at makes fold d e found = (env : Env) → FindsAtPlace env (λ (dot : Place) (node : bound.Node). object_member place dot node (declared_view at.of) fold) at makes d e found
+
+abbrev pub FindsOfValue : Place → Ending → (fold : List ℕ) → (d e : Drafted) → Option HostMember → Type 0
+FindsOfValue place v fold d e found = (env : Env) → FindsInValue env (λ (dot : Place) (node : bound.Node). object_member place dot node (declared_view v.of) fold) v d e found
+
+-- where the run finds it
+abbrev pub FindsLatePlace : Place → Ending → (makes : Bool) → (fold : List ℕ) → (d e : Drafted) → Option HostMember → Type 0
+FindsLatePlace place at makes fold d e found =
+    (env : Env) → FindsAtPlace env (λ (dot : Place) (node : bound.Node). a_host_member (expression_of node place (declared_view at.of)) (found_member true fold)) at makes d e found
+
+abbrev pub FindsLateValue : Place → Ending → (fold : List ℕ) → (d e : Drafted) → Option HostMember → Type 0
+FindsLateValue place v fold d e found =
+    (env : Env) → FindsInValue env (λ (dot : Place) (node : bound.Node). a_host_member (expression_of node place (declared_view v.of)) (found_member true fold)) v d e found
+
+-- one of the two
+abbrev pub FindsBehindPlace : Env → Place → Ending → (makes : Bool) → (fold : List ℕ) → (d e : Drafted) → Option HostMember → Type 0
+FindsBehindPlace env place at makes fold d e found = FindsAtPlace env (λ (dot : Place) (node : bound.Node). host_behind env place dot node (declared_view at.of) fold) at makes d e found
+
+abbrev pub FindsBehindValue : Env → Place → Ending → (fold : List ℕ) → (d e : Drafted) → Option HostMember → Type 0
+FindsBehindValue env place v fold d e found = FindsInValue env (λ (dot : Place) (node : bound.Node). host_behind env place dot node (declared_view v.of) fold) v d e found
+
+-- whether a term is of an object's type, or a member of one
 abbrev pub is_host_term : Term → Bool
 is_host_term (term.Place kind of bounded lends makes) = is_host_type (declared_view of)
 is_host_term (term.Value e) = is_host_type (declared_view e.of)
@@ -99,8 +120,25 @@ pub record LacksItem (env : Env) (place : Place) (z : plain.Term) : Type 0 where
   pub object : bound.Expr
   pub is : item_of env place z ≡ unknown_member place object
 
-abbrev pub takes_item : Term → Bool
-takes_item x = is_host_term x && not (lacks_item x)
+-- a term is a member, which brackets take with its arguments
+abbrev pub is_member : Term → Bool
+is_member (term.HostMember m) = true
+is_member (term.SheetMember m) = true
+is_member x = false
+
+-- brackets behind a term take no member: they index it as it is
+pub record KeepsTerm (has : Bool) (t : Tables) (x : Term) : Type 0 where
+  pub other : is_member x ≡ false
+  pub kept : (env : Env) → has_class env.scope.spaces ≡ has → (place : Place) (z : plain.Term) (ps below : List Piece) → TermStands env t x z ps below → item_of env place z ≡ z
+
+-- the same, or it lacks a default member with arguments
+abbrev pub ItemKept : (lacks : Bool) → Env → Place → plain.Term → Type 0
+ItemKept true env place z = LacksItem env place z
+ItemKept false env place z = item_of env place z ≡ z
+
+pub record KeepsItem (has : Bool) (t : Tables) (x : Term) : Type 0 where
+  pub other : is_member x ≡ false
+  pub kept : (env : Env) → has_class env.scope.spaces ≡ has → (place : Place) (z : plain.Term) (ps below : List Piece) → TermStands env t x z ps below → ItemKept (lacks_item x) env place z
 
 -- what brackets behind a term take
 pub record MakesItem (env : Env) (place : Place) (x : Term) (d e : Drafted) (y : Term) : Type 0 where

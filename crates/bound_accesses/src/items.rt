@@ -1,19 +1,21 @@
 //! Objects behind a dot and before brackets: members of objects of the host.
 
-ghost use Rattle.std.specs.Prelude.{◌≡◌, true, IfOk};
+ghost use Rattle.std.specs.Prelude.{◌≡◌, true, IfOk, MatchBool};
 ghost use Rattle.bound_project.specs.DraftView.{draft_view};
 ghost use Rattle.bound_project.specs.Drafts.{NodeNamed};
-ghost use Rattle.bound_accesses.specs.Items.{FindsBehindPlace, FindsBehindValue, LacksMembers, MakesItem, MakesPlaceItem, MakesValueItem, ValueLacks, found_term, is_bare, is_host_term, is_sheet, lacks_item, takes_item};
+ghost use Rattle.bound_accesses.specs.Items.{FindsBehindPlace, FindsBehindValue, FindsLatePlace, FindsLateValue, FindsOfPlace, FindsOfValue, KeepsItem, KeepsTerm, LacksMembers, MakesItem, MakesPlaceItem, MakesValueItem, ValueLacks, found_term, is_bare, is_host_term, is_sheet, lacks_item};
 ghost use Rattle.bound_names.specs.bound_members.specs.bound_calls.specs.Standing.{TermNamed};
 ghost use Rattle.bound_names.specs.View.{env_view};
 
 use bound_names::bound_members::bound_calls::bound_declarations::NotYet;
 use bound_names::bound_members::bound_calls::bound_declarations::constant_values::declared_names::is_object;
 use bound_names::bound_members::bound_calls::{
-    Ending, HostMember, Term, is_host_type, is_typed_kind, may_be_instance, push_node, push_sheet,
+    Ending, HostMember, Term, is_found_late, is_host_type, is_typed_kind, push_node, push_sheet,
     read_kind,
 };
-use bound_names::bound_members::{find_member, kind_of_ending, kind_of_type};
+use bound_names::bound_members::{
+    find_member, found_late, is_known_early, is_known_late, kind_of_ending, kind_of_type,
+};
 use bound_names::{Env, unknown_term};
 use bound_project::{DeclaredType, Draft, ElementType, NodeKind};
 use std::alloc::Global;
@@ -51,7 +53,44 @@ fn behind_other_place(of: DeclaredType) -> Result<Option<HostMember>, OrMemory<N
     Ok(None)
 }
 
-/// A member of the object at a place, which is pushed; none where there is none. An object of a class may not be there.
+/// A member of the object at a place, which is pushed; none where there is none. It is no object of a class.
+fn member_of_place(
+    draft: &mut Draft,
+    place: Place,
+    at: Ending,
+    makes: bool,
+    name: Units,
+) -> Result<Option<HostMember>, OrMemory<NotYet>>
+    requires { NodeNamed (draft_view draft.old).tables at.kind }
+    ensures { IfOk result (λ found. FindsOfPlace place at makes name (draft_view draft.old) (draft_view draft.new) found) }
+{
+    push_node(draft, at.kind, at.of, place)?;
+    push_node(draft, read_kind(makes), at.of, place)?;
+    match kind_of_type(at.of) {
+        None => behind_other_place(at.of),
+        Some(kind) => find_member(draft, kind, name),
+    }
+}
+
+/// A member that the run finds of the object at a place, which is pushed.
+fn late_of_place(
+    draft: &mut Draft,
+    place: Place,
+    at: Ending,
+    makes: bool,
+    name: Units,
+) -> Result<Option<HostMember>, OrMemory<NotYet>>
+    requires { NodeNamed (draft_view draft.old).tables at.kind }
+    ensures { IfOk result (λ found. FindsLatePlace place at makes name (draft_view draft.old) (draft_view draft.new) found) }
+{
+    push_node(draft, at.kind, at.of, place)?;
+    push_node(draft, read_kind(makes), at.of, place)?;
+    let member = found_late(draft, name)?;
+    Ok(Some(member))
+}
+
+/// A member of the object at a place, which is pushed; none where there is none. The run finds it where the object may be
+/// one of a class.
 pub fn behind_object_place<'a>(
     draft: &mut Draft,
     env: Env<'a>,
@@ -67,15 +106,13 @@ pub fn behind_object_place<'a>(
         kind: read_kind(makes),
         of: at.of,
     };
-    if may_be_instance(env.has_class, draft, read) {
+    let Some(is_late) = is_found_late(env.has_class, draft, read) else {
         return Err(OrMemory::Fault(NotYet));
+    };
+    if is_late {
+        return late_of_place(draft, place, at, makes, name);
     }
-    push_node(draft, at.kind, at.of, place)?;
-    push_node(draft, read.kind, at.of, place)?;
-    match kind_of_type(at.of) {
-        None => behind_other_place(at.of),
-        Some(kind) => find_member(draft, kind, name),
-    }
+    member_of_place(draft, place, at, makes, name)
 }
 
 /// A value of no object's type has no members.
@@ -91,7 +128,40 @@ fn behind_other_value(ending: Ending) -> Result<Option<HostMember>, OrMemory<Not
     }
 }
 
-/// A member of the object that a value gives, which is pushed; none where there is none. It may be no object of a class.
+/// A member of the object that a value gives, which is pushed; none where there is none. It is no object of a class.
+fn member_of_value(
+    draft: &mut Draft,
+    place: Place,
+    ending: Ending,
+    name: Units,
+) -> Result<Option<HostMember>, OrMemory<NotYet>>
+    requires { NodeNamed (draft_view draft.old).tables ending.kind }
+    ensures { IfOk result (λ found. FindsOfValue place ending name (draft_view draft.old) (draft_view draft.new) found) }
+{
+    push_node(draft, ending.kind, ending.of, place)?;
+    match kind_of_ending(ending) {
+        None => behind_other_value(ending),
+        Some(kind) => find_member(draft, kind, name),
+    }
+}
+
+/// A member that the run finds of the object that a value gives, which is pushed.
+fn late_of_value(
+    draft: &mut Draft,
+    place: Place,
+    ending: Ending,
+    name: Units,
+) -> Result<Option<HostMember>, OrMemory<NotYet>>
+    requires { NodeNamed (draft_view draft.old).tables ending.kind }
+    ensures { IfOk result (λ found. FindsLateValue place ending name (draft_view draft.old) (draft_view draft.new) found) }
+{
+    push_node(draft, ending.kind, ending.of, place)?;
+    let member = found_late(draft, name)?;
+    Ok(Some(member))
+}
+
+/// A member of the object that a value gives, which is pushed; none where there is none. The run finds it where the object
+/// may be one of a class.
 pub fn behind_object_value<'a>(
     draft: &mut Draft,
     env: Env<'a>,
@@ -102,17 +172,16 @@ pub fn behind_object_value<'a>(
     requires { NodeNamed (draft_view draft.old).tables ending.kind }
     ensures { IfOk result (λ found. FindsBehindValue (env_view env.entry) place ending name (draft_view draft.old) (draft_view draft.new) found) }
 {
-    if may_be_instance(env.has_class, draft, ending) {
+    let Some(is_late) = is_found_late(env.has_class, draft, ending) else {
         return Err(OrMemory::Fault(NotYet));
+    };
+    if is_late {
+        return late_of_value(draft, place, ending, name);
     }
-    push_node(draft, ending.kind, ending.of, place)?;
-    match kind_of_ending(ending) {
-        None => behind_other_value(ending),
-        Some(kind) => find_member(draft, kind, name),
-    }
+    member_of_value(draft, place, ending, name)
 }
 
-/// Is a term an object, behind which brackets take a member?
+/// Is a term of an object's type, or a member of one?
 fn is_host_term<'a>(term: Term<'a>) -> bool
     ensures { result ≡ is_host_term term.entry }
 {
@@ -123,6 +192,33 @@ fn is_host_term<'a>(term: Term<'a>) -> bool
         Term::SheetMember(_) => true,
         _ => false,
     }
+}
+
+/// Does the run find the members of what a term is? Then brackets index it as it is. What isn't known is left open.
+fn is_late_term<'a>(has_class: bool, draft: &Draft, term: Term<'a>) -> bool
+    ensures { MatchBool result (KeepsTerm has_class (draft_view draft.now).tables term.entry) (Unit {0}) }
+{
+    match term {
+        Term::Place { of, makes, .. } => {
+            let read = Ending {
+                kind: read_kind(makes),
+                of,
+            };
+            is_known_late(has_class, draft, read)
+        }
+        Term::Value(ending) => is_known_late(has_class, draft, ending),
+        _ => false,
+    }
+}
+
+/// May brackets behind a term take a member of an object? Otherwise they index the term as it is.
+fn may_take_item<'a>(has_class: bool, draft: &Draft, term: Term<'a>) -> bool
+    ensures { MatchBool result (is_host_term term.entry ≡ true) (KeepsTerm has_class (draft_view draft.now).tables term.entry) }
+{
+    if !is_host_term(term) {
+        return false;
+    }
+    !is_late_term(has_class, draft, term)
 }
 
 /// Is a type that of sheets?
@@ -163,11 +259,15 @@ pub fn lacks_item<'a>(term: Term<'a>) -> bool
     }
 }
 
-/// Do brackets behind a term take a member of an object?
-pub fn takes_item<'a>(term: Term<'a>) -> bool
-    ensures { result ≡ takes_item term.entry }
+/// May brackets behind a term take a member of an object? Otherwise they index the term as it is, or break a rule since it
+/// has no default member with arguments.
+pub fn takes_item<'a>(has_class: bool, draft: &Draft, term: Term<'a>) -> bool
+    ensures { MatchBool result (Unit {0}) (KeepsItem has_class (draft_view draft.now).tables term.entry) }
 {
-    is_host_term(term) && !lacks_item(term)
+    if lacks_item(term) {
+        return false;
+    }
+    may_take_item(has_class, draft, term)
 }
 
 /// What brackets take of an object at a place: a member, or what is told where there is none.
@@ -182,8 +282,15 @@ fn place_item<'a>(
     requires { NodeNamed (draft_view draft.old).tables at.kind }
     ensures { IfOk result (λ item. MakesPlaceItem (env_view env.entry) place at makes (draft_view draft.old) (draft_view draft.new) item) }
 {
+    let read = Ending {
+        kind: read_kind(makes),
+        of: at.of,
+    };
+    if !is_known_early(env.has_class, draft, read) {
+        return Err(OrMemory::Fault(NotYet));
+    }
     let item = word(alloc, b"item")?;
-    let found = behind_object_place(draft, env, place, at, makes, item)?;
+    let found = member_of_place(draft, place, at, makes, item)?;
     Ok(found_term(found, place))
 }
 
@@ -198,8 +305,11 @@ fn value_item<'a>(
     requires { NodeNamed (draft_view draft.old).tables ending.kind }
     ensures { IfOk result (λ item. MakesValueItem (env_view env.entry) place ending (draft_view draft.old) (draft_view draft.new) item) }
 {
+    if !is_known_early(env.has_class, draft, ending) {
+        return Err(OrMemory::Fault(NotYet));
+    }
     let item = word(alloc, b"item")?;
-    let found = behind_object_value(draft, env, place, ending, item)?;
+    let found = member_of_value(draft, place, ending, item)?;
     Ok(found_term(found, place))
 }
 
@@ -245,7 +355,7 @@ pub fn item_term<'a>(
     requires { TermNamed (draft_view draft.old).tables term }
     ensures { IfOk result (λ item. MakesItem (env_view env.entry) place term.entry (draft_view draft.old) (draft_view draft.new) item) }
 {
-    if is_host_term(term) {
+    if may_take_item(env.has_class, draft, term) {
         return host_item(alloc, draft, env, place, term);
     }
     Ok(term)

@@ -373,7 +373,7 @@ fn behind_member<'a>(
     requires { read.name < length (draft_view draft.old).tables.constants }
     ensures { IfOk result (λ made. MakesBehind (env_view env.entry) place dot (Term.HostMember read) member.now (draft_view draft.old) (draft_view draft.new) made) }
 {
-    let ending = member_ending(draft, read, place)?;
+    let ending = member_ending(alloc, draft, read, place)?;
     let name = folded(alloc, member)?;
     let found = behind_object_value(draft, env, place, ending, name)?;
     Ok(found_term(found, dot))

@@ -1,6 +1,6 @@
 -- What the value of an assignment goes to.
 use Rattle.std.proofs.Common.{◌≡◌, ℕ, Bool, true, false, List, [], ◌∷◌, ◌++◌, map, length, Option, Some, None, is_some, option_map, if◌then◌else◌, refl, sym, ap, subst, ◌∙◌}
-use Rattle.std.specs.Prelude.{◌||◌, option_and_then}
+use Rattle.std.specs.Prelude.{◌||◌, IfSome, option_and_then}
 use Rattle.std.proofs.lemmas.List.{map-append}
 use Rattle.vba_base.specs.declared.place.Place.{Place}
 use Rattle.vba_values.specs.Types.{Declared}
@@ -10,12 +10,16 @@ use Rattle.vba_expression.specs.Nodes.{tree_in}
 use Rattle.vba_expression.specs.declared.node.ExpressionNode.{ExpressionNode}
 use Rattle.bound_project.specs.declared.declarations.Parameter.{Parameter}
 use Rattle.bound_project.specs.declared.statement.ActionKind.{ActionKind}
-use Rattle.bound_project.specs.Expressions.{Exprs, no_exprs}
+use Rattle.bound_project.specs.declared.statement.ActionKind.TheVariants as action
+use Rattle.bound_project.specs.Bodies.{element_found}
+use Rattle.bound_project.specs.Expressions.{Exprs, Lvalue, no_exprs, value_place}
 use Rattle.bound_project.specs.Expressions as bound
 use Rattle.bound_project.specs.Project as project
-use Rattle.bound_project.specs.Statements.{Action}
+use Rattle.bound_project.specs.Statements.{Action, assign_element}
+use Rattle.bound_project.specs.Lists.{above, exprs_of}
+use Rattle.bound_project.proofs.Lists.{exprs_are}
 use Rattle.bound_project.specs.View.{declared_view, parameter_view}
-use Rattle.bound_project.specs.Pieces.{Piece, Tables, an_expr}
+use Rattle.bound_project.specs.Pieces.{Piece, Tables, a_place, an_expr, exprs_off}
 use Rattle.bound_project.specs.Drafts.{Drafted}
 use Rattle.declared_names.specs.binder.specs.Classes.{has_class}
 use Rattle.declared_names.specs.binder.specs.Declarations.{Written}
@@ -26,8 +30,8 @@ use Rattle.declared_names.specs.binder.specs.Storage.{procedure_number}
 use Rattle.declared_names.specs.binder.specs.Types.{is_object}
 use Rattle.bound_terms.specs.bound_accesses.specs.bound_names.specs.bound_members.specs.bound_calls.specs.bound_forms.specs.Terms.{Env, Given, routine_term, takes}
 use Rattle.bound_terms.specs.bound_accesses.specs.bound_names.specs.bound_members.specs.bound_calls.specs.bound_forms.specs.Terms as plain
-use Rattle.bound_terms.specs.bound_accesses.specs.bound_names.specs.bound_members.specs.bound_calls.specs.bound_forms.specs.ExpressionsBound.{argument_of, behind_base, callee, givens, indexed, item_of, unknown_member, term_of, place_told}
-use Rattle.bound_terms.specs.bound_accesses.specs.bound_names.specs.bound_members.specs.bound_calls.specs.bound_forms.specs.StatementsBound.{assigned, broken_target, given_behind, is_no_target, is_param_array, is_sub, is_variant_place, property_given, set_by, takes_value, target_before, untaken as not_taken}
+use Rattle.bound_terms.specs.bound_accesses.specs.bound_names.specs.bound_members.specs.bound_calls.specs.bound_forms.specs.ExpressionsBound.{argument_of, behind_base, callee, givens, indexed, item_of, term_of, place_told}
+use Rattle.bound_terms.specs.bound_accesses.specs.bound_names.specs.bound_members.specs.bound_calls.specs.bound_forms.specs.StatementsBound.{assigned, broken_target, given_behind, is_no_target, is_param_array, is_indexed_late, is_sub, property_given, set_by, takes_value, target_before, untaken as not_taken}
 use Rattle.declared_names.specs.View.{space_view, written_view}
 use Rattle.bound_terms.specs.bound_accesses.specs.bound_names.specs.bound_members.specs.bound_calls.specs.declared.term.Property.{Property}
 use Rattle.bound_terms.specs.bound_accesses.specs.bound_names.specs.bound_members.specs.bound_calls.specs.declared.term.Receiver.{Receiver}
@@ -43,19 +47,20 @@ use Rattle.bound_terms.specs.bound_accesses.specs.bound_names.specs.bound_member
 use Rattle.bound_terms.specs.bound_accesses.specs.bound_names.specs.declared.properties.Part.TheVariants as part
 use Rattle.bound_terms.specs.bound_accesses.specs.bound_names.specs.declared.properties.Writer.{Writer}
 use Rattle.bound_terms.specs.bound_accesses.specs.bound_names.specs.Callee.{CalleeIs, IsWriter, NoWriter, Unwritten, WriterOf, property_in}
-use Rattle.bound_terms.specs.bound_accesses.specs.Items.{is_host_term, lacks_item, takes_item}
-use Rattle.bound_terms.specs.bound_accesses.proofs.ItemTerms.{same_item}
-use Rattle.bound_terms.specs.bound_accesses.proofs.Lacking.{no_host, no_item}
+use Rattle.bound_terms.specs.bound_accesses.specs.Items.{ItemKept, KeepsItem, is_member, lacks_item}
+use Rattle.bound_terms.specs.bound_accesses.specs.bound_names.specs.bound_members.specs.bound_calls.specs.declared.term.Ending.{Ending}
 use Rattle.statement_terms.specs.declared.assigning.PropertyLet.{PropertyLet}
 use Rattle.statement_terms.specs.declared.trees.Split.{Split}
-use Rattle.statement_terms.specs.Called.{ActionIs, AssignsTo, Continues, IsBare, LeavesAlone, Lets, LetsOn, LetsTaken, LetsWith, SplitAt, args_on, is_method, let_with, property_gets, property_kind}
+use Rattle.statement_terms.specs.Called.{ActionIs, AssignsTo, IsBare, LeavesAlone, Lets, LetsOn, LetsTaken, LetsWith, SplitAt, args_on, is_method, let_with, property_gets, property_kind}
 use Rattle.statement_terms.specs.Heights.{AddsOne}
 use Rattle.statement_terms.specs.Members.{AssignsItem}
-use Rattle.statement_terms.specs.Targets.{AssignsIndexed, is_variant_term}
-use Rattle.statement_terms.proofs.Assigned.{Untaken, a_target, all_is, bare_assigned, bare_given, base_there, index_at, item_itself, let_done, let_made, other_untaken, passes_front, property_named, property_of, split_assigned, split_given}
+use Rattle.statement_terms.specs.Targets.{IndexedLate, IsLateValue}
+use Rattle.statement_terms.proofs.WrittenTargets.{late_value_indexed}
+use Rattle.statement_terms.proofs.Assigned.{a_target, all_is, bare_assigned, bare_given, base_there, index_at, item_itself, let_done, let_made, passes_front, property_named, property_of, split_assigned, split_given}
 use Rattle.statement_terms.proofs.Called.{index_is}
 use Rattle.statement_terms.proofs.NodeTrees.{continued}
-use Rattle.bound_actions.specs.Assigning.{GivesProperty, RefusesNone, part_for}
+use Rattle.bound_actions.specs.Assigning.{AssignsItemOf, ItemGiven, GivesProperty, RefusesNone, part_for}
+use Rattle.bound_actions.specs.LateItems.{LeadsFrom}
 use Rattle.bound_actions.proofs.Refusing.{module_alone}
 
 -- ---- properties that are assigned to
@@ -189,17 +194,13 @@ pub routine_takes : (env : Env) (base : Option bound.Expr) (space : Space) (numb
 routine_takes env None space number w = refl
 routine_takes env (Some b) space number w = refl
 
-routine_no_place : (base : Option bound.Expr) (space : Space) (number : ℕ) (w : Written) → is_variant_place (routine_term base space number w) ≡ false
-routine_no_place None space number w = refl
-routine_no_place (Some b) space number w = refl
-
 pub has_writer : (env : Env) (w : Writer) (y : plain.Term) (ps below : List Piece) → IsWriter part.Let env.scope w → PropertyStands env w.property y ps below → takes_value env y ≡ true
 has_writer env w y ps below is s =
     ap (λ z. takes_value env z) s.is ∙ routine_takes env s.base (space_view w.property.space.now) s.number (written_view w.property.written) ∙ ap (λ o. is_some o) is.found
 
-pub assigns_bare : (env : Env) (place : Expr) (x : Tree) (w : Writer) (d f e : Drafted) (kind : ActionKind) → IsBare place → is_no_target env place ≡ false → Leaves env place d f x → WriterOf part.Let env.scope x.term w
-    → Lets false env w.property x.place [] f e kind → AssignsTo env place d e kind true
-assigns_bare env place x w d f e kind bare target l is h =
+pub assigns_bare : (env : Env) (may : Option Bool) (place : Expr) (x : Tree) (w : Writer) (d f e : Drafted) (kind : ActionKind) → IsBare place → is_no_target env place ≡ false → Leaves env place d f x → WriterOf part.Let env.scope x.term w
+    → Lets false env w.property x.place [] f e kind → AssignsTo env may place d e kind true
+assigns_bare env may place x w d f e kind bare target l is h =
     let s = property_stands env f.tables x.term w.property (term_of env place) f.pieces d.pieces is.is l.stands.term_is in
     record {
       grown = grown_twice d f e l.grown h.grown;
@@ -212,14 +213,14 @@ assigns_bare env place x w d f e kind bare target l is h =
           record { made = m.made; is = bare_assigned env place value bare target ∙ m.is; fits = m.fits };
     }
 
-pub assigns_split : (env : Env) (split : Split) (all : List ExpressionNode) (x : Tree) (y : Term) (w : Writer) (d f g e : Drafted) (kind : ActionKind) → SplitAt split all → LeavesAlone env split.target.now d f x → CalleeIs env x f g y
-    → is_sub (callee env (tree_in split.target.now) (term_of env (tree_in split.target.now))) ≡ false → WriterOf part.Let env.scope y w → LetsOn false env w.property x.place split.arguments.now g e kind → AssignsTo env (tree_in all) d e kind true
-assigns_split env split all x y w d f g e kind at l c no_sub is h =
+pub assigns_split : (env : Env) (may : Option Bool) (split : Split) (all : List ExpressionNode) (x : Tree) (y : Term) (w : Writer) (d f g e : Drafted) (kind : ActionKind) → SplitAt split all → LeavesAlone env split.target.now d f x → CalleeIs env x f g y
+    → is_sub (callee env (tree_in split.target.now) (term_of env (tree_in split.target.now))) ≡ false → WriterOf part.Let env.scope y w → LetsOn false env w.property x.place split.arguments.now g e kind → AssignsTo env may (tree_in all) d e kind true
+assigns_split env may split all x y w d f g e kind at l c no_sub is h =
     let base = tree_in split.target.now in
     let items = nodes.tree base ∷ [] in
     let args = args_on items split.arguments.now in
     let m = h.lets items in
-    let P : Expr → Type 0 = λ t. AssignsTo env t d e kind true in
+    let P : Expr → Type 0 = λ t. AssignsTo env may t d e kind true in
     let z = callee env base (term_of env base) in
     let s = property_stands env g.tables y w.property z f.pieces d.pieces is.is (c.stands base f.pieces d.pieces l.leaves.stands) in
     let same : target_before env base ≡ z = item_itself env (place_told base) z s.base (space_view w.property.space.now) s.number (written_view w.property.written) s.is in
@@ -241,11 +242,11 @@ assigns_split env split all x y w d f g e kind at l c no_sub is h =
           };
     })
 
-pub assigns_member : (env : Env) (split : Split) (all : List ExpressionNode) (x : Tree) (y : Term) (d f g e : Drafted) (kind : ActionKind) → SplitAt split all → LeavesAlone env split.target.now d f x → CalleeIs env x f g y
-    → AssignsItem env x.place y split.arguments.now g e kind → AssignsTo env (tree_in all) d e kind true
-assigns_member env split all x y d f g e kind at l c a =
+pub assigns_member : (env : Env) (may : Option Bool) (split : Split) (all : List ExpressionNode) (x : Tree) (y : Term) (d f g e : Drafted) (kind : ActionKind) → SplitAt split all → LeavesAlone env split.target.now d f x → CalleeIs env x f g y
+    → AssignsItem env may x.place y split.arguments.now g e kind → AssignsTo env may (tree_in all) d e kind true
+assigns_member env may split all x y d f g e kind at l c a =
     let base = tree_in split.target.now in
-    let P : Expr → Type 0 = λ t. AssignsTo env t d e kind true in
+    let P : Expr → Type 0 = λ t. AssignsTo env may t d e kind true in
     let z = callee env base (term_of env base) in
     let T : List Piece → Type 0 = λ ps. TermStands env g.tables y z ps d.pieces in
     let m = a.stands base at.left at.right d.pieces l.leaves.stands.place_is (subst T (sym c.pieces) (c.stands base f.pieces d.pieces l.leaves.stands)) in
@@ -256,76 +257,79 @@ assigns_member env split all x y d f g e kind at l c a =
       stands = m.does;
     })
 
--- what is no object stays as it is: a property
-property_kept : (env : Env) (place : Place) (p : Property) (z : plain.Term) (ps below : List Piece) → item_of env place z ≡ z → Unwritten part.Let env.scope (Some p) → PropertyStands env p z ps below → Untaken env place false z
-property_kept env place p z ps below same n s =
-    let space = space_view p.space.now in
-    let written = written_view p.written in
-    other_untaken env place false z (routine_term s.base space s.number written) (same ∙ s.is) (routine_takes env s.base space s.number written ∙ ap (λ o. is_some o) n) (routine_no_place s.base space s.number written)
+-- what has no Let and is no member takes no value with arguments: a property
+property_untaken : (env : Env) (p : Property) (z : plain.Term) (ps below : List Piece) → Unwritten part.Let env.scope (Some p) → PropertyStands env p z ps below → takes_value env z ≡ false
+property_untaken env p z ps below n s = ap (λ (y : plain.Term). takes_value env y) s.is ∙ routine_takes env s.base (space_view p.space.now) s.number (written_view p.written) ∙ ap (λ o. is_some o) n
 
 -- and any other term
-kept : (env : Env) (t : Tables) (place : Place) (x : Term) (z : plain.Term) (ps below : List Piece) → is_host_term x ≡ false → NoWriter part.Let env.scope x → TermStands env t x z ps below → Untaken env place (is_variant_term x) z
-kept env t place (term.Place kind of bounded lends makes) z ps below i n h =
-    other_untaken env place (is_variant_term (term.Place kind of bounded lends makes)) z (plain.a_place h.at (declared_view of) bounded lends makes)
-    (same_item env t place (term.Place kind of bounded lends makes) z ps below i h ∙ h.is) refl refl
-kept env t place (term.Value e) z ps below i n h =
-    other_untaken env place (is_variant_term (term.Value e)) z (plain.a_value h.made (declared_view e.of)) (same_item env t place (term.Value e) z ps below i h ∙ h.is) refl refl
-kept env t place (term.Routine r) z ps below i n h =
-    property_kept env place (record { receiver = r.receiver; space = r.space; written = r.written }) z ps below (same_item env t place (term.Routine r) z ps below i h) n (property_of env r z ps below h)
-kept env t place (term.Property p) z ps below i n h = property_kept env place p z ps below (same_item env t place (term.Property p) z ps below i h) n h.property
-kept env t place (term.Function f) z ps below i n h = other_untaken env place false z _ (same_item env t place (term.Function f) z ps below i h ∙ h.0.is) refl refl
-kept env t place (term.HostMember m) z ps below i n h = let e : true ≡ false = i in absurd cc
-kept env t place (term.SheetMember m) z ps below i n h = let e : true ≡ false = i in absurd cc
-kept env t place term.Err z ps below i n h = other_untaken env place false z plain.err_object (same_item env t place term.Err z ps below i h ∙ h.0) refl refl
-kept env t place term.ErrRaise z ps below i n h = other_untaken env place false z plain.err_raise (same_item env t place term.ErrRaise z ps below i h ∙ h.0) refl refl
-kept env t place term.ErrClear z ps below i n h = other_untaken env place false z plain.err_clear (same_item env t place term.ErrClear z ps below i h ∙ h.0) refl refl
-kept env t place term.ErrorWord z ps below i n h = other_untaken env place false z plain.error_word (same_item env t place term.ErrorWord z ps below i h ∙ h.0) refl refl
-kept env t place term.Nothing z ps below i n h = other_untaken env place false z plain.no_term (same_item env t place term.Nothing z ps below i h ∙ h) refl refl
+term_untaken : (env : Env) (t : Tables) (x : Term) (z : plain.Term) (ps below : List Piece) → is_member x ≡ false → NoWriter part.Let env.scope x → TermStands env t x z ps below → takes_value env z ≡ false
+term_untaken env t (term.Place kind of bounded lends makes) z ps below i n h = ap (λ (y : plain.Term). takes_value env y) h.is
+term_untaken env t (term.Value e) z ps below i n h = ap (λ (y : plain.Term). takes_value env y) h.is
+term_untaken env t (term.Routine r) z ps below i n h = property_untaken env (record { receiver = r.receiver; space = r.space; written = r.written }) z ps below n (property_of env r z ps below h)
+term_untaken env t (term.Property p) z ps below i n h = property_untaken env p z ps below n h.property
+term_untaken env t (term.Function f) z ps below i n h = ap (λ (y : plain.Term). takes_value env y) h.0.is
+term_untaken env t (term.HostMember m) z ps below i n h = let e : true ≡ false = i in absurd cc
+term_untaken env t (term.SheetMember m) z ps below i n h = let e : true ≡ false = i in absurd cc
+term_untaken env t term.Err z ps below i n h = ap (λ (y : plain.Term). takes_value env y) h.0
+term_untaken env t term.ErrRaise z ps below i n h = ap (λ (y : plain.Term). takes_value env y) h.0
+term_untaken env t term.ErrClear z ps below i n h = ap (λ (y : plain.Term). takes_value env y) h.0
+term_untaken env t term.ErrorWord z ps below i n h = ap (λ (y : plain.Term). takes_value env y) h.0
+term_untaken env t term.Nothing z ps below i n h = ap (λ (y : plain.Term). takes_value env y) h
 
-or_true : (a : Bool) → (a || true) ≡ true
-or_true true = refl
-or_true false = refl
+-- what brackets take of it takes none either
+kept_untaken : (lacks : Bool) (env : Env) (place : Place) (z : plain.Term) → ItemKept lacks env place z → takes_value env z ≡ false → takes_value env (item_of env place z) ≡ false
+kept_untaken true env place z m n = ap (λ (y : plain.Term). takes_value env y) m.is
+kept_untaken false env place z same n = ap (λ (y : plain.Term). takes_value env y) same ∙ n
 
-or_false : (a : Bool) → (a || false) ≡ a
-or_false true = refl
-or_false false = refl
+pub untaken : (has : Bool) (env : Env) → has_class env.scope.spaces ≡ has → (t : Tables) (place : Place) (x : Term) (z : plain.Term) (ps below : List Piece) → KeepsItem has t x → NoWriter part.Let env.scope x → TermStands env t x z ps below
+    → takes_value env (item_of env place z) ≡ false
+untaken has env known t place x z ps below k n h = kept_untaken (lacks_item x) env place z (k.kept env known place z ps below h) (term_untaken env t x z ps below k.other n h)
 
--- and of an object that has no Item brackets make what breaks a rule
-pub untaken : (env : Env) (t : Tables) (place : Place) (x : Term) (z : plain.Term) (ps below : List Piece) → takes_item x ≡ false → NoWriter part.Let env.scope x → TermStands env t x z ps below
-    → Untaken env place (is_variant_term x || lacks_item x) z
-untaken env t place x z ps below i n h = by (lacks_item x) refl
-  where
-    by : (b : Bool) → lacks_item x ≡ b → Untaken env place (is_variant_term x || lacks_item x) z
-    by true l =
-        let m = no_item env t place x z ps below l h in
-        other_untaken env place (is_variant_term x || lacks_item x) z (unknown_member place m.object) m.is refl (sym (ap (λ (b : Bool). is_variant_term x || b) l ∙ or_true (is_variant_term x)))
-    by false l =
-        let A : Bool → Type 0 = λ (b : Bool). Untaken env place b z in
-        subst A (sym (ap (λ (b : Bool). is_variant_term x || b) l ∙ or_false (is_variant_term x))) (kept env t place x z ps below (no_host x i l) n h)
+-- whether the value comes as it is: to what an object lacks, or to what the run says
+kept_late : (lacks given : Bool) (env : Env) (place : Place) (z : plain.Term) → ItemKept lacks env place z → (lacks ≡ true → given ≡ true) → (lacks ≡ false → is_indexed_late env place z ≡ given) → is_indexed_late env place (item_of env place z) ≡ given
+kept_late true given env place z m f g = ap (λ (y : plain.Term). is_indexed_late env place y) m.is ∙ sym (f refl)
+kept_late false given env place z same f g = ap (λ (y : plain.Term). is_indexed_late env place y) same ∙ g refl
 
-pub assigns_indexed : (has : Bool) (env : Env) → has_class env.scope.spaces ≡ has → (split : Split) (all : List ExpressionNode) (x more : Tree) (y : Term) (d f g h e : Drafted) (kind : ActionKind) → SplitAt split all → AddsOne split.arguments.now
-    → LeavesAlone env split.target.now d f x → CalleeIs env x f g y → is_sub (callee env (tree_in split.target.now) (term_of env (tree_in split.target.now))) ≡ false → NoWriter part.Let env.scope y → takes_item y ≡ false
-    → Continues env x split.closed.now g h more → AssignsIndexed has more.place more.term h e kind → AssignsTo env (tree_in all) d e kind (is_variant_term y || lacks_item y)
-assigns_indexed has env known split all x more y d f g h e kind at one l c no_sub none item r a =
+pub given_lacking : (has : Bool) (t : Tables) (x : Term) → lacks_item x ≡ true → ItemGiven has t x true
+given_lacking has t x l = λ env place z ps below known kept h.
+    kept_late (lacks_item x) true env place z kept (λ p. refl) (λ q. (let e : true ≡ false = sym l ∙ q in absurd cc))
+
+pub given_kept : (has : Bool) (t : Tables) (x : Term) (given : Option Bool) → lacks_item x ≡ false → IfSome given (λ b. IndexedLate has t x b) → IfSome given (λ b. ItemGiven has t x b)
+given_kept has t x None l i = tt
+given_kept has t x (Some b) l i = λ env place z ps below known kept h.
+    kept_late (lacks_item x) b env place z kept (λ p. (let e : true ≡ false = sym p ∙ l in absurd cc)) (λ q. i env place z ps below known h)
+
+pub given_late : (has : Bool) (t : Tables) (x : Term) (v : Ending) → IsLateValue has t x v → ItemGiven has t x true
+given_late has t x v l = λ env place z ps below known kept h.
+    kept_late (lacks_item x) true env place z kept (λ p. refl) (λ q. late_value_indexed has t x v l env place z ps below known h)
+
+pub assigns_indexed : (has : Bool) (env : Env) (may : Option Bool) → has_class env.scope.spaces ≡ has → (split : Split) (all : List ExpressionNode) (x : Tree) (y : Term) (d f g e : Drafted) (kind : ActionKind) (given : Bool) → SplitAt split all
+    → AddsOne split.arguments.now → LeavesAlone env split.target.now d f x → CalleeIs env x f g y → is_sub (callee env (tree_in split.target.now) (term_of env (tree_in split.target.now))) ≡ false → NoWriter part.Let env.scope y
+    → KeepsItem has g.tables y → AssignsItemOf has env x y split.closed.now g e kind given → AssignsTo env may (tree_in all) d e kind given
+assigns_indexed has env may known split all x y d f g e kind given at one l c no_sub none item i =
     let base = tree_in split.target.now in
     let z = callee env base (term_of env base) in
-    let whole = continued env split.target.now split.closed.now all x more d f g h at.is l c.grown c.pieces r in
+    let p = place_told base in
+    let h = i.after in
+    let more = i.more in
+    let a = i.assigns may in
+    let whole = continued env split.target.now split.closed.now all x more d f g h at.is l c.grown c.pieces i.continues in
     let at_index = index_at split all at l.alone one in
     let args = at_index.0 in
     let tree = index base at.left args at.right in
-    let P : Expr → Type 0 = λ (t : Expr). AssignsTo env t d e kind (is_variant_term y || lacks_item y) in
+    let P : Expr → Type 0 = λ (t : Expr). AssignsTo env may t d e kind given in
     let L : Expr → Type 0 = λ (t : Expr). Leaves env t d h more in
     let leaves : Leaves env tree d h more = subst L at_index.1 whole in
-    let u = untaken env g.tables (place_told base) y z f.pieces d.pieces item none (c.stands base f.pieces d.pieces l.leaves.stands) in
+    let there = c.stands base f.pieces d.pieces l.leaves.stands in
     let t = target_before env base in
     let gs = givens env args in
-    let takes : takes_value env t ≡ false = u.takes in
+    let takes : takes_value env t ≡ false = untaken has env known g.tables p y z f.pieces d.pieces item none there in
+    let late : is_indexed_late env p t ≡ given = i.item env p z f.pieces d.pieces known (item.kept env known p z f.pieces d.pieces there) there in
     subst P (sym at_index.1) (record {
       grown = grown_twice d h e leaves.grown a.grown;
       named = a.named;
-      takes = ap (λ (b : Bool). b || is_variant_place t) takes ∙ u.variant;
+      takes = ap (λ (b : Bool). b || is_indexed_late env p t) takes ∙ late;
       stands = λ value goes alone.
-          let p = place_told base in
           let A : List Piece → Type 0 = λ (ps : List Piece). TermStands env h.tables more.term (term_of env tree) h.pieces ps in
           let B : Place → Type 0 = λ (q : Place). ActionIs kind (assigned env q value [] (term_of env tree)) e.tables e.pieces in
           let m = subst B leaves.stands.place_is (a.stands env known (term_of env tree) value goes (subst A alone leaves.stands.term_is)) in
@@ -335,3 +339,41 @@ assigns_indexed has env known split all x more y d f g h e kind at one l c no_su
             fits = m.fits;
           };
     })
+
+-- what arguments lead to in a value, as the run says
+pub item_action : (t : Tables) (make : Lvalue → Exprs → bound.Expr → Action) (place : Lvalue) (value : bound.Expr) (count : ℕ) (es : List bound.Expr) (ps : List Piece) → count ≡ length es → ps ≡ above (map an_expr es) (a_place place ∷ an_expr value ∷ [])
+    → element_found make (exprs_off count ps no_exprs) ≡ Some (make place (exprs_of es) value)
+item_action t make place value count es ps counted top =
+    ap (λ (n : ℕ). element_found make (exprs_off n ps no_exprs)) counted ∙ ap (λ (st : List Piece). element_found make (exprs_off (length es) st no_exprs)) top
+    ∙ ap (λ o. element_found make o) (exprs_are es (a_place place ∷ an_expr value ∷ []))
+
+pub assigns_led : (has : Bool) (env : Env) (may : Option Bool) → has_class env.scope.spaces ≡ has → (split : Split) (all : List ExpressionNode) (x : Tree) (y : Term) (v : Ending) (d f g e : Drafted) (numbers : ℕ) → SplitAt split all
+    → LeavesAlone env split.target.now d f x → CalleeIs env x f g y → is_sub (callee env (tree_in split.target.now) (term_of env (tree_in split.target.now))) ≡ false → NoWriter part.Let env.scope y → KeepsItem has g.tables y
+    → IsLateValue has g.tables y v → LeadsFrom env v x.place split.arguments.now g e numbers → AssignsTo env may (tree_in all) d e (action.AssignElement numbers) true
+assigns_led has env may known split all x y v d f g e numbers at l c no_sub none item late led =
+    let base = tree_in split.target.now in
+    let z = callee env base (term_of env base) in
+    let p = place_told base in
+    let t = target_before env base in
+    let there = c.stands base f.pieces d.pieces l.leaves.stands in
+    let takes : takes_value env t ≡ false = untaken has env known g.tables p y z f.pieces d.pieces item none there in
+    let is_late : is_indexed_late env p t ≡ true = given_late has g.tables y v late env p z f.pieces d.pieces known (item.kept env known p z f.pieces d.pieces there) there in
+    let P : Expr → Type 0 = λ (q : Expr). AssignsTo env may q d e (action.AssignElement numbers) true in
+    let Y : Term → Type 0 = λ (q : Term). TermStands env g.tables q z g.pieces d.pieces in
+    let F : List Piece → Type 0 = λ (ps : List Piece). TermStands env g.tables y z ps d.pieces in
+    let m = led.stands base at.left at.right d.pieces l.leaves.stands.place_is (subst Y late.is (subst F (sym c.pieces) there)) in
+    let tree = index base at.left m.args at.right in
+    let gs = givens env m.args in
+    subst P (sym (all_is split all at l.alone)) (subst P (sym m.whole_is) (record {
+      grown = grown_twice d f e l.leaves.grown (grown_twice f g e c.grown led.grown);
+      named = tt;
+      takes = ap (λ (b : Bool). b || is_indexed_late env p t) takes ∙ is_late;
+      stands = λ value goes alone.
+          let made = assign_element (value_place m.value) (exprs_of m.numbers) value in
+          record {
+            made = made;
+            is = a_target env tree value (ap (λ (b : Bool). b || is_param_array env tree) no_sub) ∙ ap (λ (b : Bool). if b then assigned env p value gs t else assigned env p value [] (indexed env p t gs)) takes
+                ∙ ap (λ (q : plain.Term). assigned env p value [] q) m.indexed_is;
+            fits = item_action e.tables (λ q es w. assign_element q es w) (value_place m.value) value numbers m.numbers e.pieces m.count_is (m.on_top ∙ ap (λ (ps : List Piece). above (map an_expr m.numbers) (a_place (value_place m.value) ∷ ps)) alone);
+          };
+    }))

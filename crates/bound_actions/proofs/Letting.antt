@@ -32,7 +32,7 @@ use Rattle.bound_terms.specs.bound_accesses.specs.bound_names.specs.bound_member
 use Rattle.bound_terms.specs.bound_accesses.specs.bound_names.specs.declared.properties.Part.TheVariants as part
 use Rattle.bound_terms.specs.bound_accesses.specs.bound_names.specs.declared.properties.Writer.{Writer}
 use Rattle.bound_terms.specs.bound_accesses.specs.bound_names.specs.Callee.{NoWriter, Unwritten, WriterOf}
-use Rattle.statement_terms.specs.Called.{ActionIs, AssignsTo, GoesThere, IsBare}
+use Rattle.statement_terms.specs.Called.{ActionIs, AssignsTo, IsBare, MayBe}
 use Rattle.statement_terms.specs.Members.{AssignsTerm, AssignsTree}
 use Rattle.statement_terms.proofs.Assigned.{bare_assigned, bare_given, property_of}
 use Rattle.bound_actions.specs.Assigning.{AssignsOther, TakesLet, is_member}
@@ -90,10 +90,10 @@ called_assigned env place v base space number w made of none gives is =
 no_let : (env : Env) (r : Routine) (y : plain.Term) → NoWriter part.Let env.scope (term.Routine r) → (s : RoutineIs env r y) → writer env.scope s.space s.written ≡ None
 no_let env r y n s = ap (λ (q : Space). writer env.scope q s.written) s.space_is ∙ ap (λ (q : Written). writer env.scope (space_view r.space.now) q) s.written_is ∙ n
 
-routine_assigned : (has : Bool) (env : Env) (r : Routine) (place : Place) (y : plain.Term) (value : bound.Expr) (ending : Ending) (kind : ActionKind) (d m e : Drafted) → has_class env.scope.spaces ≡ has → GoesThere env kind value
-    → NoWriter part.Let env.scope (term.Routine r) → gives_value (written_view r.written).kind ≡ true → CallsAt r place d m ending → AssignsTerm has place (term.Value ending) m e kind false → RoutineStands env r y d.pieces (an_expr value ∷ [])
+routine_assigned : (has : Bool) (env : Env) (may : Option Bool) (r : Routine) (place : Place) (y : plain.Term) (value : bound.Expr) (ending : Ending) (kind : ActionKind) (d m e : Drafted) → has_class env.scope.spaces ≡ has → MayBe env may value
+    → NoWriter part.Let env.scope (term.Routine r) → gives_value (written_view r.written).kind ≡ true → CallsAt r place d m ending → AssignsTerm has may place (term.Value ending) m e kind false → RoutineStands env r y d.pieces (an_expr value ∷ [])
     → ActionIs kind (assigned env place value [] y) e.tables e.pieces
-routine_assigned has env r place y value ending kind d m e known goes n gives c a s =
+routine_assigned has env may r place y value ending kind d m e known goes n gives c a s =
     let q = s.routine in
     let z = routine_term q.base q.space q.number q.written in
     let called = (c.stands env y (an_expr value ∷ []) s).called in
@@ -110,9 +110,9 @@ routine_member : (base : Option bound.Expr) (space : Space) (number : ℕ) (w : 
 routine_member None space number w = refl
 routine_member (Some b) space number w = refl
 
-pub assigns_routine : (has : Bool) (x : Tree) (r : Routine) (ending : Ending) (kind : ActionKind) (d m e : Drafted) → x.term ≡ term.Routine r → gives_value (written_view r.written).kind ≡ true → CallsAt r x.place d m ending
-    → AssignsTerm has x.place (term.Value ending) m e kind false → AssignsOther has x d e kind false
-assigns_routine has x r ending kind d m e is gives c a = record {
+pub assigns_routine : (has : Bool) (may : Option Bool) (x : Tree) (r : Routine) (ending : Ending) (kind : ActionKind) (d m e : Drafted) → x.term ≡ term.Routine r → gives_value (written_view r.written).kind ≡ true → CallsAt r x.place d m ending
+    → AssignsTerm has may x.place (term.Value ending) m e kind false → AssignsOther has may x d e kind false
+assigns_routine has may x r ending kind d m e is gives c a = record {
   grown = grown_twice d m e c.grown a.grown;
   named = a.named;
   takes = λ env tree below n bare h.
@@ -125,12 +125,12 @@ assigns_routine has x r ending kind d m e is gives c a = record {
       let T : Term → Type 0 = λ (q : Term). TermStands env d.tables q (term_of env tree) d.pieces below in
       let N : Term → Type 0 = λ (q : Term). NoWriter part.Let env.scope q in
       let A : Place → Type 0 = λ (p : Place). ActionIs kind (assigned env p value [] (term_of env tree)) e.tables e.pieces in
-      let done = subst A h.place_is (routine_assigned has env r x.place (term_of env tree) value ending kind d m e known goes (subst N is n) gives c a (subst T is h.term_is)) in
+      let done = subst A h.place_is (routine_assigned has env may r x.place (term_of env tree) value ending kind d m e known goes (subst N is n) gives c a (subst T is h.term_is)) in
       record { made = done.made; is = bare_assigned env tree value bare target ∙ done.is; fits = done.fits };
 }
 
-pub assigns_plainly : (has : Bool) (x : Tree) (d e : Drafted) (kind : ActionKind) (given : Bool) → AssignsTree has x d e kind given → AssignsOther has x d e kind given
-assigns_plainly has x d e kind given a = record {
+pub assigns_plainly : (has : Bool) (may : Option Bool) (x : Tree) (d e : Drafted) (kind : ActionKind) (given : Bool) → AssignsTree has may x d e kind given → AssignsOther has may x d e kind given
+assigns_plainly has may x d e kind given a = record {
   grown = a.grown;
   named = a.named;
   takes = λ env tree below n bare h. a.takes env tree below bare h;
@@ -138,15 +138,15 @@ assigns_plainly has x d e kind given a = record {
 }
 
 -- what an assignment says
-pub other_is : (has : Bool) (x : Tree) (d e : Drafted) (kind k : ActionKind) (given g : Bool) → k ≡ kind → g ≡ given → AssignsOther has x d e kind given → AssignsOther has x d e k g
-other_is has x d e kind k given g same is a =
-    let K : ActionKind → Type 0 = λ (q : ActionKind). AssignsOther has x d e q given in
-    let G : Bool → Type 0 = λ (b : Bool). AssignsOther has x d e k b in
+pub other_is : (has : Bool) (may : Option Bool) (x : Tree) (d e : Drafted) (kind k : ActionKind) (given g : Bool) → k ≡ kind → g ≡ given → AssignsOther has may x d e kind given → AssignsOther has may x d e k g
+other_is has may x d e kind k given g same is a =
+    let K : ActionKind → Type 0 = λ (q : ActionKind). AssignsOther has may x d e q given in
+    let G : Bool → Type 0 = λ (b : Bool). AssignsOther has may x d e k b in
     subst G (sym is) (subst K (sym same) a)
 
-pub assigns_other : (has : Bool) (env : Env) (place : Expr) (x : Tree) (d f e : Drafted) (kind : ActionKind) (given : Bool) → has_class env.scope.spaces ≡ has → IsBare place → is_no_target env place ≡ false → NoWriter part.Let env.scope x.term
-    → Leaves env place d f x → AssignsOther has x f e kind given → AssignsTo env place d e kind given
-assigns_other has env place x d f e kind given known bare target n l a = record {
+pub assigns_other : (has : Bool) (env : Env) (may : Option Bool) (place : Expr) (x : Tree) (d f e : Drafted) (kind : ActionKind) (given : Bool) → has_class env.scope.spaces ≡ has → IsBare place → is_no_target env place ≡ false → NoWriter part.Let env.scope x.term
+    → Leaves env place d f x → AssignsOther has may x f e kind given → AssignsTo env may place d e kind given
+assigns_other has env may place x d f e kind given known bare target n l a = record {
   grown = grown_twice d f e l.grown a.grown;
   named = a.named;
   takes = a.takes env place d.pieces n bare l.stands;

@@ -8,3 +8,5 @@ pub mod SetTargets
 pub mod RefusedMembers
 pub mod Takings
 pub mod Refusing
+pub mod LateSets
+pub mod LateItems

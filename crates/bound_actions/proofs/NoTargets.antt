@@ -33,7 +33,7 @@ use Rattle.declared_names.specs.declared.scope.Meant.TheVariants as meant
 use Rattle.bound_terms.specs.bound_accesses.specs.bound_names.specs.bound_members.specs.bound_calls.specs.bound_forms.specs.Terms.{Env, a_routine, routine_term}
 use Rattle.bound_terms.specs.bound_accesses.specs.bound_names.specs.bound_members.specs.bound_calls.specs.bound_forms.specs.Terms as plain
 use Rattle.bound_terms.specs.bound_accesses.specs.bound_names.specs.bound_members.specs.bound_calls.specs.bound_forms.specs.ExpressionsBound.{callee, item_of, meant_term, own_term, place_told, term_of}
-use Rattle.bound_terms.specs.bound_accesses.specs.bound_names.specs.bound_members.specs.bound_calls.specs.bound_forms.specs.StatementsBound.{broken_target, is_given_with, is_no_target, is_param_array, is_sub, is_variant_place, takes_value, target_of_call, written_to}
+use Rattle.bound_terms.specs.bound_accesses.specs.bound_names.specs.bound_members.specs.bound_calls.specs.bound_forms.specs.StatementsBound.{broken_target, is_given_with, is_no_target, is_param_array, is_sub, is_indexed_late, takes_value, target_of_call, written_to}
 use Rattle.bound_terms.specs.bound_accesses.specs.bound_names.specs.bound_members.specs.bound_calls.specs.declared.term.Property.{Property}
 use Rattle.bound_terms.specs.bound_accesses.specs.bound_names.specs.bound_members.specs.bound_calls.specs.declared.term.Receiver.{Receiver}
 use Rattle.bound_terms.specs.bound_accesses.specs.bound_names.specs.bound_members.specs.bound_calls.specs.declared.term.Receiver.TheVariants as receiver
@@ -181,10 +181,10 @@ sub_item env place (plain.a_place x of bounded lends makes) h = let z : false �
 sub_item env place (plain.a_value node of) h = let z : false ≡ true = h in absurd cc
 sub_item env place y h = let z : false ≡ true = h in absurd cc
 
-sub_variant : (y : plain.Term) → is_sub y ≡ true → is_variant_place y ≡ false
-sub_variant (plain.a_place x of bounded lends makes) h = let z : false ≡ true = h in absurd cc
-sub_variant (plain.a_value node of) h = let z : false ≡ true = h in absurd cc
-sub_variant y h = refl
+sub_early : (env : Env) (place : Place) (y : plain.Term) → is_sub y ≡ true → is_indexed_late env place y ≡ false
+sub_early env place (plain.a_place x of bounded lends makes) h = let z : false ≡ true = h in absurd cc
+sub_early env place (plain.a_value node of) h = let z : false ≡ true = h in absurd cc
+sub_early env place y h = refl
 
 -- nothing is pushed for a Sub
 receiver_pushes : (r : Receiver) (base : Option bound.Expr) (space : Space) (number : ℕ) (w : Written) (ps below : List Piece) → IsReceiver r base → is_sub (routine_term base space number w) ≡ true → ReceiverStands r base ps below → ps ≡ below
@@ -252,16 +252,16 @@ target_member env e bare none = by (is_sub (target_of_call env e)) refl
     by true s = sub_member (term_of env e) (sym (ap is_sub (bare_callee env e bare)) ∙ s)
     by false s = list_member env e (sym (ap (λ (b : Bool). b || is_param_array env e) s) ∙ none)
 
-pub bare_refused : (env : Env) (place : Expr) (x : Tree) (given : Bool) (d f e : Drafted) (kind : ActionKind) → IsBare place → Leaves env place d f x → IsNoTarget env x true → TakesLet env x.term given → RefusesTarget x.place f e kind → AssignsTo env place d e kind given
-bare_refused env place x given d f e kind bare l n g r =
+pub bare_refused : (env : Env) (may : Option Bool) (place : Expr) (x : Tree) (given : Bool) (d f e : Drafted) (kind : ActionKind) → IsBare place → Leaves env place d f x → IsNoTarget env x true → TakesLet env x.term given → RefusesTarget x.place f e kind → AssignsTo env may place d e kind given
+bare_refused env may place x given d f e kind bare l n g r =
     let none : is_no_target env place ≡ true = n f.tables place f.pieces d.pieces bare l.stands in
     let same : f.pieces ≡ d.pieces = target_pushes env f.tables x place f.pieces d.pieces bare none l.stands in
     let takes : is_given_with env place ≡ given = bare_given env place bare ∙ g f.tables (term_of env place) f.pieces d.pieces (target_member env place bare none) l.stands.term_is in
-    assigns_refused env place x given d f e kind l same none takes r
+    assigns_refused env may place x given d f e kind l same none takes r
 
-pub split_refused : (env : Env) (split : Split) (all : List ExpressionNode) (x : Tree) (y : Term) (given : Bool) (d f g e : Drafted) (kind : ActionKind) → SplitAt split all → AddsOne split.arguments.now → LeavesAlone env split.target.now d f x
-    → CalleeIs env x f g y → IsSub y true → TakesLet env y given → RefusesTarget x.place g e kind → AssignsTo env (tree_in all) d e kind given
-split_refused env split all x y given d f g e kind at one l c sub has r =
+pub split_refused : (env : Env) (may : Option Bool) (split : Split) (all : List ExpressionNode) (x : Tree) (y : Term) (given : Bool) (d f g e : Drafted) (kind : ActionKind) → SplitAt split all → AddsOne split.arguments.now → LeavesAlone env split.target.now d f x
+    → CalleeIs env x f g y → IsSub y true → TakesLet env y given → RefusesTarget x.place g e kind → AssignsTo env may (tree_in all) d e kind given
+split_refused env may split all x y given d f g e kind at one l c sub has r =
     let base = tree_in split.target.now in
     let there = index_at split all at l.alone one in
     let args = there.0 in
@@ -271,12 +271,12 @@ split_refused env split all x y given d f g e kind at one l c sub has r =
     let is : is_sub z ≡ true = sub env g.tables z f.pieces d.pieces s in
     let same : g.pieces ≡ d.pieces = c.pieces ∙ sub_pushes env g.tables y z f.pieces d.pieces is s in
     let takes : takes_value env z ≡ given = has g.tables z f.pieces d.pieces (sub_member z is) s in
-    let P : Expr → Type 0 = λ (t : Expr). AssignsTo env t d e kind given in
+    let P : Expr → Type 0 = λ (t : Expr). AssignsTo env may t d e kind given in
     subst P (sym there.1) (record {
       grown = grown_twice d f e l.leaves.grown (grown_twice f g e c.grown r.grown);
       named = r.named;
-      takes = ap (λ (q : plain.Term). takes_value env q || is_variant_place q) (sub_item env (place_told base) z is) ∙ ap (λ (b : Bool). b || is_variant_place z) takes
-          ∙ ap (λ (b : Bool). given || b) (sub_variant z is) ∙ or-false given;
+      takes = ap (λ (q : plain.Term). takes_value env q || is_indexed_late env (place_told base) q) (sub_item env (place_told base) z is) ∙ ap (λ (b : Bool). b || is_indexed_late env (place_told base) z) takes
+          ∙ ap (λ (b : Bool). given || b) (sub_early env (place_told base) z is) ∙ or-false given;
       stands = λ value goes alone.
           let F : Place → Type 0 = λ (p : Place). action_of e.tables kind e.pieces ≡ Some (broken_target 27 p value no_exprs) in
           record {

@@ -21,8 +21,8 @@ use Rattle.bound_project.specs.Statements as to
 use Rattle.declared_names.specs.binder.specs.Options.{from_two, or_else}
 use Rattle.bound_terms.specs.bound_accesses.specs.bound_names.specs.bound_members.specs.bound_calls.specs.bound_forms.specs.Terms.{Env, Given, a_host_member, broken_value, has_names}
 use Rattle.bound_terms.specs.bound_accesses.specs.bound_names.specs.bound_members.specs.bound_calls.specs.bound_forms.specs.Terms as plain
-use Rattle.bound_terms.specs.bound_accesses.specs.bound_names.specs.bound_members.specs.bound_calls.specs.bound_forms.specs.ExpressionsBound.{argument_of, arguments_rule, callee, givens, host_arguments, if_there, indexed, item_of, may_be_instance, member_takes, names_taken, place_told, takes_arguments, term_of, variant_arguments}
-use Rattle.bound_terms.specs.bound_accesses.specs.bound_names.specs.bound_members.specs.bound_calls.specs.bound_forms.specs.StatementsBound.{arguments_written, broken_target, fits_written, has_written_default, is_written_member, member_written, named_written, target_before, unwritten_rule, written_rule}
+use Rattle.bound_terms.specs.bound_accesses.specs.bound_names.specs.bound_members.specs.bound_calls.specs.bound_forms.specs.ExpressionsBound.{are_named_right, argument_of, arguments_rule, callee, early_called, givens, if_there, indexed, is_called_late, item_of, late_called, may_be_instance, member_called, member_takes, named_called, names_taken, place_told, takes_arguments, term_of, variant_arguments}
+use Rattle.bound_terms.specs.bound_accesses.specs.bound_names.specs.bound_members.specs.bound_calls.specs.bound_forms.specs.StatementsBound.{arguments_written, broken_target, fits_written, has_written_default, is_written_member, late_written, member_written, named_written, target_before, unwritten_rule, written_rule}
 use Rattle.bound_terms.specs.bound_accesses.specs.bound_names.specs.bound_members.specs.bound_calls.specs.declared.term.HostMember.{HostMember}
 use Rattle.bound_terms.specs.bound_accesses.specs.bound_names.specs.bound_members.specs.bound_calls.specs.declared.term.Refuser.TheVariants as refuser
 use Rattle.bound_terms.specs.bound_accesses.specs.bound_names.specs.bound_members.specs.bound_calls.specs.declared.term.Shape.{Shape}
@@ -80,32 +80,51 @@ either : (b : Bool) (none : Option Action) → (if b then none else none) ≡ no
 either true none = refl
 either false none = refl
 
+no_node : (b : Bool) (none : Option bound.Node) → (if b then none else none) ≡ none
+no_node true none = refl
+no_node false none = refl
+
+-- nothing is called by names that aren't taken
+called_none : (env : Env) (object : bound.Expr) (m : plain.HostMember) (gs : List Given) → has_names gs ≡ true → names_taken m gs ≡ None → member_called env object m gs ≡ None
+called_none env object m gs names none =
+    let early = early_called env object m gs in
+    let late = late_called env object m gs in
+    let plainly : Option bound.Node = option_map (λ es. bound.host_member object m.name es) (variant_arguments env gs) in
+    let unnamed : early ≡ None =
+    ap (λ (b : Bool). if b then named_called env object m gs else plainly) names ∙ ap (λ (o : Option bound.ByName). from_two (λ by es. bound.named_member object m.name by es) o (variant_arguments env gs)) none in
+    let wrong : are_named_right m gs ≡ false = ap (λ (b : Bool). not b || is_some (names_taken m gs)) names ∙ ap (λ (o : Option bound.ByName). is_some o) none in
+    ap (λ (o : Option bound.Node). if not (is_called_late env m gs) then o else if are_named_right m gs then late else None) unnamed
+    ∙ ap (λ (b : Bool). if not (is_called_late env m gs) then None else if b then late else None) wrong ∙ no_node (not (is_called_late env m gs)) None
+
 -- nothing is written by names that aren't taken
-by_none : (env : Env) (place : Place) (object : bound.Expr) (m : plain.HostMember) (gs : List Given) (value : bound.Expr) → has_names gs ≡ true → names_taken m gs ≡ None → arguments_written env place object m gs value ≡ None
-by_none env place object m gs value names none =
-    let plainly : Option Action = option_map (λ es. to.assign_member object m.name es value) (host_arguments env m gs) in
-    let by : Option bound.ByName → Option Action = λ o. option_map (λ node. to.assign_default (plain.expression_of node place m.of) value) (from_two (λ how es. bound.named_member object m.name how es) o (host_arguments env m gs)) in
-    ap (λ (b : Bool). if b then named_written env place object m gs value else plainly) names ∙ ap (λ (o : Option bound.ByName). if bytes_eq m.name (codes "raise") then None else by o) none ∙ either (bytes_eq m.name (codes "raise")) None
+by_none : (env : Env) (place : Place) (object : bound.Expr) (m : plain.HostMember) (gs : List Given) (value : bound.Expr) → has_names gs ≡ true → m.late ≡ false → names_taken m gs ≡ None → arguments_written env place object m gs value ≡ None
+by_none env place object m gs value names early none =
+    let plainly : Option Action =
+    if may_be_instance env value || is_called_late env m gs then late_written env object m gs value else option_map (λ es. to.assign_member object m.name es value) (variant_arguments env gs) in
+    let done : Option bound.Node → Option Action = λ o. option_map (λ node. to.assign_default (plain.expression_of node place m.of) value) o in
+    let raises = bytes_eq m.name (codes "raise") || may_be_instance env value in
+    ap (λ (b : Bool). if b && not m.late then named_written env place object m gs value else plainly) names
+    ∙ ap (λ (b : Bool). if not b then named_written env place object m gs value else plainly) early
+    ∙ ap (λ (o : Option bound.Node). if raises then None else done o) (called_none env object m gs names none) ∙ either raises None
 
 -- ---- what isn't written
 
-not_kept : (w f n : Bool) (kept : Option Action) → (w ≡ true → f ≡ true → kept ≡ None) → (if w && (f && n) then kept else None) ≡ None
-not_kept true true true kept h = h refl refl
-not_kept true true false kept h = refl
-not_kept true false n kept h = refl
-not_kept false f n kept h = refl
+not_kept : (w f : Bool) (kept : Option Action) → (w ≡ true → f ≡ true → kept ≡ None) → (if w && f then kept else None) ≡ None
+not_kept true true kept h = h refl refl
+not_kept true false kept h = refl
+not_kept false f kept h = refl
 
 no_rule : (a : Bool) (one : Option ℕ) (rule : ℕ) → a ≡ true → (if not a then one else None) ≡ Some rule → ⊥
 no_rule true one rule a h = let e : ◌≡◌ {A = Option ℕ} None (Some rule) = h in absurd cc
 no_rule false one rule a h = let e : false ≡ true = a in absurd cc
 
 -- a member that breaks a rule isn't written, with what these are
-unwritten : (env : Env) (place : Place) (object : bound.Expr) (m : plain.HostMember) (gs : List Given) (rule : ℕ) (value : bound.Expr) → written_rule m gs ≡ Some rule → is_written_member m ≡ true → fits_written m gs ≡ true
+unwritten : (env : Env) (place : Place) (object : bound.Expr) (m : plain.HostMember) (gs : List Given) (rule : ℕ) (value : bound.Expr) → m.late ≡ false → written_rule m gs ≡ Some rule → is_written_member m ≡ true → fits_written m gs ≡ true
     → arguments_written env place object m gs value ≡ None
-unwritten env place object m [] rule value h written fits =
+unwritten env place object m [] rule value early h written fits =
     let least : (if not (m.least == 0) then Some 25 else None) ≡ Some rule = ap (λ (b : Bool). if not (m.least == 0) then Some 25 else if b then None else unwritten_rule m.of) (sym written) ∙ h in
     absurd (no_rule (m.least == 0) (Some 25) rule fits least)
-unwritten env place object m (g ∷ gs) rule value h written fits =
+unwritten env place object m (g ∷ gs) rule value early h written fits =
     let all = g ∷ gs in
     let f = and_parts (takes_arguments m (length all)) (has_written_default m.of) fits in
     let default : (is_written_member m && has_written_default m.of) ≡ true = ap (λ (b : Bool). b && has_written_default m.of) written ∙ f.1 in
@@ -115,20 +134,20 @@ unwritten env place object m (g ∷ gs) rule value h written fits =
   where
     at : (b : Bool) → member_takes m (g ∷ gs) ≡ b → (if not (member_takes m (g ∷ gs)) then arguments_rule m else None) ≡ Some rule → takes_arguments m (length (g ∷ gs)) ≡ true → arguments_written env place object m (g ∷ gs) value ≡ None
     at true e broken takes = absurd (no_rule (member_takes m (g ∷ gs)) (arguments_rule m) rule e broken)
-    at false e broken takes = let r = refused_names m m.greatest (g ∷ gs) takes e in by_none env place object m (g ∷ gs) value r.0 r.1
+    at false e broken takes = let r = refused_names m m.greatest (g ∷ gs) takes e in by_none env place object m (g ∷ gs) value r.0 early r.1
 
-broken_written : (env : Env) (place : Place) (object : bound.Expr) (m : plain.HostMember) (gs : List Given) (rule : ℕ) (es : Exprs) (value : bound.Expr) → written_rule m gs ≡ Some rule → variant_arguments env gs ≡ Some es
+broken_written : (env : Env) (place : Place) (object : bound.Expr) (m : plain.HostMember) (gs : List Given) (rule : ℕ) (es : Exprs) (value : bound.Expr) → m.late ≡ false → written_rule m gs ≡ Some rule → variant_arguments env gs ≡ Some es
     → member_written env place object m gs value ≡ Some (broken_target rule place value (also object es))
-broken_written env place object m gs rule es value h given =
+broken_written env place object m gs rule es value early h given =
     let wrong : Option ℕ → Option Exprs → Option Action = λ (r : Option ℕ) (o : Option Exprs). from_two (λ n xs. broken_target n place value (also object xs)) r o in
-    let kept = not_kept (is_written_member m) (fits_written m gs) (not (may_be_instance env value)) (arguments_written env place object m gs value) (unwritten env place object m gs rule value h) in
+    let kept = not_kept (is_written_member m) (fits_written m gs) (arguments_written env place object m gs value) (unwritten env place object m gs rule value early h) in
     ap (λ (o : Option Action). or_else o (wrong (written_rule m gs) (variant_arguments env gs))) kept ∙ ap (λ (r : Option ℕ). wrong r (variant_arguments env gs)) h ∙ ap (λ (o : Option Exprs). wrong (Some rule) o) given
 
 -- ---- what is made
 
-pub written_refused : (env : Env) (place : Place) (m : HostMember) (rule count : ℕ) (ns : List ExpressionNode) (ss : List Shape) (d f e : Drafted) (kind : ActionKind) → m.name < length d.tables.constants → ReadsUntaken env ns d f ss
+pub written_refused : (env : Env) (place : Place) (m : HostMember) (rule count : ℕ) (ns : List ExpressionNode) (ss : List Shape) (d f e : Drafted) (kind : ActionKind) → m.name < length d.tables.constants → m.is_late ≡ false → ReadsUntaken env ns d f ss
     → Some rule ≡ written_rule (member_is f.tables m) (shapes_given ss) → count ≡ length ss → WritesBroken rule count place f e kind → RefusesWritten env place m ns d e kind
-written_refused env place m rule count ns ss d f e kind there r breaks counted w = record {
+written_refused env place m rule count ns ss d f e kind there early r breaks counted w = record {
   grown = grown_twice d f e r.grown w.grown;
   named = w.named;
   framed = r.framed;
@@ -142,7 +161,7 @@ written_refused env place m rule count ns ss d f e kind there r breaks counted w
       let long : length s.made ≡ count = omega (arith, counted, length-map ss shape_given, shapes_long ss gs s.shaped, given_long (argument_of env type.variant) gs s.made s.values) in
       record {
         made = broken_target rule place value (also object (exprs_of s.made));
-        is = broken_written env place object M gs rule (exprs_of s.made) value broken given;
+        is = broken_written env place object M gs rule (exprs_of s.made) value early broken given;
         fits = w.does value object s.made long (s.on_top ∙ ap (λ (ps : List Piece). above (map an_expr s.made) ps) on_top);
       };
 }
@@ -178,8 +197,8 @@ set_refused env word place m rule count values ns ss d f e kind there r breaks c
 
 -- ---- what is called
 
-pub item_refused : (env : Env) (place : Place) (y : Term) (m : HostMember) (ns : List ExpressionNode) (kind : ActionKind) (d h e : Drafted) → MakesItem env place y d h (term.HostMember m) → RefusesWritten env place m ns h e kind → AssignsItem env place y ns d e kind
-item_refused env place y m ns kind d h e made r = record {
+pub item_refused : (env : Env) (may : Option Bool) (place : Place) (y : Term) (m : HostMember) (ns : List ExpressionNode) (kind : ActionKind) (d h e : Drafted) → MakesItem env place y d h (term.HostMember m) → RefusesWritten env place m ns h e kind → AssignsItem env may place y ns d e kind
+item_refused env may place y m ns kind d h e made r = record {
   grown = grown_twice d h e made.grown r.grown;
   named = r.named;
   stands = λ tree left right below at k.
@@ -191,7 +210,7 @@ item_refused env place y m ns kind d h e made r = record {
       let M = member_is h.tables m in
       let is : index tree left args right ≡ last_tree (behind_nodes items (ns ++ node.Index left right ∷ [])) =
       sym (ap last_tree (behind_push items ns (node.Index left right)) ∙ ap (λ (l : List nodes.Item). last_tree (behind_node (node.Index left right) l)) (r.framed items)) in
-      let P : Expr → Type 0 = λ (t : Expr). GivesMember env t kind e.tables e.pieces below in
+      let P : Expr → Type 0 = λ (t : Expr). GivesMember env may t kind e.tables e.pieces below in
       subst P is (record {
         given = indexed_given env tree left right args there.object M there.is;
         does = λ value goes alone.

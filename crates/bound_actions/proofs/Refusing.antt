@@ -286,9 +286,9 @@ sets_refused word env target x d f e kind l same sub r = record {
       };
 }
 
-pub assigns_refused : (env : Env) (target : Expr) (x : Tree) (given : Bool) (d f e : Drafted) (kind : ActionKind) → Leaves env target d f x → f.pieces ≡ d.pieces → is_no_target env target ≡ true → is_given_with env target ≡ given → RefusesTarget x.place f e kind
-    → AssignsTo env target d e kind given
-assigns_refused env target x given d f e kind l same none takes r = record {
+pub assigns_refused : (env : Env) (may : Option Bool) (target : Expr) (x : Tree) (given : Bool) (d f e : Drafted) (kind : ActionKind) → Leaves env target d f x → f.pieces ≡ d.pieces → is_no_target env target ≡ true → is_given_with env target ≡ given → RefusesTarget x.place f e kind
+    → AssignsTo env may target d e kind given
+assigns_refused env may target x given d f e kind l same none takes r = record {
   grown = grown_twice d f e l.grown r.grown;
   named = r.named;
   takes = takes;

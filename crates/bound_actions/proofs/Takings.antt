@@ -1,5 +1,5 @@
 -- What takes the value that an expression is assigned.
-use Rattle.std.proofs.Common.{◌≡◌, ℕ, true, false, List, Option, Some, None, refl, sym, ap, subst, ◌∙◌}
+use Rattle.std.proofs.Common.{◌≡◌, ℕ, Bool, true, false, List, Option, Some, None, refl, sym, ap, subst, ◌∙◌}
 use Rattle.vba_base.specs.declared.place.Place.{Place}
 use Rattle.vba_expression.specs.Tree.{Expr, index}
 use Rattle.vba_expression.specs.Nodes.{tree_in}
@@ -17,7 +17,7 @@ use Rattle.declared_names.specs.View.{space_view, written_view}
 use Rattle.bound_terms.specs.bound_accesses.specs.bound_names.specs.declared.properties.Part.TheVariants as part
 use Rattle.bound_terms.specs.bound_accesses.specs.bound_names.specs.declared.properties.Writer.{Writer}
 use Rattle.bound_terms.specs.bound_accesses.specs.bound_names.specs.Callee.{CalleeIs, NoWriter, WriterOf}
-use Rattle.bound_terms.specs.bound_accesses.specs.Items.{MakesItem, takes_item}
+use Rattle.bound_terms.specs.bound_accesses.specs.Items.{KeepsItem, MakesItem}
 use Rattle.bound_terms.specs.bound_accesses.specs.bound_names.specs.bound_members.specs.bound_calls.specs.declared.term.HostMember.{HostMember}
 use Rattle.bound_terms.specs.bound_accesses.specs.bound_names.specs.bound_members.specs.bound_calls.specs.declared.term.Term.{Term}
 use Rattle.bound_terms.specs.bound_accesses.specs.bound_names.specs.bound_members.specs.bound_calls.specs.declared.term.Term.TheVariants as term
@@ -33,6 +33,7 @@ use Rattle.statement_terms.proofs.Assigned.{index_at, item_itself}
 use Rattle.statement_terms.proofs.NodeTrees.{continued}
 use Rattle.statement_terms.proofs.Takings.{as_taken, taken_bare, taken_there, target_before_is, target_indexed}
 use Rattle.bound_actions.proofs.Assigned.{has_writer, property_stands, untaken}
+use Rattle.declared_names.specs.binder.specs.Classes.{has_class}
 
 -- without arguments in brackets at its end
 pub tree_taken : (env : Env) (place : Expr) (x : Tree) (taker : Option Taker) (d f : Drafted) → IsBare place → Leaves env place d f x → taker ≡ taker_of x.term → TakenBy (target_term env place) taker
@@ -80,9 +81,9 @@ member_taken env split all x y m taker d f g h at one l c made is =
     (taken_there env h.tables (term.HostMember m) (target_before env base) h.pieces d.pieces s)))
 
 -- what brackets make of what takes no value with arguments
-pub indexed_taken : (env : Env) (split : Split) (all : List ExpressionNode) (x more : Tree) (y : Term) (taker : Option Taker) (d f g h : Drafted) → SplitAt split all → AddsOne split.arguments.now → LeavesAlone env split.target.now d f x
-    → CalleeIs env x f g y → NoWriter part.Let env.scope y → takes_item y ≡ false → Continues env x split.closed.now g h more → taker ≡ taker_of more.term → TakenBy (target_term env (tree_in all)) taker
-indexed_taken env split all x more y taker d f g h at one l c none item r is =
+pub indexed_taken : (has : Bool) (env : Env) → has_class env.scope.spaces ≡ has → (split : Split) (all : List ExpressionNode) (x more : Tree) (y : Term) (taker : Option Taker) (d f g h : Drafted) → SplitAt split all → AddsOne split.arguments.now → LeavesAlone env split.target.now d f x
+    → CalleeIs env x f g y → NoWriter part.Let env.scope y → KeepsItem has g.tables y → Continues env x split.closed.now g h more → taker ≡ taker_of more.term → TakenBy (target_term env (tree_in all)) taker
+indexed_taken has env known split all x more y taker d f g h at one l c none item r is =
     let base = tree_in split.target.now in
     let z = callee env base (term_of env base) in
     let whole = continued env split.target.now split.closed.now all x more d f g h at.is l c.grown c.pieces r in
@@ -91,8 +92,7 @@ indexed_taken env split all x more y taker d f g h at one l c none item r is =
     let tree = index base at.left args at.right in
     let L : Expr → Type 0 = λ (t : Expr). Leaves env t d h more in
     let leaves : Leaves env tree d h more = subst L there.1 whole in
-    let u = untaken env g.tables (place_told base) y z f.pieces d.pieces item none (c.stands base f.pieces d.pieces l.leaves.stands) in
-    let takes : takes_value env (target_before env base) ≡ false = u.takes in
+    let takes : takes_value env (target_before env base) ≡ false = untaken has env known g.tables (place_told base) y z f.pieces d.pieces item none (c.stands base f.pieces d.pieces l.leaves.stands) in
     let P : Expr → Type 0 = λ (t : Expr). TakenBy (target_term env t) taker in
     let Q : Option Taker → Type 0 = λ (o : Option Taker). TakenBy (target_term env tree) o in
     subst P (sym there.1)

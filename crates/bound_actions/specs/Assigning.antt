@@ -3,6 +3,7 @@ use Rattle.std.specs.Prelude.{◌≡◌, ◌||◌, ◌++◌, Bool, true, false, 
 use Rattle.vba_base.specs.declared.place.Place.{Place}
 use Rattle.vba_words.specs.declared.identifier.Identifier.{Identifier}
 use Rattle.vba_expression.specs.Tree.{Expr}
+use Rattle.vba_expression.specs.declared.node.ExpressionNode.{ExpressionNode}
 use Rattle.bound_project.specs.declared.statement.ActionKind.{ActionKind}
 use Rattle.bound_project.specs.Bodies.{action_of}
 use Rattle.bound_project.specs.Drafts.{ActionNamed, Drafted}
@@ -12,7 +13,8 @@ use Rattle.bound_project.specs.Pieces.{Piece, Tables, an_expr}
 use Rattle.declared_names.specs.binder.specs.Scopes.{declares, plainly}
 use Rattle.bound_terms.specs.bound_accesses.specs.bound_names.specs.bound_members.specs.bound_calls.specs.bound_forms.specs.Terms.{Env, a_host_member}
 use Rattle.bound_terms.specs.bound_accesses.specs.bound_names.specs.bound_members.specs.bound_calls.specs.bound_forms.specs.Terms as plain
-use Rattle.bound_terms.specs.bound_accesses.specs.bound_names.specs.bound_members.specs.bound_calls.specs.bound_forms.specs.StatementsBound.{assigned_to, broken_target, is_given_with, is_no_target, takes_value}
+use Rattle.bound_terms.specs.bound_accesses.specs.bound_names.specs.bound_members.specs.bound_calls.specs.bound_forms.specs.ExpressionsBound.{item_of}
+use Rattle.bound_terms.specs.bound_accesses.specs.bound_names.specs.bound_members.specs.bound_calls.specs.bound_forms.specs.StatementsBound.{assigned_to, broken_target, is_given_with, is_indexed_late, is_no_target, takes_value}
 use Rattle.bound_terms.specs.bound_accesses.specs.bound_names.specs.bound_members.specs.bound_calls.specs.declared.term.Receiver.{Receiver}
 use Rattle.bound_terms.specs.bound_accesses.specs.bound_names.specs.bound_members.specs.bound_calls.specs.declared.term.Receiver.TheVariants as receiver
 use Rattle.bound_terms.specs.bound_accesses.specs.bound_names.specs.bound_members.specs.bound_calls.specs.declared.term.Term.{Term}
@@ -30,7 +32,9 @@ use Rattle.declared_names.specs.View.{space_view, written_view}
 use Rattle.statement_terms.specs.declared.assigning.PropertyLet.{PropertyLet}
 use Rattle.declared_names.specs.binder.specs.Classes.{has_class}
 use Rattle.bound_terms.specs.bound_accesses.specs.bound_names.specs.declared.properties.Part.TheVariants as part
-use Rattle.statement_terms.specs.Called.{GoesThere, ActionIs, IsBare}
+use Rattle.statement_terms.specs.Called.{ActionIs, Continues, IsBare, MayBe}
+use Rattle.bound_terms.specs.bound_accesses.specs.Items.{ItemKept, lacks_item}
+use Rattle.statement_terms.specs.Targets.{AssignsIndexed}
 use Rattle.bound_actions.specs.NoTargets.{means_list}
 
 -- the procedure that an assignment wants, and that a Set wants
@@ -74,9 +78,24 @@ pub record RefusesNone (r : Receiver) (place : Place) (d e : Drafted) (kind : Ac
 
 -- an expression that has no Let, is no Sub and no ParamArray, and doesn't end with arguments, is assigned the value that was
 -- pushed below it, and whether that comes as it is
-pub record AssignsOther (has : Bool) (x : Tree) (d e : Drafted) (kind : ActionKind) (given : Bool) : Type 0 where
+pub record AssignsOther (has : Bool) (may : Option Bool) (x : Tree) (d e : Drafted) (kind : ActionKind) (given : Bool) : Type 0 where
   pub grown : Grown d e
   pub named : ActionNamed e.tables kind
   pub takes : (env : Env) (tree : Expr) (below : List Piece) → NoWriter part.Let env.scope x.term → IsBare tree → TreeStands env d.tables x tree d.pieces below → is_given_with env tree ≡ given
-  pub stands : (env : Env) → has_class env.scope.spaces ≡ has → (tree : Expr) (value : bound.Expr) → GoesThere env kind value → NoWriter part.Let env.scope x.term → IsBare tree → is_no_target env tree ≡ false → TreeStands env d.tables x tree d.pieces (an_expr value ∷ [])
+  pub stands : (env : Env) → has_class env.scope.spaces ≡ has → (tree : Expr) (value : bound.Expr) → MayBe env may value → NoWriter part.Let env.scope x.term → IsBare tree → is_no_target env tree ≡ false → TreeStands env d.tables x tree d.pieces (an_expr value ∷ [])
       → ActionIs kind (assigned_to env tree value) e.tables e.pieces
+
+-- whether a value comes as it is that is assigned to what brackets make of a term, in a project with a class or without; it is
+-- no member
+abbrev pub ItemGiven : (has : Bool) → Tables → Term → (given : Bool) → Type 0
+ItemGiven has t x given =
+    (env : Env) (place : Place) (z : plain.Term) (ps below : List Piece) → has_class env.scope.spaces ≡ has → ItemKept (lacks_item x) env place z → TermStands env t x z ps below
+    → is_indexed_late env place (item_of env place z) ≡ given
+
+-- what these nodes make of a tree, whose term is looked at as what is called, is assigned the value that was pushed below it
+pub record AssignsItemOf (has : Bool) (env : Env) (x : Tree) (y : Term) (ns : List ExpressionNode) (d e : Drafted) (kind : ActionKind) (given : Bool) : Type 0 where
+  pub more : Tree
+  pub after : Drafted
+  pub continues : Continues env x ns d after more
+  pub assigns : (may : Option Bool) → AssignsIndexed has may more.place more.term after e kind
+  pub item : ItemGiven has d.tables y given

@@ -3,3 +3,5 @@ pub mod Untaken
 pub mod NoTargets
 pub mod Refused
 pub mod Assigning
+pub mod LateItems
+pub mod LateSets

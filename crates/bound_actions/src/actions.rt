@@ -5,7 +5,6 @@ ghost use Rattle.bound_terms.specs.bound_accesses.specs.bound_names.specs.bound_
 ghost use Rattle.bound_terms.specs.bound_accesses.specs.bound_names.specs.bound_members.specs.bound_calls.specs.bound_forms.specs.StatementsBound as plain;
 ghost use Rattle.statement_terms.specs.statement_nodes.specs.Pushed.{ActionStands};
 ghost use Rattle.bound_terms.specs.bound_accesses.specs.bound_names.specs.View.{EnvStands, env_view};
-ghost use Rattle.statement_terms.specs.Assigning.{goes_anywhere};
 
 use crate::assigned_values::bind_assigned;
 use crate::assigning::assign_to;
@@ -19,16 +18,6 @@ use statement_terms::{ends_bare, split_call};
 use std::alloc::Global;
 use vba_base::OrMemory;
 use vba_expression::{Arguments, Expression};
-
-/// Does what may be an object of a class go there?
-fn goes_anywhere(may_be: bool, kind: ActionKind) -> bool
-    ensures { result ≡ goes_anywhere may_be kind }
-{
-    match kind {
-        ActionKind::AssignMember { .. } | ActionKind::AssignDefault => !may_be,
-        _ => true,
-    }
-}
 
 /// `[Let] place = value`
 pub fn bind_assignment<'a>(
@@ -44,11 +33,8 @@ pub fn bind_assignment<'a>(
         (option_and_then (plain.assigned_to (env_view env.entry) (expression_view place.now)) (plain.value_given (env_view env.entry) (expression_view place.now) (expression_view value.now)))
         (draft_view draft.old) (draft_view draft.new)) }
 {
-    let may_be_instance = bind_assigned(alloc, draft, env, place, value)?;
-    let done = assign_to(alloc, draft, env, place)?;
-    if !goes_anywhere(may_be_instance, done.kind) {
-        return Err(OrMemory::Fault(NotYet));
-    }
+    let may_be = bind_assigned(alloc, draft, env, place, value)?;
+    let done = assign_to(alloc, draft, env, place, may_be)?;
     Ok(Some(done.kind))
 }
 

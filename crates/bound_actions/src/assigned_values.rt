@@ -1,10 +1,10 @@
 //! The value of an assignment.
 
-ghost use Rattle.std.specs.Prelude.{◌≡◌, true, false, Bool, IfOk};
+ghost use Rattle.std.specs.Prelude.{◌≡◌, true, false, Bool, Some, IfOk};
 ghost use Rattle.vba_expression.specs.View.{view as expression_view};
 ghost use Rattle.bound_project.specs.DraftView.{draft_view};
 ghost use Rattle.bound_terms.specs.bound_accesses.specs.bound_names.specs.bound_members.specs.bound_calls.specs.bound_forms.specs.StatementsBound as plain;
-ghost use Rattle.statement_terms.specs.Assigning.{PushesFor, ValueFor, is_plain};
+ghost use Rattle.statement_terms.specs.Assigning.{PushesFor, ValueFor, is_plain, marked_may};
 ghost use Rattle.bound_terms.specs.bound_accesses.specs.bound_names.specs.bound_members.specs.bound_calls.specs.Standing.{TermNamed};
 ghost use Rattle.bound_terms.specs.bound_accesses.specs.bound_names.specs.View.{EnvStands, env_view};
 
@@ -30,7 +30,7 @@ fn is_given_in<'a>(
     requires { EnvStands env }
     ensures { IfOk result (λ given. given ≡ plain.is_given_with (env_view env.entry) (expression_view place.now)) }
 {
-    let done = assign_to(alloc, draft, env, place)?;
+    let done = assign_to(alloc, draft, env, place, Some(false))?;
     Ok(done.is_given)
 }
 
@@ -55,7 +55,7 @@ fn push_plain<'a>(
 ) -> Result<DeclaredType, OrMemory<NotYet>>
     requires named { TermNamed (draft_view draft.old).tables tree.term }
     requires plain { is_plain tree.term ≡ true }
-    ensures { (has given : Bool) → IfOk result (λ of. PushesFor has false given tree.entry (draft_view draft.old) (draft_view draft.new) of) }
+    ensures { (has given : Bool) → IfOk result (λ of. PushesFor has (Some false) given tree.entry (draft_view draft.old) (draft_view draft.new) of) }
 {
     let Some(of) = push_value(alloc, draft, tree)? else {
         return Err(OrMemory::Fault(NotYet));
@@ -64,35 +64,46 @@ fn push_plain<'a>(
 }
 
 /// Pushes a value as an assignment to this expression takes it; answers its type, and whether it may be an object of a
-/// class.
+/// class, where that is known.
 fn push_for<'a>(
     alloc: Global,
     draft: &mut Draft,
     env: Env<'a>,
     place: &'a Expression,
     tree: Tree<'a>,
-) -> Result<(DeclaredType, bool), OrMemory<NotYet>>
+) -> Result<(DeclaredType, Option<bool>), OrMemory<NotYet>>
     requires env { EnvStands env }
     requires named { TermNamed (draft_view draft.old).tables tree.term }
     ensures { IfOk result (λ pushed. PushesFor env.entry.has_class pushed.1 (plain.is_given_with (env_view env.entry) (expression_view place.now)) tree.entry (draft_view draft.old) (draft_view draft.new) pushed.0) }
 {
     if is_plain(tree.term) {
         let of = push_plain(alloc, draft, tree)?;
-        return Ok((of, false));
+        return Ok((of, Some(false)));
     }
     let given = is_given_with(alloc, env, place)?;
     push_assigned(alloc, draft, tree, given, env.has_class)
 }
 
+/// What is known of whether a value may be an object of a class, once it was marked where it isn't taken.
+fn marked_may(may_be: Option<bool>) -> Option<bool>
+    ensures { result ≡ marked_may may_be }
+{
+    let may = may_be?;
+    if may {
+        return None;
+    }
+    Some(false)
+}
+
 /// Pushes the value of an assignment to this expression, marked where that doesn't take it; answers whether it may be an
-/// object of a class. What takes it is looked up only for values that aren't taken everywhere.
+/// object of a class, where that is known. What takes it is looked up only for values that aren't taken everywhere.
 pub fn bind_assigned<'a>(
     alloc: Global,
     draft: &mut Draft,
     env: Env<'a>,
     place: &'a Expression,
     value: &'a Expression,
-) -> Result<bool, OrMemory<NotYet>>
+) -> Result<Option<bool>, OrMemory<NotYet>>
     requires { EnvStands env }
     ensures { IfOk result (λ may_be. ValueFor (env_view env.entry) may_be (plain.value_given (env_view env.entry) (expression_view place.now) (expression_view value.now)) (draft_view draft.old) (draft_view draft.new)) }
 {
@@ -103,5 +114,5 @@ pub fn bind_assigned<'a>(
     }
     let taker = taker_in(alloc, env, place)?;
     mark_taken(draft, taker, of, tree.place)?;
-    Ok(may_be)
+    Ok(marked_may(may_be))
 }

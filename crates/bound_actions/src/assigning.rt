@@ -1,20 +1,19 @@
 //! What the value of an assignment goes to.
 
-ghost use Rattle.std.specs.Prelude.{◌≡◌, ◌||◌, [], IfOk, map};
+ghost use Rattle.std.specs.Prelude.{◌≡◌, ◌||◌, [], IfOk, IfSome, map};
 ghost use Rattle.vba_expression.specs.View.{view as expression_view};
 ghost use Rattle.vba_expression.specs.Nodes.{tree_in};
 ghost use Rattle.bound_project.specs.DraftView.{draft_view};
 ghost use Rattle.bound_project.specs.View.{declared_view, parameter_view};
 ghost use Rattle.statement_terms.specs.Called.{AssignsTo, IsBare, Lets, LetsOn, LetsTaken, LetsWith, SplitAt, is_method};
 ghost use Rattle.declared_names.specs.binder.specs.Types as types;
-ghost use Rattle.bound_actions.specs.Assigning.{AssignsOther, GivesProperty, RefusesNone, part_for};
+ghost use Rattle.bound_actions.specs.Assigning.{AssignsItemOf, AssignsOther, GivesProperty, ItemGiven, RefusesNone, part_for};
 ghost use Rattle.bound_terms.specs.bound_accesses.specs.bound_names.specs.bound_members.specs.bound_calls.specs.Standing.{TermNamed};
 ghost use Rattle.bound_terms.specs.bound_accesses.specs.bound_names.specs.Callee.{IsWriter};
-ghost use Rattle.bound_terms.specs.bound_accesses.specs.Items.{lacks_item};
-ghost use Rattle.statement_terms.specs.Targets.{is_variant_term};
 ghost use Rattle.bound_terms.specs.bound_accesses.specs.bound_names.specs.View.{EnvStands, env_view};
 ghost use Rattle.declared_names.specs.View.{scope_view};
 
+use crate::late_items::lead_from;
 use crate::member_targets::assign_item;
 use crate::no_targets::{has_let, is_no_target, is_sub, refuse_target};
 use crate::statement_calls::read_named;
@@ -35,7 +34,8 @@ use bound_terms::tree_of;
 use declared_names::is_object;
 use statement_terms::{
     Assignment, PropertyLet, Split, adds_one, as_given, as_operand, assign_indexed, assign_tree,
-    assign_value, ends_bare, is_variant_term, ordered_kind, property_kind, push_rest, split_call,
+    assign_value, ends_bare, is_indexed_late, late_value, ordered_kind, property_kind, push_rest,
+    split_call,
 };
 use std::alloc::Global;
 use vba_base::{OrMemory, Place};
@@ -195,15 +195,17 @@ pub fn let_given<'a>(
     let_passed(alloc, draft, env, property, front, place, nodes)
 }
 
-/// What has no Let and no arguments, behind the value that it is given: of a procedure what it gives.
+/// What has no Let and no arguments, behind the value that it is given, which may be an object of a class or not: of a
+/// procedure what it gives.
 fn assign_other<'a>(
     alloc: Global,
     draft: &mut Draft,
     tree: Tree<'a>,
     has_class: bool,
+    may_be: Option<bool>,
 ) -> Result<Assignment, OrMemory<NotYet>>
     requires { TermNamed (draft_view draft.old).tables tree.term }
-    ensures { IfOk result (λ done. AssignsOther has_class tree.entry (draft_view draft.old) (draft_view draft.new) done.kind done.is_given) }
+    ensures { IfOk result (λ done. AssignsOther has_class may_be tree.entry (draft_view draft.old) (draft_view draft.new) done.kind done.is_given) }
 {
     match tree.term {
         Term::Routine(routine) => {
@@ -214,20 +216,22 @@ fn assign_other<'a>(
             let kind = assign_value(draft, ending, tree.place, has_class)?;
             Ok(as_operand(kind))
         }
-        _ => assign_tree(draft, tree, has_class),
+        _ => assign_tree(alloc, draft, tree, has_class, may_be),
     }
 }
 
-/// A place that doesn't end with arguments in brackets, behind the value that it is given.
+/// A place that doesn't end with arguments in brackets, behind the value that it is given, which may be an object of a class
+/// or not.
 fn assign_bare<'a>(
     alloc: Global,
     draft: &mut Draft,
     env: Env<'a>,
     place: &'a Expression,
+    may_be: Option<bool>,
 ) -> Result<Assignment, OrMemory<NotYet>>
     requires env { EnvStands env }
     requires bare { IsBare (expression_view place.now) }
-    ensures { IfOk result (λ done. AssignsTo (env_view env.entry) (expression_view place.now) (draft_view draft.old) (draft_view draft.new) done.kind done.is_given) }
+    ensures { IfOk result (λ done. AssignsTo (env_view env.entry) may_be (expression_view place.now) (draft_view draft.old) (draft_view draft.new) done.kind done.is_given) }
 {
     let tree = tree_of(alloc, draft, env, place)?;
     if is_no_target(env, tree) {
@@ -242,29 +246,55 @@ fn assign_bare<'a>(
             let kind = let_bare(alloc, draft, env, writer, tree.place, false)?;
             Ok(as_given(kind))
         }
-        None => assign_other(alloc, draft, tree, env.has_class),
+        None => assign_other(alloc, draft, tree, env.has_class, may_be),
     }
 }
 
-/// Does the value come as it is that is assigned to what brackets make of a term? It does for an item of a Variant, and
-/// for an object that has no default member with arguments.
-fn is_item_given<'a>(term: Term<'a>) -> bool
-    ensures { result ≡ (is_variant_term term.entry || lacks_item term.entry) }
+/// Does the value come as it is that is assigned to what brackets make of a term? It does where the run says what they lead
+/// to, and for an object that has no default member with arguments. None where that isn't known.
+fn is_item_given<'a>(has_class: bool, draft: &Draft, term: Term<'a>) -> Option<bool>
+    ensures { IfSome result (λ given. ItemGiven has_class (draft_view draft.now).tables term.entry given) }
 {
-    is_variant_term(term) || lacks_item(term)
+    if lacks_item(term) {
+        return Some(true);
+    }
+    is_indexed_late(has_class, draft, term)
 }
 
-/// A place with arguments in brackets at its end, behind the value that it is given.
+/// What brackets make of a term that has no Let and is no member of an object, behind the value that it is given; the tree
+/// goes on with these nodes.
+fn assign_item_of<'a>(
+    alloc: Global,
+    draft: &mut Draft,
+    env: Env<'a>,
+    tree: Tree<'a>,
+    term: Term<'a>,
+    split: Split<'a>,
+) -> Result<Assignment, OrMemory<NotYet>>
+    requires env { EnvStands env }
+    requires named { TermNamed (draft_view draft.old).tables tree.term }
+    ensures { IfOk result (λ done. AssignsItemOf env.entry.has_class (env_view env.entry) tree.entry term.entry split.entry.closed.now (draft_view draft.old) (draft_view draft.new) done.kind done.is_given) }
+{
+    let Some(is_given) = is_item_given(env.has_class, draft, term) else {
+        return Err(OrMemory::Fault(NotYet));
+    };
+    let more = continue_tree(alloc, draft, env, tree, split.closed)?;
+    let kind = assign_indexed(draft, more.term, more.place, env.has_class)?;
+    Ok(Assignment { kind, is_given })
+}
+
+/// A place with arguments in brackets at its end, behind the value that it is given, which may be an object of a class or not.
 fn assign_split<'a>(
     alloc: Global,
     draft: &mut Draft,
     env: Env<'a>,
     nodes: &'a [ExpressionNode],
     split: Split<'a>,
+    may_be: Option<bool>,
 ) -> Result<Assignment, OrMemory<NotYet>>
     requires env { EnvStands env }
     requires split { SplitAt split nodes.now }
-    ensures { IfOk result (λ done. AssignsTo (env_view env.entry) (tree_in nodes.now) (draft_view draft.old) (draft_view draft.new) done.kind done.is_given) }
+    ensures { IfOk result (λ done. AssignsTo (env_view env.entry) may_be (tree_in nodes.now) (draft_view draft.old) (draft_view draft.new) done.kind done.is_given) }
 {
     if !adds_one(split.arguments) {
         return Err(OrMemory::NoMemory);
@@ -290,34 +320,34 @@ fn assign_split<'a>(
         )?;
         return Ok(as_given(kind));
     }
-    if takes_item(term) {
-        let kind = assign_item(alloc, draft, env, tree.place, term, split.arguments)?;
+    if takes_item(env.has_class, draft, term) {
+        let kind = assign_item(alloc, draft, env, tree.place, term, split.arguments, may_be)?;
         return Ok(as_given(kind));
     }
-    let more = continue_tree(alloc, draft, env, tree, split.closed)?;
-    let kind = assign_indexed(draft, more.term, more.place, env.has_class)?;
-    Ok(Assignment {
-        kind,
-        is_given: is_item_given(term),
-    })
+    if let Some(ending) = late_value(env.has_class, draft, term) {
+        let numbers = lead_from(alloc, draft, env, ending, tree.place, split.arguments)?;
+        return Ok(as_given(ActionKind::AssignElement { numbers }));
+    }
+    assign_item_of(alloc, draft, env, tree, term, split)
 }
 
-/// What is done with a value that was pushed, where it is assigned to an expression.
+/// What is done with a value that was pushed, which may be an object of a class or not, where it is assigned to an expression.
 pub fn assign_to<'a>(
     alloc: Global,
     draft: &mut Draft,
     env: Env<'a>,
     place: &'a Expression,
+    may_be: Option<bool>,
 ) -> Result<Assignment, OrMemory<NotYet>>
     requires { EnvStands env }
-    ensures { IfOk result (λ done. AssignsTo (env_view env.entry) (expression_view place.now) (draft_view draft.old) (draft_view draft.new) done.kind done.is_given) }
+    ensures { IfOk result (λ done. AssignsTo (env_view env.entry) may_be (expression_view place.now) (draft_view draft.old) (draft_view draft.new) done.kind done.is_given) }
 {
     let nodes = place.nodes();
     if ends_bare(nodes) {
-        return assign_bare(alloc, draft, env, place);
+        return assign_bare(alloc, draft, env, place, may_be);
     }
     match split_call(nodes) {
-        Some(split) => assign_split(alloc, draft, env, nodes, split),
+        Some(split) => assign_split(alloc, draft, env, nodes, split, may_be),
         None => Err(OrMemory::Fault(NotYet)),
     }
 }

@@ -5,6 +5,7 @@ mod actions;
 mod assigned_values;
 mod assigning;
 mod indexed_calls;
+mod late_items;
 mod member_targets;
 mod no_targets;
 mod raising;

@@ -9,11 +9,11 @@ ghost use Rattle.bound_terms.specs.bound_accesses.specs.bound_names.specs.bound_
 ghost use Rattle.bound_terms.specs.bound_accesses.specs.bound_names.specs.View.{EnvStands, env_view};
 
 use crate::untaken::read_untaken;
-use bound_project::{ActionKind, Draft};
+use bound_project::{ActionKind, Draft, LateUse};
 use bound_terms::bound_accesses::bound_names::Env;
 use bound_terms::bound_accesses::bound_names::bound_members::bound_calls::bound_declarations::NotYet;
 use bound_terms::bound_accesses::bound_names::bound_members::bound_calls::{
-    HostMember, Item, MemberCall, Term, put_item, take_item,
+    HostMember, Item, MemberCall, Shape, Term, has_names, put_item, take_item,
 };
 use bound_terms::bound_accesses::bound_names::bound_members::{open_member, shapes_ahead};
 use bound_terms::bound_accesses::item_member;
@@ -25,7 +25,7 @@ use vba_base::{OrMemory, Place};
 use vba_expression::ExpressionNode;
 
 /// Reads arguments behind a member whose object was looked at.
-fn read_member<'a>(
+pub fn read_member<'a>(
     alloc: Global,
     draft: &mut Draft,
     env: Env<'a>,
@@ -65,6 +65,9 @@ fn refuse_item<'a>(
     requires named { member.name < length (draft_view draft.old).tables.constants }
     ensures { IfOk result (λ kind. RefusesWritten (env_view env.entry) place member nodes.now (draft_view draft.old) (draft_view draft.new) kind) }
 {
+    if member.is_late {
+        return Err(OrMemory::Fault(NotYet));
+    }
     let shapes = read_untaken(alloc, draft, env, nodes)?;
     let Some(rule) = written_rule(draft, member, &shapes)? else {
         return Err(OrMemory::Fault(NotYet));
@@ -73,8 +76,18 @@ fn refuse_item<'a>(
     write_broken(draft, rule, count, place)
 }
 
+/// What is done with a member whose arguments, these, are to come: where some have names its value is read, unless the run
+/// finds the member.
+fn aim_of<'a>(member: HostMember, shapes: &[Shape<'a>]) -> LateUse {
+    if has_names(shapes) && !member.is_late {
+        LateUse::Reading
+    } else {
+        LateUse::Assigning
+    }
+}
+
 /// What is called, which is a member of an object or has a default one, behind the value that it is given with these
-/// arguments.
+/// arguments, and that may be an object of a class or not.
 pub fn assign_item<'a>(
     alloc: Global,
     draft: &mut Draft,
@@ -82,10 +95,11 @@ pub fn assign_item<'a>(
     place: Place,
     term: Term<'a>,
     nodes: &'a [ExpressionNode],
+    may_be: Option<bool>,
 ) -> Result<ActionKind, OrMemory<NotYet>>
     requires env { EnvStands env }
     requires named { TermNamed (draft_view draft.old).tables term }
-    ensures { IfOk result (λ kind. AssignsItem (env_view env.entry) place term.entry nodes.now (draft_view draft.old) (draft_view draft.new) kind) }
+    ensures { IfOk result (λ kind. AssignsItem (env_view env.entry) may_be place term.entry nodes.now (draft_view draft.old) (draft_view draft.new) kind) }
 {
     let member = item_member(alloc, draft, env, place, term)?;
     let shapes = shapes_ahead(alloc, nodes)?;
@@ -95,7 +109,8 @@ pub fn assign_item<'a>(
     if shapes.is_empty() {
         return Err(OrMemory::Fault(NotYet));
     }
-    let opened = open_member(alloc, draft, place, member, &shapes)?;
+    let aim = aim_of(member, &shapes);
+    let opened = open_member(alloc, draft, place, member, &shapes, aim, env.has_class)?;
     let call = read_member(alloc, draft, env, opened, nodes)?;
-    write_call(draft, call)
+    write_call(draft, call, may_be)
 }

@@ -8,29 +8,35 @@ ghost use Rattle.bound_terms.specs.bound_accesses.specs.bound_names.specs.bound_
 ghost use Rattle.bound_terms.specs.bound_accesses.specs.bound_names.specs.bound_members.specs.bound_calls.specs.bound_forms.specs.StatementsBound as plain;
 ghost use Rattle.statement_terms.specs.statement_nodes.specs.Pushed.{ActionStands};
 ghost use Rattle.statement_terms.specs.Called.{IsBare, SplitAt};
+ghost use Rattle.statement_terms.specs.Heights.{AddsOne};
 ghost use Rattle.statement_terms.specs.Setting.{SetsTo};
 ghost use Rattle.bound_actions.specs.NoTargets.{IsProperty, SetsRoutine};
 ghost use Rattle.bound_actions.specs.Refused.{RefusesSet};
+ghost use Rattle.bound_actions.specs.LateSets.{SetsGiven, SetsItem, SetsMember};
+ghost use Rattle.bound_terms.specs.bound_accesses.specs.bound_names.specs.bound_members.specs.bound_calls.specs.Standing.{TermNamed};
 ghost use Rattle.bound_terms.specs.bound_accesses.specs.bound_names.specs.View.{EnvStands, env_view};
 
 use crate::assigning::{let_bare, let_given};
+use crate::late_items::lead_from;
+use crate::member_targets::read_member;
 use crate::no_targets::{is_sub, refuse_target};
 use crate::trees::{continue_tree, nodes_tree};
 use crate::untaken::read_untaken;
-use bound_project::{ActionKind, Draft};
+use bound_project::{ActionKind, Draft, LateUse};
 use bound_terms::bound_accesses::bound_names::bound_members::bound_calls::bound_declarations::{
     NotYet, is_property,
 };
 use bound_terms::bound_accesses::bound_names::bound_members::bound_calls::{
     HostMember, Refuser, Routine, Term, broken_ending, called_ending, sum,
 };
+use bound_terms::bound_accesses::bound_names::bound_members::{open_member, shapes_ahead};
 use bound_terms::bound_accesses::bound_names::{Env, callee_term, setter_of};
 use bound_terms::bound_accesses::{item_member, takes_item};
 use bound_terms::bound_operands::{count_shapes, refused_rule};
 use bound_terms::{bind_given, tree_of};
 use statement_terms::{
-    Split, adds_one, ends_bare, is_late, may_be_object, push_broken, set_marked, set_member,
-    set_term, split_call,
+    Split, adds_one, ends_bare, is_late, late_value, may_be_object, push_broken, set_call,
+    set_late, set_marked, set_member, set_term, split_call,
 };
 use std::alloc::Global;
 use vba_base::{NoMemory, OrMemory, Place};
@@ -89,6 +95,42 @@ fn set_refused<'a>(
     set_marked(draft, set_word, broken_ending(rule, place, values))
 }
 
+/// A member of the object that was pushed, without arguments, behind the reference that it is set to.
+fn set_bare_member(
+    alloc: Global,
+    draft: &mut Draft,
+    member: HostMember,
+    place: Place,
+) -> Result<ActionKind, OrMemory<NotYet>>
+    requires { member.name < length (draft_view draft.old).tables.constants }
+    ensures { IfOk result (λ kind. SetsMember member (draft_view draft.old) (draft_view draft.new) kind) }
+{
+    if member.is_late {
+        return Ok(set_late(alloc, draft, member, place)?);
+    }
+    set_member(member)
+}
+
+/// A member of the object that was pushed, which the run finds, behind the reference that it is set to with these arguments.
+fn set_late_given<'a>(
+    alloc: Global,
+    draft: &mut Draft,
+    env: Env<'a>,
+    member: HostMember,
+    place: Place,
+    nodes: &'a [ExpressionNode],
+) -> Result<ActionKind, OrMemory<NotYet>>
+    requires env { EnvStands env }
+    requires named { member.name < length (draft_view draft.old).tables.constants }
+    ensures { IfOk result (λ kind. SetsGiven (env_view env.entry) place member nodes.now (draft_view draft.old) (draft_view draft.new) kind) }
+{
+    let shapes = shapes_ahead(alloc, nodes)?;
+    let aim = LateUse::Setting;
+    let opened = open_member(alloc, draft, place, member, &shapes, aim, env.has_class)?;
+    let call = read_member(alloc, draft, env, opened, nodes)?;
+    set_call(draft, call)
+}
+
 /// An expression that doesn't end with arguments in brackets, behind the reference that it is given.
 fn set_bare<'a>(
     alloc: Global,
@@ -110,12 +152,39 @@ fn set_bare<'a>(
     }
     match tree.term {
         Term::Routine(routine) => set_routine(alloc, draft, set_word, routine, tree.place),
+        Term::HostMember(member) => set_bare_member(alloc, draft, member, tree.place),
+        Term::SheetMember(_member) => Err(OrMemory::Fault(NotYet)),
         _ => set_term(draft, set_word, tree.term, tree.place),
     }
 }
 
-/// An expression with arguments in brackets at its end, behind the reference that it is given. Those of a member that is
-/// found in the run aren't pushed.
+/// A member of an object with arguments, behind the reference that it is given. The arguments of one of the host whose object
+/// is known in the run alone aren't pushed.
+fn set_item<'a>(
+    alloc: Global,
+    draft: &mut Draft,
+    env: Env<'a>,
+    set_word: Place,
+    place: Place,
+    term: Term<'a>,
+    nodes: &'a [ExpressionNode],
+) -> Result<ActionKind, OrMemory<NotYet>>
+    requires env { EnvStands env }
+    requires named { TermNamed (draft_view draft.old).tables term }
+    requires one { AddsOne nodes.now }
+    ensures { IfOk result (λ kind. SetsItem (env_view env.entry) set_word place term.entry nodes.now (draft_view draft.old) (draft_view draft.new) kind) }
+{
+    let member = item_member(alloc, draft, env, place, term)?;
+    if member.is_late {
+        return set_late_given(alloc, draft, env, member, place, nodes);
+    }
+    if is_late(member.greatest) {
+        return set_member(member);
+    }
+    set_refused(alloc, draft, env, set_word, member, place, nodes)
+}
+
+/// An expression with arguments in brackets at its end, behind the reference that it is given.
 fn set_split<'a>(
     alloc: Global,
     draft: &mut Draft,
@@ -142,20 +211,20 @@ fn set_split<'a>(
     if is_property_term(term) {
         return Err(OrMemory::Fault(NotYet));
     }
-    if takes_item(term) {
-        let member = item_member(alloc, draft, env, tree.place, term)?;
-        if is_late(member.greatest) {
-            return set_member(member);
-        }
-        return set_refused(
+    if takes_item(env.has_class, draft, term) {
+        return set_item(
             alloc,
             draft,
             env,
             set_word,
-            member,
             tree.place,
+            term,
             split.arguments,
         );
+    }
+    if let Some(ending) = late_value(env.has_class, draft, term) {
+        let numbers = lead_from(alloc, draft, env, ending, tree.place, split.arguments)?;
+        return Ok(ActionKind::SetElement { numbers });
     }
     let more = continue_tree(alloc, draft, env, tree, split.closed)?;
     set_term(draft, set_word, more.term, more.place)

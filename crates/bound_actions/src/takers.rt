@@ -56,7 +56,7 @@ fn taker_split<'a>(
     if let Some(_writer) = writer_of(env.constants.scope, term) {
         return Ok(None);
     }
-    if takes_item(term) {
+    if takes_item(env.has_class, draft, term) {
         let member = item_member(alloc, draft, env, tree.place, term)?;
         return Ok(taker_of(Term::HostMember(member)));
     }

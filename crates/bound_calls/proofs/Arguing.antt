@@ -14,7 +14,7 @@ use Rattle.bound_project.specs.declared.declared_type.DeclaredType.{DeclaredType
 use Rattle.bound_project.specs.declared.node.NodeKind.{NodeKind}
 use Rattle.bound_project.specs.declared.node.NodeKind.TheVariants as node
 use Rattle.bound_project.specs.View.{declared_view, parameter_view, variable_view}
-use Rattle.bound_project.specs.Expressions.{Lvalue, item, no_exprs}
+use Rattle.bound_project.specs.Expressions.{Lvalue, element_along, item, no_exprs}
 use Rattle.bound_project.specs.Expressions as bound
 use Rattle.bound_project.specs.Lists.{above}
 use Rattle.bound_project.proofs.Lists.{above_push}
@@ -38,7 +38,7 @@ use Rattle.bound_calls.specs.References.{PushesGiven}
 use Rattle.bound_calls.specs.Calls.{node_of, lent_in, may_be_item, is_copied, keeps_object, MarksGiven, PushesArgument, PushesTaken, Lends, MarksOther, Copies, TakenIs, PassesTree, PassesNone, PassesRest, PassesPlain, PassesMissing}
 use Rattle.bound_calls.proofs.Growing.{grown_same, grown_twice, grown_pieces, grown_constant}
 use Rattle.bound_calls.proofs.LastNodes.{any_node, found_passes}
-use Rattle.bound_calls.proofs.PlaceNodes.{no_item}
+use Rattle.bound_calls.proofs.PlaceNodes.{no_item, place_found_passes}
 use Rattle.bound_calls.proofs.Referring.{variant}
 use Rattle.bound_calls.proofs.Passing.{taken_push}
 use Rattle.bound_declarations.specs.constant_values.specs.declared_names.specs.binder.specs.Declarations.{Written}
@@ -160,29 +160,33 @@ abbrev pub no_lent : Term → Type 0
 no_lent (term.Place kind of bounded true makes) = ⊥
 no_lent x = Unit {0}
 
-copied_anyway : (env : Env) (x : Tree) (d : Drafted) (y : plain.Term) (below : List Piece) → no_lent x.term → TermStands env d.tables x.term y d.pieces below
-    → (p : project.Parameter) (place : Place) (rest : bound.Args) → by_reference (argument_of env) p y place rest ≡ by_copy (argument_of env) p y place rest
-copied_anyway env x d y below n h p place rest = at x.term n h
-  where
-    routine_copied : (base : Option bound.Expr) (space : Space) (number : ℕ) (w : Written)
-        → by_reference (argument_of env) p (routine_term base space number w) place rest ≡ by_copy (argument_of env) p (routine_term base space number w) place rest
-    routine_copied None space number w = refl
-    routine_copied (Some b) space number w = refl
+-- whether a term is a place that is lent
+abbrev pub lends : plain.Term → Bool
+lends (a_place at of bounded true makes) = true
+lends y = false
 
-    at : (x : Term) → no_lent x → TermStands env d.tables x y d.pieces below → by_reference (argument_of env) p y place rest ≡ by_copy (argument_of env) p y place rest
-    at (term.Place kind of bounded true makes) n h = absurd n
-    at (term.Place kind of bounded false makes) n h = let A : plain.Term → Type 0 = λ z. by_reference (argument_of env) p z place rest ≡ by_copy (argument_of env) p z place rest in subst A (sym h.is) refl
-    at (term.Value e) n h = let A : plain.Term → Type 0 = λ z. by_reference (argument_of env) p z place rest ≡ by_copy (argument_of env) p z place rest in subst A (sym h.is) refl
-    at (term.Routine r) n h = let A : plain.Term → Type 0 = λ z. by_reference (argument_of env) p z place rest ≡ by_copy (argument_of env) p z place rest in subst A (sym h.routine.is) (routine_copied h.routine.base h.routine.space h.routine.number h.routine.written)
-    at (term.Property written) n h = let A : plain.Term → Type 0 = λ z. by_reference (argument_of env) p z place rest ≡ by_copy (argument_of env) p z place rest in subst A (sym h.property.is) (routine_copied h.property.base (space_view written.space.now) h.property.number (written_view written.written))
-    at (term.Function f) n h = let A : plain.Term → Type 0 = λ z. by_reference (argument_of env) p z place rest ≡ by_copy (argument_of env) p z place rest in subst A (sym h.0.is) refl
-    at (term.HostMember m) n h = let A : plain.Term → Type 0 = λ z. by_reference (argument_of env) p z place rest ≡ by_copy (argument_of env) p z place rest in subst A (sym h.is) refl
-    at (term.SheetMember m) n h = let A : plain.Term → Type 0 = λ z. by_reference (argument_of env) p z place rest ≡ by_copy (argument_of env) p z place rest in subst A (sym h.0) refl
-    at term.Err n h = let A : plain.Term → Type 0 = λ z. by_reference (argument_of env) p z place rest ≡ by_copy (argument_of env) p z place rest in subst A (sym h.0) refl
-    at term.ErrRaise n h = let A : plain.Term → Type 0 = λ z. by_reference (argument_of env) p z place rest ≡ by_copy (argument_of env) p z place rest in subst A (sym h.0) refl
-    at term.ErrClear n h = let A : plain.Term → Type 0 = λ z. by_reference (argument_of env) p z place rest ≡ by_copy (argument_of env) p z place rest in subst A (sym h.0) refl
-    at term.ErrorWord n h = let A : plain.Term → Type 0 = λ z. by_reference (argument_of env) p z place rest ≡ by_copy (argument_of env) p z place rest in subst A (sym h.0) refl
-    at term.Nothing n h = let A : plain.Term → Type 0 = λ z. by_reference (argument_of env) p z place rest ≡ by_copy (argument_of env) p z place rest in subst A (sym h) refl
+routine_lends : (base : Option bound.Expr) (space : Space) (number : ℕ) (w : Written) → lends (routine_term base space number w) ≡ false
+routine_lends None space number w = refl
+routine_lends (Some b) space number w = refl
+
+pub lends_nothing : (env : Env) (t : Tables) (x : Term) (y : plain.Term) (ps below : List Piece) → no_lent x → TermStands env t x y ps below → lends y ≡ false
+lends_nothing env t (term.Place kind of bounded true makes) y ps below n h = absurd n
+lends_nothing env t (term.Place kind of bounded false makes) y ps below n h = ap lends h.is
+lends_nothing env t (term.Value e) y ps below n h = ap lends h.is
+lends_nothing env t (term.Routine r) y ps below n h = ap lends h.routine.is ∙ routine_lends h.routine.base h.routine.space h.routine.number h.routine.written
+lends_nothing env t (term.Property p) y ps below n h = ap lends h.property.is ∙ routine_lends h.property.base (space_view p.space.now) h.property.number (written_view p.written)
+lends_nothing env t (term.Function f) y ps below n h = ap lends h.0.is
+lends_nothing env t (term.HostMember m) y ps below n h = ap lends h.is
+lends_nothing env t (term.SheetMember m) y ps below n h = ap lends h.0
+lends_nothing env t term.Err y ps below n h = ap lends h.0
+lends_nothing env t term.ErrRaise y ps below n h = ap lends h.0
+lends_nothing env t term.ErrClear y ps below n h = ap lends h.0
+lends_nothing env t term.ErrorWord y ps below n h = ap lends h.0
+lends_nothing env t term.Nothing y ps below n h = ap lends h
+
+copied_anyway : (env : Env) (p : project.Parameter) (y : plain.Term) (place : Place) (rest : bound.Args) → lends y ≡ false → by_reference (argument_of env) p y place rest ≡ by_copy (argument_of env) p y place rest
+copied_anyway env p (a_place at of bounded true makes) place rest h = let e : true ≡ false = h in absurd cc
+copied_anyway env p y place rest h = refl
 
 -- where a parameter takes a place, and none is lent
 pub passed_anyway : (p : Parameter) (x : Tree) (d e : Drafted) → p.is_param_array ≡ false → p.is_by_reference ≡ true → no_lent x.term → Copies p.of x d e → PassesTree p x d e
@@ -190,7 +194,7 @@ passed_anyway p x d e many reference n h =
     copy_taken p x d e many h (λ env tree below k rest.
     ap (λ b. if b then by_reference (argument_of env) (parameter_view p) (term_of env tree) (place_told tree) rest
     else by_copy (argument_of env) (parameter_view p) (term_of env tree) (place_told tree) rest) reference
-    ∙ copied_anyway env x d (term_of env tree) below n k.term_is (parameter_view p) (place_told tree) rest)
+    ∙ copied_anyway env (parameter_view p) (term_of env tree) (place_told tree) rest (lends_nothing env d.tables x.term (term_of env tree) d.pieces below n k.term_is))
 
 -- a place is lent
 abbrev by_place : Env → project.Parameter → Lvalue → Declared → (bounded makes : Bool) → Place → bound.Args → (lent copied : Bool) → Option bound.Args
@@ -225,7 +229,7 @@ passed_place p x kind of bounded makes d e many reference is fits h = record {
       };
 }
 
--- an element of a Variant variable
+-- an element of a Variant variable, or one to which arguments lead
 item_on_top : List Piece → Bool
 item_on_top (a_place_piece x ∷ st) = plain.may_be_item x
 item_on_top st = true
@@ -234,6 +238,8 @@ may_be : (t : Tables) (kind : NodeKind) (at : Lvalue) (ps below : List Piece) �
 unfolding item_on_top
 may_be t (node.Item x count) at ps below h ends =
     sym (ap item_on_top (ends any_node)) ∙ found_passes item_on_top refl (λ es. a_place_piece (item (variable_view x) es)) (λ es rest. h) (exprs_off count ps no_exprs)
+may_be t (node.ElementAlong count) at ps below h ends =
+    sym (ap item_on_top (ends any_node)) ∙ place_found_passes item_on_top refl (λ x es. a_place_piece (element_along x es)) (λ x es rest. refl) (exprs_off count ps no_exprs)
 may_be t kind at ps below h ends = let e : false ≡ true = h in absurd cc
 
 either_holds : (a b c : Bool) → (b ≡ true → c ≡ true) → (a || b) ≡ true → (a || c) ≡ true
@@ -291,7 +297,7 @@ some_of x y h = ap (λ o. unwrap_or o x) h
 none_of : (x : Ending) → None ≡ Some x → ⊥
 none_of x h = subst T (ap (λ (o : Option Ending). is_some o) (sym h)) tt
 
-lent_is : (x : Term) (lent : Ending) → lent_in x ≡ Some lent → (bounded : Bool) × ((makes : Bool) × (x ≡ term.Place lent.kind lent.of bounded true makes))
+pub lent_is : (x : Term) (lent : Ending) → lent_in x ≡ Some lent → (bounded : Bool) × ((makes : Bool) × (x ≡ term.Place lent.kind lent.of bounded true makes))
 lent_is (term.Place kind of bounded true makes) lent h = (bounded, (makes, ap (λ (o : Ending). term.Place o.kind o.of bounded true makes) (some_of (record { kind = kind; of = of }) lent h)))
 lent_is x lent h = absurd (none_of lent h)
 

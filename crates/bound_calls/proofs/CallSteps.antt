@@ -1,5 +1,5 @@
 -- What the nodes of a call do to the stack.
-use Rattle.std.proofs.Common.{◌≡◌, T, ℕ, ◌+◌, List, [], ◌∷◌, ◌++◌, map, length, Option, Some, None, is_some, refl, sym, ap, subst, ◌∙◌, arith, length-append, Bool}
+use Rattle.std.proofs.Common.{◌≡◌, T, ℕ, ◌+◌, List, [], ◌∷◌, ◌++◌, map, length, Option, Some, None, is_some, refl, sym, ap, subst, ◌∙◌, arith, length-append}
 use Rattle.std.proofs.lemmas.List.{map-append}
 use Rattle.std.specs.Prelude.{unwrap_or}
 use Rattle.vba_base.specs.declared.place.Place.{Place}
@@ -303,8 +303,8 @@ plain_stands env x i xs p q comma d e f k m (nodes.tree y ∷ nodes.arguments ar
     let o = opened env d.tables i xs p args is h.0 base f k h.1.1 in
     o.close e.tables q (plain args comma y) e.pieces m.grown.tables (m.stands env o.parameters args comma y h.0 o.below h.1.0 o.passed)
 
-pub adds_passed : (has : Bool) (i : Item) (p q : Passed) (x : Tree) (d e : Drafted) → passed_in i ≡ Some p → PassesPlain p x d e q → AddsArgument has i x d e (with_passed i q)
-adds_passed has i p q x d e f m = record { grown = m.grown; named = passed_named e.tables i q p f; stands = λ env known comma xs is base k h. plain_stands env x i xs p q comma d e f k m is base h }
+pub adds_passed : (i : Item) (p q : Passed) (x : Tree) (d e : Drafted) → passed_in i ≡ Some p → PassesPlain p x d e q → AddsArgument i x d e (with_passed i q)
+adds_passed i p q x d e f m = record { grown = m.grown; named = passed_named e.tables i q p f; stands = λ env comma xs is base k h. plain_stands env x i xs p q comma d e f k m is base h }
 
 -- brackets behind a procedure aren't those of an object
 pub routine_item : (env : Env) (place : Place) (z : plain_terms.Term) (base : Option bound.Expr) (space : Space) (number : ℕ) (w : Written) → z ≡ routine_term base space number w → item_of env place z ≡ z

@@ -3,18 +3,17 @@ use Rattle.std.proofs.Common.{◌≡◌, ℕ, ◌<◌, length, map, List, [], �
 use Rattle.vba_values.specs.Val.{Val}
 use Rattle.vba_expression.specs.Tree.{Expr, Args, no_args, missing, plain, named}
 use Rattle.vba_expression.specs.Nodes as nodes
-use Rattle.bound_project.specs.declared.node.NodeKind.{NodeKind}
-use Rattle.bound_project.specs.declared.node.NodeKind.TheVariants as node
-use Rattle.bound_project.specs.declared.node.Node.{Node}
 use Rattle.bound_project.specs.declared.node.ArgumentNames.{ArgumentNames}
+use Rattle.bound_project.specs.declared.node.LateName.{LateName}
+use Rattle.bound_project.specs.declared.node.LateUse.{LateUse}
 use Rattle.bound_project.specs.Project.{nowhere}
-use Rattle.bound_project.specs.Expressions.{constant, call, active_sheet, host_member, named_member, ByName, in_order, method}
+use Rattle.bound_project.specs.Expressions.{active_sheet, ByName}
 use Rattle.bound_project.specs.Expressions as bound
-use Rattle.bound_project.specs.Lists.{above}
+use Rattle.bound_project.specs.Lists.{above, given_pieces}
 use Rattle.bound_project.specs.View.{declared_view}
-use Rattle.bound_project.specs.Pieces.{Piece, a_member, a_named_member, an_argument, an_expr, default_taken, Tables, arguments_off, exprs_off, by_name_in, name_in, name_of, of_found, of_member_found, of_named_found, of_value, expr_of, put_kind, of_object_found}
-use Rattle.bound_project.specs.Drafts.{Drafted, NodeNamed, with_constant}
-use Rattle.bound_project.proofs.Drafts.{Extends, by_name_same, constant_extends, names_named}
+use Rattle.bound_project.specs.Pieces.{Piece, Sought, a_late, a_member, a_named_member, an_expr, Tables, by_name_in, flags, name_in, name_of}
+use Rattle.bound_project.specs.Drafts.{Drafted, LateNamed, with_constant}
+use Rattle.bound_project.proofs.Drafts.{Extends, by_name_same, constant_extends, late_named, names_named, node_named, put_same, sought_same}
 use Rattle.vba_values.specs.Types as type
 use Rattle.bound_forms.specs.Terms.{Env, a_host_member, expression_of}
 use Rattle.bound_forms.specs.Terms as terms
@@ -22,6 +21,8 @@ use Rattle.bound_forms.specs.ExpressionsBound.{arguments_rule, givens, member_ta
 use Rattle.bound_calls.specs.declared.term.Term.{Term}
 use Rattle.bound_calls.specs.declared.term.Term.TheVariants as term
 use Rattle.bound_calls.specs.declared.term.HostMember.{HostMember}
+use Rattle.bound_calls.specs.declared.term.Looked.{Looked}
+use Rattle.bound_calls.specs.declared.term.Looked.TheVariants as looked
 use Rattle.bound_calls.specs.declared.term.MemberCall.{MemberCall}
 use Rattle.bound_calls.specs.declared.term.Tree.{Tree}
 use Rattle.bound_calls.specs.declared.term.Refuser.{Refuser}
@@ -29,7 +30,7 @@ use Rattle.bound_calls.specs.declared.term.Refuser.TheVariants as refuser
 use Rattle.bound_calls.specs.declared.term.Untaken.{Untaken}
 use Rattle.bound_calls.specs.declared.term.Item.{Item}
 use Rattle.bound_calls.specs.declared.term.Item.TheVariants as item
-use Rattle.bound_calls.specs.Standing.{HostGiven, TermStands, TreeStands, MemberStands, NamesCame, UntakenStands, looked_for, member_is, names_told, refused_rule, Stands, TermNamed, AreNamed, ItemNamed, MemberNamed, RefuserNamed, AllNamed, Grown, Base}
+use Rattle.bound_calls.specs.Standing.{ArgumentsStand, LateStands, TermStands, TreeStands, MemberStands, NamesCame, UntakenStands, ValuesStand, looked_for, member_is, names_looked, names_told, refused_rule, Stands, TermNamed, AreNamed, ItemNamed, LookedNamed, MemberNamed, RefuserNamed, AllNamed, Grown, Base}
 
 pub extends_same : (t : Tables) → Extends t t
 extends_same t = record {
@@ -65,36 +66,6 @@ grown_pieces d ps = record { tables = extends_same d.tables; statements = refl; 
 pub grown_constant : (d : Drafted) (v : Val) → Grown d (record d { tables = with_constant d.tables v })
 grown_constant d v = record { tables = constant_extends d.tables v; statements = refl; bodies = refl }
 
--- a node puts what it put
-pub put_same : (t u : Tables) → Extends t u → (n : Node) (k : NodeKind) → NodeNamed t k → (st : List Piece) → put_kind u n k st ≡ put_kind t n k st
-put_same t u e n (node.Constant i) h st = ap (λ v. expr_of n (constant v) ∷ st) (e.constant_is i h)
-put_same t u e n (node.ByDefault i) h st = ap (λ v. an_argument (default_taken v) ∷ st) (e.constant_is i h)
-put_same t u e n (node.CallInOrder p count order) h st = ap (λ o. of_found (λ args. expr_of n (call p (in_order o args))) (arguments_off count st bound.no_args)) (e.order_is order h)
-put_same t u e n (node.MethodInOrder p count order) h st =
-    ap (λ o. of_object_found (λ x args. expr_of n (method x p (in_order o args))) (arguments_off count st bound.no_args)) (e.order_is order h)
-put_same t u e n (node.MemberThere i given) h st = ap (λ v. of_value (λ x. a_member x (name_of v) given) st) (e.constant_is i h)
-put_same t u e n (node.HostMember i count) h st =
-    ap (λ v. of_member_found (name_of v) (λ x es. expr_of n (host_member x (name_of v) es)) (exprs_off count st bound.no_exprs)) (e.constant_is i h)
-put_same t u e n (node.NamedThere i by given) h st =
-    ap (λ v. of_value (λ x. a_named_member x (name_of v) (by_name_in u by) given) st) (e.constant_is i h.0)
-    ∙ ap (λ how. of_value (λ x. a_named_member x (name_in t i) how given) st) (by_name_same t u e by h.1)
-put_same t u e n (node.NamedMember i by count) h st =
-    let found = exprs_off count st bound.no_exprs in
-    ap (λ v. of_named_found (name_of v) (by_name_in u by) (λ x es. expr_of n (named_member x (name_of v) (by_name_in u by) es)) found) (e.constant_is i h.0)
-    ∙ ap (λ how. of_named_found (name_in t i) how (λ x es. expr_of n (named_member x (name_in t i) how es)) found) (by_name_same t u e by h.1)
-put_same t u e n k h st = refl
-
-pub node_named : (t u : Tables) → Extends t u → (k : NodeKind) → NodeNamed t k → NodeNamed u k
-node_named t u e (node.Constant i) h = omega (arith, e.constants_more)
-node_named t u e (node.ByDefault i) h = omega (arith, e.constants_more)
-node_named t u e (node.CallInOrder p count order) h = omega (arith, e.orders_more)
-node_named t u e (node.MethodInOrder p count order) h = omega (arith, e.orders_more)
-node_named t u e (node.MemberThere i given) h = omega (arith, e.constants_more)
-node_named t u e (node.HostMember i count) h = omega (arith, e.constants_more)
-node_named t u e (node.NamedThere i by given) h = (omega (arith, h.0, e.constants_more), names_named t u e by h.1)
-node_named t u e (node.NamedMember i by count) h = (omega (arith, h.0, e.constants_more), names_named t u e by h.1)
-node_named t u e k h = tt
-
 pub term_named : (t u : Tables) → Extends t u → (x : Term) → TermNamed t x → TermNamed u x
 term_named t u e (term.Place kind of bounded lends makes) h = node_named t u e kind h
 term_named t u e (term.Value ending) h = node_named t u e ending.kind h
@@ -106,13 +77,22 @@ are_named : (t u : Tables) → Extends t u → (names : Option ArgumentNames) �
 are_named t u e None h = tt
 are_named t u e (Some by) h = names_named t u e by h
 
+looked_named : (t u : Tables) → Extends t u → (l : Looked) → LookedNamed t l → LookedNamed u l
+looked_named t u e (looked.Early names given) h = are_named t u e names h
+looked_named t u e (looked.Late aim found) h = late_named t u e found h
+
+-- names are told of a member that was looked up
+pub names_are_named : (t : Tables) (l : Looked) → LookedNamed t l → AreNamed t (names_looked l)
+names_are_named t (looked.Early names given) h = h
+names_are_named t (looked.Late aim found) h = h.1.0
+
 pub refuser_named : (t u : Tables) → Extends t u → (x : Refuser) → RefuserNamed t x → RefuserNamed u x
 refuser_named t u e (refuser.Member m) h = omega (arith, e.constants_more)
 refuser_named t u e x h = tt
 
 pub item_named : (t u : Tables) → Extends t u → (x : Item) → ItemNamed t x → ItemNamed u x
 item_named t u e (item.Tree x) h = term_named t u e x.term h
-item_named t u e (item.Member x) h = (omega (arith, h.0, e.constants_more), are_named t u e x.names h.1)
+item_named t u e (item.Member x) h = (omega (arith, h.0, e.constants_more), looked_named t u e x.looked h.1)
 item_named t u e (item.Untaken x) h = refuser_named t u e x.refuser h
 item_named t u e x h = tt
 
@@ -128,7 +108,7 @@ pub member_same : (t u : Tables) → Extends t u → (m : HostMember) → m.name
 member_same t u e m h = ap named (sym (name_same t u e m.name h))
   where
     named : List ℕ → terms.HostMember
-    named n = record { name = n; of = declared_view m.of; least = m.least; greatest = m.greatest }
+    named n = record { name = n; of = declared_view m.of; least = m.least; greatest = m.greatest; late = m.is_late }
 
 pub term_grows : (env : Env) (t u : Tables) → Extends t u → (x : Term) → TermNamed t x → (y : terms.Term) (ps below : List Piece) → TermStands env t x y ps below → TermStands env u x y ps below
 term_grows env t u e (term.Place kind of bounded lends makes) k y ps below h = record { at = h.at; is = h.is; ends = λ n. put_same t u e n kind k ps ∙ h.ends n }
@@ -150,31 +130,53 @@ pub tree_grows : (env : Env) (t u : Tables) → Extends t u → (x : Tree) → T
 tree_grows env t u e x k tree ps below h =
     record { term_is = term_grows env t u e x.term k (term_of env tree) ps below h.term_is; place_is = h.place_is; name_is = h.name_is; qualifier_is = h.qualifier_is; leaf = h.leaf }
 
--- so do the names of its arguments, and the object whose member was looked for
+-- so do the names of its arguments, and the object whose member was looked up
 pub told_same : (t u : Tables) → Extends t u → (names : Option ArgumentNames) → AreNamed t names → names_told u names ≡ names_told t names
 told_same t u e None h = refl
 told_same t u e (Some by) h = ap (λ (how : ByName). how.names) (by_name_same t u e by h)
 
 looked_same : (t u : Tables) → Extends t u → (name : ℕ) (names : Option ArgumentNames) (given : ℕ) (object : bound.Expr) → name < length t.constants → AreNamed t names
-    → looked_for u name names given object ≡ looked_for t name names given object
+    → looked_for u name (looked.Early names given) object ≡ looked_for t name (looked.Early names given) object
 looked_same t u e name None given object h k = ap (λ (n : List ℕ). a_member object n given) (name_same t u e name h)
 looked_same t u e name (Some by) given object h k =
     ap (λ (n : List ℕ). a_named_member object n (by_name_in u by) given) (name_same t u e name h) ∙ ap (λ (how : ByName). a_named_member object (name_in t name) how given) (by_name_same t u e by k)
 
+values_grow : (env : Env) (t u : Tables) → Extends t u → (x : MemberCall) (names : Option ArgumentNames) (given : ℕ) → x.member.name < length t.constants → AreNamed t names → (object : bound.Expr) (gs : List terms.Given) (ps below : List Piece)
+    → ValuesStand env t x names given object gs ps below → ValuesStand env u x names given object gs ps below
+values_grow env t u e x names given h k object gs ps below s = record {
+  made = s.made;
+  values = s.values;
+  written_is = s.written_is;
+  count_is = s.count_is;
+  on_top = s.on_top ∙ ap (λ (p : Piece). above (map an_expr s.made) (p ∷ below)) (sym (looked_same t u e x.member.name names given object h k));
+}
+
+late_grows : (env : Env) (t u : Tables) → Extends t u → (x : MemberCall) (aim : LateUse) (found : LateName) → LateNamed t found → (object : bound.Expr) (gs : List terms.Given) (ps below : List Piece)
+    → LateStands env t x aim found object gs ps below → LateStands env u x aim found object gs ps below
+late_grows env t u e x aim found h object gs ps below s = record {
+  made = s.made;
+  arguments = s.arguments;
+  given_are = s.given_are ∙ ap (λ (ks : List ℕ). flags (length s.made) ks) (sym (e.order_is found.given h.1.1));
+  name_is = s.name_is;
+  count_is = s.count_is;
+  on_top = s.on_top ∙ ap (λ (q : Sought). above (given_pieces q 0 s.made) (a_late object q ∷ below)) (sym (sought_same t u e aim found h));
+}
+
+arguments_grow : (l : Looked) (env : Env) (t u : Tables) → Extends t u → (x : MemberCall) → x.member.name < length t.constants → LookedNamed t l → (object : bound.Expr) (gs : List terms.Given) (ps below : List Piece)
+    → ArgumentsStand l env t x object gs ps below → ArgumentsStand l env u x object gs ps below
+arguments_grow (looked.Early names given) env t u e x h k object gs ps below s = values_grow env t u e x names given h k object gs ps below s
+arguments_grow (looked.Late aim found) env t u e x h k object gs ps below s = late_grows env t u e x aim found k object gs ps below s
+
 pub member_grows : (env : Env) (t u : Tables) → Extends t u → (x : MemberCall) → MemberNamed t x → (tree : Expr) (args : Args) (ps below : List Piece) → MemberStands env t x tree args ps below → MemberStands env u x tree args ps below
 member_grows env t u e x k tree args ps below h =
     let N : List (List ℕ) → Type 0 = λ (names : List (List ℕ)). NamesCame names x.named (givens env args) in
-    let V : terms.HostMember → Type 0 = λ (m : terms.HostMember). HostGiven 0 env m (givens env args) h.made in
     record {
       object = h.object;
       is = h.is ∙ ap (λ z. a_host_member h.object z) (member_same t u e x.member k.0);
       place_is = h.place_is;
-      made = h.made;
-      values = subst V (member_same t u e x.member k.0) h.values;
-      names = subst N (sym (told_same t u e x.names k.1)) h.names;
-      written_is = h.written_is;
-      count_is = h.count_is;
-      on_top = h.on_top ∙ ap (λ (p : Piece). above (map an_expr h.made) (p ∷ below)) (sym (looked_same t u e x.member.name x.names x.given h.object k.0 k.1));
+      classes = h.classes;
+      names = subst N (sym (told_same t u e (names_looked x.looked) (names_are_named t x.looked k.1))) h.names;
+      pushed = arguments_grow x.looked env t u e x k.0 k.1 h.object (givens env args) ps below h.pushed;
     }
 
 -- what doesn't take its arguments

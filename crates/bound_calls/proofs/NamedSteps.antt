@@ -31,7 +31,7 @@ use Rattle.bound_declarations.specs.constant_values.specs.declared_names.specs.b
 use Rattle.bound_forms.specs.Terms.{Env, Given, a_value, bound_arguments, parameter_named}
 use Rattle.bound_forms.specs.Terms as plain_terms
 use Rattle.bound_declarations.specs.constant_values.specs.declared_names.specs.binder.specs.Signatures.{is_get, reader, parameters_in, call_type}
-use Rattle.bound_forms.specs.ExpressionsBound.{call_value, call_with, if_there, indexes_value, indexed_value, node_or, numbers_of, argument_of, callee, indexed, operand_of, term_of, givens, place_told, term_or, wrong_term, call_node}
+use Rattle.bound_forms.specs.ExpressionsBound.{call_value, call_with, if_there, indexes_value, indexed_value, node_or, argument_of, callee, indexed, operand_of, term_of, givens, place_told, term_or, wrong_term, call_node}
 use Rattle.bound_calls.specs.declared.term.Ending.{Ending}
 use Rattle.bound_calls.specs.declared.term.Routine.{Routine}
 use Rattle.bound_calls.specs.declared.term.Term.TheVariants as term
@@ -451,7 +451,7 @@ pub call_is : (value : Declared → plain_terms.Term → Place → Option bound.
 call_is value number_of env place gs base space number w read procedure of parameters args reads number_is parameters_are of_is some given =
     let all : bound_arguments value (parameters_in env.scope space read.1) gs ≡ Some args = ap (λ l. bound_arguments value l gs) (sym parameters_are) ∙ given in
     let called_as : ℕ × Written → plain_terms.Term = λ (f : ℕ × Written).
-    if indexes_value f.1 gs then node_or (call_value env base space f.0 f.1 (Some bound.no_args)) (λ n u. indexed_value env place n u (numbers_of number_of gs))
+    if indexes_value f.1 gs then node_or (call_value env base space f.0 f.1 (Some bound.no_args)) (λ n u. indexed_value number_of env place n u gs)
     else call_value env base space f.0 f.1 (bound_arguments value (parameters_in env.scope space f.1) gs) in
     let found : call_with value number_of env place gs base space number w ≡ called_as read = ap (λ o. if_there (option_map called_as o)) reads in
     found ∙ rw (no_index value read.1 gs some, all, number_is, of_is) refl

@@ -18,7 +18,7 @@ use Rattle.bound_declarations.specs.constant_values.specs.declared_names.specs.b
 use Rattle.bound_forms.specs.Terms.{Env, Given, routine_term, a_value, bound_arguments}
 use Rattle.bound_forms.specs.Terms as plain
 use Rattle.bound_declarations.specs.constant_values.specs.declared_names.specs.binder.specs.Signatures.{is_get, reader, parameters_in, call_type, writer}
-use Rattle.bound_forms.specs.ExpressionsBound.{behind_base, call_node, call_value, call_with, if_there, indexes_value, indexed_value, node_or, numbers_of, argument_of}
+use Rattle.bound_forms.specs.ExpressionsBound.{behind_base, call_node, call_value, call_with, if_there, indexes_value, indexed_value, node_or, argument_of}
 use Rattle.bound_forms.specs.StatementsBound.{given_behind, property_given, assigned, broken_target, let_to, untaken}
 use Rattle.bound_calls.specs.Passing.{AllTaken}
 
@@ -43,7 +43,7 @@ call_is value number_of env place gs base space number w read procedure of param
     let all : bound_arguments value (parameters_in env.scope space read.1) gs ≡ Some args = ap (λ l. bound_arguments value l gs) (sym parameters_are) ∙ given in
     let A : List project.Parameter → Type 0 = λ l. AllTaken value l gs xs left in
     let called_as : ℕ × Written → plain.Term = λ (f : ℕ × Written).
-    if indexes_value f.1 gs then node_or (call_value env base space f.0 f.1 (Some bound.no_args)) (λ n u. indexed_value env place n u (numbers_of number_of gs))
+    if indexes_value f.1 gs then node_or (call_value env base space f.0 f.1 (Some bound.no_args)) (λ n u. indexed_value number_of env place n u gs)
     else call_value env base space f.0 f.1 (bound_arguments value (parameters_in env.scope space f.1) gs) in
     let found : call_with value number_of env place gs base space number w ≡ called_as read = ap (λ o. if_there (option_map called_as o)) reads in
     found ∙ rw (no_index value (scope_in (home env.scope space) read.1) read.1 gs xs left (subst A parameters_are taken), all, number_is, of_is) refl

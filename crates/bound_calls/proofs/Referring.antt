@@ -14,9 +14,9 @@ use Rattle.bound_project.specs.declared.node.NodeKind.{NodeKind}
 use Rattle.bound_project.specs.declared.node.NodeKind.TheVariants as node
 use Rattle.bound_project.specs.View.{declared_view}
 use Rattle.bound_project.specs.Project as project
-use Rattle.bound_project.specs.Expressions.{err_value, err_number, host_object, host_member, default_of, default_if_any, no_exprs, also}
+use Rattle.bound_project.specs.Expressions.{err_value, err_number, host_object, default_of, default_if_any, no_exprs, also}
 use Rattle.bound_project.specs.Expressions as bound
-use Rattle.bound_project.specs.Pieces.{Piece, Tables, an_expr, name_in, of_value, expr_of, put}
+use Rattle.bound_project.specs.Pieces.{Piece, Tables, an_expr, of_value, expr_of, put}
 use Rattle.bound_project.specs.Drafts.{Drafted, NodeNamed}
 use Rattle.bound_declarations.specs.constant_values.specs.declared_names.specs.binder.specs.Options.{or_else}
 use Rattle.bound_declarations.specs.constant_values.specs.declared_names.specs.binder.specs.Types.{is_object}
@@ -24,7 +24,7 @@ use Rattle.bound_declarations.specs.constant_values.specs.declared_names.specs.b
 use Rattle.bound_declarations.specs.constant_values.specs.declared_names.specs.binder.specs.Scopes.{Space}
 use Rattle.bound_declarations.specs.constant_values.specs.declared_names.specs.binder.specs.Storage.{procedure_number}
 use Rattle.bound_declarations.specs.constant_values.specs.declared_names.specs.binder.specs.Constants.{is_variant}
-use Rattle.bound_forms.specs.Terms.{Env, a_value, bound_arguments, broken_rule, expression_of, may_lack, typed_value, routine_term, read_of, value_in}
+use Rattle.bound_forms.specs.Terms.{Env, a_value, bound_arguments, broken_rule, expression_of, may_lack, typed_value, routine_term, read_of, value_in, member_read}
 use Rattle.bound_forms.specs.Terms as plain
 use Rattle.bound_forms.specs.ExpressionsBound.{lacking_call, has_default, default_rule, host_kind, bare_call, call_value, if_there, has_object, plain_operand, if_any, given_way, default_value, typed_reference, value_of, operand_of, reference_of, given_as, term_of, place_told, call_node, is_reference_type}
 use Rattle.bound_declarations.specs.constant_values.specs.declared_names.specs.binder.specs.Signatures.{call_type, parameters_in}
@@ -34,7 +34,7 @@ use Rattle.bound_calls.specs.declared.term.Routine.{Routine}
 use Rattle.bound_calls.specs.declared.term.Term.{Term}
 use Rattle.bound_calls.specs.declared.term.Term.TheVariants as term
 use Rattle.bound_calls.specs.declared.term.Tree.{Tree}
-use Rattle.bound_calls.specs.Standing.{TermStands, EndingIs, RoutineIs}
+use Rattle.bound_calls.specs.Standing.{TermStands, EndingIs, RoutineIs, member_is}
 use Rattle.bound_calls.specs.Steps.{PushesLeft, PushesOperand}
 use Rattle.bound_calls.specs.Taking.{CallsRoutine, PushesSheet, ReadsMember, TakesValue, sheet_expression, read_kind}
 use Rattle.bound_calls.specs.References.{is_referring, refers, takes_none, may_refer, gives_way, default_node, DefaultBreaks, EndingGives, PushesAs, TakesReference, PushesReference, TakesGiven, PushesGiven, PushesIfAny}
@@ -107,9 +107,9 @@ no_value_there env t (term.Place kind of bounded lends makes) y ps below r h pla
     ap (λ z. value_of env z place) h.is ∙ ap (λ (o : Option bound.Expr). or_else o None) (no_value_typed (read_of makes h.at) place (declared_view of) r)
 no_value_there env t (term.Value e) y ps below r h place = ap (λ z. value_of env z place) h.is ∙ ap (λ (o : Option bound.Expr). or_else o None) (no_value_typed h.made place (declared_view e.of) r)
 no_value_there env t (term.HostMember m) y ps below r h place =
-    ap (λ z. value_of env z place) h.is ∙ no_member_value (m.least == 0) (host_member h.object (name_in t m.name) no_exprs) place (declared_view m.of) (broken_rule 25 place (also h.object no_exprs)) r
+    ap (λ z. value_of env z place) h.is ∙ no_member_value (m.least == 0) (member_read h.object (member_is t m)) place (declared_view m.of) (broken_rule 25 place (also h.object no_exprs)) r
 no_value_there env t (term.SheetMember m) y ps below r h place =
-    ap (λ z. value_of env z place) h.0 ∙ no_member_value (m.least == 0) (host_member sheet_expression (name_in t m.name) no_exprs) place (declared_view m.of) (broken_rule 25 place (also sheet_expression no_exprs)) r
+    ap (λ z. value_of env z place) h.0 ∙ no_member_value (m.least == 0) (member_read sheet_expression (member_is t m)) place (declared_view m.of) (broken_rule 25 place (also sheet_expression no_exprs)) r
 no_value_there env t (term.Routine s) y ps below r h place = ap (λ z. value_of env z place) h.routine.is ∙ no_routine_value env s h.routine r place
 no_value_there env t (term.Property p) y ps below r h place = let e : false ≡ true = r in absurd cc
 no_value_there env t (term.Function f) y ps below r h place = let e : false ≡ true = r in absurd cc
@@ -158,7 +158,7 @@ read_when b made place of eq h = ap (λ c. if c then typed_reference made place 
 member_referred : (m : HostMember) (d e : Drafted) (v : Ending) → is_referring m.of ≡ true → ReadsMember m d e v → (env : Env) (y : plain.Term) (below : List Piece)
     → TermStands env d.tables (term.HostMember m) y d.pieces below → (place : Place) → EndingIs e.tables v place (reference_of env y place) e.pieces below
 member_referred m d e v r h env y below k place =
-    let made = host_member k.object (name_in d.tables m.name) no_exprs in
+    let made = member_read k.object (member_is d.tables m) in
     let P : DeclaredType → Type 0 = λ of. reference_of env y place ≡ Some (expression_of made place (declared_view of)) in
     record {
       made = made;

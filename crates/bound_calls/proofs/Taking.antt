@@ -1,5 +1,6 @@
 -- How terms are taken.
-use Rattle.std.proofs.Common.{◌≡◌, ℕ, ◌<◌, length, Bool, true, false, List, [], ◌∷◌, Option, Some, None, refl, sym, ap, subst, ◌∙◌}
+use Rattle.std.proofs.Common.{◌≡◌, ℕ, ◌<◌, length, map, Bool, true, false, List, [], ◌∷◌, Option, Some, None, refl, sym, ap, subst, ◌∙◌, arith, length-append}
+use Rattle.std.proofs.Math.Seq.{get_or-append_seam}
 use Rattle.std.specs.Prelude.{◌==◌, if◌then◌else◌, option_map, option_and_then}
 use Rattle.vba_base.specs.declared.place.Place.{Place}
 use Rattle.vba_values.specs.Types as type
@@ -9,18 +10,22 @@ use Rattle.bound_project.specs.declared.declared_type.ElementType.TheVariants as
 use Rattle.bound_project.specs.declared.node.NodeKind.{NodeKind}
 use Rattle.bound_project.specs.declared.node.NodeKind.TheVariants as node
 use Rattle.bound_project.specs.declared.node.Node.{Node}
+use Rattle.bound_project.specs.declared.node.LateName.{LateName}
+use Rattle.bound_project.specs.declared.node.LateUse.{LateUse}
+use Rattle.bound_project.specs.declared.node.LateUse.TheVariants.{Reading}
 use Rattle.bound_project.specs.View.{declared_view}
 use Rattle.bound_project.specs.Project.{nowhere}
-use Rattle.bound_project.specs.Expressions.{expr, load, active_sheet, host_member, marked, no_exprs, also, load_made, Lvalue}
+use Rattle.bound_project.specs.Expressions.{expr, load, active_sheet, host_member, late_member, marked, no_exprs, none_given, also, load_made, Lvalue}
 use Rattle.bound_project.specs.Expressions as bound
-use Rattle.bound_project.specs.Pieces.{Piece, Tables, a_member, an_expr, exprs_off, name_in, of_member_found, of_place, of_value, expr_of, put, put_kind, a_place}
-use Rattle.bound_project.proofs.Lists.{member_put}
-use Rattle.bound_project.specs.Drafts.{Drafted, NodeNamed}
+use Rattle.bound_project.specs.Pieces.{Piece, Sought, Tables, a_late, a_member, an_expr, exprs_off, late_put, name_in, of_member_found, of_place, of_value, order_in, expr_of, put, put_kind, a_place, sought_in}
+use Rattle.bound_project.proofs.Drafts.{order_extends}
+use Rattle.bound_project.proofs.Lists.{late_is, member_put}
+use Rattle.bound_project.specs.Drafts.{AllBelow, Drafted, NodeNamed, with_order}
 use Rattle.bound_declarations.specs.constant_values.specs.declared_names.specs.binder.specs.Options.{or_else}
 use Rattle.bound_declarations.specs.constant_values.specs.declared_names.specs.binder.specs.Types.{is_object}
 use Rattle.bound_declarations.specs.constant_values.specs.declared_names.specs.binder.specs.Declarations.{Written}
 use Rattle.bound_declarations.specs.constant_values.specs.declared_names.specs.binder.specs.Scopes.{Space}
-use Rattle.bound_forms.specs.Terms.{Env, a_host_member, bound_arguments, broken_rule, expression_of, no_term, typed_value, routine_term, read_of, value_in}
+use Rattle.bound_forms.specs.Terms.{Env, a_host_member, bound_arguments, broken_rule, expression_of, member_read, no_names, no_term, typed_value, routine_term, read_of, value_in}
 use Rattle.bound_forms.specs.Terms as plain
 use Rattle.bound_forms.specs.ExpressionsBound.{lacking_call, bare_call, call_value, if_there, plain_operand, without_arguments, value_of, reference_of, default_value, operand_of}
 use Rattle.bound_declarations.specs.constant_values.specs.declared_names.specs.binder.specs.Signatures.{parameters_in, reader}
@@ -31,7 +36,8 @@ use Rattle.bound_calls.specs.declared.term.Routine.{Routine}
 use Rattle.bound_calls.specs.declared.term.Term.{Term}
 use Rattle.bound_calls.specs.declared.term.Term.TheVariants as term
 use Rattle.bound_calls.specs.Standing.{TermStands, EndingIs, EndingStands, EndingNamed, member_is, ValueEnds}
-use Rattle.bound_calls.specs.Taking.{Loads, CallsBare, broken_ending, PushesSheet, ReadsMember, TakesValue, Pushes, sheet_expression, read_kind}
+use Rattle.bound_calls.specs.InOrder.{AddsOrder}
+use Rattle.bound_calls.specs.Taking.{Loads, LooksUpBare, CallsBare, broken_ending, PushesSheet, ReadsBare, ReadsMember, TakesValue, Pushes, sheet_expression, read_kind}
 use Rattle.bound_calls.proofs.Growing.{grown_same, grown_pieces, grown_twice}
 
 -- a node of a type that it has as an operand too
@@ -106,21 +112,61 @@ ending_named e false d h = h
 pub takes_value : (e : Ending) (place : Place) (d : Drafted) → NodeNamed d.tables e.kind → TakesValue (term.Value e) place d d (plain_ending (is_object (declared_view e.of)) e)
 takes_value e place d k = record { grown = grown_same d; named = ending_named e (is_object (declared_view e.of)) d k; stands = value_value e (is_object (declared_view e.of)) place refl d }
 
--- a member that is read without arguments
-pub reads_member : (m : HostMember) (place : Place) (d e : Drafted) → m.least ≡ 0 → m.name < length d.tables.constants → e ≡ record d { pieces = put d.tables (node_of (node.MemberThere m.name 0) place m.of) d.pieces }
-    → ReadsMember m d e (record { kind = node.HostMember m.name 0; of = m.of })
-reads_member m place d e least named eq =
-    let P : Drafted → Type 0 = λ x. ReadsMember m d x (record { kind = node.HostMember m.name 0; of = m.of }) in
+-- a late-bound member without arguments is looked up
+pub looks_up_bare : (name : ℕ) (d e : Drafted) (number : ℕ) (order : List ℕ) → order ≡ [] → name < length d.tables.constants → AddsOrder order d e number
+    → LooksUpBare name d e (record { name = name; names = record { before = 0; order = number }; arguments = 0; given = number })
+looks_up_bare name d e number order none h o =
+    let found : LateName = record { name = name; names = record { before = 0; order = number }; arguments = 0; given = number } in
+    let after : Drafted = record d { tables = with_order d.tables order } in
+    let P : Drafted → Type 0 = λ x. LooksUpBare name d x found in
+    let last : order_in after.tables number ≡ [] = ap (λ (k : ℕ). order_in after.tables k) o.number_is ∙ get_or-append_seam d.tables.orders order [] [] ∙ none in
+    let long : number < length after.tables.orders = omega (arith, o.number_is, length-append d.tables.orders (order ∷ [])) in
+    let B : List ℕ → Type 0 = λ (is : List ℕ). AllBelow (length d.tables.constants) is in
+    let made : LateUse → List ℕ → Sought = λ aim is. record { aim = aim; name = name_in d.tables name; by = record { before = 0; names = map (name_in d.tables) is }; given = [] } in
+    subst P (sym o.draft_is) (record {
+      grown = record { tables = order_extends d.tables order; statements = refl; bodies = refl };
+      pieces = refl;
+      named = (h, ((long, subst B (sym last) tt), long));
+      sought = λ aim. ap (made aim) last;
+      none = refl;
+    })
+
+-- a member that is read without arguments, which the run finds or which is one of the host
+member_is_read : (b : Bool) (object : bound.Expr) (m : plain.HostMember) → m.late ≡ b → member_read object m ≡ (if b then late_member object m.name no_names none_given else host_member object m.name no_exprs)
+member_is_read b object m h = ap (λ (c : Bool). if c then late_member object m.name no_names none_given else host_member object m.name no_exprs) h
+
+pub reads_late : (m : HostMember) (place : Place) (d l e : Drafted) (found : LateName) → m.is_late ≡ true → LooksUpBare m.name d l found
+    → e ≡ record l { pieces = put l.tables (node_of (node.LateThere Reading found) place m.of) l.pieces } → ReadsBare m d e (node.LateMember found)
+reads_late m place d l e found late h eq =
+    let P : Drafted → Type 0 = λ x. ReadsBare m d x (node.LateMember found) in
+    let s : Sought = record { aim = Reading; name = name_in d.tables m.name; by = no_names; given = [] } in
+    let own = sought_in l.tables Reading found in
+    let after : Drafted = record l { pieces = put l.tables (node_of (node.LateThere Reading found) place m.of) l.pieces } in
+    subst P (sym eq) (record {
+      grown = grown_twice d l after h.grown (grown_pieces l (put l.tables (node_of (node.LateThere Reading found) place m.of) l.pieces));
+      named = h.named;
+      ends = λ object below k n.
+          ap (λ (st : List Piece). late_put n own found.arguments (of_value (λ x. a_late x own) st)) (h.pieces ∙ k) ∙ ap (λ (q : Sought). late_put n q found.arguments (a_late object q ∷ below)) (h.sought Reading)
+          ∙ ap (λ (count : ℕ). late_put n s count (a_late object s ∷ below)) h.none ∙ late_is s (λ x given. expr_of n (late_member x s.name s.by given)) 0 object [] below refl refl
+          ∙ ap (λ (made : bound.Node). expr_of n made ∷ below) (sym (member_is_read true object (member_is d.tables m) late));
+    })
+
+pub reads_early : (m : HostMember) (place : Place) (d e : Drafted) → m.is_late ≡ false → m.name < length d.tables.constants → e ≡ record d { pieces = put d.tables (node_of (node.MemberThere m.name 0) place m.of) d.pieces }
+    → ReadsBare m d e (node.HostMember m.name 0)
+reads_early m place d e early named eq =
+    let P : Drafted → Type 0 = λ x. ReadsBare m d x (node.HostMember m.name 0) in
     let name = name_in d.tables m.name in
     subst P (sym eq) (record {
       grown = grown_pieces d (put d.tables (node_of (node.MemberThere m.name 0) place m.of) d.pieces);
       named = named;
-      least_is = least;
-      of_is = refl;
       ends = λ object below k n.
           ap (λ st. of_member_found name (λ x es. expr_of n (host_member x name es)) (exprs_off 0 (of_value (λ x. a_member x name 0) st) no_exprs)) k
-          ∙ member_put name (λ x es. expr_of n (host_member x name es)) object [] below;
+          ∙ member_put name (λ x es. expr_of n (host_member x name es)) object [] below
+          ∙ ap (λ (made : bound.Node). expr_of n made ∷ below) (sym (member_is_read false object (member_is d.tables m) early));
     })
+
+pub reads_member : (m : HostMember) (d e : Drafted) (kind : NodeKind) → m.least ≡ 0 → ReadsBare m d e kind → ReadsMember m d e (record { kind = kind; of = m.of })
+reads_member m d e kind least h = record { grown = h.grown; named = h.named; least_is = least; of_is = refl; ends = h.ends }
 
 value_when : (b : Bool) (made : bound.Node) (place : Place) (of : DeclaredType) → b ≡ true → is_object (declared_view of) ≡ false
     → (if b then typed_value made place (declared_view of) else None) ≡ Some (expr made place (declared_view of) (declared_view of))
@@ -129,7 +175,7 @@ value_when b made place of eq h = ap (λ c. if c then typed_value made place (de
 member_valued : (m : HostMember) (place : Place) (d e : Drafted) (v : Ending) → is_object (declared_view m.of) ≡ false → ReadsMember m d e v → (env : Env) (y : plain.Term) (below : List Piece)
     → TermStands env d.tables (term.HostMember m) y d.pieces below → EndingIs e.tables v place (value_of env y place) e.pieces below
 member_valued m place d e v r h env y below k =
-    let made = host_member k.object (name_in d.tables m.name) no_exprs in
+    let made = member_read k.object (member_is d.tables m) in
     let lacks : Option bound.Expr = without_arguments env (a_host_member k.object (member_is d.tables m)) place in
     let P : DeclaredType → Type 0 = λ of. value_of env y place ≡ Some (expr made place (declared_view of) (declared_view of)) in
     record {
@@ -151,7 +197,7 @@ takes_lacking m place d h = record {
   named = tt;
   stands = λ env y below k. record {
     made = marked (record { rule = 25; place = place }) (also k.object no_exprs);
-    is = ap (λ z. value_of env z place) k.is ∙ lacking_value (m.least == 0) (typed_value (host_member k.object (name_in d.tables m.name) no_exprs) place (declared_view m.of)) (broken_rule 25 place (also k.object no_exprs)) h;
+    is = ap (λ z. value_of env z place) k.is ∙ lacking_value (m.least == 0) (typed_value (member_read k.object (member_is d.tables m)) place (declared_view m.of)) (broken_rule 25 place (also k.object no_exprs)) h;
     ends = λ n. ap (λ (st : List Piece). put_kind d.tables n (node.Marked (record { rule = 25; place = place }) 1) st) k.on_top;
   };
 }

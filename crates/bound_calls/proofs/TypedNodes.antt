@@ -6,14 +6,15 @@ use Rattle.vba_values.specs.Types.{Declared}
 use Rattle.bound_project.specs.declared.node.Node.{Node}
 use Rattle.bound_project.specs.declared.node.NodeKind.{NodeKind}
 use Rattle.bound_project.specs.declared.node.NodeKind.TheVariants as node
-use Rattle.bound_project.specs.Expressions.{expr, not_given, constant, load, load_made, element_value, field_value, unary, binary, call, err_value, default_of, default_if_any, enumerated, same, is_type, library, bound_of, host_object, active_sheet, host_member, named_member, this, new_object, method, late_member, late_item, no_args, in_order, no_exprs, marked}
+use Rattle.bound_project.specs.declared.node.LateUse.TheVariants.{Reading}
+use Rattle.bound_project.specs.Expressions.{expr, not_given, constant, load, load_made, element_value, field_value, unary, binary, call, err_value, default_of, default_if_any, enumerated, same, is_type, library, bound_of, host_object, active_sheet, host_member, named_member, this, new_object, method, late_member, late_item, no_args, in_order, no_exprs, none_given, marked}
 use Rattle.bound_project.specs.Expressions as bound
-use Rattle.bound_project.specs.Pieces.{Piece, an_expr, Tables, arguments_off, as_operand, expr_of, exprs_off, by_name_in, name_in, order_in, put_kind}
+use Rattle.bound_project.specs.Pieces.{Piece, an_expr, Tables, arguments_off, as_operand, expr_of, exprs_off, given_off, by_name_in, name_in, order_in, put_kind, sought_in}
 use Rattle.bound_project.specs.View.{base_view, declared_view}
 use Rattle.bound_forms.specs.ExpressionsBound.{has_default, host_kind, kind_by_type, kind_of_object, default_rule}
 use Rattle.bound_calls.specs.declared.term.Ending.{Ending}
 use Rattle.bound_calls.specs.References.{DefaultBreaks, is_typed_kind}
-use Rattle.bound_calls.proofs.LastNodes.{any_node, value_passes, place_passes, both_pass, found_passes, value_found_passes, member_found_passes, named_found_passes, object_found_passes}
+use Rattle.bound_calls.proofs.LastNodes.{any_node, value_passes, place_passes, both_pass, found_passes, value_found_passes, member_found_passes, named_found_passes, object_found_passes, late_found_passes}
 
 no_host_on_top : List Piece → Bool
 no_host_on_top (an_expr (expr (host_object reference) place of operand) ∷ st) = false
@@ -76,6 +77,10 @@ kind_typed t n (node.HostMember i count) st h =
     member_found_passes no_host_on_top refl (name_in t i) (λ e es. expr_of n (host_member e (name_in t i) es)) (λ e es rest. refl) (exprs_off count st no_exprs)
 kind_typed t n (node.NamedMember i by count) st h =
     named_found_passes no_host_on_top refl (name_in t i) (by_name_in t by) (λ e es. expr_of n (named_member e (name_in t i) (by_name_in t by) es)) (λ e es rest. refl) (exprs_off count st no_exprs)
+kind_typed t n (node.LateMember x) st h =
+    late_found_passes no_host_on_top refl (sought_in t Reading x) (λ e given. expr_of n (late_member e (name_in t x.name) (by_name_in t x.names) given)) (λ e given rest. refl)
+    (given_off (sought_in t Reading x) x.arguments st none_given)
+kind_typed t n (node.ItemAlong count) st h = value_found_passes no_host_on_top refl (λ e es. expr_of n (late_item e es)) (λ e es rest. refl) (exprs_off count st no_exprs)
 kind_typed t n (node.HostObject reference) st h = let e : false ≡ true = h in absurd cc
 kind_typed t n node.NotGiven st h = let e : false ≡ true = h in absurd cc
 kind_typed t n (node.Variable x) st h = let e : false ≡ true = h in absurd cc
@@ -94,6 +99,13 @@ kind_typed t n node.DefaultOf st h = let e : false ≡ true = h in absurd cc
 kind_typed t n node.DefaultIfAny st h = let e : false ≡ true = h in absurd cc
 kind_typed t n (node.MemberThere i given) st h = let e : false ≡ true = h in absurd cc
 kind_typed t n (node.NamedThere i by given) st h = let e : false ≡ true = h in absurd cc
+kind_typed t n (node.ElementAlong count) st h = let e : false ≡ true = h in absurd cc
+kind_typed t n (node.LateField i) st h = let e : false ≡ true = h in absurd cc
+kind_typed t n node.PlaceOf st h = let e : false ≡ true = h in absurd cc
+kind_typed t n node.Enumerated st h = let e : false ≡ true = h in absurd cc
+kind_typed t n (node.LateThere aim x) st h = let e : false ≡ true = h in absurd cc
+kind_typed t n (node.LateValue aim x i) st h = let e : false ≡ true = h in absurd cc
+kind_typed t n (node.LatePlace aim x i) st h = let e : false ≡ true = h in absurd cc
 kind_typed t n node.ByPlace st h = let e : false ≡ true = h in absurd cc
 kind_typed t n (node.ByCopy of) st h = let e : false ≡ true = h in absurd cc
 kind_typed t n (node.ByDefault i) st h = let e : false ≡ true = h in absurd cc

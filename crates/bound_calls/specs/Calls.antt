@@ -61,9 +61,11 @@ abbrev pub lent_in : Term → Option Ending
 lent_in (term.Place kind of bounded true makes) = Some (record { kind = kind; of = of })
 lent_in x = None
 
--- a place that isn't lent is copied, where it is one of another object type, or an element of a Variant variable
+-- a place that isn't lent is copied, where it is one of another object type, or an element of a Variant variable, or what
+-- the run says arguments lead to
 abbrev pub may_be_item : NodeKind → Bool
 may_be_item (node.Item x count) = is_variant (declared_view x.of)
+may_be_item (node.ElementAlong count) = true
 may_be_item kind = false
 
 abbrev pub is_copied : NodeKind → (of parameter : DeclaredType) → Bool

@@ -23,7 +23,6 @@ use Rattle.bound_calls.specs.declared.term.Indexed.{Indexed}
 use Rattle.bound_calls.specs.declared.term.Item.{Item}
 use Rattle.bound_calls.specs.declared.term.Item.TheVariants as item
 use Rattle.bound_calls.specs.Standing.{PlaceEnds, TermStands, TermNamed, TreeStands, IndexedStands, Stands, ItemNamed, AllNamed, Grown, Base}
-use Rattle.bound_declarations.specs.constant_values.specs.declared_names.specs.binder.specs.Classes.{has_class}
 
 -- nodes that are part of another place
 abbrev pub is_part : NodeKind → Bool
@@ -38,7 +37,7 @@ is_part k = false
 abbrev pub TargetAt : Target → Lvalue → (ps below : List Piece) → Type 0
 TargetAt (target.Variable v) at ps below = (at ≡ bound.variable (variable_view v)) × (ps ≡ below)
 TargetAt target.Place at ps below = ((es : Exprs) → element_place at es ≡ bound.element at es) × (ps ≡ piece.a_place at ∷ below)
-TargetAt target.Value at ps below = ⊥
+TargetAt other at ps below = ⊥
 
 pub record PushesTarget (kind : NodeKind) (d e : Drafted) (x : Target) : Type 0 where
   pub grown : Grown d e
@@ -58,11 +57,11 @@ pub record OpensTerm (env : Env) (x : Tree) (y : Term) (d e : Drafted) (i : Item
   pub stands : (tree : Expr) (items : List Item) (is : List nodes.Item) (below : List Piece) (base : Base) → x.place ≡ place_told tree → TermStands env d.tables y (callee env tree (term_of env tree)) d.pieces below
       → Stands env e.tables items is below base → Stands env e.tables (i ∷ items) (nodes.arguments no_args ∷ nodes.tree tree ∷ is) e.pieces base
 
--- the expression on top is one more argument, in a project with a class or without
-pub record AddsArgument (has : Bool) (i : Item) (x : Tree) (d e : Drafted) (j : Item) : Type 0 where
+-- the expression on top is one more argument
+pub record AddsArgument (i : Item) (x : Tree) (d e : Drafted) (j : Item) : Type 0 where
   pub grown : Grown d e
   pub named : ItemNamed e.tables j
-  pub stands : (env : Env) → has_class env.scope.spaces ≡ has → (comma : Option Token) (items : List Item) (is : List nodes.Item) (base : Base) → AllNamed d.tables items
+  pub stands : (env : Env) (comma : Option Token) (items : List Item) (is : List nodes.Item) (base : Base) → AllNamed d.tables items
       → Stands env d.tables (item.Tree x ∷ i ∷ items) is d.pieces base → Stands env e.tables (j ∷ items) (behind_node (node.PlainArgument comma) is) e.pieces base
 
 -- an argument that isn't written

@@ -1,5 +1,5 @@
 -- Serves the code: terms that are taken as references to objects.
-use Rattle.std.specs.Prelude.{◌≡◌, ℕ, ◌==◌, Bool, true, false, ◌||◌, ◌&&◌, List, ◌∷◌, map, Option, Some, None, option_map, not}
+use Rattle.std.specs.Prelude.{◌≡◌, ℕ, ◌==◌, Bool, true, false, ◌||◌, ◌&&◌, List, ◌∷◌, map, Option, Some, None, option_map, not, is_some, if◌then◌else◌}
 use Rattle.std.specs.List.{list_all}
 use Rattle.vba_base.specs.declared.place.Place.{Place}
 use Rattle.vba_expression.specs.Tree.{Expr}
@@ -13,7 +13,7 @@ use Rattle.bound_project.specs.Drafts.{Drafted, NodeNamed}
 use Rattle.bound_declarations.specs.constant_values.specs.declared_names.specs.binder.specs.Constants.{is_variant}
 use Rattle.bound_forms.specs.Terms.{Env, expression_of, may_lack}
 use Rattle.bound_forms.specs.Terms as plain
-use Rattle.bound_forms.specs.ExpressionsBound.{may_give_object, has_object, if_any, host_kind, default_rule, reference_of, given_as, term_of, place_told, has_default, is_item_name, is_reference_type, may_be_instance}
+use Rattle.bound_forms.specs.ExpressionsBound.{may_give_object, has_object, if_any, host_kind, default_rule, reference_of, given_as, term_of, place_told, has_default, is_found_late, is_item_name, is_reference_type, may_be_instance}
 use Rattle.bound_calls.specs.declared.term.Ending.{Ending}
 use Rattle.bound_calls.specs.declared.term.Routine.{Routine}
 use Rattle.bound_calls.specs.declared.term.Term.{Term}
@@ -69,6 +69,8 @@ kind_gives (node.Call p count) = Some true
 kind_gives (node.CallInOrder p count order) = Some true
 kind_gives (node.HostMember i count) = Some true
 kind_gives (node.NamedMember i by count) = Some true
+kind_gives (node.LateMember m) = Some true
+kind_gives (node.ItemAlong count) = Some true
 kind_gives (node.Library f text_form count compare one) = Some (may_give_object f)
 kind_gives (node.Marked broken count) = Some true
 kind_gives (node.Constant i) = Some false
@@ -107,6 +109,32 @@ instance_at kind of = false
 abbrev pub may_be_instance_by : (has : Bool) → Tables → Ending → Bool
 may_be_instance_by has t e = has && (instance_at e.kind e.of && not (is_of_host_kind t e.kind))
 
+-- whether a node ends a value, of which it is known whether it is the host's
+abbrev pub ends_known : NodeKind → Bool
+ends_known node.This = true
+ends_known (node.NewObject c) = true
+ends_known kind = is_some (kind_gives kind)
+
+-- whether a value may be an object that may be one of a class, where that is known
+abbrev pub known_object : NodeKind → Option Bool
+known_object kind = if ends_known kind then Some true else None
+
+abbrev pub known_instance : NodeKind → DeclaredType → Option Bool
+known_instance kind (Plain element.Object) = known_object kind
+known_instance kind (Plain (element.Class number)) = known_object kind
+known_instance kind (Plain element.Variant) = kind_gives kind
+known_instance kind of = Some false
+
+-- whether there may be an object of a class of a value whose last node isn't pushed, in a project with a class or without
+abbrev pub IsInstance : (has : Bool) → Tables → Ending → (may : Bool) → Type 0
+IsInstance has t e may = (env : Env) (made : bound.Node) (place : Place) (ps below : List Piece) → has_class env.scope.spaces ≡ has → ValueEnds t e.kind made ps below
+    → may_be_instance env (expression_of made place (declared_view e.of)) ≡ may
+
+-- whether the run says what members such a value has
+abbrev pub IsFoundLate : (has : Bool) → Tables → Ending → (late : Bool) → Type 0
+IsFoundLate has t e late = (env : Env) (made : bound.Node) (place : Place) (ps below : List Piece) → has_class env.scope.spaces ≡ has → ValueEnds t e.kind made ps below
+    → is_found_late env (expression_of made place (declared_view e.of)) ≡ late
+
 -- no value whose last node isn't pushed is an object of a class, in a project with a class or without
 abbrev pub NoInstance : (has : Bool) → Tables → Ending → Type 0
 NoInstance has t e = (env : Env) (made : bound.Node) (place : Place) (ps below : List Piece) → has_class env.scope.spaces ≡ has → ValueEnds t e.kind made ps below
@@ -135,6 +163,8 @@ is_typed_kind (node.IsType of) = true
 is_typed_kind node.ActiveSheet = true
 is_typed_kind (node.HostMember i count) = true
 is_typed_kind (node.NamedMember i by count) = true
+is_typed_kind (node.LateMember m) = true
+is_typed_kind (node.ItemAlong count) = true
 is_typed_kind k = false
 
 -- the rule that an object breaks where it gives way to the value of its default member, which isn't that of a class: of one

@@ -14,26 +14,29 @@ use Rattle.bound_project.specs.declared.declared_type.DeclaredType.{DeclaredType
 use Rattle.bound_project.specs.declared.node.NodeKind.{NodeKind}
 use Rattle.bound_project.specs.declared.node.Node.{Node}
 use Rattle.bound_project.specs.declared.node.ArgumentNames.{ArgumentNames}
+use Rattle.bound_project.specs.declared.node.LateName.{LateName}
+use Rattle.bound_project.specs.declared.node.LateUse.{LateUse}
 use Rattle.bound_project.specs.declared.variable.Variable.{Variable}
 use Rattle.bound_project.specs.View.{declared_view, parameter_view, variable_view}
-use Rattle.bound_project.specs.Expressions.{expr, element_value, not_given, active_sheet, Exprs, also, given_count, Lvalue, operand_type, this}
+use Rattle.bound_project.specs.Expressions.{expr, element_value, late_item, not_given, active_sheet, Exprs, also, given_count, Lvalue, operand_type, this, value_place}
 use Rattle.bound_project.specs.Expressions as bound
-use Rattle.bound_project.specs.Lists.{above, exprs_of}
-use Rattle.bound_project.specs.Pieces.{Argument, Piece, Tables, a_member, a_named_member, an_argument, an_expr, expr_of, put_kind, with_argument, an_object}
+use Rattle.bound_project.specs.Lists.{above, exprs_of, given_pieces}
+use Rattle.bound_project.specs.Pieces.{Argument, GivenArgument, Piece, Tables, a_late, a_member, a_named_member, an_argument, an_expr, expr_of, flags, is_there, order_in, place_there, put_kind, sought_in, value_there, with_argument, with_given, an_object}
 use Rattle.bound_project.specs.Pieces as piece
 use Rattle.bound_project.specs.Project.{Parameter, nowhere}
-use Rattle.bound_project.specs.Drafts.{Drafted, NamesNamed, NodeNamed}
+use Rattle.bound_project.specs.Drafts.{Drafted, LateNamed, NamesNamed, NodeNamed}
 use Rattle.bound_project.proofs.Drafts.{Extends}
+use Rattle.bound_declarations.specs.constant_values.specs.declared_names.specs.binder.specs.Classes.{has_class}
 use Rattle.bound_declarations.specs.constant_values.specs.declared_names.specs.binder.specs.Declarations.{Written}
 use Rattle.bound_declarations.specs.constant_values.specs.declared_names.specs.View.{space_view, written_view}
 use Rattle.bound_declarations.specs.constant_values.specs.declared_names.specs.binder.specs.Options.{from_two}
 use Rattle.bound_declarations.specs.constant_values.specs.declared_names.specs.binder.specs.Scopes.{Space, qualifier_of}
 use Rattle.bound_declarations.specs.constant_values.specs.declared_names.specs.binder.specs.Constants.{compare_in}
 use Rattle.bound_declarations.specs.constant_values.specs.declared_names.specs.binder.specs.Storage.{procedure_number}
-use Rattle.bound_forms.specs.Terms.{Env, Given, routine_term, a_place, a_value, a_function, a_host_member, err_object, err_raise, err_clear, error_word, no_term, expression_of, listed_values, parameter_named, taken_by, takes, read_of}
+use Rattle.bound_forms.specs.Terms.{Env, Given, routine_term, a_place, a_value, a_function, a_host_member, err_object, err_raise, err_clear, error_word, no_term, expression_of, given_to, listed_values, parameter_named, taken_by, takes, read_of}
 use Rattle.bound_forms.specs.Terms as plain
 use Rattle.bound_declarations.specs.constant_values.specs.declared_names.specs.binder.specs.Signatures.{reader, parameters_in, call_type}
-use Rattle.bound_forms.specs.ExpressionsBound.{callee, item_of, element_place, argument_of, arguments_rule, may_index, member_takes, wrong_arguments, first_given, function_values, givens, indexed, is_wrong, numbers_of, term_of, operand_of, reference_of, place_told, indexed_type, host_arguments_from}
+use Rattle.bound_forms.specs.ExpressionsBound.{callee, item_of, element_place, argument_of, arguments_rule, may_index, member_takes, wrong_arguments, first_given, function_values, givens, indexed, is_wrong, numbers_of, term_of, operand_of, reference_of, place_told, indexed_type, is_found_late, along_of, late_arguments}
 use Rattle.bound_calls.specs.declared.term.Dotted.{Dotted}
 use Rattle.bound_calls.specs.declared.term.Ending.{Ending}
 use Rattle.bound_calls.specs.declared.term.Property.{Property}
@@ -41,6 +44,8 @@ use Rattle.bound_calls.specs.declared.term.Routine.{Routine}
 use Rattle.bound_calls.specs.declared.term.Function.{Function}
 use Rattle.bound_calls.specs.declared.term.FunctionCall.{FunctionCall}
 use Rattle.bound_calls.specs.declared.term.HostMember.{HostMember}
+use Rattle.bound_calls.specs.declared.term.Looked.{Looked}
+use Rattle.bound_calls.specs.declared.term.Looked.TheVariants as looked
 use Rattle.bound_calls.specs.declared.term.MemberCall.{MemberCall}
 use Rattle.bound_calls.specs.declared.term.Term.{Term}
 use Rattle.bound_calls.specs.declared.term.Term.TheVariants as term
@@ -148,7 +153,7 @@ pub record FunctionIs (env : Env) (f : Function) (x : plain.Term) : Type 0 where
 
 -- a member of an object of the host, and the object that was pushed
 abbrev pub member_is : Tables → HostMember → plain.HostMember
-member_is t m = record { name = piece.name_in t m.name; of = declared_view m.of; least = m.least; greatest = m.greatest }
+member_is t m = record { name = piece.name_in t m.name; of = declared_view m.of; least = m.least; greatest = m.greatest; late = m.is_late }
 
 pub record HostMemberStands (t : Tables) (m : HostMember) (x : plain.Term) (ps below : List Piece) : Type 0 where
   pub object : bound.Expr
@@ -289,20 +294,37 @@ pub record ValueIndexed (env : Env) (of : DeclaredType) (place : Place) (x : pla
   pub is : (gs : List Given) (es : Exprs) → numbers_of (operand_of env) gs ≡ Some es → indexed env place (item_of env place x) gs ≡ a_value (element_value whole es) (declared_view of)
   pub on_top : ps ≡ an_expr whole ∷ below
 
+-- a place from which arguments lead on as the run says, and a value in which they do, which was pushed
+pub record PlaceAlong (env : Env) (of : DeclaredType) (lends : Bool) (place : Place) (x : plain.Term) (ps below : List Piece) : Type 0 where
+  pub at : Lvalue
+  pub whole : Declared
+  pub bounded : Bool
+  pub makes : Bool
+  pub is : x ≡ a_place at whole bounded lends makes
+  pub late : is_found_late env (expression_of (read_of makes at) place whole) ≡ true
+  pub of_is : declared_view of ≡ type.variant
+  pub on_top : ps ≡ piece.a_place at ∷ below
+
+pub record ValueAlong (env : Env) (of : DeclaredType) (place : Place) (x : plain.Term) (ps below : List Piece) : Type 0 where
+  pub whole : bound.Expr
+  pub is : (gs : List Given) (es : Exprs) → along_of (operand_of env) gs ≡ Some es → indexed env place (item_of env place x) gs ≡ a_value (late_item whole es) type.variant
+  pub of_is : declared_view of ≡ type.variant
+  pub on_top : ps ≡ an_expr whole ∷ below
+
+-- the same value, which was pushed as a place: what arguments lead to in it is assigned to
+pub record ValueAsPlace (env : Env) (of : DeclaredType) (place : Place) (x : plain.Term) (ps below : List Piece) : Type 0 where
+  pub whole : bound.Expr
+  pub is : (gs : List Given) (es : Exprs) → along_of (operand_of env) gs ≡ Some es → indexed env place (item_of env place x) gs ≡ a_value (late_item whole es) type.variant
+  pub of_is : declared_view of ≡ type.variant
+  pub on_top : ps ≡ piece.a_place (value_place whole) ∷ below
+
 abbrev pub TargetStands : Env → Target → DeclaredType → Bool → Place → plain.Term → (ps below : List Piece) → Type 0
 TargetStands env (target.Variable v) of lends place x ps below = VariableIndexed env v of lends place x ps below
 TargetStands env target.Place of lends place x ps below = PlaceIndexed env of lends place x ps below
 TargetStands env target.Value of lends place x ps below = ValueIndexed env of place x ps below
-
--- what is indexed, and the numbers that were pushed
-pub record IndexedStands (env : Env) (x : Indexed) (e : Expr) (args : Args) (ps below : List Piece) : Type 0 where
-  pub between : List Piece
-  pub target_is : TargetStands env x.target x.of x.lends (place_told e) (callee env e (term_of env e)) between below
-  pub place_is : x.place ≡ place_told e
-  pub made : List bound.Expr
-  pub numbers : AllNumbers (operand_of env) (givens env args) made
-  pub count_is : x.count ≡ length made
-  pub on_top : ps ≡ above (map an_expr made) between
+TargetStands env target.PlaceAlong of lends place x ps below = PlaceAlong env of lends place x ps below
+TargetStands env target.ValueAlong of lends place x ps below = ValueAlong env of place x ps below
+TargetStands env target.ValueAsPlace of lends place x ps below = ValueAsPlace env of place x ps below
 
 -- values that were pushed for arguments without names: each is what the list says of the first argument
 pub record ValueIs (value : plain.Term → Place → Option bound.Expr) (g : Given) (e : bound.Expr) : Type 0 where
@@ -313,6 +335,27 @@ abbrev pub AllListed : (plain.Term → Place → Option bound.Expr) → List Giv
 AllListed value [] [] = Unit {0}
 AllListed value (g ∷ gs) (e ∷ es) = ValueIs value g e × AllListed value gs es
 AllListed value gs es = ⊥
+
+-- an operand that leads on as the run says, as a Variant takes it
+abbrev pub along_value : Env → plain.Term → Place → Option bound.Expr
+along_value env t place = option_map (given_to type.variant false place) (operand_of env t place)
+
+-- what was pushed for arguments: numbers; or what leads on as the run says, where one that isn't written is Missing
+abbrev pub NumbersStand : Env → Target → List Given → List bound.Expr → Type 0
+NumbersStand env target.PlaceAlong gs es = AllListed (along_value env) gs es
+NumbersStand env target.ValueAlong gs es = AllListed (along_value env) gs es
+NumbersStand env target.ValueAsPlace gs es = AllListed (along_value env) gs es
+NumbersStand env other gs es = AllNumbers (operand_of env) gs es
+
+-- what is indexed, and the numbers that were pushed
+pub record IndexedStands (env : Env) (x : Indexed) (e : Expr) (args : Args) (ps below : List Piece) : Type 0 where
+  pub between : List Piece
+  pub target_is : TargetStands env x.target x.of x.lends (place_told e) (callee env e (term_of env e)) between below
+  pub place_is : x.place ≡ place_told e
+  pub made : List bound.Expr
+  pub numbers : NumbersStand env x.target (givens env args) made
+  pub count_is : x.count ≡ length made
+  pub on_top : ps ≡ above (map an_expr made) between
 
 -- the same of a function that is called, by the numbers of its arguments, which may have names
 pub record ArgumentIs (env : Env) (f : LibraryFunction) (i : ℕ) (g : Given) (e : bound.Expr) : Type 0 where
@@ -342,16 +385,25 @@ AllGiven value [] [] = Unit {0}
 AllGiven value (g ∷ gs) (e ∷ es) = GivenIs value g e × AllGiven value gs es
 AllGiven value gs es = ⊥
 
--- the same of arguments of a member, by their numbers
-pub record HostIs (i : ℕ) (env : Env) (m : plain.HostMember) (g : Given) (e : bound.Expr) : Type 0 where
-  pub is : (gs : List Given) → host_arguments_from i env m (g ∷ gs) ≡ from_two also (Some e) (host_arguments_from (suc i) env m gs)
+-- an argument of a late-bound member that was pushed: what the list says of the first argument
+pub record LateIs (env : Env) (g : Given) (a : GivenArgument) : Type 0 where
+  pub is : (gs : List Given) → late_arguments env (g ∷ gs) ≡ option_map (with_given a) (late_arguments env gs)
 
-abbrev pub HostGiven : (i : ℕ) → Env → plain.HostMember → List Given → List bound.Expr → Type 0
-HostGiven i env m [] [] = Unit {0}
-HostGiven i env m (g ∷ gs) (e ∷ es) = HostIs i env m g e × HostGiven (suc i) env m gs es
-HostGiven i env m gs es = ⊥
+abbrev pub AllLate : Env → List Given → List GivenArgument → Type 0
+AllLate env [] [] = Unit {0}
+AllLate env (g ∷ gs) (a ∷ args) = LateIs env g a × AllLate env gs args
+AllLate env gs args = ⊥
 
--- the names that arguments are to have, where some are to have names
+-- whether an argument is written
+abbrev pub argument_there : GivenArgument → Bool
+argument_there (place_there x) = true
+argument_there (value_there e) = is_there e
+
+-- how arguments are to be named of a member that was looked up, and their names, where some are to have names
+abbrev pub names_looked : Looked → Option ArgumentNames
+names_looked (looked.Early names given) = names
+names_looked (looked.Late aim found) = Some found.names
+
 abbrev pub names_told : Tables → Option ArgumentNames → List (List ℕ)
 names_told t None = []
 names_told t (Some by) = piece.names_in t by.order
@@ -367,23 +419,42 @@ pub record NamesCame (names : List (List ℕ)) (count : ℕ) (gs : List Given) :
   pub are : map (λ (g : Given). g.name) gs ≡ nameless unnamed ++ map (λ (x : List ℕ). Some x) (take count names)
   pub there : count ≤ length names
 
--- the object whose member was looked for
-abbrev pub looked_for : Tables → (name : ℕ) → Option ArgumentNames → (given : ℕ) → bound.Expr → Piece
-looked_for t name None given object = a_member object (piece.name_in t name) given
-looked_for t name (Some by) given object = a_named_member object (piece.name_in t name) (piece.by_name_in t by) given
+-- the object whose member was looked up
+abbrev pub looked_for : Tables → (name : ℕ) → Looked → bound.Expr → Piece
+looked_for t name (looked.Early None given) object = a_member object (piece.name_in t name) given
+looked_for t name (looked.Early (Some by) given) object = a_named_member object (piece.name_in t name) (piece.by_name_in t by) given
+looked_for t name (looked.Late aim found) object = a_late object (sought_in t aim found)
 
--- a member whose object was looked at, and the values that were pushed for it, by their names, of which so many are
--- written
+-- values that were pushed for a member of the host, of which so many are written
+pub record ValuesStand (env : Env) (t : Tables) (x : MemberCall) (names : Option ArgumentNames) (given : ℕ) (object : bound.Expr) (gs : List Given) (ps below : List Piece) : Type 0 where
+  pub made : List bound.Expr
+  pub values : AllGiven (argument_of env type.variant) gs made
+  pub written_is : (more : List bound.Expr) → given_count (exprs_of (made ++ more)) ≡ x.written + given_count (exprs_of more)
+  pub count_is : x.count ≡ length made
+  pub on_top : ps ≡ above (map an_expr made) (looked_for t x.member.name (looked.Early names given) object ∷ below)
+
+-- places and values that were pushed for a late-bound member, which is looked up by this; the first ones of those that are
+-- to be written are
+pub record LateStands (env : Env) (t : Tables) (x : MemberCall) (aim : LateUse) (found : LateName) (object : bound.Expr) (gs : List Given) (ps below : List Piece) : Type 0 where
+  pub made : List GivenArgument
+  pub arguments : AllLate env gs made
+  pub given_are : map argument_there made ≡ flags (length made) (order_in t found.given)
+  pub name_is : found.name ≡ x.member.name
+  pub count_is : x.count ≡ length made
+  pub on_top : ps ≡ above (given_pieces (sought_in t aim found) 0 made) (a_late object (sought_in t aim found) ∷ below)
+
+abbrev pub ArgumentsStand : Looked → Env → Tables → MemberCall → bound.Expr → List Given → (ps below : List Piece) → Type 0
+ArgumentsStand (looked.Early names given) env t x object gs ps below = ValuesStand env t x names given object gs ps below
+ArgumentsStand (looked.Late aim found) env t x object gs ps below = LateStands env t x aim found object gs ps below
+
+-- a member whose object was looked at, and the arguments that were pushed for it, by their names
 pub record MemberStands (env : Env) (t : Tables) (x : MemberCall) (e : Expr) (args : Args) (ps below : List Piece) : Type 0 where
   pub object : bound.Expr
   pub is : item_of env (place_told e) (callee env e (term_of env e)) ≡ a_host_member object (member_is t x.member)
   pub place_is : x.place ≡ place_told e
-  pub made : List bound.Expr
-  pub values : HostGiven 0 env (member_is t x.member) (givens env args) made
-  pub names : NamesCame (names_told t x.names) x.named (givens env args)
-  pub written_is : (more : List bound.Expr) → given_count (exprs_of (made ++ more)) ≡ x.written + given_count (exprs_of more)
-  pub count_is : x.count ≡ length made
-  pub on_top : ps ≡ above (map an_expr made) (looked_for t x.member.name x.names x.given object ∷ below)
+  pub classes : has_class env.scope.spaces ≡ x.has_class
+  pub names : NamesCame (names_told t (names_looked x.looked)) x.named (givens env args)
+  pub pushed : ArgumentsStand x.looked env t x object (givens env args) ps below
 
 -- the arguments before those with names
 abbrev pub passed_below : List Item → Option Passed
@@ -529,8 +600,12 @@ abbrev pub AreNamed : Tables → Option ArgumentNames → Type 0
 AreNamed t None = Unit {0}
 AreNamed t (Some by) = NamesNamed t by
 
+abbrev pub LookedNamed : Tables → Looked → Type 0
+LookedNamed t (looked.Early names given) = AreNamed t names
+LookedNamed t (looked.Late aim found) = LateNamed t found
+
 abbrev pub MemberNamed : Tables → MemberCall → Type 0
-MemberNamed t x = (x.member.name < length t.constants) × AreNamed t x.names
+MemberNamed t x = (x.member.name < length t.constants) × LookedNamed t x.looked
 
 abbrev pub RefuserNamed : Tables → Refuser → Type 0
 RefuserNamed t (refuser.Member m) = m.name < length t.constants

@@ -6,17 +6,19 @@ use Rattle.bound_project.specs.declared.declared_type.DeclaredType.TheVariants.{
 use Rattle.bound_project.specs.declared.declared_type.ElementType.TheVariants.{Variant}
 use Rattle.bound_project.specs.declared.node.NodeKind.{NodeKind}
 use Rattle.bound_project.specs.declared.node.NodeKind.TheVariants as node
+use Rattle.bound_project.specs.declared.node.LateName.{LateName}
+use Rattle.bound_project.specs.declared.node.LateUse.{LateUse}
 use Rattle.bound_project.specs.View.{declared_view}
 use Rattle.bound_project.specs.Expressions as bound
-use Rattle.bound_project.specs.Expressions.{active_sheet, host_member, no_exprs, Lvalue}
+use Rattle.bound_project.specs.Expressions.{active_sheet, Lvalue}
 use Rattle.bound_project.specs.Project.{nowhere}
 use Rattle.vba_values.specs.Types as type
-use Rattle.bound_project.specs.Pieces.{Piece, Tables, an_expr, name_in}
-use Rattle.bound_project.specs.Drafts.{Drafted, NodeNamed}
+use Rattle.bound_project.specs.Pieces.{Piece, Tables, an_expr, name_in, sought_in}
+use Rattle.bound_project.specs.Drafts.{Drafted, LateNamed, NodeNamed}
 use Rattle.bound_declarations.specs.constant_values.specs.declared_names.specs.binder.specs.Declarations.{Written}
 use Rattle.bound_declarations.specs.constant_values.specs.declared_names.specs.binder.specs.Scopes.{Space}
 use Rattle.bound_declarations.specs.constant_values.specs.declared_names.specs.binder.specs.Types.{is_object}
-use Rattle.bound_forms.specs.Terms.{Env, typed_value, routine_term, read_of}
+use Rattle.bound_forms.specs.Terms.{Env, member_read, no_names, typed_value, routine_term, read_of}
 use Rattle.bound_forms.specs.Terms as plain
 use Rattle.bound_forms.specs.ExpressionsBound.{bare_call, indexed, value_of}
 use Rattle.bound_calls.specs.declared.term.Ending.{Ending}
@@ -25,7 +27,7 @@ use Rattle.bound_calls.specs.declared.term.Receiver.{Receiver}
 use Rattle.bound_calls.specs.declared.term.Receiver.TheVariants as receiver
 use Rattle.bound_calls.specs.declared.term.Routine.{Routine}
 use Rattle.bound_calls.specs.declared.term.Term.{Term}
-use Rattle.bound_calls.specs.Standing.{PlaceEnds, ValueEnds, ValueStands, RoutineStands, TermStands, EndingStands, EndingNamed, PushedStands, Grown}
+use Rattle.bound_calls.specs.Standing.{PlaceEnds, ValueEnds, ValueStands, RoutineStands, TermStands, EndingStands, EndingNamed, PushedStands, Grown, member_is}
 
 -- the node that reads a place, where an object is made there first or isn't
 abbrev pub read_kind : (makes : Bool) → NodeKind
@@ -84,14 +86,28 @@ pub record PushesSheet (d e : Drafted) : Type 0 where
   pub tables_are : e.tables ≡ d.tables
   pub on_top : e.pieces ≡ an_expr sheet_expression ∷ d.pieces
 
--- a member of an object of the host is read without arguments
+-- a late-bound member without arguments is looked up, whatever is done with it; one more order has none
+pub record LooksUpBare (name : ℕ) (d e : Drafted) (found : LateName) : Type 0 where
+  pub grown : Grown d e
+  pub pieces : e.pieces ≡ d.pieces
+  pub named : LateNamed e.tables found
+  pub sought : (aim : LateUse) → sought_in e.tables aim found ≡ record { aim = aim; name = name_in d.tables name; by = no_names; given = [] }
+  pub none : found.arguments ≡ 0
+
+-- a member of an object is read without arguments, but for its last node, which is of this kind
+pub record ReadsBare (m : HostMember) (d e : Drafted) (kind : NodeKind) : Type 0 where
+  pub grown : Grown d e
+  pub named : NodeNamed e.tables kind
+  pub ends : (object : bound.Expr) (below : List Piece) → d.pieces ≡ an_expr object ∷ below
+      → ValueEnds e.tables kind (member_read object (member_is d.tables m)) e.pieces below
+
 pub record ReadsMember (m : HostMember) (d e : Drafted) (ending : Ending) : Type 0 where
   pub grown : Grown d e
   pub named : NodeNamed e.tables ending.kind
   pub least_is : m.least ≡ 0
   pub of_is : ending.of ≡ m.of
   pub ends : (object : bound.Expr) (below : List Piece) → d.pieces ≡ an_expr object ∷ below
-      → ValueEnds e.tables ending.kind (host_member object (name_in d.tables m.name) no_exprs) e.pieces below
+      → ValueEnds e.tables ending.kind (member_read object (member_is d.tables m)) e.pieces below
 
 -- the last node of a value is pushed
 pub record Pushes (ending : Option Ending) (place : Place) (d e : Drafted) (of : Option DeclaredType) : Type 0 where

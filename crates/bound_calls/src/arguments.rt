@@ -52,19 +52,20 @@ fn is_fitting(parameter: DeclaredType, of: DeclaredType) -> bool
 }
 
 /// Is a place that isn't lent to a parameter of a type copied for it? One of another object type is, and so is an element
-/// of a Variant variable.
+/// of a Variant variable, and what the run says arguments lead to.
 fn is_copied(kind: NodeKind, of: DeclaredType, parameter: DeclaredType) -> bool
     ensures { result ≡ is_copied kind of parameter }
 {
     (is_object(of) && is_object(parameter)) || may_be_item(kind)
 }
 
-/// Is a place an element of a Variant variable?
+/// Is a place an element of a Variant variable, or what the run says arguments lead to?
 fn may_be_item(kind: NodeKind) -> bool
     ensures { result ≡ may_be_item kind }
 {
     match kind {
         NodeKind::Item { variable, .. } => is_variant(variable.of),
+        NodeKind::ElementAlong { .. } => true,
         _ => false,
     }
 }
@@ -136,7 +137,7 @@ fn copy<'a>(
 }
 
 /// The place that a term lends, and its type.
-fn lent_in<'a>(term: Term<'a>) -> Option<Ending>
+pub fn lent_in<'a>(term: Term<'a>) -> Option<Ending>
     ensures { result ≡ lent_in term.entry }
 {
     match term {

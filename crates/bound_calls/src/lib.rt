@@ -14,7 +14,8 @@ mod take;
 mod term;
 
 pub use arguments::{
-    is_variant, nowhere, pass_missing, pass_plain, pass_rest, pass_tree, push_argument, sum,
+    is_variant, lent_in, nowhere, pass_missing, pass_plain, pass_rest, pass_tree, push_argument,
+    sum,
 };
 pub use calls::{
     bare_call, call_ending, call_kind, called_ending, count_of, push_receiver, routine_ending,
@@ -23,18 +24,20 @@ pub use constants::{constant_number, value_term};
 pub use given::{is_same_declared, is_user_type, mark_given};
 pub use orders::{named_ending, order_number, push_in_order, take_numbers};
 pub use references::{
-    given_ending, has_object, is_host_type, is_item_name, is_reference_type, is_typed_kind,
-    may_be_instance, may_refer, push_given, push_if_any, push_operand, push_reference, refers,
+    given_ending, has_object, instance_of, is_found_late, is_host_type, is_item_name,
+    is_reference_type, is_typed_kind, may_be_instance, may_refer, push_given, push_if_any,
+    push_operand, push_reference, refers,
 };
 pub use shapes::{broken_ending, has_names, push_broken, take_shapes, takes, takes_none};
 pub use stack::{put_item, settle, take_item};
 pub use take::{
-    member_ending, no_object, push_ending, push_node, push_sheet, read_kind, value_ending,
+    late_without_arguments, member_ending, no_object, push_ending, push_node, push_sheet,
+    read_kind, value_ending,
 };
 pub use term::{
-    Call, Dotted, Ending, Function, FunctionCall, HostMember, Indexed, Item, MemberCall, Named,
-    Operand, Ordered, Passed, Property, Receiver, Refuser, Routine, Shape, Target, Term, Tree,
-    Untaken,
+    Call, Dotted, Ending, Function, FunctionCall, HostMember, Indexed, Item, Looked, MemberCall,
+    Named, Operand, Ordered, Passed, Property, Receiver, Refuser, Routine, Shape, Target, Term,
+    Tree, Untaken,
 };
 
 // What stands below, for the crates above.

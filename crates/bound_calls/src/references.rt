@@ -6,8 +6,8 @@ ghost use Rattle.bound_project.specs.DraftView.{draft_view};
 ghost use Rattle.bound_project.specs.Drafts.{NodeNamed};
 ghost use Rattle.bound_project.specs.View.{declared_view};
 ghost use Rattle.bound_declarations.specs.constant_values.specs.declared_names.specs.binder.specs.Types.{is_object};
-ghost use Rattle.bound_forms.specs.ExpressionsBound.{default_rule, if_any, is_host_type, is_item_name, kind_by_type, kind_of_object, may_give_object, plain_operand, has_default, is_reference_type};
-ghost use Rattle.bound_calls.specs.References.{DefaultBreaks, EndingGives, PushesAs, PushesGiven, PushesIfAny, PushesReference, TakesGiven, TakesReference, gives_way, default_node, is_referring, is_typed_kind, kind_gives, may_refer, refers, instance_at, is_of_host_kind, may_be_instance_by, unknown_may};
+ghost use Rattle.bound_forms.specs.ExpressionsBound.{default_rule, if_any, is_host_type, is_item_name, kind_by_type, kind_of_object, may_give_object, plain_operand, has_default, is_of_class, is_reference_type};
+ghost use Rattle.bound_calls.specs.References.{DefaultBreaks, EndingGives, PushesAs, PushesGiven, PushesIfAny, PushesReference, TakesGiven, TakesReference, gives_way, default_node, is_referring, is_typed_kind, kind_gives, may_refer, refers, instance_at, is_of_host_kind, IsFoundLate, IsInstance, ends_known, known_instance, known_object, may_be_instance_by, unknown_may};
 ghost use Rattle.bound_calls.specs.Standing.{TermNamed};
 ghost use Rattle.bound_calls.specs.Steps.{PushesOperand};
 
@@ -102,6 +102,68 @@ pub fn may_be_instance(has_class: bool, draft: &Draft, ending: Ending) -> bool
     ensures { result ≡ may_be_instance_by has_class (draft_view draft.now).tables ending }
 {
     has_class && (instance_at(ending.kind, ending.of) && !is_of_host(draft, ending.kind))
+}
+
+/// Does a node end a value, of which it is known whether that is an object of the host?
+fn ends_known(kind: NodeKind) -> bool
+    ensures { result ≡ ends_known kind }
+{
+    match kind {
+        NodeKind::This => true,
+        NodeKind::NewObject { .. } => true,
+        _ => kind_gives(kind).is_some(),
+    }
+}
+
+/// An object, by the last node of what gives it; none where such a node ends no value.
+fn known_object(kind: NodeKind) -> Option<bool>
+    ensures { result ≡ known_object kind }
+{
+    if ends_known(kind) { Some(true) } else { None }
+}
+
+/// May a value be an object that may be one of a class, by its last node and its type? None where such a node ends no value.
+fn known_instance(kind: NodeKind, of: DeclaredType) -> Option<bool>
+    ensures { result ≡ known_instance kind of }
+{
+    match of {
+        DeclaredType::Plain(ElementType::Object) => known_object(kind),
+        DeclaredType::Plain(ElementType::Class(_)) => known_object(kind),
+        DeclaredType::Plain(ElementType::Variant) => kind_gives(kind),
+        _ => Some(false),
+    }
+}
+
+/// May there be an object of a class in the run, in a project with classes or without? None where that isn't known.
+pub fn instance_of(has_class: bool, draft: &Draft, ending: Ending) -> Option<bool>
+    ensures { IfSome result (λ may. IsInstance has_class (draft_view draft.now).tables ending may) }
+{
+    if !has_class {
+        return Some(false);
+    }
+    let may = known_instance(ending.kind, ending.of)?;
+    Some(may && !is_of_host(draft, ending.kind))
+}
+
+/// Is a type that of a class?
+fn is_of_class(of: DeclaredType) -> bool
+    ensures { result ≡ is_of_class (declared_view of) }
+{
+    match of {
+        DeclaredType::Plain(ElementType::Class(_)) => true,
+        _ => false,
+    }
+}
+
+/// Does the run say what members a value has, since it may be an object of a class and isn't declared as of one, in a
+/// project with classes or without? None where that isn't known.
+pub fn is_found_late(has_class: bool, draft: &Draft, ending: Ending) -> Option<bool>
+    ensures { IfSome result (λ late. IsFoundLate has_class (draft_view draft.now).tables ending late) }
+{
+    if is_of_class(ending.of) {
+        return Some(false);
+    }
+    instance_of(has_class, draft, ending)
 }
 
 /// Is a term taken as a reference, and no value? What lacks arguments that it needs is none.
@@ -203,6 +265,8 @@ pub fn is_typed_kind(kind: NodeKind) -> bool
         NodeKind::ActiveSheet => true,
         NodeKind::HostMember { .. } => true,
         NodeKind::NamedMember { .. } => true,
+        NodeKind::LateMember(_) => true,
+        NodeKind::ItemAlong { .. } => true,
         _ => false,
     }
 }
@@ -262,6 +326,8 @@ fn kind_gives(kind: NodeKind) -> Option<bool>
         NodeKind::CallInOrder { .. } => Some(true),
         NodeKind::HostMember { .. } => Some(true),
         NodeKind::NamedMember { .. } => Some(true),
+        NodeKind::LateMember(_) => Some(true),
+        NodeKind::ItemAlong { .. } => Some(true),
         NodeKind::Library { function, .. } => Some(may_give_object(function)),
         NodeKind::Marked { .. } => Some(true),
         NodeKind::Constant { .. } => Some(false),
@@ -311,10 +377,10 @@ fn reference_ending<'a>(
         }
         Term::Value(ending) => Ok(ending),
         Term::Routine(routine) => routine_ending(alloc, draft, routine),
-        Term::HostMember(member) => member_ending(draft, member, place),
+        Term::HostMember(member) => member_ending(alloc, draft, member, place),
         Term::SheetMember(member) => {
             push_sheet(draft)?;
-            member_ending(draft, member, place)
+            member_ending(alloc, draft, member, place)
         }
         Term::Err => Ok(Ending {
             kind: NodeKind::HostObject(HostRef::ErrObject),

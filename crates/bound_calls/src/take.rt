@@ -1,18 +1,21 @@
-ghost use Rattle.std.specs.Prelude.{◌≡◌, ◌<◌, length, IfOk, OnOk};
+ghost use Rattle.std.specs.Prelude.{◌≡◌, ◌<◌, false, length, true, IfOk, OnOk};
 ghost use Rattle.bound_project.specs.DraftView.{draft_view};
 ghost use Rattle.bound_project.specs.Drafts.{NodeNamed};
 ghost use Rattle.bound_project.specs.Pieces.{put};
 ghost use Rattle.bound_calls.specs.Calls.{node_of};
 ghost use Rattle.bound_calls.specs.Standing.{EndingNamed, TermNamed};
-ghost use Rattle.bound_calls.specs.Taking.{Loads, Pushes, PushesSheet, ReadsMember, TakesValue, no_object, read_kind};
+ghost use Rattle.bound_calls.specs.Taking.{Loads, LooksUpBare, Pushes, PushesSheet, ReadsBare, ReadsMember, TakesValue, no_object, read_kind};
 
 use crate::arguments::nowhere;
 use crate::calls::bare_call;
+use crate::orders::order_number;
 use crate::shapes::broken_ending;
 use crate::term::{Ending, HostMember, Term};
 use bound_declarations::NotYet;
 use bound_declarations::constant_values::declared_names::is_object;
-use bound_project::{DeclaredType, Draft, ElementType, Node, NodeKind};
+use bound_project::{
+    ArgumentNames, DeclaredType, Draft, ElementType, LateName, LateUse, Node, NodeKind,
+};
 use std::alloc::Global;
 use vba_base::{NoMemory, OrMemory, Place};
 
@@ -82,8 +85,81 @@ pub fn no_object(ending: Ending) -> Option<Ending>
     }
 }
 
-/// A member of an object of the host that is read without arguments, but for its last node.
+/// What a late-bound member without arguments is looked up by, by the constant that is its name.
+pub fn late_without_arguments(
+    alloc: Global,
+    draft: &mut Draft,
+    name: u32,
+) -> Result<LateName, NoMemory>
+    requires { name < length (draft_view draft.old).tables.constants }
+    ensures { IfOk result (λ found. LooksUpBare name (draft_view draft.old) (draft_view draft.new) found) }
+{
+    let order = order_number(draft, Vec::new(alloc))?;
+    Ok(LateName {
+        name,
+        names: ArgumentNames { before: 0, order },
+        arguments: 0,
+        given: order,
+    })
+}
+
+/// A late-bound member that is read without arguments, but for its last node, which is of this kind.
+fn read_late(
+    alloc: Global,
+    draft: &mut Draft,
+    member: HostMember,
+    place: Place,
+) -> Result<NodeKind, NoMemory>
+    requires named { member.name < length (draft_view draft.old).tables.constants }
+    requires late { member.is_late ≡ true }
+    ensures { IfOk result (λ kind. ReadsBare member (draft_view draft.old) (draft_view draft.new) kind) }
+{
+    let found = late_without_arguments(alloc, draft, member.name)?;
+    let there = NodeKind::LateThere {
+        aim: LateUse::Reading,
+        member: found,
+    };
+    push_node(draft, there, member.of, place)?;
+    Ok(NodeKind::LateMember(found))
+}
+
+/// The same of a member of the host.
+fn read_early(draft: &mut Draft, member: HostMember, place: Place) -> Result<NodeKind, NoMemory>
+    requires named { member.name < length (draft_view draft.old).tables.constants }
+    requires early { member.is_late ≡ false }
+    ensures { IfOk result (λ kind. ReadsBare member (draft_view draft.old) (draft_view draft.new) kind) }
+{
+    let there = NodeKind::MemberThere {
+        name: member.name,
+        given: 0,
+    };
+    push_node(draft, there, member.of, place)?;
+    Ok(NodeKind::HostMember {
+        name: member.name,
+        arguments: 0,
+    })
+}
+
+/// The same of either.
+fn read_bare(
+    alloc: Global,
+    draft: &mut Draft,
+    member: HostMember,
+    place: Place,
+) -> Result<NodeKind, NoMemory>
+    requires { member.name < length (draft_view draft.old).tables.constants }
+    ensures { IfOk result (λ kind. ReadsBare member (draft_view draft.old) (draft_view draft.new) kind) }
+{
+    if member.is_late {
+        read_late(alloc, draft, member, place)
+    } else {
+        read_early(draft, member, place)
+    }
+}
+
+/// A member of an object that is read without arguments, but for its last node.
 pub fn member_ending(
+    alloc: Global,
     draft: &mut Draft,
     member: HostMember,
     place: Place,
@@ -94,16 +170,9 @@ pub fn member_ending(
     if member.least != 0 {
         return Err(OrMemory::Fault(NotYet));
     }
-    let there = NodeKind::MemberThere {
-        name: member.name,
-        given: 0,
-    };
-    push_node(draft, there, member.of, place)?;
+    let kind = read_bare(alloc, draft, member, place)?;
     Ok(Ending {
-        kind: NodeKind::HostMember {
-            name: member.name,
-            arguments: 0,
-        },
+        kind,
         of: member.of,
     })
 }
@@ -118,6 +187,7 @@ pub fn push_sheet(draft: &mut Draft) -> Result<(), NoMemory>
 
 /// A member of the active sheet as a value.
 fn sheet_value(
+    alloc: Global,
     draft: &mut Draft,
     member: HostMember,
     place: Place,
@@ -126,12 +196,13 @@ fn sheet_value(
     ensures { IfOk result (λ ending. TakesValue (Term.SheetMember member) place (draft_view draft.old) (draft_view draft.new) ending) }
 {
     push_sheet(draft)?;
-    member_value(draft, member, place)
+    member_value(alloc, draft, member, place)
 }
 
 /// A member of an object of the host as a value; one that gives an object is a reference, and one that needs arguments
 /// breaks a static rule.
 fn member_value(
+    alloc: Global,
     draft: &mut Draft,
     member: HostMember,
     place: Place,
@@ -145,7 +216,7 @@ fn member_value(
     if is_object(member.of) {
         return Err(OrMemory::Fault(NotYet));
     }
-    let ending = member_ending(draft, member, place)?;
+    let ending = member_ending(alloc, draft, member, place)?;
     Ok(Some(ending))
 }
 
@@ -171,8 +242,8 @@ pub fn value_ending<'a>(
         }
         Term::Value(ending) => Ok(no_object(ending)),
         Term::Routine(routine) => bare_call(alloc, draft, routine, place),
-        Term::HostMember(member) => member_value(draft, member, place),
-        Term::SheetMember(member) => sheet_value(draft, member, place),
+        Term::HostMember(member) => member_value(alloc, draft, member, place),
+        Term::SheetMember(member) => sheet_value(alloc, draft, member, place),
         _ => Ok(None),
     }
 }

@@ -1,5 +1,7 @@
 use bound_declarations::constant_values::declared_names::{Space, Written};
-use bound_project::{ArgumentNames, DeclaredType, NodeKind, Parameter, Variable};
+use bound_project::{
+    ArgumentNames, DeclaredType, LateName, LateUse, NodeKind, Parameter, Variable,
+};
 use vba_base::Place;
 use vba_lib::LibraryFunction;
 use vba_values::Compare;
@@ -52,13 +54,15 @@ pub struct Function {
 }
 
 /// A member of an object of the host: the number of the constant that is its folded name, the type of what it gives, the
-/// least number of its arguments and, where it is known before the run, the greatest.
+/// least number of its arguments and, where it is known before the run, the greatest; and whether the run finds it, since
+/// the object may be one of a class.
 #[derive(Clone, Copy)]
 pub struct HostMember {
     pub name: u32,
     pub of: DeclaredType,
     pub least: u32,
     pub greatest: Option<u32>,
+    pub is_late: bool,
 }
 
 /// What an expression is. The last node of a place and of a value isn't pushed yet, since what takes it says the place
@@ -157,26 +161,46 @@ pub struct FunctionCall {
     pub is_started: bool,
 }
 
-/// A member of an object of the host whose arguments are read: the place of its first token, the member, how the arguments
-/// are named that are to come, where some are, how many of those are written, how many values were pushed behind the
-/// object, and how many of these are written and have names.
+/// How a member was looked up before its arguments are read: one of the host by how the arguments are named that are to
+/// come, where some are, and by how many of them are written; and a late-bound one by what is done with it and by what it
+/// is looked up by.
+#[derive(Clone, Copy)]
+pub enum Looked {
+    Early {
+        names: Option<ArgumentNames>,
+        given: u32,
+    },
+    Late {
+        aim: LateUse,
+        found: LateName,
+    },
+}
+
+/// A member of an object whose arguments are read: the place of its first token, the member, how it was looked up, whether
+/// the project has a class, how many arguments were pushed behind the object, and how many of these are written and have
+/// names.
 #[derive(Clone, Copy)]
 pub struct MemberCall {
     pub place: Place,
     pub member: HostMember,
-    pub names: Option<ArgumentNames>,
-    pub given: u32,
+    pub looked: Looked,
+    pub has_class: bool,
     pub count: u32,
     pub written: u32,
     pub named: u32,
 }
 
-/// What is indexed: a plain variable, for which nothing is pushed, or another place or a value, which was pushed.
+/// What is indexed: a plain variable, for which nothing is pushed, or another place or a value, which was pushed. What the
+/// run is to say arguments lead to, from a place or in a value, was pushed too, and so was such a value as a place, for an
+/// assignment to what they lead to.
 #[derive(Clone, Copy)]
 pub enum Target {
     Variable(Variable),
     Place,
     Value,
+    PlaceAlong,
+    ValueAlong,
+    ValueAsPlace,
 }
 
 /// A place or a value whose numbers in brackets are read: the place of its first token, what is indexed, the type of an

@@ -12,7 +12,7 @@ use Rattle.bound_forms.proofs.Reading.{bound_of}
 use Rattle.bound_forms.proofs.BoundRows.{statements_of, e, n, at, v, show, jumping}
 
 -- a class module C behind a standard module
-with_class : List ℕ → List ℕ → List (Bool × List ℕ)
+unfoldable pub with_class : List ℕ → List ℕ → List (Bool × List ℕ)
 with_class main class = (false, main) ∷ (true, class) ∷ []
 
 bound_to : List ℕ → List ℕ → List (List Statement)

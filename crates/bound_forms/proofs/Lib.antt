@@ -9,3 +9,4 @@ mod TargetRows
 mod ProgramRows
 mod HostRows
 mod ClassRows
+mod LateRows

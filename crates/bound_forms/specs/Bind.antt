@@ -26,7 +26,6 @@ use Rattle.bound_forms.specs.StatementsBound.{Around, part_statements, all_state
 use Rattle.binder.specs.Blocks.{blocks_in}
 use Rattle.binder.specs.Projects.{numbered, declarations_of, Startup, startup_number, no_space, broken_rule}
 use Rattle.vba_lexer.specs.declared.number.TypeSuffix.TheVariants as suffix
-use Rattle.binder.specs.ClassTables.{is_minus_four, marked_name}
 
 -- ---- procedures
 
@@ -43,7 +42,7 @@ body_with parts statements = record { statements = statements; blocks = blocks_i
 abbrev pub bound_body : Scope → ℕ × Written → Option Body
 bound_body s p = let a = around_of s p in option_map (body_with a.parts) (all_statements a a.parts)
 
--- ---- what isn't built: events, enumerators, arrays declared As New, and types that the profile hasn't
+-- ---- what isn't built: events, arrays declared As New, and types that the profile hasn't
 
 abbrev pub is_built_meant : Option TypeMeant → Bool
 is_built_meant (Some (known of)) = true
@@ -84,7 +83,7 @@ is_built_part s (whole_line (type_member x dims clause)) = is_built_written s cl
 is_built_part s (whole_line (procedure_header access static_word kind x ps result)) =
     is_built_suffix x.suffix && (is_built_result s result && list_all (is_built_parameter s) (parameters_of ps))
 is_built_part s (whole_line (event_line access_word event_word x ps)) = false
-is_built_part s part = not (is_some (marked_name is_minus_four part) && s.here.source.is_class)
+is_built_part s part = true
 
 abbrev pub place_unless : Bool → Place → Option Place
 place_unless true place = None

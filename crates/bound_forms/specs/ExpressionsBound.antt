@@ -14,7 +14,7 @@ use Rattle.vba_lib.specs.declared.function.LibraryFunction.{LibraryFunction}
 use Rattle.vba_lib.specs.Library.{arity_of, declared_of}
 use Rattle.vba_lib.specs.Names.{function_named}
 use Rattle.vba_meaning.specs.ByName.{parameters_given}
-use Rattle.bound_project.specs.Expressions.{Storage, err_number, err_source, err_description, Node, constant, load, element_value, field_value, err_value, default_of, host_object, active_sheet, host_member, named_member, marked, ByName, Lvalue, variable, item, element, field, kept_place, Exprs, no_exprs, also, load_made, this, new_object, method, object_field, as_new}
+use Rattle.bound_project.specs.Expressions.{Storage, err_number, err_source, err_description, Node, constant, load, element_value, field_value, err_value, default_of, host_object, active_sheet, host_member, named_member, late_member, late_item, marked, ByName, Lvalue, variable, item, element, element_along, field, kept_place, Exprs, no_exprs, also, none_given, place_given, expr_given, load_made, this, new_object, method, object_field, as_new}
 use Rattle.bound_project.specs.Expressions as bound
 use Rattle.vba_values.specs.declared.object.HostRef.{HostRef}
 use Rattle.bound_project.specs.Project.{Declaration, UserType, no_name, nowhere}
@@ -25,7 +25,7 @@ use Rattle.binder.specs.Scopes.{Scope, Space, plainly, called, Meant, of_procedu
 use Rattle.binder.specs.Types.{is_object, type_meant, meant_type}
 use Rattle.binder.specs.Constants.{is_variant, literal_meant, value_type, operator_kind, unary_kind, compare_in, meant_by, names_in, home}
 use Rattle.binder.specs.Storage.{parameter_type, result_type, own_declaration, declared_variable, user_types, module_storage, own_storage, procedure_number, has_bounds}
-use Rattle.bound_forms.specs.Terms.{Within, Env, HostMember, Term, a_place, a_value, a_routine, a_function, a_host_member, err_object, err_raise, err_clear, error_word, no_term, expression_of, broken_rule, broken_value, given_to, value_with, Given, listed_values, bound_arguments, has_names, takes, given_by_name, a_method, read_of, value_in}
+use Rattle.bound_forms.specs.Terms.{Within, Env, HostMember, Term, a_place, a_value, a_routine, a_function, a_host_member, err_object, err_raise, err_clear, error_word, no_term, expression_of, broken_rule, broken_value, given_to, is_user_type, member_read, value_with, Given, listed_values, bound_arguments, has_names, takes, given_by_name, a_method, read_of, value_in}
 use Rattle.binder.specs.Signatures.{is_get, reader, parameters_in, call_type}
 use Rattle.vba_expression.specs.declared.operator.BinaryOperator.TheVariants as operator
 use Rattle.vba_lib.specs.declared.function.LibraryFunction.TheVariants as function
@@ -67,6 +67,8 @@ may_be_object (bound.call procedure args) = true
 may_be_object (method e procedure args) = true
 may_be_object (host_member e member_name es) = true
 may_be_object (named_member e member_name by es) = true
+may_be_object (late_member e member_name by given) = true
+may_be_object (late_item e es) = true
 may_be_object (bound.library f text_form es compare base) = may_give_object f
 may_be_object (marked broken es) = true
 may_be_object node = false
@@ -93,6 +95,14 @@ is_instance_type node other = false
 -- whether there may be an object of a class in the run, so that the run says what members there are
 abbrev pub may_be_instance : Env → bound.Expr → Bool
 may_be_instance env (bound.expr node place of operand) = has_class env.scope.spaces && (is_instance_type node of && not (is_of_host node))
+
+-- whether the run says what members a value has: where it isn't declared as of a class
+abbrev pub is_of_class : Declared → Bool
+is_of_class (type.class number) = true
+is_of_class other = false
+
+abbrev pub is_found_late : Env → bound.Expr → Bool
+is_found_late env (bound.expr node place of operand) = not (is_of_class of) && may_be_instance env (bound.expr node place of operand)
 
 -- ---- elements and fields ([MS-VBAL] 5.6.12, 5.6.13)
 
@@ -128,10 +138,17 @@ if_there t = unwrap_or t no_term
 abbrev pub with_type : Option Declared → Option Exprs → (Declared → Exprs → Term) → Term
 with_type of es term = if_there (from_two term of es)
 
+-- arguments that index what the run says: none has a name, and one that isn't written is Missing
+abbrev pub along_of : (Term → Place → Option bound.Expr) → List Given → Option Exprs
+along_of value [] = None
+along_of value gs = if has_names gs then None else listed_values (λ t place. option_map (given_to type.variant false place) (value t place)) gs
+
 -- the value of a call whose arguments index what it gives, and of one that takes them
-abbrev pub indexed_value : Env → Place → Node → Declared → Option Exprs → Term
-indexed_value env place node of es =
-    with_type (indexed_type env (expression_of node place of)) es (λ u xs. a_value (element_value (expression_of node place of) xs) u)
+abbrev pub indexed_value : (value : Term → Place → Option bound.Expr) → Env → Place → Node → Declared → List Given → Term
+indexed_value value env place node of gs =
+    if is_found_late env (expression_of node place of)
+    then if_there (option_map (λ es. a_value (late_item (expression_of node place of) es) type.variant) (along_of value gs))
+    else with_type (indexed_type env (expression_of node place of)) (numbers_of value gs) (λ u xs. a_value (element_value (expression_of node place of) xs) u)
 
 -- a procedure of a standard module, and of an object
 abbrev pub call_node : Option bound.Expr → (procedure : ℕ) → bound.Args → Node
@@ -157,7 +174,7 @@ call_with value number_of env place gs base space number p = if_there (option_ma
     called_as : ℕ × Written → Term
     called_as f =
         if indexes_value f.1 gs
-        then node_or (call_value env base space f.0 f.1 (Some bound.no_args)) (λ node of. indexed_value env place node of (numbers_of number_of gs))
+        then node_or (call_value env base space f.0 f.1 (Some bound.no_args)) (λ node of. indexed_value number_of env place node of gs)
         else call_value env base space f.0 f.1 (bound_arguments value (parameters_in env.scope space f.1) gs)
 
 -- a call without arguments
@@ -208,7 +225,7 @@ typed_reference node place of = if is_reference_type of || is_variant of then So
 abbrev pub reference_of : Env → Term → Place → Option bound.Expr
 reference_of env (a_place x of bounded lends makes) place = typed_reference (read_of makes x) place of
 reference_of env (a_value node of) place = typed_reference node place of
-reference_of env (a_host_member e m) place = if m.least == 0 then typed_reference (host_member e m.name no_exprs) place m.of else None
+reference_of env (a_host_member e m) place = if m.least == 0 then typed_reference (member_read e m) place m.of else None
 reference_of env (a_routine space number p) place = value_in typed_reference (bare_call env None space number p) place
 reference_of env (a_method base space number p) place = value_in typed_reference (bare_call env (Some base) space number p) place
 reference_of env err_object place = Some (expression_of (host_object host.ErrObject) place type.object)
@@ -293,7 +310,7 @@ abbrev pub argument_of : Env → Declared → Term → Place → Option bound.Ex
 argument_of env of t place = option_map (given_to of false place) (taken_for env of t place)
 
 abbrev pub member_with : List ℕ → Declared → (least greatest : ℕ) → HostMember
-member_with fold of least greatest = record { name = fold; of = of; least = least; greatest = Some greatest }
+member_with fold of least greatest = record { name = fold; of = of; least = least; greatest = Some greatest; late = false }
 
 abbrev pub mark_members : List HostMember
 mark_members =
@@ -327,7 +344,12 @@ abbrev pub listed_member : List HostMember → List ℕ → Option HostMember
 listed_member [] fold = None
 listed_member (m ∷ ms) fold = if bytes_eq fold m.name then Some (record m { name = fold }) else listed_member ms fold
 
--- a member of a kind of objects: of an object of an unknown kind the run decides, and so of what a Variant has
+-- a member that the run finds: of an object of an unknown kind, and so of what a Variant has; among the members of classes too
+-- where the object may be one of a class
+abbrev pub found_member : (late : Bool) → List ℕ → HostMember
+found_member late fold = record { name = fold; of = type.variant; least = 0; greatest = None; late = late }
+
+-- a member of a kind of objects
 abbrev pub member_in : HostKind → List ℕ → Option HostMember
 member_in application fold = listed_member mark_members fold
 member_in workbook fold = None
@@ -335,7 +357,7 @@ member_in sheets fold = listed_member sheets_members fold
 member_in sheet fold = listed_member sheet_members fold
 member_in area fold = listed_member area_members fold
 member_in collection fold = listed_member collection_members fold
-member_in any_object fold = Some (record { name = fold; of = type.variant; least = 0; greatest = None })
+member_in any_object fold = Some (found_member false fold)
 
 abbrev pub sheets_value : Term
 sheets_value = a_value (host_object host.Sheets) type.object
@@ -358,15 +380,20 @@ abbrev pub object_member : (place dot : Place) → Node → Declared → List �
 object_member place dot node of fold =
     unwrap_or (option_map (λ kind. member_of_kind kind dot (expression_of node place of) fold) (host_kind node of)) (member_of_other dot (expression_of node place of))
 
--- the same where no object of a class may be there
+-- the same where an object of a class may be there
 abbrev pub host_behind : Env → (place dot : Place) → Node → Declared → List ℕ → Term
-host_behind env place dot node of fold = if may_be_instance env (expression_of node place of) then no_term else object_member place dot node of fold
+host_behind env place dot node of fold =
+    if is_found_late env (expression_of node place of) then a_host_member (expression_of node place of) (found_member true fold) else object_member place dot node of fold
+
+-- whether an object has a default member Item: an object of a class has one of its own
+abbrev pub has_item_member : Env → bound.Expr → Bool
+has_item_member env (bound.expr node place of operand) = is_host_type of && not (may_be_instance env (bound.expr node place of operand))
 
 -- what brackets behind an object take: its default member with arguments is Item, or else S34 at its first token
 abbrev pub item_of : Env → Place → Term → Term
 item_of env place (a_place x of bounded lends makes) =
-    if is_host_type of then host_behind env place place (read_of makes x) of (codes "item") else a_place x of bounded lends makes
-item_of env place (a_value node of) = if is_host_type of then host_behind env place place node of (codes "item") else a_value node of
+    if has_item_member env (expression_of (read_of makes x) place of) then object_member place place (read_of makes x) of (codes "item") else a_place x of bounded lends makes
+item_of env place (a_value node of) = if has_item_member env (expression_of node place of) then object_member place place node of (codes "item") else a_value node of
 item_of env place t = t
 
 abbrev pub no_type : UserType
@@ -437,7 +464,7 @@ member_of env place dot (a_place x of bounded lends makes) f = field_of_place en
 member_of env place dot (a_value node of) f = field_of_value env place dot node of f
 member_of env place dot (a_routine space number p) f = node_or (bare_call env None space number p) (λ node of. field_of_value env place dot node of f)
 member_of env place dot (a_method base space number p) f = node_or (bare_call env (Some base) space number p) (λ node of. field_of_value env place dot node of f)
-member_of env place dot (a_host_member e m) f = if m.least == 0 then object_member place dot (host_member e m.name no_exprs) m.of f.name else no_term
+member_of env place dot (a_host_member e m) f = if m.least == 0 then host_behind env place dot (member_read e m) m.of f.name else no_term
 member_of env place dot err_object f = err_member dot f.name
 member_of env place dot other f = no_term
 
@@ -548,25 +575,6 @@ is_add m = at m.greatest
     at None = false
     at (Some greatest) = greatest == 4
 
-abbrev pub is_item_given : (place : ℕ) → (name : Option (List ℕ)) → Bool
-is_item_given i None = i == 0
-is_item_given i (Some word) = is_item_name word
-
--- the arguments of a member, which are no objects of classes, but for the item that a Collection is given
-abbrev pub host_given : (any : Bool) → Env → Term → Place → Option bound.Expr
-host_given any env t place = option_and_then (λ e. if not any && may_be_instance env e then None else Some e) (argument_of env type.variant t place)
-
-abbrev pub host_arguments_from : (place : ℕ) → Env → HostMember → List Given → Option Exprs
-host_arguments_from i env m [] = Some no_exprs
-host_arguments_from i env m (g ∷ gs) = from_two also (at g.term) (host_arguments_from (suc i) env m gs)
-  where
-    at : Option Term → Option bound.Expr
-    at None = Some (expression_of bound.not_given g.place type.variant)
-    at (Some t) = host_given (is_add m && is_item_given i g.name) env t g.place
-
-abbrev pub host_arguments : Env → HostMember → List Given → Option Exprs
-host_arguments env m gs = host_arguments_from 0 env m gs
-
 -- whether a member takes so many arguments: Cells both numbers or none; behind one that takes none they index what it
 -- gives
 abbrev pub takes_behind : Declared → ℕ → Bool
@@ -606,11 +614,47 @@ abbrev pub names_taken : HostMember → List Given → Option ByName
 names_taken m gs = option_and_then (λ by. if takes_names m by then Some by else None) (given_by_name gs)
 
 abbrev pub named_called : Env → bound.Expr → HostMember → List Given → Option Node
-named_called env e m gs = from_two (λ by es. named_member e m.name by es) (names_taken m gs) (host_arguments env m gs)
+named_called env e m gs = from_two (λ by es. named_member e m.name by es) (names_taken m gs) (variant_arguments env gs)
+
+-- arguments of a member that the run finds, or that may be objects of classes: a variable by its place, and else a value as it
+-- is; one of a Type breaks S27
+abbrev pub late_argument : Env → Term → Place → bound.Given → Option bound.Given
+late_argument env (a_place x of bounded true makes) place rest =
+    if is_user_type of then option_map (λ e. expr_given e rest) (argument_of env type.variant (a_place x of bounded true makes) place) else Some (place_given x rest)
+late_argument env t place rest = option_map (λ e. expr_given e rest) (argument_of env type.variant t place)
+
+abbrev pub late_arguments : Env → List Given → Option bound.Given
+late_arguments env [] = Some none_given
+late_arguments env (g ∷ gs) = option_and_then (at g.term) (late_arguments env gs)
+  where
+    at : Option Term → bound.Given → Option bound.Given
+    at None rest = Some (expr_given (expression_of bound.not_given g.place type.variant) rest)
+    at (Some t) rest = late_argument env t g.place rest
+
+abbrev pub late_called : Env → bound.Expr → HostMember → List Given → Option Node
+late_called env e m gs = from_two (λ by given. late_member e m.name by given) (given_by_name gs) (late_arguments env gs)
 
 -- a member with arguments, of which the last ones may have names
+abbrev pub early_called : Env → bound.Expr → HostMember → List Given → Option Node
+early_called env e m gs = if has_names gs then named_called env e m gs else option_map (λ es. host_member e m.name es) (variant_arguments env gs)
+
+-- whether the run looks for a member, or at what it is given: arguments may be objects of classes where there is a class
+abbrev pub is_any : List Given → Bool
+is_any [] = false
+is_any (g ∷ gs) = true
+
+abbrev pub is_called_late : Env → HostMember → List Given → Bool
+is_called_late env m gs = m.late || (has_class env.scope.spaces && is_any gs)
+
+-- arguments that have names have those of the member
+abbrev pub are_named_right : HostMember → List Given → Bool
+are_named_right m gs = not (has_names gs) || is_some (names_taken m gs)
+
 abbrev pub member_called : Env → bound.Expr → HostMember → List Given → Option Node
-member_called env e m gs = if has_names gs then named_called env e m gs else option_map (λ es. host_member e m.name es) (host_arguments env m gs)
+member_called env e m gs =
+    if not (is_called_late env m gs) then early_called env e m gs
+    else if are_named_right m gs then late_called env e m gs
+    else None
 
 abbrev pub host_called : Env → bound.Expr → HostMember → List Given → Term
 host_called env e m gs = if takes_arguments m (length gs) then if_there (option_map (λ node. a_value node m.of) (member_called env e m gs)) else no_term
@@ -618,8 +662,10 @@ host_called env e m gs = if takes_arguments m (length gs) then if_there (option_
 -- what arguments in brackets make of a term, where it takes them
 abbrev pub taken_by_term : Env → Place → Term → List Given → Term
 taken_by_term env place (a_place x of bounded lends makes) gs =
-    with_type (indexed_type env (expression_of (read_of makes x) place of)) (numbers_of (operand_of env) gs) (λ u es. a_place (element_place x es) u false lends false)
-taken_by_term env place (a_value node of) gs = indexed_value env place node of (numbers_of (operand_of env) gs)
+    if is_found_late env (expression_of (read_of makes x) place of)
+    then if_there (option_map (λ es. a_place (element_along x es) type.variant false lends false) (along_of (operand_of env) gs))
+    else with_type (indexed_type env (expression_of (read_of makes x) place of)) (numbers_of (operand_of env) gs) (λ u es. a_place (element_place x es) u false lends false)
+taken_by_term env place (a_value node of) gs = indexed_value (operand_of env) env place node of gs
 taken_by_term env place (a_routine space number p) gs = call_with (argument_of env) (operand_of env) env place gs None space number p
 taken_by_term env place (a_method base space number p) gs = call_with (argument_of env) (operand_of env) env place gs (Some base) space number p
 taken_by_term env place (a_function f text_form base) gs = function_called env place f text_form base gs

@@ -21,7 +21,7 @@ use Rattle.vba_module.specs.Parts.{Part, statement, place_of}
 use Rattle.vba_module.specs.Blocks.{for_loop, do_loop, same_kind}
 use Rattle.vba_module.specs.Headers.{all_of}
 use Rattle.vba_module.specs.Misplaced.{statement_place}
-use Rattle.bound_project.specs.Expressions.{Variable, Node, constant, load, element_value, err_value, marked, Lvalue, variable, Exprs, no_exprs, also, Prints, no_prints, shown, zone, method, item, element, field, kept_place, object_field, as_new, element_along, late_field, value_place}
+use Rattle.bound_project.specs.Expressions.{Variable, Node, constant, load, element_value, late_item, enumerated, err_value, marked, Lvalue, variable, Exprs, no_exprs, also, Prints, no_prints, shown, zone, method, item, element, field, kept_place, object_field, as_new, element_along, late_field, value_place}
 use Rattle.bound_project.specs.Expressions as bound
 use Rattle.bound_project.specs.Statements.{Statement, Action, Tests, no_tests, test_is, test_range, passed_on, skipped, handled_at, Resizes, no_resizes, resize, Arrays, no_arrays, an_array}
 use Rattle.bound_project.specs.Statements as to
@@ -34,9 +34,9 @@ use Rattle.binder.specs.Constants.{is_variant, operator_kind, compare_in, place_
 use Rattle.binder.specs.Storage.{procedure_number, gives_value}
 use Rattle.binder.specs.Types.{written_type, is_object}
 use Rattle.binder.specs.Numbering.{count, count_list, simple_count, here, an_arm, behind_block, behind_kind, Opened, Standing, sought_behind}
-use Rattle.bound_forms.specs.Terms.{Within, Env, HostMember, Term, a_place, a_value, a_routine, a_host_member, err_object, err_raise, err_clear, error_word, no_term, expression_of, broken_rule, is_user_type, given_to, Given, bound_arguments, has_names, takes, a_method, read_of, routine_term}
+use Rattle.bound_forms.specs.Terms.{Within, Env, HostMember, Term, a_place, a_value, a_routine, a_host_member, err_object, err_raise, err_clear, error_word, no_term, expression_of, broken_rule, is_user_type, given_to, Given, bound_arguments, has_names, takes, given_by_name, a_method, read_of, routine_term}
 use Rattle.binder.specs.Signatures.{is_property, writer, parameters_in, setter}
-use Rattle.bound_forms.specs.ExpressionsBound.{bare_call, HostKind, sheets, collection, is_item_name, host_kind, default_rule, member_takes, arguments_rule, given_as, argument_of, has_object, mark_members, item_of, host_arguments, named_called, takes_arguments, indexed, callee, term_of, givens, bound_as_given, bound_operand, place_told, may_be_instance, behind_base, variant_arguments}
+use Rattle.bound_forms.specs.ExpressionsBound.{bare_call, HostKind, sheets, collection, is_item_name, host_kind, default_rule, member_takes, arguments_rule, given_as, argument_of, has_object, mark_members, item_of, late_arguments, is_called_late, member_called, takes_arguments, indexed, callee, term_of, givens, bound_as_given, bound_operand, place_told, may_be_instance, is_found_late, behind_base, variant_arguments}
 use Rattle.binder.specs.Blocks.{label_number, next_number, header_of}
 use Rattle.vba_values.specs.declared.types.OpKind.TheVariants as op
 use Rattle.vba_values.specs.declared.types.WholeKind.TheVariants as kind
@@ -180,10 +180,14 @@ write_rule (Some sheets) = Some 27
 write_rule (Some collection) = Some 27
 write_rule kind = default_rule kind
 
--- that of an object of a class isn't built
+-- of an Object or a Variant the run decides, and the default member of an object of a class may be written through others; what
+-- is declared as of a class isn't built
 abbrev pub written_or_broken : Env → Option ℕ → Place → (target : bound.Expr) → Declared → bound.Expr → Option Action
 written_or_broken env (Some rule) place target of v = Some (broken_target rule place v (also target no_exprs))
-written_or_broken env None place target of v = if has_written_default of && not (may_be_instance env target) then Some (to.assign_default target v) else None
+written_or_broken env None place target of v =
+    if not (has_written_default of) then None
+    else if may_be_instance env target then Some (to.assign_through target v)
+    else Some (to.assign_default target v)
 
 abbrev pub default_written : Env → Place → Node → Declared → bound.Expr → Option Action
 default_written env place node of v = written_or_broken env (write_rule (host_kind node of)) place (expression_of node place of) of v
@@ -203,12 +207,18 @@ fits_written m gs = takes_arguments m (length gs) && has_written_default m.of
 -- where arguments have names the default member of what the member gives is written; Err.Raise gives nothing
 abbrev pub named_written : Env → Place → bound.Expr → HostMember → List Given → bound.Expr → Option Action
 named_written env place e m gs v =
-    if bytes_eq m.name (codes "raise") then None
-    else option_map (λ node. to.assign_default (expression_of node place m.of) v) (named_called env e m gs)
+    if bytes_eq m.name (codes "raise") || may_be_instance env v then None
+    else option_map (λ node. to.assign_default (expression_of node place m.of) v) (member_called env e m gs)
+
+-- a member that the run finds, and one whose value or arguments may be objects of classes
+abbrev pub late_written : Env → bound.Expr → HostMember → List Given → bound.Expr → Option Action
+late_written env e m gs v = from_two (λ by given. to.assign_late e m.name by given v) (given_by_name gs) (late_arguments env gs)
 
 abbrev pub arguments_written : Env → Place → bound.Expr → HostMember → List Given → bound.Expr → Option Action
 arguments_written env place e m gs v =
-    if has_names gs then named_written env place e m gs v else option_map (λ es. to.assign_member e m.name es v) (host_arguments env m gs)
+    if has_names gs && not m.late then named_written env place e m gs v
+    else if may_be_instance env v || is_called_late env m gs then late_written env e m gs v
+    else option_map (λ es. to.assign_member e m.name es v) (variant_arguments env gs)
 
 -- the rule that an assignment to another member breaks: S27, but S34 where it gives a sheet; and before that what its
 -- arguments break
@@ -227,7 +237,7 @@ wrong_written env place e rule gs v = from_two (λ r es. broken_target r place v
 
 abbrev pub member_written : Env → Place → bound.Expr → HostMember → List Given → bound.Expr → Option Action
 member_written env place e m gs v =
-    or_else (if is_written_member m && (fits_written m gs && not (may_be_instance env v)) then arguments_written env place e m gs v else None)
+    or_else (if is_written_member m && fits_written m gs then arguments_written env place e m gs v else None)
     (wrong_written env place e (written_rule m gs) gs v)
 
 -- S27: a constant, what Err tells, a use of a function of the library, and what a Function gives that is no object
@@ -245,6 +255,7 @@ not_assignable place v node of = broken_target 27 place v (also (expression_of n
 -- an item of a value that no variable has: of an array of objects the default member of the element is written, and else
 -- the run decides whether there is an array or an object; of another value the default member is written
 abbrev pub value_written : Env → Place → bound.Expr → Node → Declared → Option Action
+value_written env place v (late_item e es) of = Some (to.assign_element (value_place e) es v)
 value_written env place v (element_value e es) of = if is_object of then default_written env place (element_value e es) of v else Some (to.assign_item e es v)
 value_written env place v (bound.library f text_form es compare base) of = Some (not_assignable place v (bound.library f text_form es compare base) of)
 value_written env place v node of =
@@ -265,9 +276,14 @@ property_assigned env base place space gs v number p = at (writer env.scope spac
     at (Some f) = let_to env base place space gs v f
     at None = if gives_value p.kind then value_of_call (indexed env place (routine_term base space number p) []) else None
 
+-- a value is assigned to a place, which holds no object: an element to which arguments lead takes it, or what they lead to does
+abbrev pub place_assigned : Lvalue → bound.Expr → Action
+place_assigned (element_along x es) v = to.assign_element x es v
+place_assigned x v = to.assign x v
+
 -- a value is assigned to what a term means
 abbrev pub assigned : Env → Place → bound.Expr → List Given → Term → Option Action
-assigned env place v gs (a_place x of bounded lends makes) = if is_object of then default_written env place (read_of makes x) of v else Some (to.assign x v)
+assigned env place v gs (a_place x of bounded lends makes) = if is_object of then default_written env place (read_of makes x) of v else Some (place_assigned x v)
 assigned env place v gs (a_routine space number p) = property_assigned env None place space gs v number p
 assigned env place v gs (a_method base space number p) = property_assigned env (Some base) place space gs v number p
 assigned env place v gs (a_host_member e m) = member_written env place e m gs v
@@ -337,16 +353,16 @@ given_to_term (a_place x of bounded lends makes) place v = given_to of bounded p
 given_to_term (a_host_member e m) place v = given_to type.variant false place v
 given_to_term t place v = v
 
--- a Variant of which numbers mean an item
-abbrev pub is_variant_place : Term → Bool
-is_variant_place (a_place x of bounded lends makes) = is_variant of
-is_variant_place (a_value node of) = is_variant of
-is_variant_place t = false
+-- what arguments index as the run says: a Variant, and what may be an object of a class
+abbrev pub is_indexed_late : Env → Place → Term → Bool
+is_indexed_late env place (a_place x of bounded lends makes) = is_variant of || is_found_late env (expression_of (read_of makes x) place of)
+is_indexed_late env place (a_value node of) = is_variant of || is_found_late env (expression_of node place of)
+is_indexed_late env place t = false
 
--- the value of an assignment: where the target takes it with arguments, and for an item of a Variant, an object comes as it
--- is
+-- the value of an assignment: where the target takes it with arguments, and for what arguments index in the run, an object
+-- comes as it is
 abbrev pub is_given_with : Env → Expr → Bool
-is_given_with env (index base left args right) = takes_value env (target_before env base) || is_variant_place (target_before env base)
+is_given_with env (index base left args right) = takes_value env (target_before env base) || is_indexed_late env (place_told base) (target_before env base)
 is_given_with env e = takes_value env (term_of env e)
 
 abbrev pub value_for : Env → Expr → Expr → Option bound.Expr
@@ -365,16 +381,22 @@ may_refer of = is_object of || is_variant of
 -- S27: Set to what can't be assigned to; what breaks a rule by itself breaks no other one
 abbrev pub set_value : (set_word place : Place) → Node → Declared → bound.Expr → Option Action
 set_value set_word place (marked broken es) of v = Some (to.set_member (expression_of (marked broken es) set_word of) v)
+set_value set_word place (late_item e es) of v = Some (to.set_element (value_place e) es v)
 set_value set_word place node of v =
     if not (is_unassignable node) then None
     else if may_refer of then Some (not_assignable place v node of)
     else Some (no_reference set_word (also v (also (expression_of node place of) no_exprs)))
 
+-- a place that is given a reference
+abbrev pub place_set : Lvalue → bound.Expr → Action
+place_set (element_along x es) v = to.set_element x es v
+place_set x v = to.set x v
+
 -- Set: a variable of an object type, or a Variant, is given a reference; of a member that is found in the run the run
 -- decides ([MS-VBAL] 5.4.3.9)
 abbrev pub set_to : (set_word place : Place) → Term → bound.Expr → Option Action
 set_to set_word place (a_place x of bounded lends makes) v =
-    if may_refer of then Some (to.set x v) else Some (no_reference set_word (also v (also (expression_of (load x) set_word of) no_exprs)))
+    if may_refer of then Some (place_set x v) else Some (no_reference set_word (also v (also (expression_of (load x) set_word of) no_exprs)))
 set_to set_word place (a_host_member e m) v = if is_some m.greatest then None else Some (to.set_member e v)
 set_to set_word place (a_value node of) v = set_value set_word place node of v
 set_to set_word place other v = None
@@ -396,10 +418,11 @@ set_target env e = at (term_of env e)
     at (a_method object space number p) = if is_property p.kind then no_term else indexed env (place_told e) (a_method object space number p) []
     at t = t
 
--- a property is given the object by its Set
+-- a property is given the object by its Set, and a member that the run finds
 abbrev pub set_by : Env → Place → List Given → Term → bound.Expr → Option Action
 set_by env place gs (a_routine space number p) v = option_and_then (given_behind (λ of. true) env None place space gs v) (setter env.scope space p)
 set_by env place gs (a_method object space number p) v = option_and_then (given_behind (λ of. true) env (Some object) place space gs v) (setter env.scope space p)
+set_by env place gs (a_host_member e m) v = if m.late then from_two (λ by given. to.set_late e m.name by given v) (given_by_name gs) (late_arguments env gs) else None
 set_by env place gs t v = None
 
 abbrev pub object_set : Env → (set_word : Place) → Expr → bound.Expr → Option Action
@@ -431,6 +454,7 @@ redim_type env (Some c) = Some (written_type (known_length env.scope) env.scope 
 
 abbrev pub place_in : Term → Option Lvalue
 place_in (a_place x of bounded lends makes) = Some x
+place_in (a_host_member e m) = if m.late then Some (late_field e m.name) else None
 place_in other = None
 
 -- S27: only an array of the elements that are written, and a Variant, gets others
@@ -438,6 +462,7 @@ abbrev pub may_resize : Term → Option Declared → Bool
 may_resize (a_place x (type.array_of of) bounded lends makes) None = true
 may_resize (a_place x (type.array_of of) bounded lends makes) (Some written) = is_same_type written of
 may_resize (a_place x type.variant bounded lends makes) written = true
+may_resize (a_host_member e m) written = m.late
 may_resize t written = false
 
 -- the last bound stands for what breaks a rule
@@ -541,17 +566,17 @@ abbrev pub goes_over : (control group : Declared) → Bool
 goes_over control (type.array_of of) = is_variant control
 goes_over control group = is_variant control || is_object control
 
--- S27: the elements of an array of a Type would be given to a Variant
-abbrev pub walked : Place → bound.Expr → bound.Expr
-walked place e = at (bound.operand_type e)
+-- S27: the elements of an array of a Type would be given to a Variant. An object of a class is walked by its enumerator
+abbrev pub walked : Env → Place → bound.Expr → bound.Expr
+walked env place e = at (bound.operand_type e)
   where
     at : Declared → bound.Expr
     at (type.array_of of) = if is_user_type of then broken_rule 27 place (also e no_exprs) else e
-    at of = e
+    at of = if may_be_instance env e then expression_of (enumerated e) place type.variant else e
 
-abbrev pub for_each_of : Variable → (place group : Place) → (first behind : ℕ) → bound.Expr → Action
-for_each_of x place group first behind e =
-    if goes_over x.of (bound.operand_type e) then to.for_each x (walked group e) first behind else to.evaluate (broken_rule 29 place (also e no_exprs))
+abbrev pub for_each_of : Env → Variable → (place group : Place) → (first behind : ℕ) → bound.Expr → Action
+for_each_of env x place group first behind e =
+    if goes_over x.of (bound.operand_type e) then to.for_each x (walked env group e) first behind else to.evaluate (broken_rule 29 place (also e no_exprs))
 
 -- a name behind Next is that of the loop
 abbrev pub is_other_name : Option Identifier → Option Identifier → Bool
@@ -668,7 +693,7 @@ block_action a s line = at line
         (for_action (loop_variable env x) env (bound_operand env start) (bound_operand env limit) (step_value env (place_of s.part) step)
         (place_of_expression limit) (step_place step) first behind)
     at (for_each for_word each_word x in_word group) =
-        option_and_then (λ v. option_map (for_each_of v x.token.place (place_told group) first behind) (bound_as_given env group)) (loop_variable env x)
+        option_and_then (λ v. option_map (for_each_of env v x.token.place (place_told group) first behind) (bound_as_given env group)) (loop_variable env x)
     at (next_line next_word x) = if_broken (is_other_name x (loop_name s.around)) 29 (name_place x) (next_action env s.around)
     at (do_line do_word c) = loop_action env c first behind
     at (loop_line loop_word c) = loop_action env c (header_of s.around) first

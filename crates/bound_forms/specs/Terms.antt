@@ -7,7 +7,7 @@ use Rattle.vba_values.specs.Coerce.{is_same_type}
 use Rattle.vba_values.specs.Types.{Declared}
 use Rattle.vba_values.specs.Types as type
 use Rattle.vba_lib.specs.declared.function.LibraryFunction.{LibraryFunction}
-use Rattle.bound_project.specs.Expressions.{Node, not_given, load, host_member, marked, ByName, Lvalue, item, Exprs, no_exprs, also, load_made}
+use Rattle.bound_project.specs.Expressions.{Node, not_given, load, host_member, late_member, none_given, marked, ByName, Lvalue, item, element_along, Exprs, no_exprs, also, load_made}
 use Rattle.bound_project.specs.Expressions as bound
 use Rattle.bound_project.specs.Project.{Parameter}
 use Rattle.binder.specs.Options.{from_two}
@@ -29,12 +29,13 @@ pub record Env : Type 0 where
   pub within : Option Within
 
 -- a member of an object of the host: its folded name, the type of what it gives, the least number of its arguments and,
--- where it is known before the run, the greatest
+-- where it is known before the run, the greatest; and whether the run finds it, since the object may be one of a class
 pub record HostMember : Type 0 where
   pub name : List ℕ
   pub of : Declared
   pub least : ℕ
   pub greatest : Option ℕ
+  pub late : Bool
 
 pub data Term : Type 0 where
   -- a place, whether it is an array that is declared with bounds, whether it is lent to a ByRef parameter, and whether an
@@ -81,6 +82,14 @@ typed_value node place of = if is_object of then None else Some (expression_of n
 abbrev pub read_of : (makes : Bool) → Lvalue → Node
 read_of makes x = if makes then load_made x else load x
 
+-- no argument is named
+abbrev pub no_names : ByName
+no_names = record { before = 0; names = [] }
+
+-- a member that is read without arguments
+abbrev pub member_read : bound.Expr → HostMember → Node
+member_read e m = if m.late then late_member e m.name no_names none_given else host_member e m.name no_exprs
+
 -- a term that is a value, as one
 abbrev pub value_in : (Node → Place → Declared → Option bound.Expr) → Term → Place → Option bound.Expr
 value_in typed (a_value node of) place = typed node place of
@@ -90,7 +99,7 @@ value_in typed other place = None
 abbrev pub value_with : (call_of : Option bound.Expr → Space → ℕ → Written → Term) → Term → Place → Option bound.Expr
 value_with call_of (a_place x of bounded lends makes) place = typed_value (read_of makes x) place of
 value_with call_of (a_value node of) place = typed_value node place of
-value_with call_of (a_host_member e m) place = if m.least == 0 then typed_value (host_member e m.name no_exprs) place m.of else None
+value_with call_of (a_host_member e m) place = if m.least == 0 then typed_value (member_read e m) place m.of else None
 value_with call_of (a_routine space number p) place = value_in typed_value (call_of None space number p) place
 value_with call_of (a_method base space number p) place = value_in typed_value (call_of (Some base) space number p) place
 value_with call_of other place = None
@@ -145,6 +154,7 @@ is_lent_to of parameter =
 -- an element of a Variant, which may be the item of an object, and so no variable
 abbrev pub may_be_item : Lvalue → Bool
 may_be_item (item x es) = is_variant x.of
+may_be_item (element_along x es) = true
 may_be_item x = false
 
 -- what is copied though it is a variable: one of another object type, and what may be none

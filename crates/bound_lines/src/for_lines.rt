@@ -12,7 +12,7 @@ ghost use Rattle.statement_nodes.specs.statement_numbers.specs.View.{standing_vi
 ghost use Rattle.vba_expression.specs.View.{view as expression_view};
 ghost use Rattle.vba_tree.specs.View.{step_view};
 
-use crate::values::{counter_of, push_operand, push_told};
+use crate::values::{counter_of, push_group, push_operand};
 use bound_project::{ActionKind, DeclaredType, Draft, ElementType, NodeKind, Variable};
 use bound_terms::bound_accesses::bound_names::Env;
 use bound_terms::bound_accesses::bound_names::bound_members::bound_calls::bound_declarations::NotYet;
@@ -20,8 +20,8 @@ use bound_terms::bound_accesses::bound_names::bound_members::bound_calls::push_n
 use constant_values::declared_names::module_parts::{expression_place, place_of};
 use statement_nodes::statement_numbers::{Sought, Standing};
 use statement_nodes::{
-    goes_over, innermost_block, is_counting, is_other_name, loop_name, mark, mark_walked,
-    name_place, opening_line, push_integer, step_place,
+    goes_over, innermost_block, is_counting, is_other_name, loop_name, mark, name_place,
+    opening_line, push_integer, push_walked, step_place,
 };
 use std::alloc::Global;
 use vba_base::{OrMemory, Place, Refusal};
@@ -160,8 +160,8 @@ pub(crate) fn bind_for_each<'a>(
     let first = standing.sought_behind(Sought::Here)?;
     let behind = standing.sought_behind(Sought::BehindBlock(0))?;
     let control = counter_of(alloc, env, element)?;
-    let told = push_told(alloc, draft, env, group)?;
-    if !goes_over(control.of, told.of) {
+    let found = push_group(alloc, draft, env, group)?;
+    if !goes_over(control.of, found.of) {
         let variant = DeclaredType::Plain(ElementType::Variant);
         let place = element.token.place;
         let broken = NodeKind::Marked {
@@ -171,7 +171,10 @@ pub(crate) fn bind_for_each<'a>(
         push_node(draft, broken, variant, place)?;
         return Ok(ActionKind::Evaluate);
     }
-    mark_walked(draft, told.of, told.place)?;
+    let Some(may_be) = found.may_be else {
+        return Err(OrMemory::Fault(NotYet));
+    };
+    push_walked(draft, found.of, found.place, may_be)?;
     Ok(ActionKind::ForEach {
         control,
         first,

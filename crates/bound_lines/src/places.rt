@@ -8,13 +8,13 @@ ghost use Rattle.bound_terms.specs.bound_accesses.specs.bound_names.specs.bound_
 ghost use Rattle.bound_terms.specs.bound_accesses.specs.bound_names.specs.bound_members.specs.bound_calls.specs.bound_forms.specs.StatementsBound as plain;
 ghost use Rattle.statement_nodes.specs.Pushed.{ActionStands, PlacePushed};
 ghost use Rattle.statement_nodes.specs.Resizing.{ArrayTold};
-ghost use Rattle.bound_lines.specs.Kept.{Keeps};
+ghost use Rattle.bound_lines.specs.Kept.{Keeps, array_ending};
 ghost use Rattle.statement_terms.specs.Kept.{is_of_object, lends};
 ghost use Rattle.statement_terms.specs.Terms.{may_be_object};
 ghost use Rattle.bound_terms.specs.bound_accesses.specs.bound_names.specs.View.{EnvStands, env_view, within_view};
 
 use crate::values::Told;
-use bound_project::{ActionKind, DeclaredType, Draft, NodeKind};
+use bound_project::{ActionKind, DeclaredType, Draft, ElementType, NodeKind};
 use bound_terms::bound_accesses::bound_names::bound_members::bound_calls::bound_declarations::NotYet;
 use bound_terms::bound_accesses::bound_names::bound_members::bound_calls::{
     Ending, Routine, Term, push_given, push_node, routine_ending,
@@ -25,6 +25,27 @@ use statement_terms::{may_be_object, place_ending, with_place};
 use std::alloc::Global;
 use vba_base::{OrMemory, Place};
 use vba_expression::Expression;
+
+/// The place that a term is where ReDim or Erase names it, but for its last node: that of a variable of an object that the
+/// run finds, too.
+#[tactic(auto, using(crate::proofs::Placing::late_told, crate::proofs::Placing::early_told))]
+fn array_ending<'a>(term: Term<'a>) -> Option<Ending>
+    ensures { result ≡ array_ending term.entry }
+{
+    match term {
+        Term::Place { kind, of, .. } => Some(Ending { kind, of }),
+        Term::HostMember(member) => {
+            if !member.is_late {
+                return None;
+            }
+            Some(Ending {
+                kind: NodeKind::LateField { name: member.name },
+                of: DeclaredType::Plain(ElementType::Variant),
+            })
+        }
+        _ => None,
+    }
+}
 
 /// Pushes the place that an expression is; answers its type, and where it is told.
 pub(crate) fn bind_array<'a>(
@@ -37,7 +58,7 @@ pub(crate) fn bind_array<'a>(
     ensures { IfOk result (λ told. ArrayTold (env_view env.entry) (expression_view expression.now) told.of told.place (draft_view draft.old) (draft_view draft.new)) }
 {
     let tree = tree_of(alloc, draft, env, expression)?;
-    let Some(at) = place_ending(tree.term) else {
+    let Some(at) = array_ending(tree.term) else {
         return Err(OrMemory::Fault(NotYet));
     };
     push_node(draft, at.kind, at.of, tree.place)?;
@@ -48,7 +69,7 @@ pub(crate) fn bind_array<'a>(
 }
 
 /// Pushes the place that an expression is.
-#[tactic(auto, using(statement_terms::proofs::Placing::array_place))]
+#[tactic(auto, using(crate::proofs::Placing::array_place))]
 pub fn bind_place<'a>(
     alloc: Global,
     draft: &mut Draft,

@@ -1,7 +1,7 @@
 //! Values that statements need.
 
 ghost use Rattle.std.specs.Prelude.{◌≡◌, Some, IfOk};
-ghost use Rattle.statement_nodes.specs.Actions.{ToldPushed, ValuePushed};
+ghost use Rattle.statement_nodes.specs.Actions.{GroupPushed, ValuePushed};
 ghost use Rattle.bound_terms.specs.bound_accesses.specs.bound_names.specs.bound_members.specs.bound_calls.specs.bound_forms.specs.ExpressionsBound as plain;
 ghost use Rattle.bound_terms.specs.bound_accesses.specs.bound_names.specs.bound_members.specs.bound_calls.specs.bound_forms.specs.StatementsBound as statements;
 ghost use Rattle.bound_project.specs.DraftView.{draft_view};
@@ -13,7 +13,9 @@ use crate::loop_variables::loop_variable;
 use bound_project::{DeclaredType, Draft, Variable};
 use bound_terms::bound_accesses::bound_names::Env;
 use bound_terms::bound_accesses::bound_names::bound_members::bound_calls::bound_declarations::NotYet;
-use bound_terms::bound_accesses::bound_names::bound_members::bound_calls::push_given as given_pushed;
+use bound_terms::bound_accesses::bound_names::bound_members::bound_calls::{
+    given_ending, instance_of, push_node,
+};
 use bound_terms::{bind_given, bind_operand, tree_of};
 use std::alloc::Global;
 use vba_base::{OrMemory, Place};
@@ -74,21 +76,32 @@ pub(crate) struct Told {
     pub place: Place,
 }
 
-/// Pushes a value or an object as it is; answers its type, and the place where it is told.
-#[tactic(auto, using(statement_nodes::proofs::Walking::told_pushed))]
-pub(crate) fn push_told<'a>(
+/// Something that was pushed: its type, the place where it is told, and whether it may be an object of a class, where that is
+/// known.
+#[derive(Clone, Copy)]
+pub(crate) struct Group {
+    pub of: DeclaredType,
+    pub place: Place,
+    pub may_be: Option<bool>,
+}
+
+/// Pushes a value or an object as it is.
+pub(crate) fn push_group<'a>(
     alloc: Global,
     draft: &mut Draft,
     env: Env<'a>,
     expression: &'a Expression,
-) -> Result<Told, OrMemory<NotYet>>
+) -> Result<Group, OrMemory<NotYet>>
     requires { EnvStands env }
-    ensures { IfOk result (λ told. ToldPushed (env_view env.entry) (expression_view expression.now) told.of told.place (draft_view draft.old) (draft_view draft.new)) }
+    ensures { IfOk result (λ group. GroupPushed (env_view env.entry) (expression_view expression.now) group.of group.place group.may_be (draft_view draft.old) (draft_view draft.new)) }
 {
     let tree = tree_of(alloc, draft, env, expression)?;
-    let of = given_pushed(alloc, draft, tree)?;
-    Ok(Told {
-        of,
+    let ending = given_ending(alloc, draft, tree)?;
+    let may_be = instance_of(env.has_class, draft, ending);
+    push_node(draft, ending.kind, ending.of, tree.place)?;
+    Ok(Group {
+        of: ending.of,
         place: tree.place,
+        may_be,
     })
 }

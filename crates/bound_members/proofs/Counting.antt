@@ -5,17 +5,18 @@ use Rattle.vba_values.specs.Types.{Declared}
 use Rattle.bound_project.specs.declared.node.Node.{Node}
 use Rattle.bound_project.specs.declared.node.NodeKind.{NodeKind}
 use Rattle.bound_project.specs.declared.node.NodeKind.TheVariants as node
-use Rattle.bound_project.specs.Expressions.{expr, not_given, constant, load, load_made, element_value, field_value, unary, binary, call, err_value, default_of, default_if_any, enumerated, same, is_type, library, bound_of, host_object, active_sheet, host_member, named_member, this, new_object, method, late_member, late_item, no_args, in_order, Exprs, no_exprs, also, given_count, marked}
+use Rattle.bound_project.specs.declared.node.LateUse.TheVariants.{Reading}
+use Rattle.bound_project.specs.Expressions.{expr, not_given, constant, load, load_made, element_value, field_value, unary, binary, call, err_value, default_of, default_if_any, enumerated, same, is_type, library, bound_of, host_object, active_sheet, host_member, named_member, this, new_object, method, late_member, late_item, no_args, in_order, Exprs, no_exprs, none_given, also, given_count, marked}
 use Rattle.bound_project.specs.Expressions as bound
-use Rattle.bound_project.specs.Pieces.{Piece, an_expr, Tables, arguments_off, as_operand, expr_of, exprs_off, by_name_in, name_in, order_in, put_kind}
+use Rattle.bound_project.specs.Pieces.{Piece, an_expr, Tables, arguments_off, as_operand, expr_of, exprs_off, given_off, is_there, by_name_in, name_in, order_in, put_kind, sought_in}
 use Rattle.bound_project.specs.View.{base_view, declared_view}
-use Rattle.bound_calls.proofs.LastNodes.{value_passes, place_passes, both_pass, found_passes, value_found_passes, member_found_passes, named_found_passes, object_found_passes}
+use Rattle.bound_calls.proofs.LastNodes.{value_passes, place_passes, both_pass, found_passes, value_found_passes, member_found_passes, named_found_passes, object_found_passes, late_found_passes}
 use Rattle.bound_members.specs.MemberCalls.{is_value_kind}
 
--- ---- values that count as given
+-- ---- values that are written
 
 given_on_top : List Piece → Bool
-given_on_top (an_expr (expr not_given place of operand) ∷ st) = false
+given_on_top (an_expr e ∷ st) = is_there e
 given_on_top st = true
 
 kind_given : (t : Tables) (n : Node) (k : NodeKind) (st : List Piece) → is_value_kind k ≡ true → given_on_top (put_kind t n k st) ≡ true
@@ -39,6 +40,10 @@ kind_given t n (node.Library f text_form count compare one) st h =
     found_passes given_on_top refl (λ es. expr_of n (library f text_form es compare (base_view one))) (λ es rest. refl) (exprs_off count st no_exprs)
 kind_given t n node.Same st h = both_pass given_on_top refl (λ a b. expr_of n (same a b)) (λ a b rest. refl) st
 kind_given t n (node.IsType of) st h = value_passes given_on_top refl (λ e. expr_of n (is_type e (declared_view of))) (λ e rest. refl) st
+kind_given t n (node.LateMember x) st h =
+    late_found_passes given_on_top refl (sought_in t Reading x) (λ e given. expr_of n (late_member e (name_in t x.name) (by_name_in t x.names) given)) (λ e given rest. refl)
+    (given_off (sought_in t Reading x) x.arguments st none_given)
+kind_given t n (node.ItemAlong count) st h = value_found_passes given_on_top refl (λ e es. expr_of n (late_item e es)) (λ e es rest. refl) (exprs_off count st no_exprs)
 kind_given t n (node.HostObject reference) st h = refl
 kind_given t n node.ActiveSheet st h = refl
 kind_given t n (node.HostMember i count) st h =
@@ -60,6 +65,13 @@ kind_given t n node.DefaultOf st h = let e : false ≡ true = h in absurd cc
 kind_given t n node.DefaultIfAny st h = let e : false ≡ true = h in absurd cc
 kind_given t n (node.MemberThere i given) st h = let e : false ≡ true = h in absurd cc
 kind_given t n (node.NamedThere i by given) st h = let e : false ≡ true = h in absurd cc
+kind_given t n (node.ElementAlong count) st h = let e : false ≡ true = h in absurd cc
+kind_given t n (node.LateField i) st h = let e : false ≡ true = h in absurd cc
+kind_given t n node.PlaceOf st h = let e : false ≡ true = h in absurd cc
+kind_given t n node.Enumerated st h = let e : false ≡ true = h in absurd cc
+kind_given t n (node.LateThere aim x) st h = let e : false ≡ true = h in absurd cc
+kind_given t n (node.LateValue aim x i) st h = let e : false ≡ true = h in absurd cc
+kind_given t n (node.LatePlace aim x i) st h = let e : false ≡ true = h in absurd cc
 kind_given t n node.ByPlace st h = let e : false ≡ true = h in absurd cc
 kind_given t n (node.ByCopy of) st h = let e : false ≡ true = h in absurd cc
 kind_given t n (node.ByDefault i) st h = let e : false ≡ true = h in absurd cc
@@ -74,37 +86,41 @@ kind_given t n (node.TestRange low high high_at) st h = let e : false ≡ true =
 kind_given t n (node.Resize count of) st h = let e : false ≡ true = h in absurd cc
 kind_given t n node.Erased st h = let e : false ≡ true = h in absurd cc
 
-count_more : (made : bound.Node) (place : Place) (of operand : Declared) (st : List Piece) → given_on_top (an_expr (expr made place of operand) ∷ st) ≡ true → (rest : Exprs) → given_count (also (expr made place of operand) rest) ≡ suc (given_count rest)
-unfolding given_on_top
-count_more not_given place of operand st h rest = let e : false ≡ true = h in absurd cc
-count_more (constant a) place of operand st h rest = refl
-count_more (load a) place of operand st h rest = refl
-count_more (load_made a) place of operand st h rest = refl
-count_more (element_value a b) place of operand st h rest = refl
-count_more this place of operand st h rest = refl
-count_more (new_object a) place of operand st h rest = refl
-count_more (method a b c) place of operand st h rest = refl
-count_more (late_member a b c d) place of operand st h rest = refl
-count_more (late_item a b) place of operand st h rest = refl
-count_more (field_value a b) place of operand st h rest = refl
-count_more (unary a b) place of operand st h rest = refl
-count_more (binary a b c d) place of operand st h rest = refl
-count_more (call a b) place of operand st h rest = refl
-count_more (err_value a) place of operand st h rest = refl
-count_more (default_of a) place of operand st h rest = refl
-count_more (default_if_any a) place of operand st h rest = refl
-count_more (enumerated a) place of operand st h rest = refl
-count_more (same a b) place of operand st h rest = refl
-count_more (is_type a b) place of operand st h rest = refl
-count_more (library a b c d e) place of operand st h rest = refl
-count_more (marked a b) place of operand st h rest = refl
-count_more (bound_of a b c) place of operand st h rest = refl
-count_more (host_object a) place of operand st h rest = refl
-count_more (host_member a b c) place of operand st h rest = refl
-count_more (named_member a b c d) place of operand st h rest = refl
-count_more active_sheet place of operand st h rest = refl
+-- what is written counts as given
+there_counts : (made : bound.Node) (place : Place) (of operand : Declared) → is_there (expr made place of operand) ≡ true → (rest : Exprs) → given_count (also (expr made place of operand) rest) ≡ suc (given_count rest)
+there_counts not_given place of operand h rest = let e : false ≡ true = h in absurd cc
+there_counts (constant a) place of operand h rest = refl
+there_counts (load a) place of operand h rest = refl
+there_counts (load_made a) place of operand h rest = refl
+there_counts (element_value a b) place of operand h rest = refl
+there_counts this place of operand h rest = refl
+there_counts (new_object a) place of operand h rest = refl
+there_counts (method a b c) place of operand h rest = refl
+there_counts (late_member a b c d) place of operand h rest = refl
+there_counts (late_item a b) place of operand h rest = refl
+there_counts (field_value a b) place of operand h rest = refl
+there_counts (unary a b) place of operand h rest = refl
+there_counts (binary a b c d) place of operand h rest = refl
+there_counts (call a b) place of operand h rest = refl
+there_counts (err_value a) place of operand h rest = refl
+there_counts (default_of a) place of operand h rest = refl
+there_counts (default_if_any a) place of operand h rest = refl
+there_counts (enumerated a) place of operand h rest = refl
+there_counts (same a b) place of operand h rest = refl
+there_counts (is_type a b) place of operand h rest = refl
+there_counts (library a b c d e) place of operand h rest = refl
+there_counts (marked a b) place of operand h rest = refl
+there_counts (bound_of a b c) place of operand h rest = refl
+there_counts (host_object a) place of operand h rest = refl
+there_counts (host_member a b c) place of operand h rest = refl
+there_counts (named_member a b c d) place of operand h rest = refl
+there_counts active_sheet place of operand h rest = refl
 
--- what a value's last node makes counts as given
-pub counts : (t : Tables) (n : Node) (k : NodeKind) (made : bound.Node) (ps below : List Piece) → is_value_kind k ≡ true → put_kind t n k ps ≡ expr_of n made ∷ below
-    → (rest : Exprs) → given_count (also (expr made n.place (declared_view n.of) (declared_view n.operand)) rest) ≡ suc (given_count rest)
-counts t n k made ps below h e = count_more made n.place (declared_view n.of) (declared_view n.operand) below (sym (ap given_on_top e) ∙ kind_given t n k ps h)
+pub counted : (e : bound.Expr) → is_there e ≡ true → (rest : Exprs) → given_count (also e rest) ≡ suc (given_count rest)
+counted (expr made place of operand) h rest = there_counts made place of operand h rest
+
+-- what a value's last node makes is written
+pub there : (t : Tables) (n : Node) (k : NodeKind) (made : bound.Node) (ps below : List Piece) → is_value_kind k ≡ true → put_kind t n k ps ≡ expr_of n made ∷ below
+    → is_there (expr made n.place (declared_view n.of) (declared_view n.operand)) ≡ true
+unfolding given_on_top
+there t n k made ps below h e = sym (ap given_on_top e) ∙ kind_given t n k ps h

@@ -7,3 +7,6 @@ pub mod NamesTaken
 pub mod Told
 pub mod Parameters
 pub mod MemberSteps
+pub mod LateArguments
+pub mod LateSteps
+pub mod LateItems

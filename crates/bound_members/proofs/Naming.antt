@@ -1,18 +1,18 @@
 -- Names of arguments: which ones came, and how arguments are given by them.
-use Rattle.std.proofs.Common.{◌≡◌, ◌≢◌, ℕ, zero, suc, ◌+◌, ◌≤◌, Bool, true, false, ◌&&◌, ◌||◌, List, [], ◌∷◌, ◌++◌, map, take, length, Option, Some, None, is_some, refl, sym, ap, subst, ◌∙◌, arith, append_assoc}
-use Rattle.std.proofs.lemmas.List.{map-append, length-map, take_all}
+use Rattle.std.proofs.Common.{◌≡◌, ◌≢◌, ℕ, zero, suc, ◌+◌, ◌==◌, ◌≤◌, Bool, true, false, ◌&&◌, ◌||◌, not, if◌then◌else◌, List, [], ◌∷◌, ◌++◌, map, take, length, Option, Some, None, is_some, refl, sym, ap, subst, ◌∙◌, arith, append_assoc, ne_eqb}
+use Rattle.std.proofs.lemmas.List.{map-append, length-map, length-take-le, take_all}
 use Rattle.std.proofs.lemmas.Slice.Eq.{bytes_eq-Decides}
-use Rattle.std.specs.Prelude.{option_map}
+use Rattle.std.specs.Prelude.{option_and_then, option_map}
 use Rattle.std.specs.List.{list_any}
 use Rattle.vba_base.specs.declared.place.Place.{Place}
 use Rattle.bound_project.specs.Expressions.{ByName, Exprs, also}
 use Rattle.bound_project.specs.Expressions as bound
 use Rattle.bound_project.specs.Lists.{exprs_of}
 use Rattle.bound_calls.specs.bound_declarations.specs.constant_values.specs.declared_names.specs.binder.specs.Options.{from_two}
-use Rattle.bound_calls.specs.bound_forms.specs.Terms.{Env, Given, all_named, by_name_from, given_by_name, has_names, listed_values}
+use Rattle.bound_calls.specs.bound_forms.specs.Terms.{Given, all_named, by_name_from, given_by_name, has_names, listed_values}
 use Rattle.bound_calls.specs.bound_forms.specs.Terms as terms
-use Rattle.bound_calls.specs.bound_forms.specs.ExpressionsBound.{host_arguments_from, host_given, is_add, is_item_given}
-use Rattle.bound_calls.specs.Standing.{AllGiven, HostGiven, GivenIs, HostIs, NamesCame, missing_given, missing_value, nameless}
+use Rattle.bound_calls.specs.bound_forms.specs.ExpressionsBound.{are_named_right, names_taken, takes_names}
+use Rattle.bound_calls.specs.Standing.{AllGiven, GivenIs, NamesCame, missing_given, missing_value, nameless}
 use Rattle.bound_members.specs.Names.{is_next}
 
 -- ---- values that were pushed for arguments
@@ -40,34 +40,6 @@ given_long value [] [] h = refl
 given_long value [] (e ∷ es) h = absurd h
 given_long value (g ∷ gs) [] h = absurd h
 given_long value (g ∷ gs) (e ∷ es) h = omega (arith, given_long value gs es h.1)
-
--- ---- the same of a member, by the numbers of the arguments
-
-pub host_is : (i : ℕ) (env : Env) (m : terms.HostMember) (name : Option (List ℕ)) (t : terms.Term) (place : Place) (e : bound.Expr) → host_given (is_add m && is_item_given i name) env t place ≡ Some e
-    → HostIs i env m (record { name = name; term = Some t; place = place }) e
-host_is i env m name t place e h = record { is = λ gs. ap (λ (o : Option bound.Expr). from_two also o (host_arguments_from (suc i) env m gs)) h }
-
-pub host_missing : (i : ℕ) (env : Env) (m : terms.HostMember) → HostIs i env m missing_given missing_value
-host_missing i env m = record { is = λ gs. refl }
-
-pub host_listed : (i : ℕ) (env : Env) (m : terms.HostMember) (gs : List Given) (es : List bound.Expr) → HostGiven i env m gs es → host_arguments_from i env m gs ≡ Some (exprs_of es)
-host_listed i env m [] [] h = refl
-host_listed i env m [] (e ∷ es) h = absurd h
-host_listed i env m (g ∷ gs) [] h = absurd h
-host_listed i env m (g ∷ gs) (e ∷ es) h = h.0.is gs ∙ ap (λ (o : Option Exprs). from_two also (Some e) o) (host_listed (suc i) env m gs es h.1)
-
-pub host_more : (i : ℕ) (env : Env) (m : terms.HostMember) (gs : List Given) (es : List bound.Expr) (g : Given) (e : bound.Expr) → HostGiven i env m gs es → ((j : ℕ) → j ≡ i + length gs → HostIs j env m g e)
-    → HostGiven i env m (gs ++ g ∷ []) (es ++ e ∷ [])
-host_more i env m [] [] g e h k = (let none : i ≡ i + 0 = omega arith in k i none, tt)
-host_more i env m [] (f ∷ es) g e h k = absurd h
-host_more i env m (f ∷ gs) [] g e h k = absurd h
-host_more i env m (f ∷ gs) (d ∷ es) g e h k = (h.0, host_more (suc i) env m gs es g e h.1 (λ j eq. let next : j ≡ i + suc (length gs) = omega (arith, eq) in k j next))
-
-pub host_long : (i : ℕ) (env : Env) (m : terms.HostMember) (gs : List Given) (es : List bound.Expr) → HostGiven i env m gs es → length gs ≡ length es
-host_long i env m [] [] h = refl
-host_long i env m [] (e ∷ es) h = absurd h
-host_long i env m (g ∷ gs) [] h = absurd h
-host_long i env m (g ∷ gs) (e ∷ es) h = omega (arith, host_long (suc i) env m gs es h.1)
 
 -- ---- names that came
 
@@ -131,6 +103,11 @@ pub none_named : (named : ℕ) (gs : List Given) → NamesCame [] named gs → h
 none_named named gs n =
     names_any gs ∙ ap (λ (l : List (Option (List ℕ))). list_any (λ (o : Option (List ℕ)). is_some o) l) (n.are ∙ ap (λ (l : List (Option (List ℕ))). nameless n.unnamed ++ l) (take_nothing named)) ∙ nameless_any n.unnamed []
 
+-- where none came none has one
+pub zero_named : (names : List (List ℕ)) (named : ℕ) (gs : List Given) → named ≡ 0 → NamesCame names named gs → has_names gs ≡ false
+zero_named names named gs z n =
+    names_any gs ∙ ap (λ (l : List (Option (List ℕ))). list_any (λ (o : Option (List ℕ)). is_some o) l) (n.are ∙ ap (λ (k : ℕ). nameless n.unnamed ++ all_some (take k names)) z) ∙ nameless_any n.unnamed []
+
 some_any : (names : List (List ℕ)) → length names ≢ 0 → list_any (λ (o : Option (List ℕ)). is_some o) (all_some names) ≡ true
 some_any [] h = absurd (h refl)
 some_any (x ∷ xs) h = refl
@@ -157,15 +134,45 @@ nameless_long zero l = let e : length l ≡ 0 + length l = omega arith in e
 nameless_long (suc n) l = omega (arith, nameless_long n l)
 
 -- where all names came that were told
-pub all_came : (names : List (List ℕ)) (named before : ℕ) (gs : List Given) → named ≢ 0 → named ≡ length names → length gs ≡ before + named → NamesCame names named gs
-    → (has_names gs ≡ true) × (given_by_name gs ≡ Some (record { before = before; names = names }))
-all_came names named before gs some all count n =
-    let whole : take named names ≡ names = take_all named names (omega (arith, all)) in
-    let are : names_of gs ≡ nameless n.unnamed ++ all_some names = n.are ∙ ap (λ (l : List (List ℕ)). nameless n.unnamed ++ all_some l) whole in
+came_names : (names : List (List ℕ)) (named : ℕ) (gs : List Given) → named ≡ length names → (n : NamesCame names named gs) → names_of gs ≡ nameless n.unnamed ++ all_some names
+came_names names named gs all n = n.are ∙ ap (λ (l : List (List ℕ)). nameless n.unnamed ++ all_some l) (take_all named names (omega (arith, all)))
+
+pub came_given : (names : List (List ℕ)) (named before : ℕ) (gs : List Given) → named ≡ length names → length gs ≡ before + named → NamesCame names named gs → given_by_name gs ≡ Some (record { before = before; names = names })
+came_given names named before gs all count n =
+    let are = came_names names named gs all n in
     let long : length gs ≡ n.unnamed + length names =
     sym (length-map gs (λ (g : Given). g.name)) ∙ ap (λ (l : List (Option (List ℕ))). length l) are ∙ nameless_long n.unnamed (all_some names) ∙ ap (λ (k : ℕ). n.unnamed + k) (length-map names (λ (x : List ℕ). Some x)) in
     let first : 0 + n.unnamed ≡ before = omega (arith, long, count, all) in
-    let N : ℕ → Type 0 = λ (k : ℕ). k ≢ 0 in (
-      names_any gs ∙ ap (λ (l : List (Option (List ℕ))). list_any (λ (o : Option (List ℕ)). is_some o) l) are ∙ nameless_any n.unnamed (all_some names) ∙ some_any names (subst N all some),
-      ap (λ (l : List (Option (List ℕ))). by_name_from 0 l) are ∙ from_names 0 n.unnamed names ∙ ap (λ (k : ℕ). Some (by_name k names)) first,
-    )
+    ap (λ (l : List (Option (List ℕ))). by_name_from 0 l) are ∙ from_names 0 n.unnamed names ∙ ap (λ (k : ℕ). Some (by_name k names)) first
+
+pub came_named : (names : List (List ℕ)) (named : ℕ) (gs : List Given) → named ≢ 0 → named ≡ length names → NamesCame names named gs → has_names gs ≡ true
+came_named names named gs some all n =
+    let N : ℕ → Type 0 = λ (k : ℕ). k ≢ 0 in
+    names_any gs ∙ ap (λ (l : List (Option (List ℕ))). list_any (λ (o : Option (List ℕ)). is_some o) l) (came_names names named gs all n) ∙ nameless_any n.unnamed (all_some names) ∙ some_any names (subst N all some)
+
+-- where some came some have one
+pub some_named : (names : List (List ℕ)) (named : ℕ) (gs : List Given) → named ≢ 0 → NamesCame names named gs → has_names gs ≡ true
+some_named names named gs some n =
+    let long : length (take named names) ≡ named = length-take-le named names n.there in
+    let N : ℕ → Type 0 = λ (k : ℕ). k ≢ 0 in
+    names_any gs ∙ ap (λ (l : List (Option (List ℕ))). list_any (λ (o : Option (List ℕ)). is_some o) l) n.are ∙ nameless_any n.unnamed (all_some (take named names)) ∙ some_any (take named names) (subst N (sym long) some)
+
+twice_not : (b : Bool) → not b ≡ false → b ≡ true
+twice_not true h = refl
+twice_not false h = let e : true ≡ false = h in absurd cc
+
+last_true : (b : Bool) → (b || true) ≡ true
+last_true true = refl
+last_true false = refl
+
+-- the names of a member that arguments have
+pub names_are_taken : (m : terms.HostMember) (by : ByName) (gs : List Given) → given_by_name gs ≡ Some by → takes_names m by ≡ true → names_taken m gs ≡ Some by
+names_are_taken m by gs h takes = ap (λ (o : Option ByName). option_and_then (λ (how : ByName). if takes_names m how then Some how else None) o) h ∙ ap (λ (b : Bool). if b then Some by else None) takes
+
+-- arguments that have names have those of the member
+pub named_right : (m : terms.HostMember) (by : ByName) (names : List (List ℕ)) (named : ℕ) (gs : List Given) → given_by_name gs ≡ Some by → NamesCame names named gs → (not (named == 0) && not (takes_names m by)) ≡ false → are_named_right m gs ≡ true
+named_right m by names zero gs h n right = ap (λ (b : Bool). not b || is_some (names_taken m gs)) (zero_named names zero gs refl n)
+named_right m by names (suc k) gs h n right =
+    let some : (suc k == 0) ≡ false = ne_eqb (suc k) 0 (λ (e : suc k ≡ 0). omega (arith, e)) in
+    let misnamed : not (takes_names m by) ≡ false = ap (λ (b : Bool). not b && not (takes_names m by)) (sym some) ∙ right in
+    ap (λ (o : Option ByName). not (has_names gs) || is_some o) (names_are_taken m by gs h (twice_not (takes_names m by) misnamed)) ∙ last_true (not (has_names gs))

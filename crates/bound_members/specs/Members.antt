@@ -6,6 +6,7 @@ use Rattle.bound_project.specs.Drafts.{Drafted}
 use Rattle.bound_project.specs.View.{element_view}
 use Rattle.bound_calls.specs.bound_forms.specs.Terms.{a_host_member}
 use Rattle.bound_calls.specs.bound_forms.specs.Terms as terms
+use Rattle.bound_calls.specs.bound_forms.specs.ExpressionsBound as plain
 use Rattle.bound_calls.specs.bound_forms.specs.ExpressionsBound.{HostKind, application, workbook, sheets, sheet, area, collection, any_object, mark_members, sheets_members, sheet_members, area_members, collection_members, member_of_kind, unknown_member}
 use Rattle.bound_calls.specs.declared.term.HostMember.{HostMember}
 use Rattle.bound_calls.specs.Standing.{Grown, member_is}
@@ -15,7 +16,7 @@ use Rattle.bound_members.specs.Kinds.{kind_view}
 
 -- a member by a name and what is known of it
 abbrev pub found_member : List ℕ → Known → terms.HostMember
-found_member fold k = record { name = fold; of = element_view k.of; least = k.least; greatest = k.greatest }
+found_member fold k = record { name = fold; of = element_view k.of; least = k.least; greatest = k.greatest; late = false }
 
 abbrev pub entry_member : List ℕ × Known → terms.HostMember
 entry_member m = found_member m.0 m.1
@@ -41,6 +42,13 @@ pub record FindsMember (k : declared.HostKind) (fold : List ℕ) (d e : Drafted)
   pub pieces : e.pieces ≡ d.pieces
   pub named : m.name < length e.tables.constants
   pub is : (dot : Place) (object : bound.Expr) → member_of_kind (kind_view k) dot object fold ≡ a_host_member object (member_is e.tables m)
+
+-- a member that the run finds among those of classes too; its name is one more constant, and nothing is pushed
+pub record FindsLate (fold : List ℕ) (d e : Drafted) (m : HostMember) : Type 0 where
+  pub grown : Grown d e
+  pub pieces : e.pieces ≡ d.pieces
+  pub named : m.name < length e.tables.constants
+  pub is : member_is e.tables m ≡ plain.found_member true fold
 
 -- there is none, and nothing changes
 pub record FindsNone (k : declared.HostKind) (fold : List ℕ) (d e : Drafted) : Type 0 where

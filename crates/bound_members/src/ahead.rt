@@ -116,14 +116,37 @@ pub fn given_ahead<'a>(shapes: &[Shape<'a>]) -> u32 {
     count
 }
 
-/// How many arguments stand there before the first one with a name; none where no argument has a name.
-pub fn before_names<'a>(shapes: &[Shape<'a>]) -> Option<u32> {
+/// How many arguments stand there before the first one with a name.
+pub fn before_names<'a>(shapes: &[Shape<'a>]) -> u32 {
     let mut count: u32 = 0;
     for shape in shapes {
         if shape.name.is_some() {
-            return Some(count);
+            return count;
         }
         count = count.saturating_add(1);
     }
-    None
+    count
+}
+
+/// Are all arguments written?
+fn all_written<'a>(shapes: &[Shape<'a>]) -> bool {
+    for shape in shapes {
+        if !shape.is_written {
+            return false;
+        }
+    }
+    true
+}
+
+/// Which arguments are written, where not all are: 0 stands for one that isn't.
+pub fn written_ahead<'a>(alloc: Global, shapes: &[Shape<'a>]) -> Result<Vec<u32>, NoMemory> {
+    let mut written = Vec::new(alloc);
+    if all_written(shapes) {
+        return Ok(written);
+    }
+    for shape in shapes {
+        let flag = if shape.is_written { 1 } else { 0 };
+        written.push(flag)?;
+    }
+    Ok(written)
 }

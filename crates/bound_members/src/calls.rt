@@ -1,58 +1,91 @@
 //! Members that are called: their objects are looked at, and their arguments are pushed.
 
-ghost use Rattle.std.specs.Prelude.{◌≡◌, ◌<◌, ◌&&◌, length, not, IfOk, MatchBool, None, OnOk, Some};
+ghost use Rattle.std.specs.Prelude.{◌≡◌, ◌<◌, ◌&&◌, ◌||◌, length, true, IfOk, MatchBool, OnOk};
 ghost use Rattle.bound_project.specs.DraftView.{draft_view};
-ghost use Rattle.bound_project.specs.Pieces.{Tables};
-ghost use Rattle.bound_calls.specs.bound_forms.specs.ExpressionsBound as bound;
 ghost use Rattle.bound_calls.specs.declared.term.Item.TheVariants as item;
+ghost use Rattle.bound_calls.specs.declared.term.Looked.TheVariants as looked;
 ghost use Rattle.bound_calls.specs.Indexing.{AddsArgument, AddsMissing};
-ghost use Rattle.bound_calls.specs.References.{may_be_instance_by};
-ghost use Rattle.bound_calls.specs.Standing.{MemberNamed, TermNamed, member_is};
-ghost use Rattle.bound_members.specs.MemberCalls.{AddsNamed, AddsValue, EndsCall, EndsMember, NamesFit, OpensMember, PushesWritten, is_value_kind, there_kind};
+ghost use Rattle.bound_calls.specs.Standing.{MemberNamed, TermNamed, names_looked};
+ghost use Rattle.bound_members.specs.MemberCalls.{AddsNamed, AddsValue, AllCame, EndsCall, EndsMember, LooksUp, NamesFit, OpensMember, PushesWritten, is_early, is_value_kind, missing_pushed, there_kind};
 
 use crate::ahead::given_ahead;
-use crate::members::{is_add, takes_arguments};
+use crate::late::{add_late, late_ahead, late_kind, skip_late};
+use crate::members::takes_arguments;
 use crate::names::{is_next, names_ahead, takes_names};
 use bound_calls::bound_declarations::NotYet;
 use bound_calls::{
-    Ending, HostMember, MemberCall, Shape, Term, Tree, given_ending, is_item_name, is_typed_kind,
-    mark_given, may_be_instance, nowhere, push_node, sum,
+    Ending, HostMember, Looked, MemberCall, Shape, Term, Tree, given_ending, is_typed_kind,
+    mark_given, nowhere, push_node, sum,
 };
-use bound_project::{ArgumentNames, DeclaredType, Draft, ElementType, NodeKind};
+use bound_project::{ArgumentNames, DeclaredType, Draft, ElementType, LateUse, NodeKind};
 use std::alloc::Global;
-use vba_base::{OrMemory, Place};
+use vba_base::{NoMemory, OrMemory, Place};
 use vba_words::Identifier;
 
 /// The node that looks for a member.
-fn there_kind(name: u32, names: Option<ArgumentNames>, given: u32) -> NodeKind
-    ensures { result ≡ there_kind name names given }
+fn there_kind(name: u32, looked: Looked) -> NodeKind
+    ensures { result ≡ there_kind name looked }
 {
-    match names {
-        None => NodeKind::MemberThere { name, given },
-        Some(names) => NodeKind::NamedThere { name, names, given },
+    match looked {
+        Looked::Early { names: None, given } => NodeKind::MemberThere { name, given },
+        Looked::Early {
+            names: Some(names),
+            given,
+        } => NodeKind::NamedThere { name, names, given },
+        Looked::Late { aim, found } => NodeKind::LateThere { aim, member: found },
     }
 }
 
-/// A member of the object that was pushed, whose arguments, these, are to come.
+/// Does the run look for a member, or at what it is given? Arguments may be objects of a class where the project has one.
+pub fn is_called_late(member: HostMember, has_class: bool, has_arguments: bool) -> bool
+    ensures { result ≡ (member.is_late || (has_class && has_arguments)) }
+{
+    member.is_late || (has_class && has_arguments)
+}
+
+/// How a member is looked up whose arguments, these, are to come.
+fn look_up<'a>(
+    alloc: Global,
+    draft: &mut Draft,
+    member: HostMember,
+    shapes: &[Shape<'a>],
+    aim: LateUse,
+    has_class: bool,
+) -> Result<Looked, NoMemory>
+    requires { member.name < length (draft_view draft.old).tables.constants }
+    ensures { IfOk result (λ looked. LooksUp member (draft_view draft.old) (draft_view draft.new) looked) }
+{
+    if is_called_late(member, has_class, !shapes.is_empty()) {
+        let found = late_ahead(alloc, draft, member.name, shapes)?;
+        return Ok(Looked::Late { aim, found });
+    }
+    let given = given_ahead(shapes);
+    let names = names_ahead(alloc, draft, shapes)?;
+    Ok(Looked::Early { names, given })
+}
+
+/// A member of the object that was pushed, whose arguments, these, are to come: what is done with it where it is a
+/// late-bound one, in a project with a class or without.
 pub fn open_member<'a>(
     alloc: Global,
     draft: &mut Draft,
     place: Place,
     member: HostMember,
     shapes: &[Shape<'a>],
+    aim: LateUse,
+    has_class: bool,
 ) -> Result<MemberCall, OrMemory<NotYet>>
     requires { member.name < length (draft_view draft.old).tables.constants }
-    ensures { IfOk result (λ call. OpensMember place member (draft_view draft.old) (draft_view draft.new) call) }
+    ensures { IfOk result (λ call. OpensMember has_class place member (draft_view draft.old) (draft_view draft.new) call) }
 {
-    let given = given_ahead(shapes);
-    let names = names_ahead(alloc, draft, shapes)?;
-    let there = there_kind(member.name, names, given);
+    let looked = look_up(alloc, draft, member, shapes, aim, has_class)?;
+    let there = there_kind(member.name, looked);
     push_node(draft, there, member.of, place)?;
     Ok(MemberCall {
         place,
         member,
-        names,
-        given,
+        looked,
+        has_class,
         count: 0,
         written: 0,
         named: 0,
@@ -69,30 +102,17 @@ fn is_value_kind(kind: NodeKind) -> bool
     }
 }
 
-/// Can a value that may be an object of a class be no argument, since not any value can?
-fn is_kept_out(takes_any: bool, has_class: bool, draft: &Draft, ending: Ending) -> bool
-    ensures { result ≡ (not takes_any && may_be_instance_by has_class (draft_view draft.now).tables ending) }
-{
-    !takes_any && may_be_instance(has_class, draft, ending)
-}
-
-/// Pushes an expression as an argument of a member: as it is, no object of a class unless any value can be it, and marked
-/// where a Variant doesn't take it.
-fn push_written<'a>(
+/// Pushes an expression as an argument of a member: as it is, and marked where a Variant doesn't take it.
+pub fn push_written<'a>(
     alloc: Global,
     draft: &mut Draft,
     tree: Tree<'a>,
-    takes_any: bool,
-    has_class: bool,
 ) -> Result<(), OrMemory<NotYet>>
     requires { TermNamed (draft_view draft.old).tables tree.term }
-    ensures { OnOk result (PushesWritten has_class takes_any tree.entry (draft_view draft.old) (draft_view draft.new)) }
+    ensures { OnOk result (PushesWritten tree.entry (draft_view draft.old) (draft_view draft.new)) }
 {
     let ending = given_ending(alloc, draft, tree)?;
     if !is_value_kind(ending.kind) {
-        return Err(OrMemory::Fault(NotYet));
-    }
-    if is_kept_out(takes_any, has_class, draft, ending) {
         return Err(OrMemory::Fault(NotYet));
     }
     push_node(draft, ending.kind, ending.of, tree.place)?;
@@ -101,23 +121,22 @@ fn push_written<'a>(
     Ok(())
 }
 
-/// One more argument, with this name or without one: the expression on top; so many have names then.
-fn add_value<'a>(
+/// One more argument of a member of the host: the expression on top; so many have names then.
+fn add_early<'a>(
     alloc: Global,
     draft: &mut Draft,
     call: MemberCall,
     tree: Tree<'a>,
     named: u32,
-    takes_any: bool,
-    has_class: bool,
 ) -> Result<MemberCall, OrMemory<NotYet>>
     requires tree { TermNamed (draft_view draft.old).tables tree.term }
     requires member { MemberNamed (draft_view draft.old).tables call }
-    ensures { IfOk result (λ more. AddsValue has_class takes_any call tree.entry named (draft_view draft.old) (draft_view draft.new) more) }
+    requires early { is_early call.looked ≡ true }
+    ensures { IfOk result (λ more. AddsValue call tree.entry named (draft_view draft.old) (draft_view draft.new) more) }
 {
     let count = sum(call.count, 1)?;
     let written = sum(call.written, 1)?;
-    push_written(alloc, draft, tree, takes_any, has_class)?;
+    push_written(alloc, draft, tree)?;
     Ok(MemberCall {
         count,
         written,
@@ -126,18 +145,22 @@ fn add_value<'a>(
     })
 }
 
-/// Is the next argument, which has no name, the item that is added to a Collection?
-fn is_first_item(call: MemberCall) -> bool
-    ensures { (t : Tables) → result ≡ (bound.is_add (member_is t call.member) && bound.is_item_given call.count None) }
+/// One more argument, with a name or without one: the expression on top; so many have names then.
+fn add_value<'a>(
+    alloc: Global,
+    draft: &mut Draft,
+    call: MemberCall,
+    tree: Tree<'a>,
+    named: u32,
+) -> Result<MemberCall, OrMemory<NotYet>>
+    requires tree { TermNamed (draft_view draft.old).tables tree.term }
+    requires member { MemberNamed (draft_view draft.old).tables call }
+    ensures { IfOk result (λ more. AddsValue call tree.entry named (draft_view draft.old) (draft_view draft.new) more) }
 {
-    is_add(call.member) && call.count == 0
-}
-
-/// The same of one with a name.
-fn is_named_item(call: MemberCall, name: &Identifier) -> bool
-    ensures { (t : Tables) → result ≡ (bound.is_add (member_is t call.member) && bound.is_item_given call.count (Some name.now.name)) }
-{
-    is_add(call.member) && is_item_name(name.name.units())
+    match call.looked {
+        Looked::Early { .. } => add_early(alloc, draft, call, tree, named),
+        Looked::Late { aim, found } => add_late(alloc, draft, call, aim, found, tree, named),
+    }
 }
 
 /// One more argument without a name: the expression on top.
@@ -146,17 +169,25 @@ pub fn add_given<'a>(
     draft: &mut Draft,
     call: MemberCall,
     tree: Tree<'a>,
-    has_class: bool,
 ) -> Result<MemberCall, OrMemory<NotYet>>
     requires named { TermNamed (draft_view draft.old).tables tree.term }
     requires member { MemberNamed (draft_view draft.old).tables call }
-    ensures { IfOk result (λ more. AddsArgument has_class (item.Member call) tree.entry (draft_view draft.old) (draft_view draft.new) (item.Member more)) }
+    ensures { IfOk result (λ more. AddsArgument (item.Member call) tree.entry (draft_view draft.old) (draft_view draft.new) (item.Member more)) }
 {
     if call.named != 0 {
         return Err(OrMemory::Fault(NotYet));
     }
-    let takes_any = is_first_item(call);
-    add_value(alloc, draft, call, tree, 0, takes_any, has_class)
+    add_value(alloc, draft, call, tree, 0)
+}
+
+/// How arguments are to be named of a member that was looked up, where some are.
+fn names_looked(looked: Looked) -> Option<ArgumentNames>
+    ensures { result ≡ names_looked looked }
+{
+    match looked {
+        Looked::Early { names, .. } => names,
+        Looked::Late { found, .. } => Some(found.names),
+    }
 }
 
 /// One more argument, with a name, which is the next one of those that were told.
@@ -166,24 +197,42 @@ pub fn add_named<'a>(
     call: MemberCall,
     tree: Tree<'a>,
     name: &Identifier,
-    has_class: bool,
 ) -> Result<MemberCall, OrMemory<NotYet>>
     requires named { TermNamed (draft_view draft.old).tables tree.term }
     requires member { MemberNamed (draft_view draft.old).tables call }
-    ensures { IfOk result (λ more. AddsNamed has_class call tree.entry name.now (draft_view draft.old) (draft_view draft.new) more) }
+    ensures { IfOk result (λ more. AddsNamed call tree.entry name.now (draft_view draft.old) (draft_view draft.new) more) }
 {
-    let Some(names) = call.names else {
+    let Some(names) = names_looked(call.looked) else {
         return Err(OrMemory::Fault(NotYet));
     };
     if !is_next(draft, names, call.named, name) {
         return Err(OrMemory::Fault(NotYet));
     }
     let named = sum(call.named, 1)?;
-    let takes_any = is_named_item(call, name);
-    add_value(alloc, draft, call, tree, named, takes_any, has_class)
+    add_value(alloc, draft, call, tree, named)
 }
 
-/// One more argument, which isn't written: Missing.
+/// Pushes that an argument isn't written: Missing.
+pub fn push_missing(draft: &mut Draft) -> Result<(), NoMemory>
+    ensures { OnOk result (draft_view draft.new ≡ missing_pushed (draft_view draft.old)) }
+{
+    let variant = DeclaredType::Plain(ElementType::Variant);
+    push_node(draft, NodeKind::NotGiven, variant, nowhere())
+}
+
+/// One more argument of a member of the host, which isn't written.
+fn skip_early(draft: &mut Draft, call: MemberCall) -> Result<MemberCall, OrMemory<NotYet>>
+    requires member { MemberNamed (draft_view draft.old).tables call }
+    requires early { is_early call.looked ≡ true }
+    requires unnamed { call.named ≡ 0 }
+    ensures { IfOk result (λ more. AddsMissing (item.Member call) (draft_view draft.old) (draft_view draft.new) (item.Member more)) }
+{
+    let count = sum(call.count, 1)?;
+    push_missing(draft)?;
+    Ok(MemberCall { count, ..call })
+}
+
+/// One more argument, which isn't written.
 pub fn add_missing(draft: &mut Draft, call: MemberCall) -> Result<MemberCall, OrMemory<NotYet>>
     requires { MemberNamed (draft_view draft.old).tables call }
     ensures { IfOk result (λ more. AddsMissing (item.Member call) (draft_view draft.old) (draft_view draft.new) (item.Member more)) }
@@ -191,33 +240,55 @@ pub fn add_missing(draft: &mut Draft, call: MemberCall) -> Result<MemberCall, Or
     if call.named != 0 {
         return Err(OrMemory::Fault(NotYet));
     }
-    let count = sum(call.count, 1)?;
-    let variant = DeclaredType::Plain(ElementType::Variant);
-    push_node(draft, NodeKind::NotGiven, variant, nowhere())?;
-    Ok(MemberCall { count, ..call })
+    match call.looked {
+        Looked::Early { .. } => skip_early(draft, call),
+        Looked::Late { aim, found } => skip_late(draft, call, aim, found),
+    }
+}
+
+/// Have all names come that were told, and do as many arguments stand before them?
+pub fn names_came(draft: &Draft, call: MemberCall, names: ArgumentNames) -> bool
+    ensures { MatchBool result (AllCame (draft_view draft.now).tables call names) (Unit {0}) }
+{
+    let told = draft.order(names.order).len();
+    if call.named as usize != told {
+        return false;
+    }
+    if call.count < names.before || call.count - names.before != call.named {
+        return false;
+    }
+    true
 }
 
 /// Are the arguments named as was told: have all names come, as many stand before them, and has the member such parameters?
 pub fn names_fit(draft: &Draft, call: MemberCall, names: ArgumentNames) -> bool
     ensures { MatchBool result (NamesFit (draft_view draft.now).tables call names) (Unit {0}) }
 {
-    let told = draft.order(names.order).len();
-    if call.named == 0 || call.named as usize != told {
-        return false;
-    }
-    if call.count < names.before || call.count - names.before != call.named {
+    if call.named == 0 || !names_came(draft, call, names) {
         return false;
     }
     takes_names(draft, call.member, names)
 }
 
-/// The last node of a member whose arguments were pushed.
-fn member_kind(draft: &Draft, call: MemberCall) -> Result<NodeKind, OrMemory<NotYet>>
+/// The last node of a member of the host whose arguments were pushed: as many written ones as were counted.
+fn early_kind(
+    draft: &Draft,
+    call: MemberCall,
+    names: Option<ArgumentNames>,
+    given: u32,
+) -> Result<NodeKind, OrMemory<NotYet>>
+    requires { call.looked ≡ looked.Early names given }
     ensures { IfOk result (λ kind. EndsCall (draft_view draft.now).tables call kind) }
 {
+    if call.written != given {
+        return Err(OrMemory::Fault(NotYet));
+    }
+    if is_called_late(call.member, call.has_class, call.count != 0) {
+        return Err(OrMemory::Fault(NotYet));
+    }
     let name = call.member.name;
     let arguments = call.count;
-    let Some(names) = call.names else {
+    let Some(names) = names else {
         return Ok(NodeKind::HostMember { name, arguments });
     };
     if !names_fit(draft, call, names) {
@@ -230,13 +301,24 @@ fn member_kind(draft: &Draft, call: MemberCall) -> Result<NodeKind, OrMemory<Not
     })
 }
 
-/// What a member gives of its arguments, where it takes so many and as many written ones came as were counted.
+/// The last node of a member whose arguments were pushed.
+pub fn member_kind(draft: &Draft, call: MemberCall) -> Result<NodeKind, OrMemory<NotYet>>
+    ensures { IfOk result (λ kind. EndsCall (draft_view draft.now).tables call kind) }
+{
+    match call.looked {
+        Looked::Early { names, given } => early_kind(draft, call, names, given),
+        Looked::Late {
+            aim: LateUse::Reading,
+            found,
+        } => late_kind(draft, call, found),
+        Looked::Late { .. } => Err(OrMemory::Fault(NotYet)),
+    }
+}
+
+/// What a member gives of its arguments, where it takes so many.
 pub fn close_member<'a>(draft: &Draft, call: MemberCall) -> Result<Term<'a>, OrMemory<NotYet>>
     ensures { IfOk result (λ term. EndsMember (draft_view draft.now).tables call term) }
 {
-    if call.written != call.given {
-        return Err(OrMemory::Fault(NotYet));
-    }
     if !takes_arguments(call.member, call.count) {
         return Err(OrMemory::Fault(NotYet));
     }

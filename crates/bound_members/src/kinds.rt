@@ -1,13 +1,14 @@
 //! What an object is, where that is known before the run.
 
-ghost use Rattle.std.specs.Prelude.{◌≡◌, IfSome, option_map, true};
+ghost use Rattle.std.specs.Prelude.{◌≡◌, IfSome, MatchBool, false, option_map, true};
+ghost use Rattle.bound_project.specs.DraftView.{draft_view};
 ghost use Rattle.bound_project.specs.View.{declared_view};
 ghost use Rattle.bound_calls.specs.bound_forms.specs.ExpressionsBound.{kind_by_type, kind_of_object};
-ghost use Rattle.bound_calls.specs.References.{is_typed_kind};
+ghost use Rattle.bound_calls.specs.References.{IsFoundLate, is_typed_kind};
 ghost use Rattle.bound_members.specs.Kinds.{EndingOfKind, kind_view};
 
-use bound_calls::{Ending, is_typed_kind};
-use bound_project::{DeclaredType, ElementType, NodeKind};
+use bound_calls::{Ending, is_found_late, is_typed_kind};
+use bound_project::{DeclaredType, Draft, ElementType, NodeKind};
 use vba_values::HostRef;
 
 /// What an object is: Application, the workbook, its sheets, a sheet, a range, a Collection, or what the run decides.
@@ -65,5 +66,25 @@ pub fn kind_of_ending(ending: Ending) -> Option<HostKind>
     match ending.kind {
         NodeKind::HostObject(reference) => kind_of_object(reference),
         _ => None,
+    }
+}
+
+/// Does the run find the members of a value whose last node isn't pushed yet? What isn't known is left open.
+pub fn is_known_late(has_class: bool, draft: &Draft, ending: Ending) -> bool
+    ensures { MatchBool result (IsFoundLate has_class (draft_view draft.now).tables ending true) (Unit {0}) }
+{
+    match is_found_late(has_class, draft, ending) {
+        Some(is_late) => is_late,
+        None => false,
+    }
+}
+
+/// Is it known that it doesn't?
+pub fn is_known_early(has_class: bool, draft: &Draft, ending: Ending) -> bool
+    ensures { MatchBool result (IsFoundLate has_class (draft_view draft.now).tables ending false) (Unit {0}) }
+{
+    match is_found_late(has_class, draft, ending) {
+        Some(is_late) => !is_late,
+        None => false,
     }
 }

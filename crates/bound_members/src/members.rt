@@ -9,7 +9,7 @@ ghost use Rattle.bound_project.specs.View.{declared_view};
 ghost use Rattle.bound_calls.specs.bound_forms.specs.ExpressionsBound as bound;
 ghost use Rattle.bound_members.specs.Kinds.{kind_view};
 ghost use Rattle.bound_members.specs.declared.kinds.HostKind as declared;
-ghost use Rattle.bound_members.specs.Members.{Finds, FindsMember, entry_member, found_member, is_workbook, listed};
+ghost use Rattle.bound_members.specs.Members.{Finds, FindsLate, FindsMember, entry_member, found_member, is_workbook, listed};
 ghost use Rattle.bound_calls.specs.Standing.{member_is};
 
 use crate::kinds::HostKind;
@@ -356,6 +356,21 @@ fn named_member(draft: &mut Draft, known: Known, name: Units) -> Result<HostMemb
         of: DeclaredType::Plain(known.of),
         least: known.least,
         greatest: known.greatest,
+        is_late: false,
+    })
+}
+
+/// A member that the run finds among those of classes too, by its folded name, which becomes a constant.
+pub fn found_late(draft: &mut Draft, name: Units) -> Result<HostMember, NoMemory>
+    ensures { IfOk result (λ member. FindsLate name (draft_view draft.old) (draft_view draft.new) member) }
+{
+    let constant = constant_number(draft, text_value(name))?;
+    Ok(HostMember {
+        name: constant,
+        of: DeclaredType::Plain(ElementType::Variant),
+        least: 0,
+        greatest: None,
+        is_late: true,
     })
 }
 

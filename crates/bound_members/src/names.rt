@@ -11,7 +11,7 @@ ghost use Rattle.bound_members.specs.Names.{AddsName, TellsNames, is_next};
 
 use crate::ahead::before_names;
 use crate::members::{is_add, is_word};
-use bound_calls::{HostMember, Shape, constant_number, is_item_name, order_number};
+use bound_calls::{HostMember, Shape, constant_number, has_names, is_item_name, order_number};
 use bound_project::{ArgumentNames, Draft};
 use std::alloc::Global;
 use vba_base::{NoMemory, Units};
@@ -63,7 +63,21 @@ fn add_names<'a>(
     Ok(order)
 }
 
-/// How the arguments are named that are to come, where some of them are.
+/// How the arguments are named that are to come: so many stand before those with names.
+pub fn names_told<'a>(
+    alloc: Global,
+    draft: &mut Draft,
+    shapes: &[Shape<'a>],
+) -> Result<ArgumentNames, NoMemory>
+    ensures { IfOk result (λ names. TellsNames (draft_view draft.old) (draft_view draft.new) (Some names)) }
+{
+    let before = before_names(shapes);
+    let order = add_names(alloc, draft, shapes)?;
+    let order = order_number(draft, order)?;
+    Ok(ArgumentNames { before, order })
+}
+
+/// The same, where some of them are.
 pub fn names_ahead<'a>(
     alloc: Global,
     draft: &mut Draft,
@@ -71,12 +85,11 @@ pub fn names_ahead<'a>(
 ) -> Result<Option<ArgumentNames>, NoMemory>
     ensures { IfOk result (λ names. TellsNames (draft_view draft.old) (draft_view draft.new) names) }
 {
-    let Some(before) = before_names(shapes) else {
+    if !has_names(shapes) {
         return Ok(None);
-    };
-    let order = add_names(alloc, draft, shapes)?;
-    let order = order_number(draft, order)?;
-    Ok(Some(ArgumentNames { before, order }))
+    }
+    let names = names_told(alloc, draft, shapes)?;
+    Ok(Some(names))
 }
 
 /// Is a name the one behind so many of those that were told?

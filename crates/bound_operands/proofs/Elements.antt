@@ -1,30 +1,28 @@
--- What numbers in brackets make of places and values.
-use Rattle.std.proofs.Common.{◌≡◌, ℕ, ◌<◌, ◌+◌, Bool, true, false, ◌&&◌, not, List, [], ◌∷◌, ◌++◌, map, length, Option, Some, None, is_some, if◌then◌else◌, refl, sym, ap, subst, ◌∙◌, arith, length-append}
-use Rattle.std.proofs.lemmas.List.{map-append}
+-- What numbers and other arguments in brackets make of places and values.
+use Rattle.std.proofs.Common.{◌≡◌, ◌<◌, Bool, true, false, ◌&&◌, not, List, [], ◌∷◌, length, Option, Some, None, is_some, option_map, if◌then◌else◌, refl, sym, ap, subst, ◌∙◌, arith}
+use Rattle.std.proofs.lemmas.Bool.{and_right}
 use Rattle.std.specs.Prelude.{codes}
 use Rattle.vba_base.specs.declared.place.Place.{Place}
-use Rattle.vba_lexer.specs.declared.token.Token.{Token}
 use Rattle.vba_expression.specs.Tree.{Expr}
-use Rattle.vba_expression.specs.Nodes as nodes
-use Rattle.vba_expression.specs.Nodes.{behind_node}
 use Rattle.vba_expression.specs.declared.node.ExpressionNode.TheVariants as node
 use Rattle.vba_values.specs.Types.{Declared}
 use Rattle.vba_values.specs.Types as type
 use Rattle.bound_project.specs.declared.declared_type.DeclaredType.{DeclaredType}
+use Rattle.bound_project.specs.declared.declared_type.DeclaredType.TheVariants.{Plain}
+use Rattle.bound_project.specs.declared.declared_type.ElementType.TheVariants as element_kind
 use Rattle.bound_project.specs.declared.variable.Variable.{Variable}
 use Rattle.bound_project.specs.declared.node.NodeKind.{NodeKind}
 use Rattle.bound_project.specs.declared.node.NodeKind.TheVariants as kinds
 use Rattle.bound_project.specs.declared.node.Node.{Node}
 use Rattle.bound_project.specs.View.{declared_view, variable_view}
-use Rattle.bound_project.specs.Expressions.{Exprs, no_exprs, Lvalue, item, element, element_value, field, kept_place, object_field}
+use Rattle.bound_project.specs.Expressions.{Exprs, no_exprs, Lvalue, item, element, element_along, element_value, field, kept_place, late_item, object_field, value_place}
 use Rattle.bound_project.specs.Expressions as bound
-use Rattle.bound_project.specs.Lists.{above, exprs_of}
-use Rattle.bound_project.proofs.Lists.{above_push}
-use Rattle.bound_project.specs.Pieces.{Piece, Tables, an_expr, a_place, exprs_off, of_place, of_found, of_place_found, of_value, of_value_found, expr_of, put_kind, put, nothing}
+use Rattle.bound_project.specs.Lists.{exprs_of}
+use Rattle.bound_project.specs.Pieces.{Piece, Tables, an_expr, a_place, exprs_off, of_place, of_found, of_place_found, of_value, put_kind, put, nothing}
 use Rattle.bound_project.specs.Drafts.{Drafted}
 use Rattle.bound_members.specs.bound_calls.specs.bound_forms.specs.Terms.{Env, Given, a_value, expression_of, has_names, listed_values, read_of}
 use Rattle.bound_members.specs.bound_calls.specs.bound_forms.specs.Terms as terms
-use Rattle.bound_members.specs.bound_calls.specs.bound_forms.specs.ExpressionsBound.{are_numbers, numbers_of, element_place, element_type, with_type, indexed, is_host_type, item_of, callee, term_of, operand_of, givens, place_told, term_or, wrong_term, host_behind, indexed_type, may_be_instance}
+use Rattle.bound_members.specs.bound_calls.specs.bound_forms.specs.ExpressionsBound.{along_of, are_numbers, callee, element_place, element_type, has_item_member, if_there, indexed, indexed_type, indexed_value, is_found_late, is_host_type, is_of_class, item_of, may_be_instance, numbers_of, object_member, operand_of, place_told, term_of, term_or, with_type, wrong_term}
 use Rattle.bound_members.specs.bound_calls.specs.declared.term.Ending.{Ending}
 use Rattle.bound_members.specs.bound_calls.specs.declared.term.Routine.{Routine}
 use Rattle.bound_members.specs.bound_calls.specs.declared.term.Term.{Term}
@@ -35,15 +33,14 @@ use Rattle.bound_members.specs.bound_calls.specs.declared.term.Target.TheVariant
 use Rattle.bound_members.specs.bound_calls.specs.declared.term.Indexed.{Indexed}
 use Rattle.bound_members.specs.bound_calls.specs.declared.term.Item.{Item}
 use Rattle.bound_members.specs.bound_calls.specs.declared.term.Item.TheVariants as items
-use Rattle.bound_members.specs.bound_calls.specs.declared.term.Passed.{Passed}
-use Rattle.bound_members.specs.bound_calls.specs.Calls.{PassesMissing, node_of, passed_in, with_passed, PushesReceiver}
-use Rattle.bound_members.specs.bound_calls.specs.Standing.{AllNumbers, Grown, ItemNamed, PlaceStands, TargetStands, TermStands, Stands, AllNamed, Base}
-use Rattle.bound_members.specs.bound_calls.specs.Steps.{Goes, PushesOperand}
-use Rattle.bound_operands.specs.Indexing.{HasElements, PushesWhole}
-use Rattle.bound_members.specs.bound_calls.specs.Indexing.{TargetAt, PushesTarget, OpensTerm, AddsArgument, AddsMissing, Closes, EndsIndexed, is_part}
-use Rattle.bound_members.proofs.Listing.{all_listed, no_names, numbers_more, taken_off}
-use Rattle.bound_members.specs.bound_calls.proofs.Growing.{grown_same, grown_pieces, all_named, item_named, stands_grows}
-use Rattle.bound_members.specs.bound_calls.proofs.CallSteps.{goes_missing, tree_ended}
+use Rattle.bound_members.specs.bound_calls.specs.Calls.{node_of, PushesReceiver}
+use Rattle.bound_members.specs.bound_calls.specs.Standing.{AllListed, AllNumbers, Grown, NumbersStand, TargetStands, TermStands, ValueEnds, along_value}
+use Rattle.bound_operands.specs.Indexing.{HasElements, HowIndexed, PushesAlong, PushesAsPlace, PushesWhole, is_along}
+use Rattle.bound_members.specs.bound_calls.specs.References.{IsFoundLate}
+use Rattle.bound_members.specs.bound_calls.specs.Indexing.{TargetAt, PushesTarget, OpensTerm, is_part}
+use Rattle.bound_members.proofs.Listing.{all_listed, every_listed, listed_nameless, no_names}
+use Rattle.bound_members.proofs.LateItems.{no_item_late}
+use Rattle.bound_members.specs.bound_calls.proofs.Growing.{grown_same, grown_pieces, grown_twice}
 use Rattle.bound_members.specs.bound_calls.specs.bound_declarations.specs.constant_values.specs.declared_names.specs.binder.specs.Classes.{has_class}
 use Rattle.bound_members.specs.bound_calls.specs.Taking.{read_kind}
 use Rattle.bound_members.specs.bound_calls.proofs.Taking.{read_ends}
@@ -62,6 +59,54 @@ numbers_are value [] (e ∷ es) h lt = absurd h
 numbers_are value (g ∷ gs) (e ∷ es) h lt =
     ap (λ (b : Bool). if b && not (has_names (g ∷ gs)) then listed_values value (g ∷ gs) else None) (all_numbers value g gs e es h)
     ∙ ap (λ (b : Bool). if not b then listed_values value (g ∷ gs) else None) (no_names value (g ∷ gs) (e ∷ es) h) ∙ all_listed value (g ∷ gs) (e ∷ es) h
+
+-- arguments that lead on as the run says
+pub along_are : (env : Env) (gs : List Given) (es : List bound.Expr) → AllListed (along_value env) gs es → 0 < length es → along_of (operand_of env) gs ≡ Some (exprs_of es)
+along_are env gs [] h lt = absurd (omega (arith, lt))
+along_are env [] (e ∷ es) h lt = absurd h
+along_are env (g ∷ gs) (e ∷ es) h lt =
+    ap (λ (b : Bool). if b then None else listed_values (along_value env) (g ∷ gs)) (listed_nameless (along_value env) (g ∷ gs) (e ∷ es) h) ∙ every_listed (along_value env) (g ∷ gs) (e ∷ es) h
+
+-- what was pushed for arguments, by what is indexed
+none_pushed : (env : Env) (x : Target) → NumbersStand env x [] []
+none_pushed env (target.Variable v) = tt
+none_pushed env target.Place = tt
+none_pushed env target.Value = tt
+none_pushed env target.PlaceAlong = tt
+none_pushed env target.ValueAlong = tt
+none_pushed env target.ValueAsPlace = tt
+
+pub as_numbers : (env : Env) (x : Target) (gs : List Given) (es : List bound.Expr) → is_along x ≡ false → NumbersStand env x gs es → AllNumbers (operand_of env) gs es
+as_numbers env (target.Variable v) gs es n h = h
+as_numbers env target.Place gs es n h = h
+as_numbers env target.Value gs es n h = h
+as_numbers env target.PlaceAlong gs es n h = let e : true ≡ false = n in absurd cc
+as_numbers env target.ValueAlong gs es n h = let e : true ≡ false = n in absurd cc
+as_numbers env target.ValueAsPlace gs es n h = let e : true ≡ false = n in absurd cc
+
+pub from_numbers : (env : Env) (x : Target) (gs : List Given) (es : List bound.Expr) → is_along x ≡ false → AllNumbers (operand_of env) gs es → NumbersStand env x gs es
+from_numbers env (target.Variable v) gs es n h = h
+from_numbers env target.Place gs es n h = h
+from_numbers env target.Value gs es n h = h
+from_numbers env target.PlaceAlong gs es n h = let e : true ≡ false = n in absurd cc
+from_numbers env target.ValueAlong gs es n h = let e : true ≡ false = n in absurd cc
+from_numbers env target.ValueAsPlace gs es n h = let e : true ≡ false = n in absurd cc
+
+pub as_listed : (env : Env) (x : Target) (gs : List Given) (es : List bound.Expr) → is_along x ≡ true → NumbersStand env x gs es → AllListed (along_value env) gs es
+as_listed env (target.Variable v) gs es n h = let e : false ≡ true = n in absurd cc
+as_listed env target.Place gs es n h = let e : false ≡ true = n in absurd cc
+as_listed env target.Value gs es n h = let e : false ≡ true = n in absurd cc
+as_listed env target.PlaceAlong gs es n h = h
+as_listed env target.ValueAlong gs es n h = h
+as_listed env target.ValueAsPlace gs es n h = h
+
+pub from_listed : (env : Env) (x : Target) (gs : List Given) (es : List bound.Expr) → is_along x ≡ true → AllListed (along_value env) gs es → NumbersStand env x gs es
+from_listed env (target.Variable v) gs es n h = let e : false ≡ true = n in absurd cc
+from_listed env target.Place gs es n h = let e : false ≡ true = n in absurd cc
+from_listed env target.Value gs es n h = let e : false ≡ true = n in absurd cc
+from_listed env target.PlaceAlong gs es n h = h
+from_listed env target.ValueAlong gs es n h = h
+from_listed env target.ValueAsPlace gs es n h = h
 
 -- ---- what is indexed
 
@@ -141,34 +186,86 @@ no_object type.worksheet u h = let e : None ≡ Some u = h in absurd cc
 no_object type.range u h = let e : None ≡ Some u = h in absurd cc
 
 -- what numbers index before the run
-element_of_type : (b : Bool) (o : Option Declared) (u : Declared) → (if b then None else o) ≡ Some u → o ≡ Some u
+pub element_of_type : (b : Bool) (o : Option Declared) (u : Declared) → (if b then None else o) ≡ Some u → o ≡ Some u
 element_of_type true o u h = let e : None ≡ Some u = h in absurd cc
 element_of_type false o u h = h
 
 pub indexed_by : (env : Env) (node : bound.Node) (place : Place) (of u : Declared) → may_be_instance env (expression_of node place of) ≡ false → element_type of ≡ Some u → indexed_type env (expression_of node place of) ≡ Some u
 indexed_by env node place of u none h = ap (λ (b : Bool). if b then None else element_type of) none ∙ h
 
-same_place : (env : Env) (place : Place) (at : Lvalue) (whole u : Declared) (bounded lends makes : Bool) → element_type whole ≡ Some u
+-- and that isn't what the run says
+no_instance : (b : Bool) (o : Option Declared) (u : Declared) → (if b then None else o) ≡ Some u → b ≡ false
+no_instance true o u h = let e : None ≡ Some u = h in absurd cc
+no_instance false o u h = refl
+
+not_late : (env : Env) (node : bound.Node) (place : Place) (of u : Declared) → indexed_type env (expression_of node place of) ≡ Some u → is_found_late env (expression_of node place of) ≡ false
+not_late env node place of u h =
+    let b = may_be_instance env (expression_of node place of) in and_right (not (is_of_class of)) b (no_instance b (element_type of) u h)
+
+-- what has elements has no default member Item
+pub no_item_elements : (env : Env) (node : bound.Node) (place : Place) (of u : Declared) → element_type of ≡ Some u → has_item_member env (expression_of node place of) ≡ false
+no_item_elements env node place of u h = ap (λ (b : Bool). b && not (may_be_instance env (expression_of node place of))) (no_object of u h)
+
+pub same_place : (env : Env) (place : Place) (at : Lvalue) (whole : Declared) (bounded lends makes : Bool) → has_item_member env (expression_of (read_of makes at) place whole) ≡ false
     → item_of env place (terms.a_place at whole bounded lends makes) ≡ terms.a_place at whole bounded lends makes
-same_place env place at whole u bounded lends makes h =
-    ap (λ (b : Bool). if b then host_behind env place place (read_of makes at) whole (codes "item") else terms.a_place at whole bounded lends makes) (no_object whole u h)
+same_place env place at whole bounded lends makes h =
+    ap (λ (b : Bool). if b then object_member place place (read_of makes at) whole (codes "item") else terms.a_place at whole bounded lends makes) h
 
-same_value : (env : Env) (place : Place) (made : bound.Node) (whole u : Declared) → element_type whole ≡ Some u → item_of env place (a_value made whole) ≡ a_value made whole
-same_value env place made whole u h = ap (λ (b : Bool). if b then host_behind env place place made whole (codes "item") else a_value made whole) (no_object whole u h)
+same_value : (env : Env) (place : Place) (made : bound.Node) (whole : Declared) → has_item_member env (expression_of made place whole) ≡ false → item_of env place (a_value made whole) ≡ a_value made whole
+same_value env place made whole h = ap (λ (b : Bool). if b then object_member place place made whole (codes "item") else a_value made whole) h
 
-place_indexed : (env : Env) (place : Place) (at : Lvalue) (whole : Declared) (bounded lends makes : Bool) (gs : List Given) (of : Declared) (es : Exprs) → indexed_type env (expression_of (read_of makes at) place whole) ≡ Some of
+pub place_indexed : (env : Env) (place : Place) (at : Lvalue) (whole : Declared) (bounded lends makes : Bool) (gs : List Given) (of : Declared) (es : Exprs) → indexed_type env (expression_of (read_of makes at) place whole) ≡ Some of
     → numbers_of (operand_of env) gs ≡ Some es → indexed env place (terms.a_place at whole bounded lends makes) gs ≡ terms.a_place (element_place at es) of false lends false
 place_indexed env place at whole bounded lends makes gs of es h k =
     let T : Declared → Exprs → terms.Term = λ (u : Declared) (xs : Exprs). terms.a_place (element_place at xs) u false lends false in
     let wrong = wrong_term env place (terms.a_place at whole bounded lends makes) gs in
-    ap (λ (o : Option Declared). term_or (with_type o (numbers_of (operand_of env) gs) T) wrong) h ∙ ap (λ (o : Option Exprs). term_or (with_type (Some of) o T) wrong) k
+    let along : terms.Term = if_there (option_map (λ (xs : Exprs). terms.a_place (element_along at xs) type.variant false lends false) (along_of (operand_of env) gs)) in
+    ap (λ (b : Bool). term_or (if b then along else with_type (indexed_type env (expression_of (read_of makes at) place whole)) (numbers_of (operand_of env) gs) T) wrong) (not_late env (read_of makes at) place whole of h)
+    ∙ ap (λ (o : Option Declared). term_or (with_type o (numbers_of (operand_of env) gs) T) wrong) h ∙ ap (λ (o : Option Exprs). term_or (with_type (Some of) o T) wrong) k
 
-pub value_indexed : (env : Env) (place : Place) (made : bound.Node) (whole : Declared) (gs : List Given) (of : Declared) (es : Exprs) → indexed_type env (expression_of made place whole) ≡ Some of → numbers_of (operand_of env) gs ≡ Some es
-    → indexed env place (a_value made whole) gs ≡ a_value (element_value (expression_of made place whole) es) of
-value_indexed env place made whole gs of es h k =
+pub place_along : (env : Env) (place : Place) (at : Lvalue) (whole : Declared) (bounded lends makes : Bool) (gs : List Given) (es : Exprs) → is_found_late env (expression_of (read_of makes at) place whole) ≡ true
+    → along_of (operand_of env) gs ≡ Some es → indexed env place (terms.a_place at whole bounded lends makes) gs ≡ terms.a_place (element_along at es) type.variant false lends false
+place_along env place at whole bounded lends makes gs es h k =
+    let T : Declared → Exprs → terms.Term = λ (u : Declared) (xs : Exprs). terms.a_place (element_place at xs) u false lends false in
+    let A : Exprs → terms.Term = λ (xs : Exprs). terms.a_place (element_along at xs) type.variant false lends false in
+    let wrong = wrong_term env place (terms.a_place at whole bounded lends makes) gs in
+    let by_number : terms.Term = with_type (indexed_type env (expression_of (read_of makes at) place whole)) (numbers_of (operand_of env) gs) T in
+    ap (λ (b : Bool). term_or (if b then if_there (option_map A (along_of (operand_of env) gs)) else by_number) wrong) h ∙ ap (λ (o : Option Exprs). term_or (if_there (option_map A o)) wrong) k
+
+-- a value by its elements, and one in which arguments lead on
+pub by_elements : (env : Env) (place : Place) (made : bound.Node) (whole : Declared) (gs : List Given) (of : Declared) (es : Exprs) → indexed_type env (expression_of made place whole) ≡ Some of → numbers_of (operand_of env) gs ≡ Some es
+    → indexed_value (operand_of env) env place made whole gs ≡ a_value (element_value (expression_of made place whole) es) of
+by_elements env place made whole gs of es h k =
     let T : Declared → Exprs → terms.Term = λ (u : Declared) (xs : Exprs). a_value (element_value (expression_of made place whole) xs) u in
-    let wrong = wrong_term env place (a_value made whole) gs in
-    ap (λ (o : Option Declared). term_or (with_type o (numbers_of (operand_of env) gs) T) wrong) h ∙ ap (λ (o : Option Exprs). term_or (with_type (Some of) o T) wrong) k
+    let along : terms.Term = if_there (option_map (λ (xs : Exprs). a_value (late_item (expression_of made place whole) xs) type.variant) (along_of (operand_of env) gs)) in
+    ap (λ (b : Bool). if b then along else with_type (indexed_type env (expression_of made place whole)) (numbers_of (operand_of env) gs) T) (not_late env made place whole of h)
+    ∙ ap (λ (o : Option Declared). with_type o (numbers_of (operand_of env) gs) T) h ∙ ap (λ (o : Option Exprs). with_type (Some of) o T) k
+
+pub by_arguments : (env : Env) (place : Place) (made : bound.Node) (whole : Declared) (gs : List Given) (es : Exprs) → is_found_late env (expression_of made place whole) ≡ true → along_of (operand_of env) gs ≡ Some es
+    → indexed_value (operand_of env) env place made whole gs ≡ a_value (late_item (expression_of made place whole) es) type.variant
+by_arguments env place made whole gs es h k =
+    let T : Declared → Exprs → terms.Term = λ (u : Declared) (xs : Exprs). a_value (element_value (expression_of made place whole) xs) u in
+    let A : Exprs → terms.Term = λ (xs : Exprs). a_value (late_item (expression_of made place whole) xs) type.variant in
+    ap (λ (b : Bool). if b then if_there (option_map A (along_of (operand_of env) gs)) else with_type (indexed_type env (expression_of made place whole)) (numbers_of (operand_of env) gs) T) h
+    ∙ ap (λ (o : Option Exprs). if_there (option_map A o)) k
+
+-- what a term is that is indexed as a value is
+abbrev pub IndexedAs : Env → Place → terms.Term → (made : bound.Node) → Declared → Type 0
+IndexedAs env place z made whole = (g : Given) (gs : List Given) (node : bound.Node) (of : Declared) → indexed_value (operand_of env) env place made whole (g ∷ gs) ≡ a_value node of → indexed env place (item_of env place z) (g ∷ gs) ≡ a_value node of
+
+pub indexed_as : (env : Env) (place : Place) (z : terms.Term) (made : bound.Node) (whole : Declared) → item_of env place z ≡ a_value made whole → IndexedAs env place z made whole
+indexed_as env place z made whole same = λ g gs node of h.
+    ap (λ (y : terms.Term). indexed env place y (g ∷ gs)) same ∙ ap (λ (y : terms.Term). term_or y (wrong_term env place (a_value made whole) (g ∷ gs))) h
+
+by_numbers : (env : Env) (place : Place) (z : terms.Term) (made : bound.Node) (whole : Declared) (gs : List Given) (of : Declared) (es : Exprs) → IndexedAs env place z made whole → indexed_type env (expression_of made place whole) ≡ Some of
+    → numbers_of (operand_of env) gs ≡ Some es → indexed env place (item_of env place z) gs ≡ a_value (element_value (expression_of made place whole) es) of
+by_numbers env place z made whole [] of es way h k = let e : ◌≡◌ {A = Option Exprs} None (Some es) = k in absurd cc
+by_numbers env place z made whole (g ∷ gs) of es way h k = way g gs (element_value (expression_of made place whole) es) of (by_elements env place made whole (g ∷ gs) of es h k)
+
+by_along : (env : Env) (place : Place) (z : terms.Term) (made : bound.Node) (whole : Declared) (gs : List Given) (es : Exprs) → IndexedAs env place z made whole → is_found_late env (expression_of made place whole) ≡ true
+    → along_of (operand_of env) gs ≡ Some es → indexed env place (item_of env place z) gs ≡ a_value (late_item (expression_of made place whole) es) type.variant
+by_along env place z made whole [] es way h k = let e : ◌≡◌ {A = Option Exprs} None (Some es) = k in absurd cc
+by_along env place z made whole (g ∷ gs) es way h k = way g gs (late_item (expression_of made place whole) es) type.variant (by_arguments env place made whole (g ∷ gs) es h k)
 
 -- ---- arguments begin
 
@@ -185,6 +282,9 @@ target_stands env (target.Variable v) of whole bounded lends makes place z at ps
 target_stands env target.Place of whole bounded lends makes place z at ps below e is q =
     record { at = at; whole = declared_view whole; bounded = bounded; makes = makes; is = is; element_is = e; no_variable = q.0; on_top = q.1 }
 target_stands env target.Value of whole bounded lends makes place z at ps below e is q = absurd q
+target_stands env target.PlaceAlong of whole bounded lends makes place z at ps below e is q = absurd q
+target_stands env target.ValueAlong of whole bounded lends makes place z at ps below e is q = absurd q
+target_stands env target.ValueAsPlace of whole bounded lends makes place z at ps below e is q = absurd q
 
 abbrev pub begun : Tree → Target → DeclaredType → Bool → Indexed
 begun x t of lends = record { place = x.place; target = t; of = of; lends = lends; count = 0 }
@@ -206,7 +306,7 @@ opens_place env has x k of element_of bounded lends makes d e t known elements p
             target_is = target_stands env t element_of of bounded lends makes place (callee env tree (term_of env tree)) h.at e.pieces below element_is h.is (p.stands h.at below h.ends);
             place_is = at;
             made = [];
-            numbers = tt;
+            numbers = none_pushed env t;
             count_is = refl;
             on_top = refl;
           },
@@ -215,36 +315,151 @@ opens_place env has x k of element_of bounded lends makes d e t known elements p
       );
 }
 
-pub pushes_whole : (has : Bool) (ending : Ending) (element_of : DeclaredType) (place : Place) (d e : Drafted) → HasElements has d.tables ending element_of
-    → e ≡ record d { pieces = put d.tables (node_of ending.kind place ending.of) d.pieces } → PushesWhole has ending place d e (record { place = place; target = target.Value; of = element_of; lends = false; count = 0 })
-pushes_whole has ending element_of place d e elements eq =
-    let P : Drafted → Type 0 = λ (z : Drafted). PushesWhole has ending place d z (record { place = place; target = target.Value; of = element_of; lends = false; count = 0 }) in
-    subst P (sym eq) (record { grown = grown_pieces d (put d.tables (node_of ending.kind place ending.of) d.pieces); is = refl; elements = elements; stands = λ made below ends. ends (node_of ending.kind place ending.of) })
+-- a place from which arguments lead on
+pub opens_along : (env : Env) (x : Tree) (k : NodeKind) (of : DeclaredType) (bounded lends makes : Bool) (d e : Drafted) → e ≡ record d { pieces = put d.tables (node_of k x.place of) d.pieces }
+    → IsFoundLate (has_class env.scope.spaces) d.tables (record { kind = read_kind makes; of = of }) true
+    → OpensTerm env x (term.Place k of bounded lends makes) d e (items.Indexed (begun x target.PlaceAlong (Plain element_kind.Variant) lends))
+opens_along env x k of bounded lends makes d e eq late =
+    let n = node_of k x.place of in
+    let ps = put d.tables n d.pieces in
+    let e1 : Drafted = record d { pieces = ps } in
+    let P : Drafted → Type 0 = λ (z : Drafted). OpensTerm env x (term.Place k of bounded lends makes) d z (items.Indexed (begun x target.PlaceAlong (Plain element_kind.Variant) lends)) in
+    subst P (sym eq) (record {
+      grown = grown_pieces d ps;
+      named = tt;
+      stands = λ tree others is' below base at h s. (
+        below,
+        (
+          record {
+            between = ps;
+            target_is = record {
+              at = h.at;
+              whole = declared_view of;
+              bounded = bounded;
+              makes = makes;
+              is = h.is;
+              late = late env (read_of makes h.at) (place_told tree) ps below refl (read_ends makes d.tables h.at ps below (h.ends n));
+              of_is = refl;
+              on_top = h.ends n;
+            };
+            place_is = at;
+            made = [];
+            numbers = tt;
+            count_is = refl;
+            on_top = refl;
+          },
+          s,
+        ),
+      );
+    })
 
--- a value was pushed that numbers index, of what a term is
-pub opens_whole : (env : Env) (x : Tree) (y : Term) (i : Indexed) (d e : Drafted) → Grown d e → i ≡ begun x target.Value i.of false
+-- a value is pushed that arguments index
+abbrev pub whole_of : Place → Target → DeclaredType → Indexed
+whole_of place t of = record { place = place; target = t; of = of; lends = false; count = 0 }
+
+pub pushes_whole : (has : Bool) (ending : Ending) (element_of : DeclaredType) (place : Place) (d e : Drafted) → HasElements has d.tables ending element_of
+    → e ≡ record d { pieces = put d.tables (node_of ending.kind place ending.of) d.pieces } → PushesWhole has ending place d e (whole_of place target.Value element_of)
+pushes_whole has ending element_of place d e elements eq =
+    let P : Drafted → Type 0 = λ (z : Drafted). PushesWhole has ending place d z (whole_of place target.Value element_of) in
+    subst P (sym eq) (record { grown = grown_pieces d (put d.tables (node_of ending.kind place ending.of) d.pieces); is = refl; how = elements; stands = λ made below ends. ends (node_of ending.kind place ending.of) })
+
+pub pushes_along : (ending : Ending) (place : Place) (d e : Drafted) → e ≡ record d { pieces = put d.tables (node_of ending.kind place ending.of) d.pieces }
+    → PushesAlong ending place d e (whole_of place target.ValueAlong (Plain element_kind.Variant))
+pushes_along ending place d e eq =
+    let P : Drafted → Type 0 = λ (z : Drafted). PushesAlong ending place d z (whole_of place target.ValueAlong (Plain element_kind.Variant)) in
+    subst P (sym eq) (record { grown = grown_pieces d (put d.tables (node_of ending.kind place ending.of) d.pieces); is = refl; of_is = refl; stands = λ made below ends. ends (node_of ending.kind place ending.of) })
+
+pub along_whole : (has : Bool) (ending : Ending) (place : Place) (d e : Drafted) (x : Indexed) → IsFoundLate has d.tables ending true → PushesAlong ending place d e x → PushesWhole has ending place d e x
+along_whole has ending place d e x late p =
+    let P : Indexed → Type 0 = λ (z : Indexed). PushesWhole has ending place d e z in
+    subst P (sym p.is) (record { grown = p.grown; is = refl; how = record { late = late; of_is = p.of_is }; stands = p.stands })
+
+-- a value was pushed that arguments index, of what a term is
+pub opens_whole : (env : Env) (x : Tree) (y : Term) (i : Indexed) (d e : Drafted) → Grown d e → i ≡ begun x i.target i.of false
     → ((tree : Expr) (below : List Piece) → x.place ≡ place_told tree → TermStands env d.tables y (callee env tree (term_of env tree)) d.pieces below
-    → TargetStands env target.Value i.of false (place_told tree) (callee env tree (term_of env tree)) e.pieces below) → OpensTerm env x y d e (items.Indexed i)
+    → TargetStands env i.target i.of false (place_told tree) (callee env tree (term_of env tree)) e.pieces below) → OpensTerm env x y d e (items.Indexed i)
 opens_whole env x y i d e grown is make =
     let P : Indexed → Type 0 = λ (z : Indexed). OpensTerm env x y d e (items.Indexed z) in
     subst P (sym is) (record {
       grown = grown;
       named = tt;
-      stands = λ tree others is' below base at h s. (below, (record { between = e.pieces; target_is = make tree below at h; place_is = at; made = []; numbers = tt; count_is = refl; on_top = refl }, s));
+      stands = λ tree others is' below base at h s. (
+        below,
+        (record { between = e.pieces; target_is = make tree below at h; place_is = at; made = []; numbers = none_pushed env i.target; count_is = refl; on_top = refl }, s),
+      );
     })
+
+pub whole_stands : (env : Env) (has : Bool) (t : Tables) (v : Ending) (x : Target) (of : DeclaredType) (place : Place) (z : terms.Term) (made : bound.Node) (qs ps below : List Piece) → has_class env.scope.spaces ≡ has → HowIndexed has t v x of
+    → ValueEnds t v.kind made qs below → IndexedAs env place z made (declared_view v.of) → ps ≡ an_expr (expression_of made place (declared_view v.of)) ∷ below → TargetStands env x of false place z ps below
+whole_stands env has t v (target.Variable x) of place z made qs ps below known how ends way top = absurd how
+whole_stands env has t v target.Place of place z made qs ps below known how ends way top = absurd how
+whole_stands env has t v target.PlaceAlong of place z made qs ps below known how ends way top = absurd how
+whole_stands env has t v target.ValueAsPlace of place z made qs ps below known how ends way top = absurd how
+whole_stands env has t v target.Value of place z made qs ps below known how ends way top =
+    let u = declared_view v.of in
+    let element_is = indexed_by env made place u (declared_view of) (how.none env made place qs below known ends) how.element_is in
+    record { whole = expression_of made place u; is = λ gs es numbers. by_numbers env place z made u gs (declared_view of) es way element_is numbers; on_top = top }
+whole_stands env has t v target.ValueAlong of place z made qs ps below known how ends way top =
+    let u = declared_view v.of in
+    let late = how.late env made place qs below known ends in
+    record { whole = expression_of made place u; is = λ gs es along. by_along env place z made u gs es way late along; of_is = how.of_is; on_top = top }
+
+-- which has no default member Item that is known before the run
+whole_item : (env : Env) (has : Bool) (t : Tables) (v : Ending) (x : Target) (of : DeclaredType) (place : Place) (made : bound.Node) (qs below : List Piece) → has_class env.scope.spaces ≡ has → HowIndexed has t v x of → ValueEnds t v.kind made qs below
+    → has_item_member env (expression_of made place (declared_view v.of)) ≡ false
+whole_item env has t v (target.Variable x) of place made qs below known how ends = absurd how
+whole_item env has t v target.Place of place made qs below known how ends = absurd how
+whole_item env has t v target.PlaceAlong of place made qs below known how ends = absurd how
+whole_item env has t v target.ValueAsPlace of place made qs below known how ends = absurd how
+whole_item env has t v target.Value of place made qs below known how ends = no_item_elements env made place (declared_view v.of) (declared_view of) how.element_is
+whole_item env has t v target.ValueAlong of place made qs below known how ends = no_item_late env place made (declared_view v.of) (how.late env made place qs below known ends)
 
 pub opens_value : (env : Env) (has : Bool) (x : Tree) (ending : Ending) (d e : Drafted) (i : Indexed) → has_class env.scope.spaces ≡ has → PushesWhole has ending x.place d e i → OpensTerm env x (term.Value ending) d e (items.Indexed i)
 opens_value env has x ending d e i known p =
     opens_whole env x (term.Value ending) i d e p.grown p.is (λ tree below at h.
     let place = place_told tree in
     let z = callee env tree (term_of env tree) in
-    let no = p.elements.none env h.made place d.pieces below known h.ends in
-    record {
-      whole = expression_of h.made place (declared_view ending.of);
-      is = λ gs es numbers. ap (λ (y : terms.Term). indexed env place (item_of env place y) gs) h.is
-          ∙ ap (λ (y : terms.Term). indexed env place y gs) (same_value env place h.made (declared_view ending.of) (declared_view i.of) p.elements.element_is)
-          ∙ value_indexed env place h.made (declared_view ending.of) gs (declared_view i.of) es (indexed_by env h.made place (declared_view ending.of) (declared_view i.of) no p.elements.element_is) numbers;
-      on_top = p.stands h.made below h.ends ∙ ap (λ (q : Place). an_expr (expression_of h.made q (declared_view ending.of)) ∷ below) at;
+    let u = declared_view ending.of in
+    let same : item_of env place z ≡ a_value h.made u =
+    ap (λ (y : terms.Term). item_of env place y) h.is ∙ same_value env place h.made u (whole_item env has d.tables ending i.target i.of place h.made d.pieces below known p.how h.ends) in
+    whole_stands env has d.tables ending i.target i.of place z h.made d.pieces e.pieces below known p.how h.ends (indexed_as env place z h.made u same)
+    (p.stands h.made below h.ends ∙ ap (λ (q : Place). an_expr (expression_of h.made q u) ∷ below) at))
+
+-- a value that is assigned to
+pub pushes_as_place : (ending : Ending) (place : Place) (d b e : Drafted) → b ≡ record d { pieces = put d.tables (node_of ending.kind place ending.of) d.pieces }
+    → e ≡ record b { pieces = put b.tables (node_of kinds.PlaceOf place (Plain element_kind.Variant)) b.pieces }
+    → PushesAsPlace ending place d e (whole_of place target.ValueAsPlace (Plain element_kind.Variant))
+pushes_as_place ending place d b e one two =
+    let x = whole_of place target.ValueAsPlace (Plain element_kind.Variant) in
+    let u = declared_view ending.of in
+    let n = node_of ending.kind place ending.of in
+    let m = node_of kinds.PlaceOf place (Plain element_kind.Variant) in
+    let b1 : Drafted = record d { pieces = put d.tables n d.pieces } in
+    let e1 : Drafted = record b1 { pieces = put b1.tables m b1.pieces } in
+    let both : e ≡ e1 = two ∙ ap (λ (z : Drafted). record z { pieces = put z.tables m z.pieces }) one in
+    let P : Drafted → Type 0 = λ (z : Drafted). PushesAsPlace ending place d z x in
+    subst P (sym both) (record {
+      grown = grown_twice d b1 e1 (grown_pieces d b1.pieces) (grown_pieces b1 e1.pieces);
+      is = refl;
+      stands = λ env late tree below at h.
+          let told = place_told tree in
+          let z = callee env tree (term_of env tree) in
+          let found = late env h.made told d.pieces below refl h.ends in
+          let same : item_of env told z ≡ a_value h.made u = ap (λ (y : terms.Term). item_of env told y) h.is ∙ same_value env told h.made u (no_item_late env told h.made u found) in
+          record {
+            between = e1.pieces;
+            target_is = record {
+              whole = expression_of h.made told u;
+              is = λ gs es along. by_along env told z h.made u gs es (indexed_as env told z h.made u same) found along;
+              of_is = refl;
+              on_top = ap (λ (st : List Piece). of_value (λ (y : bound.Expr). a_place (value_place y)) st) (h.ends n) ∙ ap (λ (q : Place). a_place (value_place (expression_of h.made q u)) ∷ below) at;
+            };
+            place_is = at;
+            made = [];
+            numbers = tt;
+            count_is = refl;
+            on_top = refl;
+          };
     })
 
 pub opens_call : (env : Env) (x : Tree) (r : Routine) (d e : Drafted) → PushesReceiver r.receiver d e
@@ -266,182 +481,3 @@ opens_call env x r d e p = record {
     ),
   );
 }
-
--- ---- one more number
-
-numbered : (env : Env) (x : Indexed) (y : Tree) (of : DeclaredType) (count : ℕ) (comma : Option Token) (xs : List Item) (d e : Drafted) → count ≡ x.count + 1 → PushesOperand y d e (Some of) → AllNamed d.tables xs
-    → (is : List nodes.Item) (base : Base) → Stands env d.tables (items.Tree y ∷ items.Indexed x ∷ xs) is d.pieces base
-    → Stands env e.tables (items.Indexed (record x { count = count }) ∷ xs) (behind_node (node.PlainArgument comma) is) e.pieces base
-numbered env x y of count comma xs d e c p k [] base h = absurd h
-numbered env x y of count comma xs d e c p k (nodes.arguments args ∷ is) base h = absurd h
-numbered env x y of count comma xs d e c p k (nodes.tree v ∷ []) base h = absurd h.1.1
-numbered env x y of count comma xs d e c p k (nodes.tree v ∷ nodes.tree w ∷ is) base h = absurd h.1.1
-numbered env x y of count comma xs d e c p k (nodes.tree v ∷ nodes.arguments args ∷ []) base h = absurd h.1.1
-numbered env x y of count comma xs d e c p k (nodes.tree v ∷ nodes.arguments args ∷ nodes.arguments more ∷ is) base h = absurd h.1.1
-numbered env x y of count comma xs d e c p k (nodes.tree v ∷ nodes.arguments args ∷ nodes.tree b ∷ is) base h =
-    let low = h.1.1 in
-    let s = low.1.0 in
-    let m = p.stands env v h.0 h.1.0 in (
-      low.0,
-      (
-        record {
-          between = s.between;
-          target_is = s.target_is;
-          place_is = s.place_is;
-          made = s.made ++ m.made ∷ [];
-          numbers = numbers_more (operand_of env) (givens env args) s.made (record { name = None; term = Some (term_of env v); place = place_told v }) m.made s.numbers
-              (record { no_name = refl; term = term_of env v; given = refl; is = m.is });
-          count_is = omega (arith, c, s.count_is, length-append s.made (m.made ∷ []));
-          on_top = m.on_top ∙ ap (λ (ps : List Piece). an_expr m.made ∷ ps) s.on_top ∙ sym (above_push (map an_expr s.made) (an_expr m.made) s.between)
-              ∙ ap (λ (ps : List Piece). above ps s.between) (sym (map-append an_expr s.made (m.made ∷ [])));
-        },
-        stands_grows env d.tables e.tables p.grown.tables xs k is low.0 base low.1.1,
-      ),
-    )
-
-pub adds_number : (has : Bool) (x : Indexed) (y : Tree) (of : DeclaredType) (count : ℕ) (d e : Drafted) → count ≡ x.count + 1 → PushesOperand y d e (Some of) → AddsArgument has (items.Indexed x) y d e (items.Indexed (record x { count = count }))
-adds_number has x y of count d e c p = record { grown = p.grown; named = tt; stands = λ env known comma xs is base k h. numbered env x y of count comma xs d e c p k is base h }
-
-pub goes_argument : (env : Env) (has : Bool) (x : Tree) (i j : Item) (xs old between new : List Item) (comma : Option Token) (d e : Drafted) → old ≡ items.Tree x ∷ between → between ≡ i ∷ xs → new ≡ j ∷ xs → AllNamed d.tables old → has_class env.scope.spaces ≡ has
-    → AddsArgument has i x d e j → Goes env d old e new (behind_node (node.PlainArgument comma))
-goes_argument env has x i j xs old between new comma d e o b n k known m =
-    let g = behind_node (node.PlainArgument comma) in
-    let both : old ≡ items.Tree x ∷ i ∷ xs = o ∙ ap (λ (l : List Item). items.Tree x ∷ l) b in
-    let N : List Item → Type 0 = λ (l : List Item). AllNamed d.tables l in
-    let A : List Item → Type 0 = λ (l : List Item). Goes env d l e new g in
-    let B : List Item → Type 0 = λ (l : List Item). Goes env d (items.Tree x ∷ i ∷ xs) e l g in
-    let all = subst N both k in
-    subst A (sym both) (subst B (sym n) (record {
-      grown = m.grown;
-      named = (m.named, all_named d.tables e.tables m.grown.tables xs all.1.1);
-      stands = λ is base h. m.stands env known comma xs is base all.1.1 h;
-    }))
-
--- ---- elements
-
-there_are : (x : Indexed) (made : List bound.Expr) → 0 < x.count → x.count ≡ length made → 0 < length made
-there_are x made lt c = omega (arith, lt, c)
-
-pub ends_variable : (x : Indexed) (v : Variable) → x.target ≡ target.Variable v → 0 < x.count → EndsIndexed x (term.Place (kinds.Item v x.count) x.of false x.lends false)
-ends_variable x v is lt = record {
-  named = λ t. tt;
-  stands = λ env t e args ps below s.
-      let gs = givens env args in
-      let place = place_told e in
-      let T : Target → Type 0 = λ (z : Target). TargetStands env z x.of x.lends place (callee env e (term_of env e)) s.between below in
-      let q = subst T is s.target_is in
-      let es = exprs_of s.made in
-      let numbers = numbers_are (operand_of env) gs s.made s.numbers (there_are x s.made lt s.count_is) in
-      let A : terms.Term → Type 0 = λ (z : terms.Term). PlaceStands t (kinds.Item v x.count) x.of false x.lends false (indexed env place (item_of env place z) gs) ps below in
-      subst A (sym q.is) (record {
-        at = item (variable_view v) es;
-        is = ap (λ (z : terms.Term). indexed env place z gs) (same_place env place (bound.variable (variable_view v)) q.whole (declared_view x.of) q.bounded x.lends q.makes
-            (element_of_type (may_be_instance env (expression_of (read_of q.makes (bound.variable (variable_view v))) place q.whole)) (element_type q.whole) (declared_view x.of) q.element_is))
-            ∙ place_indexed env place (bound.variable (variable_view v)) q.whole q.bounded x.lends q.makes gs (declared_view x.of) es q.element_is numbers;
-        ends = λ n. ap (λ (o : Option (Exprs × List Piece)). of_found (λ (xs : Exprs). a_place (item (variable_view v) xs)) o) (taken_off x.count s.made ps s.between s.count_is s.on_top) ∙ ap (λ (st : List Piece). a_place (item (variable_view v) es) ∷ st) q.none_pushed;
-      });
-}
-
-pub ends_place : (x : Indexed) → x.target ≡ target.Place → 0 < x.count → EndsIndexed x (term.Place (kinds.Element x.count) x.of false x.lends false)
-ends_place x is lt = record {
-  named = λ t. tt;
-  stands = λ env t e args ps below s.
-      let gs = givens env args in
-      let place = place_told e in
-      let T : Target → Type 0 = λ (z : Target). TargetStands env z x.of x.lends place (callee env e (term_of env e)) s.between below in
-      let q = subst T is s.target_is in
-      let es = exprs_of s.made in
-      let numbers = numbers_are (operand_of env) gs s.made s.numbers (there_are x s.made lt s.count_is) in
-      let A : terms.Term → Type 0 = λ (z : terms.Term). PlaceStands t (kinds.Element x.count) x.of false x.lends false (indexed env place (item_of env place z) gs) ps below in
-      subst A (sym q.is) (record {
-        at = element q.at es;
-        is = ap (λ (z : terms.Term). indexed env place z gs) (same_place env place q.at q.whole (declared_view x.of) q.bounded x.lends q.makes
-            (element_of_type (may_be_instance env (expression_of (read_of q.makes q.at) place q.whole)) (element_type q.whole) (declared_view x.of) q.element_is))
-            ∙ place_indexed env place q.at q.whole q.bounded x.lends q.makes gs (declared_view x.of) es q.element_is numbers ∙ ap (λ (y : Lvalue). terms.a_place y (declared_view x.of) false x.lends false) (q.no_variable es);
-        ends = λ n.
-            ap (λ (o : Option (Exprs × List Piece)). of_place_found (λ (y : Lvalue) (xs : Exprs). a_place (element y xs)) o) (taken_off x.count s.made ps s.between s.count_is s.on_top)
-            ∙ ap (λ (st : List Piece). of_place (λ (y : Lvalue). a_place (element y es)) st) q.on_top;
-      });
-}
-
-pub ends_value : (x : Indexed) → x.target ≡ target.Value → 0 < x.count → EndsIndexed x (term.Value (record { kind = kinds.ElementValue x.count; of = x.of }))
-ends_value x is lt = record {
-  named = λ t. tt;
-  stands = λ env t e args ps below s.
-      let gs = givens env args in
-      let place = place_told e in
-      let T : Target → Type 0 = λ (z : Target). TargetStands env z x.of x.lends place (callee env e (term_of env e)) s.between below in
-      let q = subst T is s.target_is in
-      let es = exprs_of s.made in
-      record {
-        made = element_value q.whole es;
-        is = q.is gs es (numbers_are (operand_of env) gs s.made s.numbers (there_are x s.made lt s.count_is));
-        ends = λ n.
-            ap (λ (o : Option (Exprs × List Piece)). of_value_found (λ (y : bound.Expr) (xs : Exprs). expr_of n (element_value y xs)) o) (taken_off x.count s.made ps s.between s.count_is s.on_top)
-            ∙ ap (λ (st : List Piece). of_value (λ (y : bound.Expr). expr_of n (element_value y es)) st) q.on_top;
-      };
-}
-
--- ---- arguments end
-
-abbrev pub ended : Indexed → Term → Tree
-ended x y = record { place = x.place; name = None; dotted = None; term = y }
-
-ended_stands : (env : Env) (x : Indexed) (y : Term) (left right : Token) (xs : List Item) (d : Drafted) → EndsIndexed x y → (is : List nodes.Item) (base : Base) → Stands env d.tables (items.Indexed x ∷ xs) is d.pieces base
-    → Stands env d.tables (items.Tree (ended x y) ∷ xs) (behind_node (node.Index left right) is) d.pieces base
-ended_stands env x y left right xs d m [] base h = absurd h
-ended_stands env x y left right xs d m (nodes.tree v ∷ is) base h = absurd h
-ended_stands env x y left right xs d m (nodes.arguments args ∷ []) base h = absurd h
-ended_stands env x y left right xs d m (nodes.arguments args ∷ nodes.arguments more ∷ is) base h = absurd h
-ended_stands env x y left right xs d m (nodes.arguments args ∷ nodes.tree b ∷ is) base h = (
-  h.0,
-  (tree_ended env d.tables y x.place b args left right d.pieces h.0 h.1.0.place_is (m.stands env d.tables b args d.pieces h.0 h.1.0), h.1.1),
-)
-
-pub closes_indexed : (x : Indexed) (y : Term) (d : Drafted) → EndsIndexed x y → Closes (items.Indexed x) d d (ended x y)
-closes_indexed x y d m = record { grown = grown_same d; named = m.named d.tables; stands = λ env left right xs is base k h. ended_stands env x y left right xs d m is base h }
-
-end_stands : (env : Env) (i : Item) (y : Tree) (left right : Token) (xs : List Item) (d e : Drafted) → AllNamed d.tables (i ∷ xs) → Closes i d e y → Goes env d (i ∷ xs) e (items.Tree y ∷ xs) (behind_node (node.Index left right))
-end_stands env i y left right xs d e k c = record {
-  grown = c.grown;
-  named = (c.named, all_named d.tables e.tables c.grown.tables xs k.1);
-  stands = λ is base h. c.stands env left right xs is base k.1 h;
-}
-
-pub goes_end : (env : Env) (i : Item) (y : Tree) (left right : Token) (xs old new : List Item) (d e : Drafted) → old ≡ i ∷ xs → new ≡ items.Tree y ∷ xs → AllNamed d.tables old → Closes i d e y
-    → Goes env d old e new (behind_node (node.Index left right))
-goes_end env i y left right xs old new d e o n k c =
-    let g = behind_node (node.Index left right) in
-    let N : List Item → Type 0 = λ (l : List Item). AllNamed d.tables l in
-    let A : List Item → Type 0 = λ (l : List Item). Goes env d l e new g in
-    let B : List Item → Type 0 = λ (l : List Item). Goes env d (i ∷ xs) e l g in
-    subst A (sym o) (subst B (sym n) (end_stands env i y left right xs d e (subst N o k) c))
-
--- ---- an argument that isn't written
-
--- an item with others is named as it was
-passed_item : (t : Tables) (i : Item) (q : Passed) → ItemNamed t i → ItemNamed t (with_passed i q)
-passed_item t (items.Call x) q h = tt
-passed_item t (items.Listed x) q h = tt
-passed_item t i q h = h
-
-pub misses_passed : (i : Item) (p q : Passed) (d e : Drafted) → passed_in i ≡ Some p → ItemNamed d.tables i → PassesMissing p d e q → AddsMissing i d e (with_passed i q)
-misses_passed i p q d e f n m = record {
-  grown = m.grown;
-  named = passed_item e.tables i q (item_named d.tables e.tables m.grown.tables i n);
-  stands = λ env comma xs is base k h. (goes_missing env i xs (i ∷ xs) (with_passed i q ∷ xs) p q comma d e refl refl f (n, k) m).stands is base h;
-}
-
-pub goes_skipped : (env : Env) (i j : Item) (xs old new : List Item) (comma : Option Token) (d e : Drafted) → old ≡ i ∷ xs → new ≡ j ∷ xs → AllNamed d.tables old → AddsMissing i d e j
-    → Goes env d old e new (behind_node (node.MissingArgument comma))
-goes_skipped env i j xs old new comma d e o n k m =
-    let g = behind_node (node.MissingArgument comma) in
-    let N : List Item → Type 0 = λ (l : List Item). AllNamed d.tables l in
-    let A : List Item → Type 0 = λ (l : List Item). Goes env d l e new g in
-    let B : List Item → Type 0 = λ (l : List Item). Goes env d (i ∷ xs) e l g in
-    let all = subst N o k in
-    subst A (sym o) (subst B (sym n) (record {
-      grown = m.grown;
-      named = (m.named, all_named d.tables e.tables m.grown.tables xs all.1);
-      stands = λ is base h. m.stands env comma xs is base all.1 h;
-    }))

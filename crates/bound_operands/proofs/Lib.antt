@@ -1,5 +1,6 @@
 pub mod NamedMembers
 pub mod Elements
+pub mod ElementEnds
 pub mod Library
 pub mod ParamArrays
 pub mod Untaking

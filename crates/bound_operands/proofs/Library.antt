@@ -209,9 +209,9 @@ valued env x y how count comma xs d e c w p k (nodes.tree v ∷ nodes.arguments 
       ),
     )
 
-pub adds_value : (has : Bool) (x : FunctionCall) (y : Tree) (how : Taking) (count : ℕ) (d e : Drafted) → count ≡ x.count + 1 → taking_view how ≡ taking x.function.function x.count
-    → PushesMarked how y d e → AddsArgument has (items.Function x) y d e (items.Function (record x { count = count }))
-adds_value has x y how count d e c w p = record { grown = p.grown; named = tt; stands = λ env known comma xs is base k h. valued env x y how count comma xs d e c w p k is base h }
+pub adds_value : (x : FunctionCall) (y : Tree) (how : Taking) (count : ℕ) (d e : Drafted) → count ≡ x.count + 1 → taking_view how ≡ taking x.function.function x.count
+    → PushesMarked how y d e → AddsArgument (items.Function x) y d e (items.Function (record x { count = count }))
+adds_value x y how count d e c w p = record { grown = p.grown; named = tt; stands = λ env comma xs is base k h. valued env x y how count comma xs d e c w p k is base h }
 
 -- one more value, which has a name
 named_value : (env : Env) (x : FunctionCall) (y : Tree) (how : Taking) (count : ℕ) (comma : Option Token) (name : Identifier) (mark : Token) (xs : List Item) (d e : Drafted) → count ≡ x.count + 1

@@ -3,7 +3,6 @@ ghost use Rattle.vba_lexer.specs.declared.token.Token.{Token};
 ghost use Rattle.vba_expression.specs.declared.node.ExpressionNode.TheVariants as node;
 ghost use Rattle.vba_expression.specs.Nodes.{behind_node};
 ghost use Rattle.bound_project.specs.DraftView.{draft_view};
-ghost use Rattle.bound_members.specs.bound_calls.specs.bound_declarations.specs.constant_values.specs.declared_names.specs.binder.specs.Classes as classes;
 ghost use Rattle.bound_members.specs.bound_calls.specs.bound_forms.specs.Terms as plain;
 ghost use Rattle.bound_members.specs.bound_calls.specs.Calls.{passed_in, with_passed};
 ghost use Rattle.bound_members.specs.bound_calls.specs.Standing.{AllNamed};
@@ -45,10 +44,9 @@ pub fn step_plain_argument<'a>(
     alloc: Global,
     draft: &mut Draft,
     stack: &mut Vec<Item<'a>>,
-    has_class: bool,
 ) -> Result<(), OrMemory<NotYet>>
     requires { AllNamed (draft_view draft.old).tables (reverse stack.old.items) }
-    ensures { OnOk result ((env : plain.Env) → classes.has_class env.scope.spaces ≡ has_class → (comma : Option Token) → Goes env (draft_view draft.old) (reverse stack.old.items) (draft_view draft.new) (reverse stack.new.items) (behind_node (node.PlainArgument comma))) }
+    ensures { OnOk result ((env : plain.Env) (comma : Option Token) → Goes env (draft_view draft.old) (reverse stack.old.items) (draft_view draft.new) (reverse stack.new.items) (behind_node (node.PlainArgument comma))) }
 {
     let Some(Item::Tree(tree)) = take_item(stack) else {
         return Err(OrMemory::NoMemory);
@@ -63,7 +61,7 @@ pub fn step_plain_argument<'a>(
     if is_refused(item) {
         return refuse(alloc, draft, stack, item, tree, None);
     }
-    let item = add_argument(alloc, draft, item, tree, has_class)?;
+    let item = add_argument(alloc, draft, item, tree)?;
     put_item(stack, item)?;
     Ok(())
 }

@@ -1,6 +1,6 @@
 //! Functions of the library: what their names are, and calls of them.
 
-ghost use Rattle.std.specs.Prelude.{◌≡◌, ◌==◌, ◌&&◌, ◌||◌, not, IfOk, OnOk, Bool};
+ghost use Rattle.std.specs.Prelude.{◌≡◌, ◌==◌, ◌&&◌, ◌||◌, not, IfOk, OnOk};
 ghost use Rattle.vba_lib.specs.Library.{declared_of};
 ghost use Rattle.bound_project.specs.DraftView.{draft_view};
 ghost use Rattle.bound_project.specs.Drafts.{Drafted};
@@ -112,7 +112,7 @@ fn push_taken<'a>(
 }
 
 /// Pushes an argument as a function takes it; a value of a Type is marked as what breaks a static rule.
-fn push_marked<'a>(
+pub fn push_marked<'a>(
     alloc: Global,
     draft: &mut Draft,
     taking: Taking,
@@ -135,7 +135,7 @@ pub fn add_value<'a>(
     tree: Tree<'a>,
 ) -> Result<FunctionCall, OrMemory<NotYet>>
     requires { TermNamed (draft_view draft.old).tables tree.term }
-    ensures { IfOk result (λ more. (has : Bool) → AddsArgument has (item.Function call) tree.entry (draft_view draft.old) (draft_view draft.new) (item.Function more)) }
+    ensures { IfOk result (λ more. AddsArgument (item.Function call) tree.entry (draft_view draft.old) (draft_view draft.new) (item.Function more)) }
 {
     let count = sum(call.count, 1)?;
     let taking = taking_of(call.function.function, call.count);

@@ -1,6 +1,7 @@
-//! What stands before brackets, and what the numbers in them make of it: elements of places and of values.
+//! What stands before brackets, and what the numbers in them make of it: elements of places and of values, and what the run
+//! says the arguments lead to.
 
-ghost use Rattle.std.specs.Prelude.{◌≡◌, ◌<◌, Bool, IfOk, IfSome, option_map};
+ghost use Rattle.std.specs.Prelude.{◌≡◌, ◌<◌, false, true, Bool, IfOk, IfSome, option_map};
 ghost use Rattle.bound_project.specs.DraftView.{draft_view};
 ghost use Rattle.bound_project.specs.Drafts.{Drafted, NodeNamed};
 ghost use Rattle.bound_project.specs.View.{declared_view};
@@ -10,19 +11,21 @@ ghost use Rattle.bound_members.specs.bound_calls.specs.bound_declarations.specs.
 ghost use Rattle.bound_members.specs.bound_calls.specs.Calls.{PushesReceiver};
 ghost use Rattle.bound_members.specs.bound_calls.specs.Indexing.{AddsArgument, AddsMissing, Closes, EndsIndexed, OpensTerm, PushesTarget, is_part};
 ghost use Rattle.bound_members.specs.bound_calls.specs.Standing.{ItemNamed, TermNamed};
-ghost use Rattle.bound_operands.specs.Indexing.{HasElements, PushesWhole};
+ghost use Rattle.bound_members.specs.bound_calls.specs.References.{IsFoundLate};
+ghost use Rattle.bound_members.specs.bound_calls.specs.Taking.{read_kind};
+ghost use Rattle.bound_operands.specs.Indexing.{HasElements, PushesAlong, PushesAsPlace, PushesWhole, is_along};
 
 use crate::call_steps::{passed_in, with_passed};
-use crate::functions::{add_missing_value, add_value, close_function};
+use crate::functions::{Taking, add_missing_value, add_value, close_function, push_marked};
 use bound_members::bound_calls::bound_declarations::NotYet;
 use bound_members::bound_calls::{
     Call, Ending, Indexed, Item, Passed, Routine, Target, Term, Tree, call_ending, may_be_instance,
-    pass_missing, pass_plain, push_node, push_operand, read_kind, sum,
+    nowhere, pass_missing, pass_plain, push_node, push_operand, read_kind, sum,
 };
-use bound_members::{add_given, add_missing, close_member};
+use bound_members::{add_given, add_missing, close_member, is_known_late};
 use bound_project::{DeclaredType, Draft, ElementType, NodeKind};
 use std::alloc::Global;
-use vba_base::{OrMemory, Place};
+use vba_base::{NoMemory, OrMemory, Place};
 
 /// The type of what an index gives, where something can be indexed.
 fn element_type(of: DeclaredType) -> Option<DeclaredType>
@@ -94,8 +97,30 @@ fn push_target(
     }
 }
 
-/// A place whose numbers in brackets are read from now on.
-pub fn open_place<'a>(
+/// A place whose arguments in brackets, which lead on as the run says, are read from now on.
+fn open_along<'a>(
+    draft: &mut Draft,
+    tree: Tree<'a>,
+    kind: NodeKind,
+    of: DeclaredType,
+    lends: bool,
+) -> Result<Indexed, NoMemory>
+    requires { NodeNamed (draft_view draft.old).tables kind }
+    ensures { IfOk result (λ indexed. (env : plain.Env) (makes : Bool) → IsFoundLate (classes.has_class env.scope.spaces) (draft_view draft.old).tables (record { kind = read_kind makes; of = of }) true
+        → (bounded : Bool) → OpensTerm env tree.entry (Term.Place kind of bounded lends makes) (draft_view draft.old) (draft_view draft.new) (Item.Indexed indexed)) }
+{
+    push_node(draft, kind, of, tree.place)?;
+    Ok(Indexed {
+        place: tree.place,
+        target: Target::PlaceAlong,
+        of: DeclaredType::Plain(ElementType::Variant),
+        lends,
+        count: 0,
+    })
+}
+
+/// A place whose numbers in brackets, which the run says nothing of, are read from now on.
+fn open_element<'a>(
     draft: &mut Draft,
     tree: Tree<'a>,
     kind: NodeKind,
@@ -124,8 +149,64 @@ pub fn open_place<'a>(
     })
 }
 
-/// Pushes a value that begins at a place, whose numbers in brackets are read from now on.
-pub fn push_whole(
+/// A place whose numbers or other arguments in brackets are read from now on.
+pub fn open_place<'a>(
+    draft: &mut Draft,
+    tree: Tree<'a>,
+    kind: NodeKind,
+    of: DeclaredType,
+    lends: bool,
+    makes: bool,
+    has_class: bool,
+) -> Result<Indexed, OrMemory<NotYet>>
+    requires { NodeNamed (draft_view draft.old).tables kind }
+    ensures { IfOk result (λ indexed. (env : plain.Env) → classes.has_class env.scope.spaces ≡ has_class → (bounded : Bool) → OpensTerm env tree.entry (Term.Place kind of bounded lends makes) (draft_view draft.old) (draft_view draft.new) (Item.Indexed indexed)) }
+{
+    let read = Ending {
+        kind: read_kind(makes),
+        of,
+    };
+    if is_known_late(has_class, draft, read) {
+        let indexed = open_along(draft, tree, kind, of, lends)?;
+        return Ok(indexed);
+    }
+    open_element(draft, tree, kind, of, lends, makes, has_class)
+}
+
+/// Pushes a value that begins at a place, and in which arguments lead on as the run says.
+fn push_along(draft: &mut Draft, ending: Ending, place: Place) -> Result<Indexed, NoMemory>
+    requires { NodeNamed (draft_view draft.old).tables ending.kind }
+    ensures { IfOk result (λ indexed. PushesAlong ending place (draft_view draft.old) (draft_view draft.new) indexed) }
+{
+    push_node(draft, ending.kind, ending.of, place)?;
+    Ok(Indexed {
+        place,
+        target: Target::ValueAlong,
+        of: DeclaredType::Plain(ElementType::Variant),
+        lends: false,
+        count: 0,
+    })
+}
+
+/// Pushes a value that begins at a place as a place, from which arguments lead on to what is assigned to.
+pub fn push_as_place(draft: &mut Draft, ending: Ending, place: Place) -> Result<Indexed, NoMemory>
+    requires { NodeNamed (draft_view draft.old).tables ending.kind }
+    ensures { IfOk result (λ indexed. PushesAsPlace ending place (draft_view draft.old) (draft_view draft.new) indexed) }
+{
+    let variant = DeclaredType::Plain(ElementType::Variant);
+    push_node(draft, ending.kind, ending.of, place)?;
+    push_node(draft, NodeKind::PlaceOf, variant, place)?;
+    Ok(Indexed {
+        place,
+        target: Target::ValueAsPlace,
+        of: variant,
+        lends: false,
+        count: 0,
+    })
+}
+
+/// Pushes a value that begins at a place, whose numbers in brackets, which the run says nothing of, are read from now on.
+fn push_element(
     draft: &mut Draft,
     ending: Ending,
     place: Place,
@@ -145,6 +226,23 @@ pub fn push_whole(
         lends: false,
         count: 0,
     })
+}
+
+/// Pushes a value that begins at a place, whose numbers or other arguments in brackets are read from now on.
+pub fn push_whole(
+    draft: &mut Draft,
+    ending: Ending,
+    place: Place,
+    has_class: bool,
+) -> Result<Indexed, OrMemory<NotYet>>
+    requires { NodeNamed (draft_view draft.old).tables ending.kind }
+    ensures { IfOk result (λ indexed. PushesWhole has_class ending place (draft_view draft.old) (draft_view draft.new) indexed) }
+{
+    if is_known_late(has_class, draft, ending) {
+        let indexed = push_along(draft, ending, place)?;
+        return Ok(indexed);
+    }
+    push_element(draft, ending, place, has_class)
 }
 
 /// A value whose numbers in brackets are read from now on.
@@ -174,6 +272,18 @@ pub fn open_call<'a>(tree: Tree<'a>, routine: Routine<'a>) -> Call<'a>
     }
 }
 
+/// Do arguments lead on from what is indexed, as the run says?
+fn is_along(target: Target) -> bool
+    ensures { result ≡ is_along target }
+{
+    match target {
+        Target::PlaceAlong => true,
+        Target::ValueAlong => true,
+        Target::ValueAsPlace => true,
+        _ => false,
+    }
+}
+
 /// One more number: the expression on top.
 fn add_number<'a>(
     alloc: Global,
@@ -181,14 +291,47 @@ fn add_number<'a>(
     indexed: Indexed,
     tree: Tree<'a>,
 ) -> Result<Indexed, OrMemory<NotYet>>
-    requires { TermNamed (draft_view draft.old).tables tree.term }
-    ensures { IfOk result (λ more. (has : Bool) → AddsArgument has (Item.Indexed indexed) tree.entry (draft_view draft.old) (draft_view draft.new) (Item.Indexed more)) }
+    requires named { TermNamed (draft_view draft.old).tables tree.term }
+    requires plain { is_along indexed.target ≡ false }
+    ensures { IfOk result (λ more. AddsArgument (Item.Indexed indexed) tree.entry (draft_view draft.old) (draft_view draft.new) (Item.Indexed more)) }
 {
     let count = sum(indexed.count, 1)?;
     let Some(_found) = push_operand(alloc, draft, tree)? else {
         return Err(OrMemory::Fault(NotYet));
     };
     Ok(Indexed { count, ..indexed })
+}
+
+/// One more argument of what the run says: the expression on top, as a Variant takes it.
+fn add_along<'a>(
+    alloc: Global,
+    draft: &mut Draft,
+    indexed: Indexed,
+    tree: Tree<'a>,
+) -> Result<Indexed, OrMemory<NotYet>>
+    requires named { TermNamed (draft_view draft.old).tables tree.term }
+    requires along { is_along indexed.target ≡ true }
+    ensures { IfOk result (λ more. AddsArgument (Item.Indexed indexed) tree.entry (draft_view draft.old) (draft_view draft.new) (Item.Indexed more)) }
+{
+    let count = sum(indexed.count, 1)?;
+    push_marked(alloc, draft, Taking::ByDefault, tree)?;
+    Ok(Indexed { count, ..indexed })
+}
+
+/// One more argument of what is indexed: the expression on top.
+fn add_index<'a>(
+    alloc: Global,
+    draft: &mut Draft,
+    indexed: Indexed,
+    tree: Tree<'a>,
+) -> Result<Indexed, OrMemory<NotYet>>
+    requires { TermNamed (draft_view draft.old).tables tree.term }
+    ensures { IfOk result (λ more. AddsArgument (Item.Indexed indexed) tree.entry (draft_view draft.old) (draft_view draft.new) (Item.Indexed more)) }
+{
+    if is_along(indexed.target) {
+        return add_along(alloc, draft, indexed, tree);
+    }
+    add_number(alloc, draft, indexed, tree)
 }
 
 /// One more argument of a procedure: the expression on top.
@@ -199,7 +342,7 @@ fn add_passed<'a>(
     tree: Tree<'a>,
 ) -> Result<Item<'a>, OrMemory<NotYet>>
     requires { TermNamed (draft_view draft.old).tables tree.term }
-    ensures { IfOk result (λ more. (has : Bool) → AddsArgument has item.entry tree.entry (draft_view draft.old) (draft_view draft.new) more) }
+    ensures { IfOk result (λ more. AddsArgument item.entry tree.entry (draft_view draft.old) (draft_view draft.new) more) }
 {
     let Some(passed) = passed_in(item) else {
         return Err(OrMemory::NoMemory);
@@ -214,19 +357,18 @@ pub fn add_argument<'a>(
     draft: &mut Draft,
     item: Item<'a>,
     tree: Tree<'a>,
-    has_class: bool,
 ) -> Result<Item<'a>, OrMemory<NotYet>>
     requires named { TermNamed (draft_view draft.old).tables tree.term }
     requires item { ItemNamed (draft_view draft.old).tables item }
-    ensures { IfOk result (λ more. AddsArgument has_class item.entry tree.entry (draft_view draft.old) (draft_view draft.new) more) }
+    ensures { IfOk result (λ more. AddsArgument item.entry tree.entry (draft_view draft.old) (draft_view draft.new) more) }
 {
     match item {
         Item::Member(call) => {
-            let more = add_given(alloc, draft, call, tree, has_class)?;
+            let more = add_given(alloc, draft, call, tree)?;
             Ok(Item::Member(more))
         }
         Item::Indexed(indexed) => {
-            let more = add_number(alloc, draft, indexed, tree)?;
+            let more = add_index(alloc, draft, indexed, tree)?;
             Ok(Item::Indexed(more))
         }
         Item::Function(call) => {
@@ -253,6 +395,19 @@ fn skip_passed<'a>(
     Ok(with_passed(item, passed))
 }
 
+/// One more argument of what is indexed, which isn't written: Missing where the run says what is indexed.
+fn skip_along(draft: &mut Draft, indexed: Indexed) -> Result<Indexed, OrMemory<NotYet>>
+    ensures { IfOk result (λ more. AddsMissing (Item.Indexed indexed) (draft_view draft.old) (draft_view draft.new) (Item.Indexed more)) }
+{
+    if !is_along(indexed.target) {
+        return Err(OrMemory::Fault(NotYet));
+    }
+    let count = sum(indexed.count, 1)?;
+    let variant = DeclaredType::Plain(ElementType::Variant);
+    push_node(draft, NodeKind::NotGiven, variant, nowhere())?;
+    Ok(Indexed { count, ..indexed })
+}
+
 /// One more argument, which isn't written.
 pub fn skip_argument<'a>(
     alloc: Global,
@@ -267,6 +422,10 @@ pub fn skip_argument<'a>(
             let more = add_missing(draft, call)?;
             Ok(Item::Member(more))
         }
+        Item::Indexed(indexed) => {
+            let more = skip_along(draft, indexed)?;
+            Ok(Item::Indexed(more))
+        }
         Item::Function(call) => {
             let more = add_missing_value(draft, call)?;
             Ok(Item::Function(more))
@@ -275,32 +434,44 @@ pub fn skip_argument<'a>(
     }
 }
 
-/// An element, by what is indexed, behind so many numbers.
-fn element<'a>(indexed: Indexed) -> Term<'a>
+/// An element, by what is indexed, behind so many numbers or other arguments. One that is assigned to ends otherwise.
+fn element<'a>(indexed: Indexed) -> Result<Term<'a>, OrMemory<NotYet>>
     requires { 0 < indexed.count }
-    ensures { EndsIndexed indexed result }
+    ensures { IfOk result (λ term. EndsIndexed indexed term) }
 {
     let numbers = indexed.count;
     let of = indexed.of;
     match indexed.target {
-        Target::Variable(variable) => Term::Place {
+        Target::Variable(variable) => Ok(Term::Place {
             kind: NodeKind::Item { variable, numbers },
             of,
             is_bounded: false,
             lends: indexed.lends,
             makes: false,
-        },
-        Target::Place => Term::Place {
+        }),
+        Target::Place => Ok(Term::Place {
             kind: NodeKind::Element { numbers },
             of,
             is_bounded: false,
             lends: indexed.lends,
             makes: false,
-        },
-        Target::Value => Term::Value(Ending {
+        }),
+        Target::Value => Ok(Term::Value(Ending {
             kind: NodeKind::ElementValue { numbers },
             of,
+        })),
+        Target::PlaceAlong => Ok(Term::Place {
+            kind: NodeKind::ElementAlong { arguments: numbers },
+            of,
+            is_bounded: false,
+            lends: indexed.lends,
+            makes: false,
         }),
+        Target::ValueAlong => Ok(Term::Value(Ending {
+            kind: NodeKind::ItemAlong { arguments: numbers },
+            of,
+        })),
+        Target::ValueAsPlace => Err(OrMemory::Fault(NotYet)),
     }
 }
 
@@ -311,7 +482,7 @@ fn close_indexed<'a>(indexed: Indexed) -> Result<Term<'a>, OrMemory<NotYet>>
     if indexed.count == 0 {
         return Err(OrMemory::Fault(NotYet));
     }
-    Ok(element(indexed))
+    element(indexed)
 }
 
 /// The end of arguments: a call.

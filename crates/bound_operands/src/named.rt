@@ -12,7 +12,6 @@ ghost use Rattle.bound_members.specs.bound_calls.specs.bound_forms.specs.Terms a
 ghost use Rattle.bound_members.specs.bound_calls.specs.InOrder.{found_view, is_named, with_named};
 ghost use Rattle.bound_members.specs.bound_calls.specs.Standing.{AllNamed, passed_below};
 ghost use Rattle.bound_members.specs.bound_calls.specs.Steps.{Goes};
-ghost use Rattle.bound_members.specs.bound_calls.specs.bound_declarations.specs.constant_values.specs.declared_names.specs.binder.specs.Classes as classes;
 
 use crate::call_steps;
 use crate::functions::add_named_value;
@@ -101,12 +100,11 @@ fn give_named<'a>(
     call: MemberCall,
     tree: Tree<'a>,
     name: &Identifier,
-    has_class: bool,
 ) -> Result<(), OrMemory<NotYet>>
     requires { AllNamed (draft_view draft.old).tables (Item.Tree tree ∷ Item.Member call ∷ reverse stack.old.items) }
-    ensures { OnOk result ((env : plain.Env) → classes.has_class env.scope.spaces ≡ has_class → (comma : Option Token) (mark : Token) → Goes env (draft_view draft.old) (Item.Tree tree.entry ∷ Item.Member call ∷ reverse stack.old.items) (draft_view draft.new) (reverse stack.new.items) (behind_node (node.NamedArgument comma name.now mark))) }
+    ensures { OnOk result ((env : plain.Env) (comma : Option Token) (mark : Token) → Goes env (draft_view draft.old) (Item.Tree tree.entry ∷ Item.Member call ∷ reverse stack.old.items) (draft_view draft.new) (reverse stack.new.items) (behind_node (node.NamedArgument comma name.now mark))) }
 {
-    let more = add_named(alloc, draft, call, tree, name, has_class)?;
+    let more = add_named(alloc, draft, call, tree, name)?;
     put_item(stack, Item::Member(more))?;
     Ok(())
 }
@@ -133,16 +131,15 @@ pub fn step_named_argument<'a>(
     draft: &mut Draft,
     stack: &mut Vec<Item<'a>>,
     name: &'a Identifier,
-    has_class: bool,
 ) -> Result<(), OrMemory<NotYet>>
     requires { AllNamed (draft_view draft.old).tables (reverse stack.old.items) }
-    ensures { OnOk result ((env : plain.Env) → classes.has_class env.scope.spaces ≡ has_class → (comma : Option Token) (mark : Token) → Goes env (draft_view draft.old) (reverse stack.old.items) (draft_view draft.new) (reverse stack.new.items) (behind_node (node.NamedArgument comma name.now mark))) }
+    ensures { OnOk result ((env : plain.Env) (comma : Option Token) (mark : Token) → Goes env (draft_view draft.old) (reverse stack.old.items) (draft_view draft.new) (reverse stack.new.items) (behind_node (node.NamedArgument comma name.now mark))) }
 {
     let Some(Item::Tree(tree)) = take_item(stack) else {
         return Err(OrMemory::NoMemory);
     };
     match take_item(stack) {
-        Some(Item::Member(call)) => give_named(alloc, draft, stack, call, tree, name, has_class),
+        Some(Item::Member(call)) => give_named(alloc, draft, stack, call, tree, name),
         Some(Item::Function(call)) => give_function(alloc, draft, stack, call, tree),
         Some(item) => {
             if is_refused(item) {

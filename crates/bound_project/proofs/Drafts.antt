@@ -11,17 +11,20 @@ use Rattle.bound_project.specs.declared.node.NodeKind.{NodeKind}
 use Rattle.bound_project.specs.declared.node.NodeKind.TheVariants as node
 use Rattle.bound_project.specs.declared.node.Node.{Node}
 use Rattle.bound_project.specs.declared.node.ArgumentNames.{ArgumentNames}
+use Rattle.bound_project.specs.declared.node.LateName.{LateName}
+use Rattle.bound_project.specs.declared.node.LateUse.{LateUse}
+use Rattle.bound_project.specs.declared.node.LateUse.TheVariants.{Reading, Assigning, Setting}
 use Rattle.bound_project.specs.declared.statement.ActionKind.{ActionKind}
 use Rattle.bound_project.specs.declared.statement.ActionKind.TheVariants as kind
 use Rattle.bound_project.specs.declared.statement.StatementNode.{StatementNode}
 use Rattle.bound_project.specs.declared.project.Body.{Body}
 use Rattle.bound_project.specs.View.{declared_view}
-use Rattle.bound_project.specs.Expressions.{constant, call, host_member, method, named_member, ByName, no_args, in_order, no_exprs}
+use Rattle.bound_project.specs.Expressions.{constant, call, host_member, method, named_member, late_field, ByName, no_args, in_order, no_exprs}
 use Rattle.bound_project.specs.Statements as plain
 use Rattle.bound_project.specs.Statements.{Action, let_method, let_property, raise, set_method, set_property}
-use Rattle.bound_project.specs.Pieces.{Piece, an_argument, default_taken, a_member, a_named_member, Tables, constant_in, name_of, name_in, order_in, by_name_in, exprs_off, arguments_off, of_value, of_found, of_member_found, of_object_found, of_named_found, expr_of, put_kind, put, read, pieces}
-use Rattle.bound_project.specs.Bodies.{behind_object, behind_value, member_found, whole, action_of, action_or, part, statement_view, StatementFits, AllFit, BodiesFit, body_view}
-use Rattle.bound_project.specs.Drafts.{Drafted, AllBelow, NamesNamed, NodeNamed, ActionNamed, AllNamed, ActionsNamed, BodyKept, BodiesKept, Kept, with_constant, with_order, tables_in, drafted, statement_of}
+use Rattle.bound_project.specs.Pieces.{Piece, a_place, an_argument, default_taken, a_member, a_named_member, place_there, value_there, Sought, a_late, a_given, Tables, constant_in, name_of, name_in, order_in, by_name_in, flags, flags_in, sought_in, exprs_off, arguments_off, of_value, of_place, of_found, of_member_found, of_object_found, of_named_found, expr_of, late_put, put_kind, put, read, pieces}
+use Rattle.bound_project.specs.Bodies.{behind_object, behind_value, member_found, late_assigned, late_set, whole, action_of, action_or, part, statement_view, StatementFits, AllFit, BodiesFit, body_view}
+use Rattle.bound_project.specs.Drafts.{Drafted, AllBelow, NamesNamed, LateNamed, NodeNamed, ActionNamed, AllNamed, ActionsNamed, BodyKept, BodiesKept, Kept, with_constant, with_order, tables_in, drafted, statement_of}
 
 -- ---- tables that grow
 
@@ -66,7 +69,18 @@ by_name_same t u e by h =
     let made : List (List ℕ) → ByName = λ names. record { before = by.before; names = names } in
     ap (λ is. made (map (name_in u) is)) (e.order_is by.order h.0) ∙ ap made (each_name_same t u e (order_in t by.order) h.1)
 
-node_named : (t u : Tables) → Extends t u → (k : NodeKind) → NodeNamed t k → NodeNamed u k
+-- and so does what a late-bound member is looked up by
+pub late_named : (t u : Tables) → Extends t u → (m : LateName) → LateNamed t m → LateNamed u m
+late_named t u e m h = (omega (arith, h.0, e.constants_more), (names_named t u e m.names h.1.0, omega (arith, h.1.1, e.orders_more)))
+
+pub sought_same : (t u : Tables) → Extends t u → (aim : LateUse) (m : LateName) → LateNamed t m → sought_in u aim m ≡ sought_in t aim m
+sought_same t u e aim m h =
+    let made : List ℕ → ByName → List Bool → Sought = λ name by given. record { aim = aim; name = name; by = by; given = given } in
+    ap (λ v. made (name_of v) (by_name_in u m.names) (flags_in u m)) (e.constant_is m.name h.0)
+    ∙ ap (λ by. made (name_in t m.name) by (flags_in u m)) (by_name_same t u e m.names h.1.0)
+    ∙ ap (λ o. made (name_in t m.name) (by_name_in t m.names) (flags m.arguments o)) (e.order_is m.given h.1.1)
+
+pub node_named : (t u : Tables) → Extends t u → (k : NodeKind) → NodeNamed t k → NodeNamed u k
 node_named t u e (node.Constant i) h = omega (arith, e.constants_more)
 node_named t u e (node.ByDefault i) h = omega (arith, e.constants_more)
 node_named t u e (node.CallInOrder p count order) h = omega (arith, e.orders_more)
@@ -75,6 +89,11 @@ node_named t u e (node.MemberThere i given) h = omega (arith, e.constants_more)
 node_named t u e (node.HostMember i count) h = omega (arith, e.constants_more)
 node_named t u e (node.NamedThere i by given) h = (omega (arith, h.0, e.constants_more), names_named t u e by h.1)
 node_named t u e (node.NamedMember i by count) h = (omega (arith, h.0, e.constants_more), names_named t u e by h.1)
+node_named t u e (node.LateField i) h = omega (arith, e.constants_more)
+node_named t u e (node.LateThere aim m) h = late_named t u e m h
+node_named t u e (node.LateValue aim m i) h = late_named t u e m h
+node_named t u e (node.LatePlace aim m i) h = late_named t u e m h
+node_named t u e (node.LateMember m) h = late_named t u e m h
 node_named t u e k h = tt
 
 action_named : (t u : Tables) → Extends t u → (k : ActionKind) → ActionNamed t k → ActionNamed u k
@@ -84,6 +103,8 @@ action_named t u e (kind.SetPropertyInOrder q count order of) h = omega (arith, 
 action_named t u e (kind.LetMethodInOrder q count order of) h = omega (arith, e.orders_more)
 action_named t u e (kind.SetMethodInOrder q count order of) h = omega (arith, e.orders_more)
 action_named t u e (kind.RaiseInOrder count order) h = omega (arith, e.orders_more)
+action_named t u e (kind.AssignLate m) h = late_named t u e m h
+action_named t u e (kind.SetLate m) h = late_named t u e m h
 action_named t u e k h = tt
 
 all_named : (t u : Tables) → Extends t u → (ns : List Node) → AllNamed t ns → AllNamed u ns
@@ -94,7 +115,7 @@ actions_named : (t u : Tables) → Extends t u → (ss : List StatementNode) →
 actions_named t u e [] h = tt
 actions_named t u e (s ∷ ss) h = (action_named t u e s.action h.0, actions_named t u e ss h.1)
 
-put_same : (t u : Tables) → Extends t u → (n : Node) (k : NodeKind) → NodeNamed t k → (st : List Piece) → put_kind u n k st ≡ put_kind t n k st
+pub put_same : (t u : Tables) → Extends t u → (n : Node) (k : NodeKind) → NodeNamed t k → (st : List Piece) → put_kind u n k st ≡ put_kind t n k st
 put_same t u e n (node.Constant i) h st = ap (λ v. expr_of n (constant v) ∷ st) (e.constant_is i h)
 put_same t u e n (node.ByDefault i) h st = ap (λ v. an_argument (default_taken v) ∷ st) (e.constant_is i h)
 put_same t u e n (node.CallInOrder p count order) h st = ap (λ o. of_found (λ args. expr_of n (call p (in_order o args))) (arguments_off count st no_args)) (e.order_is order h)
@@ -110,6 +131,11 @@ put_same t u e n (node.NamedMember i by count) h st =
     let found = exprs_off count st no_exprs in
     ap (λ v. of_named_found (name_of v) (by_name_in u by) (λ x es. expr_of n (named_member x (name_of v) (by_name_in u by) es)) found) (e.constant_is i h.0)
     ∙ ap (λ how. of_named_found (name_in t i) how (λ x es. expr_of n (named_member x (name_in t i) how es)) found) (by_name_same t u e by h.1)
+put_same t u e n (node.LateField i) h st = ap (λ v. of_value (λ x. a_place (late_field x (name_of v))) st) (e.constant_is i h)
+put_same t u e n (node.LateThere aim m) h st = ap (λ s. of_value (λ x. a_late x s) st) (sought_same t u e aim m h)
+put_same t u e n (node.LateValue aim m i) h st = ap (λ s. of_value (λ x. a_given (value_there x) s i) st) (sought_same t u e aim m h)
+put_same t u e n (node.LatePlace aim m i) h st = ap (λ s. of_place (λ x. a_given (place_there x) s i) st) (sought_same t u e aim m h)
+put_same t u e n (node.LateMember m) h st = ap (λ s. late_put n s m.arguments st) (sought_same t u e Reading m h)
 put_same t u e n k h st = refl
 
 read_same : (t u : Tables) → Extends t u → (ns : List Node) → AllNamed t ns → (st : List Piece) → read u st ns ≡ read t st ns
@@ -127,6 +153,8 @@ action_same t u e (kind.LetMethodInOrder q count order of) h st =
 action_same t u e (kind.SetMethodInOrder q count order of) h st =
     ap (λ o. behind_object (arguments_off count st no_args) (λ base args v. set_method base q (in_order o args) v (declared_view of))) (e.order_is order h)
 action_same t u e (kind.RaiseInOrder count order) h st = ap (λ o. whole (arguments_off count st no_args) (λ args. raise (in_order o args))) (e.order_is order h)
+action_same t u e (kind.AssignLate m) h st = ap (λ s. late_assigned s m.arguments st) (sought_same t u e Assigning m h)
+action_same t u e (kind.SetLate m) h st = ap (λ s. late_set s m.arguments st) (sought_same t u e Setting m h)
 action_same t u e k h st = refl
 
 named_drop : (t : Tables) (ns : List Node) (i : ℕ) → AllNamed t ns → AllNamed t (drop i ns)

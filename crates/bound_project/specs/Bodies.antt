@@ -6,16 +6,17 @@ use Rattle.bound_project.specs.declared.statement.Handling.TheVariants.{PassedOn
 use Rattle.bound_project.specs.declared.statement.ActionKind.{ActionKind}
 use Rattle.bound_project.specs.declared.statement.ActionKind.TheVariants as kind
 use Rattle.bound_project.specs.declared.statement.StatementNode.{StatementNode}
+use Rattle.bound_project.specs.declared.node.LateUse.TheVariants.{Assigning, Setting}
 use Rattle.bound_project.specs.declared.node.Node.{Node}
 use Rattle.bound_project.specs.declared.project.Block.{Block}
 use Rattle.bound_project.specs.declared.project.Body.{Body}
 use Rattle.bound_project.specs.declared.project.Project.{Project}
-use Rattle.bound_project.specs.Expressions.{Expr, Lvalue, Args, no_args, in_order, Exprs, no_exprs, no_prints}
-use Rattle.bound_project.specs.Statements.{no_tests, no_resizes, no_arrays, Action, assign, assign_item, set, assign_default, assign_member, set_member, evaluate, let_property, set_property, let_method, set_method, print, raise, test, go_to, for_to, next, for_each, next_each, exit_each, select, case_of, redim, erase, with_place, with_value, end_with, go_sub, return_sub, exit_to, on_error, end_handler, clear_err, resume_again, resume_next, resume_at, stop, end_run}
+use Rattle.bound_project.specs.Expressions.{Expr, Lvalue, Args, no_args, in_order, Given, none_given, Exprs, no_exprs, no_prints}
+use Rattle.bound_project.specs.Statements.{no_tests, no_resizes, no_arrays, Action, assign, assign_item, set, assign_default, assign_member, set_member, assign_through, assign_element, set_element, assign_late, set_late, evaluate, let_property, set_property, let_method, set_method, print, raise, test, go_to, for_to, next, for_each, next_each, exit_each, select, case_of, redim, erase, with_place, with_value, end_with, go_sub, return_sub, exit_to, on_error, end_handler, clear_err, resume_again, resume_next, resume_at, stop, end_run}
 use Rattle.bound_project.specs.Statements as plain
 use Rattle.bound_project.specs.Project as project
 use Rattle.bound_project.specs.View.{declared_view, variable_view, declarations_view}
-use Rattle.bound_project.specs.Pieces.{Piece, an_expr, a_place, a_member, an_object, is_member, Tables, name_in, order_in, exprs_off, arguments_off, prints_off, tests_off, resizes_off, arrays_off, as_operand, pieces}
+use Rattle.bound_project.specs.Pieces.{Piece, an_expr, a_place, a_member, an_object, a_late, Sought, is_member, is_late, Tables, name_in, order_in, sought_in, exprs_off, arguments_off, given_off, prints_off, tests_off, resizes_off, arrays_off, as_operand, pieces}
 
 abbrev pub handling_view : Handling → plain.Handling
 handling_view PassedOn = plain.passed_on
@@ -66,6 +67,30 @@ abbrev pub item_found : Option (Exprs × List Piece) → Option Action
 item_found None = None
 item_found (Some (es, st)) = behind_base es st
 
+-- numbers behind a place, behind a value
+abbrev pub behind_place : (Lvalue → Exprs → Expr → Action) → Exprs → List Piece → Option Action
+behind_place make es (a_place x ∷ an_expr e ∷ []) = Some (make x es e)
+behind_place make es st = None
+
+abbrev pub element_found : (Lvalue → Exprs → Expr → Action) → Option (Exprs × List Piece) → Option Action
+element_found make None = None
+element_found make (Some (es, st)) = behind_place make es st
+
+-- arguments behind a late-bound member that was looked up, behind a value
+abbrev pub behind_late : Sought → (Expr → Given → Expr → Action) → Given → List Piece → Option Action
+behind_late s make given (a_late base other ∷ an_expr e ∷ []) = if is_late s other given then Some (make base given e) else None
+behind_late s make given st = None
+
+abbrev pub late_found : Sought → (Expr → Given → Expr → Action) → Option (Given × List Piece) → Option Action
+late_found s make None = None
+late_found s make (Some (given, st)) = behind_late s make given st
+
+abbrev pub late_assigned : Sought → ℕ → List Piece → Option Action
+late_assigned s count st = late_found s (λ base given e. assign_late base s.name s.by given e) (given_off s count st none_given)
+
+abbrev pub late_set : Sought → ℕ → List Piece → Option Action
+late_set s count st = late_found s (λ base given e. set_late base s.name s.by given e) (given_off s count st none_given)
+
 -- nothing is there
 abbrev pub alone : List Piece → Action → Option Action
 alone [] a = Some a
@@ -83,6 +108,12 @@ action_of t kind.AssignDefault st = None
 action_of t (kind.AssignMember i count) st = member_found (name_in t i) (exprs_off count st no_exprs)
 action_of t kind.SetMember (an_expr x ∷ an_expr e ∷ []) = Some (set_member x e)
 action_of t kind.SetMember st = None
+action_of t kind.AssignThrough (an_expr x ∷ an_expr e ∷ []) = Some (assign_through x e)
+action_of t kind.AssignThrough st = None
+action_of t (kind.AssignElement count) st = element_found (λ x es e. assign_element x es e) (exprs_off count st no_exprs)
+action_of t (kind.SetElement count) st = element_found (λ x es e. set_element x es e) (exprs_off count st no_exprs)
+action_of t (kind.AssignLate m) st = late_assigned (sought_in t Assigning m) m.arguments st
+action_of t (kind.SetLate m) st = late_set (sought_in t Setting m) m.arguments st
 action_of t kind.Evaluate st = one_value st (λ e. evaluate e)
 action_of t (kind.LetProperty p count of) st = behind_value (arguments_off count st no_args) (λ args e. let_property p args e (declared_view of))
 action_of t (kind.LetPropertyInOrder p count order of) st =

@@ -10,6 +10,7 @@ use Rattle.bound_project.specs.declared.node.NodeKind.{NodeKind}
 use Rattle.bound_project.specs.declared.node.NodeKind.TheVariants as node
 use Rattle.bound_project.specs.declared.node.Node.{Node}
 use Rattle.bound_project.specs.declared.node.ArgumentNames.{ArgumentNames}
+use Rattle.bound_project.specs.declared.node.LateName.{LateName}
 use Rattle.bound_project.specs.declared.statement.ActionKind.{ActionKind}
 use Rattle.bound_project.specs.declared.statement.ActionKind.TheVariants as kind
 use Rattle.bound_project.specs.declared.statement.StatementNode.{StatementNode}
@@ -44,6 +45,10 @@ AllBelow bound (i ∷ is) = (i < bound) × AllBelow bound is
 abbrev pub NamesNamed : Tables → ArgumentNames → Type 0
 NamesNamed t by = (by.order < length t.orders) × AllBelow (length t.constants) (order_in t by.order)
 
+-- and so is what a late-bound member is looked up by
+abbrev pub LateNamed : Tables → LateName → Type 0
+LateNamed t m = (m.name < length t.constants) × (NamesNamed t m.names × (m.given < length t.orders))
+
 -- a node's and a statement's numbers are in the tables
 abbrev pub NodeNamed : Tables → NodeKind → Type 0
 NodeNamed t (node.Constant i) = i < length t.constants
@@ -54,6 +59,11 @@ NodeNamed t (node.MemberThere i given) = i < length t.constants
 NodeNamed t (node.HostMember i count) = i < length t.constants
 NodeNamed t (node.NamedThere i by given) = (i < length t.constants) × NamesNamed t by
 NodeNamed t (node.NamedMember i by count) = (i < length t.constants) × NamesNamed t by
+NodeNamed t (node.LateField i) = i < length t.constants
+NodeNamed t (node.LateThere aim m) = LateNamed t m
+NodeNamed t (node.LateValue aim m i) = LateNamed t m
+NodeNamed t (node.LatePlace aim m i) = LateNamed t m
+NodeNamed t (node.LateMember m) = LateNamed t m
 NodeNamed t k = Unit {0}
 
 abbrev pub ActionNamed : Tables → ActionKind → Type 0
@@ -63,6 +73,8 @@ ActionNamed t (kind.SetPropertyInOrder q count order of) = order < length t.orde
 ActionNamed t (kind.LetMethodInOrder q count order of) = order < length t.orders
 ActionNamed t (kind.SetMethodInOrder q count order of) = order < length t.orders
 ActionNamed t (kind.RaiseInOrder count order) = order < length t.orders
+ActionNamed t (kind.AssignLate m) = LateNamed t m
+ActionNamed t (kind.SetLate m) = LateNamed t m
 ActionNamed t k = Unit {0}
 
 abbrev pub AllNamed : Tables → List Node → Type 0
@@ -103,6 +115,9 @@ all_below_prop bound (i ∷ is) = ×_prop le_prop (all_below_prop bound is)
 names_named_prop : (t : Tables) (by : ArgumentNames) → IsProp (NamesNamed t by)
 names_named_prop t by = ×_prop le_prop (all_below_prop (length t.constants) (order_in t by.order))
 
+late_named_prop : (t : Tables) (m : LateName) → IsProp (LateNamed t m)
+late_named_prop t m = ×_prop le_prop (×_prop (names_named_prop t m.names) le_prop)
+
 node_named_prop : (t : Tables) (k : NodeKind) → IsProp (NodeNamed t k)
 node_named_prop t (node.Constant i) = le_prop
 node_named_prop t (node.ByDefault i) = le_prop
@@ -112,6 +127,11 @@ node_named_prop t (node.MemberThere i given) = le_prop
 node_named_prop t (node.HostMember i count) = le_prop
 node_named_prop t (node.NamedThere i by given) = ×_prop le_prop (names_named_prop t by)
 node_named_prop t (node.NamedMember i by count) = ×_prop le_prop (names_named_prop t by)
+node_named_prop t (node.LateField i) = le_prop
+node_named_prop t (node.LateThere aim m) = late_named_prop t m
+node_named_prop t (node.LateValue aim m i) = late_named_prop t m
+node_named_prop t (node.LatePlace aim m i) = late_named_prop t m
+node_named_prop t (node.LateMember m) = late_named_prop t m
 node_named_prop t k = Unit-prop
 
 action_named_prop : (t : Tables) (k : ActionKind) → IsProp (ActionNamed t k)
@@ -121,6 +141,8 @@ action_named_prop t (kind.SetPropertyInOrder q count order of) = le_prop
 action_named_prop t (kind.LetMethodInOrder q count order of) = le_prop
 action_named_prop t (kind.SetMethodInOrder q count order of) = le_prop
 action_named_prop t (kind.RaiseInOrder count order) = le_prop
+action_named_prop t (kind.AssignLate m) = late_named_prop t m
+action_named_prop t (kind.SetLate m) = late_named_prop t m
 action_named_prop t k = Unit-prop
 
 all_named_prop : (t : Tables) (ns : List Node) → IsProp (AllNamed t ns)

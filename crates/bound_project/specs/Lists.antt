@@ -1,7 +1,7 @@
 -- Serves the code: lists of pieces that were put one after another, and what is made of them.
-use Rattle.std.specs.Prelude.{List, [], ◌∷◌, Option, Some, None}
-use Rattle.bound_project.specs.Expressions.{Expr, Exprs, no_exprs, also, Args, no_args, Prints, no_prints, shown, zone}
-use Rattle.bound_project.specs.Pieces.{Argument, Piece, a_value_shown, a_zone, with_argument}
+use Rattle.std.specs.Prelude.{ℕ, suc, List, [], ◌∷◌, Option, Some, None}
+use Rattle.bound_project.specs.Expressions.{Expr, Exprs, no_exprs, also, Args, no_args, Given, none_given, Prints, no_prints, shown, zone}
+use Rattle.bound_project.specs.Pieces.{Argument, GivenArgument, Sought, Piece, a_given, a_value_shown, a_zone, with_argument, with_given}
 
 -- these pieces, the last one on top
 abbrev pub above : List Piece → List Piece → List Piece
@@ -21,6 +21,18 @@ exprs_before (e ∷ es) acc = also e (exprs_before es acc)
 
 abbrev pub exprs_of : List Expr → Exprs
 exprs_of es = exprs_before es no_exprs
+
+-- arguments of a late-bound member that is looked up so, from this number on
+abbrev pub given_pieces : Sought → (first : ℕ) → List GivenArgument → List Piece
+given_pieces s i [] = []
+given_pieces s i (a ∷ args) = a_given a s i ∷ given_pieces s (suc i) args
+
+abbrev pub given_before : List GivenArgument → Given → Given
+given_before [] acc = acc
+given_before (a ∷ args) acc = with_given a (given_before args acc)
+
+abbrev pub given_of : List GivenArgument → Given
+given_of args = given_before args none_given
 
 -- an item of Debug.Print: a value, or a comma
 abbrev pub item_piece : Option Expr → Piece

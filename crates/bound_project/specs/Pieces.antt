@@ -1,6 +1,6 @@
 -- Serves the code: the trees that nodes in postfix order stand for. Reading a node takes the pieces that it ends off a
 -- stack and puts one piece there. Where the pieces don't fit, one piece is left that fits nowhere.
-use Rattle.std.specs.Prelude.{ℕ, zero, suc, ◌==◌, Bool, true, false, ◌&&◌, if◌then◌else◌, bytes_eq, List, [], ◌∷◌, map, Option, Some, None, option_map, slice_index_or}
+use Rattle.std.specs.Prelude.{ℕ, zero, suc, ◌==◌, Bool, true, false, not, ◌&&◌, if◌then◌else◌, bytes_eq, List, [], ◌∷◌, map, Option, Some, None, option_map, slice_index_or}
 use Rattle.vba_base.specs.declared.place.Place.{Place}
 use Rattle.vba_values.specs.declared.types.OpKind.{OpKind}
 use Rattle.vba_values.specs.Types.{Declared}
@@ -10,7 +10,10 @@ use Rattle.bound_project.specs.declared.node.NodeKind.{NodeKind}
 use Rattle.bound_project.specs.declared.node.NodeKind.TheVariants as node
 use Rattle.bound_project.specs.declared.node.Node.{Node}
 use Rattle.bound_project.specs.declared.node.ArgumentNames.{ArgumentNames}
-use Rattle.bound_project.specs.Expressions.{Expr, expr, not_given, constant, load, element_value, field_value, unary, binary, call, err_value, default_of, default_if_any, same, is_type, library, bound_of, host_object, active_sheet, host_member, load_made, this, new_object, method, named_member, ByName, Lvalue, variable, item, element, field, kept_place, object_field, as_new, Args, no_args, by_place, by_copy, by_default, by_list, in_order, Exprs, no_exprs, also, given_count, Prints, shown, zone, marked}
+use Rattle.bound_project.specs.declared.node.LateName.{LateName}
+use Rattle.bound_project.specs.declared.node.LateUse.{LateUse}
+use Rattle.bound_project.specs.declared.node.LateUse.TheVariants.{Reading, Assigning, Setting}
+use Rattle.bound_project.specs.Expressions.{Expr, expr, not_given, constant, load, element_value, field_value, unary, binary, call, err_value, default_of, default_if_any, enumerated, same, is_type, library, bound_of, host_object, active_sheet, host_member, load_made, this, new_object, method, named_member, late_member, late_item, ByName, Lvalue, variable, item, element, field, kept_place, object_field, as_new, element_along, late_field, value_place, Args, no_args, by_place, by_copy, by_default, by_list, in_order, Given, none_given, place_given, expr_given, Exprs, no_exprs, also, given_count, Prints, shown, zone, marked}
 use Rattle.bound_project.specs.Expressions as plain
 use Rattle.bound_project.specs.Statements.{Tests, test_is, test_range, Resizes, resize, Arrays, an_array}
 use Rattle.bound_project.specs.View.{declared_view, variable_view, member_view, base_view}
@@ -22,6 +25,19 @@ pub data Argument : Type 0 where
   default_taken : Val → Argument
   values_listed : Exprs → Argument
 
+-- an argument of a late-bound member by itself
+pub data GivenArgument : Type 0 where
+  place_there : Lvalue → GivenArgument
+  value_there : Expr → GivenArgument
+
+-- what a late-bound member is looked up by: what is done with it, its folded name, how its arguments are named, and which
+-- of them are given
+pub record Sought : Type 0 where
+  pub aim : LateUse
+  pub name : List ℕ
+  pub by : ByName
+  pub given : List Bool
+
 pub data Piece : Type 0 where
   -- what fits nowhere
   nothing : Piece
@@ -32,6 +48,9 @@ pub data Piece : Type 0 where
   a_member : Expr → (name : List ℕ) → (given : ℕ) → Piece
   -- the same with how arguments are named
   a_named_member : Expr → (name : List ℕ) → ByName → (given : ℕ) → Piece
+  -- an object whose late-bound member was looked up, and the argument of this number of one
+  a_late : Expr → Sought → Piece
+  a_given : GivenArgument → Sought → (argument : ℕ) → Piece
   -- an object whose procedure is called
   an_object : Expr → Piece
   a_value_shown : Expr → Piece
@@ -68,6 +87,18 @@ names_in t i = map (name_in t) (order_in t i)
 abbrev pub by_name_in : Tables → ArgumentNames → ByName
 by_name_in t by = record { before = by.before; names = names_in t by.order }
 
+-- which of so many arguments are given, by an order: 0 stands for one that isn't, and those past its end are
+abbrev pub flags : ℕ → List ℕ → List Bool
+flags zero ks = []
+flags (suc n) [] = true ∷ flags n []
+flags (suc n) (k ∷ ks) = not (k == 0) ∷ flags n ks
+
+abbrev pub flags_in : Tables → LateName → List Bool
+flags_in t m = flags m.arguments (order_in t m.given)
+
+abbrev pub sought_in : Tables → LateUse → LateName → Sought
+sought_in t aim m = record { aim = aim; name = name_in t m.name; by = by_name_in t m.names; given = flags_in t m }
+
 -- what is left where pieces don't fit
 abbrev pub misfit : List Piece
 misfit = nothing ∷ []
@@ -89,6 +120,50 @@ abbrev pub arguments_off : ℕ → List Piece → Args → Option (Args × List 
 arguments_off zero st args = Some (args, st)
 arguments_off (suc n) (an_argument a ∷ st) args = arguments_off n st (with_argument a args)
 arguments_off (suc n) st args = None
+
+-- both late-bound members are looked up by the same
+abbrev pub same_names : List (List ℕ) → List (List ℕ) → Bool
+same_names [] [] = true
+same_names (x ∷ xs) (y ∷ ys) = bytes_eq x y && same_names xs ys
+same_names xs ys = false
+
+abbrev pub same_by_name : ByName → ByName → Bool
+same_by_name a b = (a.before == b.before) && same_names a.names b.names
+
+abbrev pub same_use : LateUse → LateUse → Bool
+same_use Reading Reading = true
+same_use Assigning Assigning = true
+same_use Setting Setting = true
+same_use a b = false
+
+abbrev pub same_flags : List Bool → List Bool → Bool
+same_flags [] [] = true
+same_flags (true ∷ xs) (true ∷ ys) = same_flags xs ys
+same_flags (false ∷ xs) (false ∷ ys) = same_flags xs ys
+same_flags xs ys = false
+
+abbrev pub same_sought : Sought → Sought → Bool
+same_sought a b = same_use a.aim b.aim && (bytes_eq a.name b.name && (same_by_name a.by b.by && same_flags a.given b.given))
+
+abbrev pub with_given : GivenArgument → Given → Given
+with_given (place_there x) given = place_given x given
+with_given (value_there e) given = expr_given e given
+
+-- so many arguments of a late-bound member off the stack, which were looked up as it is, each by its number
+abbrev pub given_off : Sought → ℕ → List Piece → Given → Option (Given × List Piece)
+given_off s zero st given = Some (given, st)
+given_off s (suc n) (a_given a other i ∷ st) given = if same_sought s other && (i == n) then given_off s n st (with_given a given) else None
+given_off s (suc n) st given = None
+
+-- which arguments are given
+abbrev pub is_there : Expr → Bool
+is_there (expr not_given place of operand) = false
+is_there e = true
+
+abbrev pub which_there : Given → List Bool
+which_there none_given = []
+which_there (place_given x given) = true ∷ which_there given
+which_there (expr_given e given) = is_there e ∷ which_there given
 
 -- so many items of Debug.Print off the stack
 abbrev pub prints_off : ℕ → List Piece → Prints → Option (Prints × List Piece)
@@ -164,14 +239,6 @@ of_member_found name make None = misfit
 of_member_found name make (Some found) = of_member name make found.0 found.1
 
 -- the same where arguments are named, and that they are named so
-abbrev pub same_names : List (List ℕ) → List (List ℕ) → Bool
-same_names [] [] = true
-same_names (x ∷ xs) (y ∷ ys) = bytes_eq x y && same_names xs ys
-same_names xs ys = false
-
-abbrev pub same_by_name : ByName → ByName → Bool
-same_by_name a b = (a.before == b.before) && same_names a.names b.names
-
 abbrev pub is_named_member : (name other : List ℕ) → (by how : ByName) → (given : ℕ) → Exprs → Bool
 is_named_member name other by how given es = is_member name other given es && same_by_name by how
 
@@ -192,6 +259,18 @@ abbrev pub of_object_found : (Expr → Args → Piece) → Option (Args × List 
 of_object_found make None = misfit
 of_object_found make (Some found) = of_object make found.0 found.1
 
+-- a late-bound member, with these arguments
+abbrev pub is_late : (s other : Sought) → Given → Bool
+is_late s other given = same_sought s other && same_flags s.given (which_there given)
+
+abbrev pub of_late : Sought → (Expr → Given → Piece) → Given → List Piece → List Piece
+of_late s make given (a_late e other ∷ st) = if is_late s other given then make e given ∷ st else misfit
+of_late s make given st = misfit
+
+abbrev pub of_late_found : Sought → (Expr → Given → Piece) → Option (Given × List Piece) → List Piece
+of_late_found s make None = misfit
+of_late_found s make (Some found) = of_late s make found.0 found.1
+
 -- ---- what a node makes of the pieces before it
 
 -- the expression that a node is
@@ -201,6 +280,10 @@ expr_of n made = an_expr (expr made n.place (declared_view n.of) (declared_view 
 -- an operand has the type that its operator says
 abbrev pub as_operand : DeclaredType → Expr → Expr
 as_operand of (expr node place written operand) = expr node place written (declared_view of)
+
+-- a late-bound member that is read or called, behind so many arguments
+abbrev pub late_put : Node → Sought → ℕ → List Piece → List Piece
+late_put n s count st = of_late_found s (λ e given. expr_of n (late_member e s.name s.by given)) (given_off s count st none_given)
 
 abbrev pub put_kind : Tables → Node → NodeKind → List Piece → List Piece
 put_kind t n node.NotGiven st = expr_of n not_given ∷ st
@@ -213,6 +296,9 @@ put_kind t n (node.KeptPlace header) st = a_place (kept_place header) ∷ st
 put_kind t n (node.ObjectField i of bounded) st = of_value (λ e. a_place (object_field e i (declared_view of) bounded)) st
 put_kind t n (node.NewVariable x c) st = a_place (as_new c (variable (variable_view x))) ∷ st
 put_kind t n (node.AsNew c) st = of_place (λ x. a_place (as_new c x)) st
+put_kind t n (node.ElementAlong count) st = of_place_found (λ x es. a_place (element_along x es)) (exprs_off count st no_exprs)
+put_kind t n (node.LateField i) st = of_value (λ e. a_place (late_field e (name_in t i))) st
+put_kind t n node.PlaceOf st = of_value (λ e. a_place (value_place e)) st
 put_kind t n node.Load st = of_place (λ x. expr_of n (load x)) st
 put_kind t n node.LoadMade st = of_place (λ x. expr_of n (load_made x)) st
 put_kind t n (node.ElementValue count) st = of_value_found (λ e es. expr_of n (element_value e es)) (exprs_off count st no_exprs)
@@ -232,6 +318,8 @@ put_kind t n (node.Library f text_form count compare one) st = of_found (λ es. 
 put_kind t n (node.BoundOf upper z) st = of_place (λ x. expr_of n (bound_of upper x z)) st
 put_kind t n node.DefaultOf st = of_value (λ e. expr_of n (default_of e)) st
 put_kind t n node.DefaultIfAny st = of_value (λ e. expr_of n (default_if_any e)) st
+put_kind t n node.Enumerated st = of_value (λ e. expr_of n (enumerated e)) st
+put_kind t n (node.ItemAlong count) st = of_value_found (λ e es. expr_of n (late_item e es)) (exprs_off count st no_exprs)
 put_kind t n node.Same st = of_both (λ a b. expr_of n (same a b)) st
 put_kind t n (node.IsType of) st = of_value (λ e. expr_of n (is_type e (declared_view of))) st
 put_kind t n (node.HostObject reference) st = expr_of n (host_object reference) ∷ st
@@ -241,6 +329,10 @@ put_kind t n (node.HostMember i count) st = of_member_found (name_in t i) (λ e 
 put_kind t n (node.NamedThere i by given) st = of_value (λ e. a_named_member e (name_in t i) (by_name_in t by) given) st
 put_kind t n (node.NamedMember i by count) st =
     of_named_found (name_in t i) (by_name_in t by) (λ e es. expr_of n (named_member e (name_in t i) (by_name_in t by) es)) (exprs_off count st no_exprs)
+put_kind t n (node.LateThere aim m) st = of_value (λ e. a_late e (sought_in t aim m)) st
+put_kind t n (node.LateValue aim m i) st = of_value (λ e. a_given (value_there e) (sought_in t aim m) i) st
+put_kind t n (node.LatePlace aim m i) st = of_place (λ x. a_given (place_there x) (sought_in t aim m) i) st
+put_kind t n (node.LateMember m) st = late_put n (sought_in t Reading m) m.arguments st
 put_kind t n node.ByPlace st = of_place (λ x. an_argument (place_lent x)) st
 put_kind t n (node.ByCopy of) st = of_value (λ e. an_argument (value_copied e (declared_view of))) st
 put_kind t n (node.ByDefault i) st = an_argument (default_taken (constant_in t i)) ∷ st

@@ -90,7 +90,7 @@ pub struct NamedMember {
 }
 
 /// A class module: its variables, its Class_Initialize and Class_Terminate where they are written, its public members, and
-/// its default member where it has one.
+/// its default member and its enumerator where it has one.
 #[derive(Drop)]
 pub struct Class {
     pub name: Spelled,
@@ -99,6 +99,7 @@ pub struct Class {
     pub terminate: Option<u32>,
     pub members: Vec<NamedMember>,
     pub default: Option<Member>,
+    pub enumerator: Option<Member>,
 }
 
 /// All that a project declares. Classes count from 1, all else from 0.

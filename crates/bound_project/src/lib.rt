@@ -19,11 +19,14 @@ pub use declarations::{
 pub use declared_type::{DeclaredType, ElementType};
 pub use draft::Draft;
 pub use laws::{
-    assignments_take_their_arguments, calls_take_their_arguments, elements_take_their_numbers,
-    functions_take_their_arguments, members_take_their_arguments,
-    named_members_take_their_arguments, prints_show_their_items, statements_past_the_end_are_next,
+    assignments_take_their_arguments, calls_take_their_arguments,
+    element_assignments_take_their_numbers, elements_take_their_numbers,
+    functions_take_their_arguments, items_along_take_their_arguments,
+    late_assignments_take_their_arguments, late_members_take_their_arguments,
+    members_take_their_arguments, named_members_take_their_arguments, prints_show_their_items,
+    statements_past_the_end_are_next,
 };
-pub use node::{ArgumentNames, Node, NodeKind};
+pub use node::{ArgumentNames, LateName, LateUse, Node, NodeKind};
 pub use project::{Block, Body, Project};
 pub use statement::{ActionKind, Handling, StatementNode};
 pub use too_long::TooLong;

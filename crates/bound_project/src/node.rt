@@ -12,6 +12,25 @@ pub struct ArgumentNames {
     pub order: u32,
 }
 
+/// What is done with a late-bound member: it is read or called, assigned to, or set.
+#[derive(Clone, Copy)]
+pub enum LateUse {
+    Reading,
+    Assigning,
+    Setting,
+}
+
+/// What a late-bound member is looked up by: its name, which is a text constant, folded; how its arguments are named; how
+/// many they are; and the order that tells which of them are given: 0 stands for one that isn't, and those past the
+/// order's end are. Where none are named the order of names is empty, and so may be that one where all are given.
+#[derive(Clone, Copy)]
+pub struct LateName {
+    pub name: u32,
+    pub names: ArgumentNames,
+    pub arguments: u32,
+    pub given: u32,
+}
+
 /// What a node makes of the pieces before it: the nodes of an expression stand in the order in which it is evaluated,
 /// those of its parts before it. Numbers of constants and orders are places in the lists of the project.
 #[derive(Clone, Copy)]
@@ -57,6 +76,16 @@ pub enum NodeKind {
     AsNew {
         class: u32,
     },
+    /// The place to which so many arguments lead from the place before them: an element, or an item along default members.
+    ElementAlong {
+        arguments: u32,
+    },
+    /// The place of the public variable of this name, a text constant, folded, of the object before it.
+    LateField {
+        name: u32,
+    },
+    /// The place of the value before it, which no variable has.
+    PlaceOf,
     /// The value at the place before it.
     Load,
     /// The same where the place may be that of a variable declared As New, which gets a new object when it is read.
@@ -134,6 +163,12 @@ pub enum NodeKind {
     DefaultOf,
     /// The same, but an object whose default member needs an argument stays, and so does Nothing.
     DefaultIfAny,
+    /// The same, but an object of a class gives way to the Collection that its enumerator gives: what a For Each walks.
+    Enumerated,
+    /// What so many arguments lead to in the value before them: an element, or an item along default members.
+    ItemAlong {
+        arguments: u32,
+    },
     /// Is: whether both values before it are the same object.
     Same,
     /// TypeOf: whether the object before it is of the type.
@@ -164,6 +199,25 @@ pub enum NodeKind {
         names: ArgumentNames,
         arguments: u32,
     },
+    /// The object before it has a late-bound member of this name for such a use, and for these arguments.
+    LateThere {
+        aim: LateUse,
+        member: LateName,
+    },
+    /// An argument of this number, from 0, of a late-bound member that was looked up so: the value before it, which is
+    /// `NotGiven` where it isn't given; and the place before it.
+    LateValue {
+        aim: LateUse,
+        member: LateName,
+        argument: u32,
+    },
+    LatePlace {
+        aim: LateUse,
+        member: LateName,
+        argument: u32,
+    },
+    /// That member, read or called, behind all its arguments.
+    LateMember(LateName),
     /// An argument: the place before it, the value before it made one of a type, a default, so many values before it.
     ByPlace,
     ByCopy(DeclaredType),

@@ -1,4 +1,5 @@
 use crate::declared_type::DeclaredType;
+use crate::node::LateName;
 use crate::variable::Variable;
 use vba_base::Place;
 use vba_values::Compare;
@@ -34,6 +35,21 @@ pub enum ActionKind {
     },
     /// `Set base.name = value`, behind the value and the base.
     SetMember,
+    /// `[Let] target = value` where the target gives an object of a class, or what the run says, behind the value and the
+    /// target's value.
+    AssignThrough,
+    /// `[Let] place(numbers) = value`, and Set of it, where the run says what is at the place, behind the value, the place
+    /// and so many numbers.
+    AssignElement {
+        numbers: u32,
+    },
+    SetElement {
+        numbers: u32,
+    },
+    /// `[Let] base.name(arguments) = value`, and Set of it, for a late-bound member, behind the value, the base, its
+    /// `LateThere` and all arguments.
+    AssignLate(LateName),
+    SetLate(LateName),
     Evaluate,
     /// An assignment to a property, behind the value and so many other arguments, and its parameter's type.
     LetProperty {

@@ -6,7 +6,6 @@ use Rattle.vba_words.specs.declared.identifier.Identifier.{Identifier}
 use Rattle.vba_tree.specs.Tree.{Parameter}
 use Rattle.vba_values.specs.Types.{Declared}
 use Rattle.bound_project.specs.View.{declared_view, parameter_view}
-use Rattle.bound_project.specs.Expressions.{Exprs, element_value}
 use Rattle.bound_project.specs.Expressions as bound
 use Rattle.bound_project.specs.Pieces.{an_expr}
 use Rattle.bound_project.specs.Project as project
@@ -16,9 +15,9 @@ use Rattle.declared_names.specs.binder.specs.Declarations.{Written, What, a_vari
 use Rattle.declared_names.specs.binder.specs.Names.{scope_in}
 use Rattle.declared_names.specs.binder.specs.Scopes.{Space, Scope, first_at, is_named}
 use Rattle.declared_names.specs.binder.specs.Storage.{bound_parameter, bound_parameters, takes_value}
-use Rattle.bound_accesses.specs.bound_names.specs.bound_members.specs.bound_calls.specs.bound_forms.specs.Terms.{Env, Given, a_routine, a_value, bound_arguments, expression_of, a_method, routine_term}
+use Rattle.bound_accesses.specs.bound_names.specs.bound_members.specs.bound_calls.specs.bound_forms.specs.Terms.{Env, a_routine, a_value, bound_arguments, expression_of, a_method, routine_term}
 use Rattle.bound_accesses.specs.bound_names.specs.bound_members.specs.bound_calls.specs.bound_forms.specs.Terms as terms
-use Rattle.bound_accesses.specs.bound_names.specs.bound_members.specs.bound_calls.specs.bound_forms.specs.ExpressionsBound.{argument_of, bare_call, call_value, call_with, callee, if_there, indexed, indexed_value, item_of, node_or, numbers_of, operand_of, taken_by_term, term_of, term_or, with_type, wrong_term, place_told, indexed_type}
+use Rattle.bound_accesses.specs.bound_names.specs.bound_members.specs.bound_calls.specs.bound_forms.specs.ExpressionsBound.{argument_of, bare_call, call_value, call_with, callee, if_there, indexed, indexed_value, node_or, operand_of, taken_by_term, term_of, term_or, wrong_term, place_told}
 use Rattle.declared_names.specs.binder.specs.Signatures.{is_get, is_property, parameters_in, procedure_with, reader}
 use Rattle.declared_names.specs.View.{written_view}
 use Rattle.bound_accesses.specs.bound_names.specs.bound_members.specs.bound_calls.specs.declared.term.Ending.{Ending}
@@ -33,7 +32,7 @@ use Rattle.bound_accesses.specs.bound_names.specs.bound_members.specs.bound_call
 use Rattle.bound_operands.specs.Indexing.{PushesWhole}
 use Rattle.bound_terms.specs.Indexing.{IndexesValue, NotIndexed}
 use Rattle.bound_accesses.specs.bound_names.specs.Properties.{first_wanted, wants}
-use Rattle.bound_operands.proofs.Elements.{indexed_by, opens_whole}
+use Rattle.bound_operands.proofs.Elements.{IndexedAs, opens_whole, whole_stands}
 use Rattle.bound_accesses.specs.bound_names.proofs.Lookups.{property_found, with_entry}
 use Rattle.declared_names.specs.binder.specs.Classes.{has_class, reaches}
 use Rattle.bound_accesses.specs.bound_names.specs.bound_members.specs.bound_calls.proofs.CallSteps.{routine_item, taken_routine}
@@ -104,26 +103,22 @@ property_value env base space number w read made of reads none call =
     let bare_is : bare_call env base space number w ≡ bare read = ap (λ (o : Option (ℕ × Written)). if_there (option_map bare o)) reads in
     ap (λ (ps : List project.Parameter). call_value env base space read.0 read.1 (bound_arguments no_value ps [])) (sym none) ∙ sym bare_is ∙ call
 
-property_indexed : (env : Env) (place : Place) (z : terms.Term) (base : Option bound.Expr) (space : Space) (number : ℕ) (w : Written) (read : ℕ × Written) (made : bound.Node) (of u : Declared) (gs : List Given) (es : Exprs)
-    → z ≡ routine_term base space number w → reader env.scope space number w ≡ Some read → is_get read.1.kind ≡ true → parameters_in env.scope space read.1 ≡ [] → bare_call env base space number w ≡ a_value made of
-    → indexed_type env (expression_of made place of) ≡ Some u → numbers_of (operand_of env) gs ≡ Some es → indexed env place (item_of env place z) gs ≡ a_value (element_value (expression_of made place of) es) u
-property_indexed env place z base space number w read made of u [] es is reads get none call element numbers = let e : None ≡ Some es = numbers in absurd cc
-property_indexed env place z base space number w read made of u (g ∷ gs) es is reads get none call element numbers =
-    let index : bound.Node → Declared → terms.Term = λ (n : bound.Node) (v : Declared). indexed_value env place n v (numbers_of (operand_of env) (g ∷ gs)) in
+property_indexed : (env : Env) (place : Place) (z : terms.Term) (base : Option bound.Expr) (space : Space) (number : ℕ) (w : Written) (read : ℕ × Written) (made : bound.Node) (of : Declared)
+    → z ≡ routine_term base space number w → reader env.scope space number w ≡ Some read → is_get read.1.kind ≡ true → parameters_in env.scope space read.1 ≡ [] → bare_call env base space number w ≡ a_value made of → IndexedAs env place z made of
+property_indexed env place z base space number w read made of is reads get none call = λ g gs node u h.
+    let index : bound.Node → Declared → terms.Term = λ (n : bound.Node) (v : Declared). indexed_value (operand_of env) env place n v (g ∷ gs) in
     let called_as : ℕ × Written → terms.Term = λ (f : ℕ × Written).
     if is_get f.1.kind && length f.1.parameters == 0 then node_or (call_value env base space f.0 f.1 (Some bound.no_args)) index
     else call_value env base space f.0 f.1 (bound_arguments (argument_of env) (parameters_in env.scope space f.1) (g ∷ gs)) in
     let found : call_with (argument_of env) (operand_of env) env place (g ∷ gs) base space number w ≡ called_as read = ap (λ (o : Option (ℕ × Written)). if_there (option_map called_as o)) reads in
     let value_is : call_value env base space read.0 read.1 (Some bound.no_args) ≡ a_value made of = property_value env base space number w read made of reads none call in
     let no_parameters : (length read.1.parameters == 0) ≡ true = none_written (scope_in (home env.scope space) read.1) (takes_value read.1.kind) read.1.parameters none in
-    let T : Declared → Exprs → terms.Term = λ (v : Declared) (xs : Exprs). a_value (element_value (expression_of made place of) xs) v in
     let rest : terms.Term = call_value env base space read.0 read.1 (bound_arguments (argument_of env) (parameters_in env.scope space read.1) (g ∷ gs)) in
     let routine : terms.Term = routine_term base space number w in
-    let taken : taken_by_term env place routine (g ∷ gs) ≡ a_value (element_value (expression_of made place of) es) u =
+    let taken : taken_by_term env place routine (g ∷ gs) ≡ a_value node u =
     taken_routine env place base space number w (g ∷ gs) ∙ found
     ∙ ap (λ (b : Bool). if b && length read.1.parameters == 0 then node_or (call_value env base space read.0 read.1 (Some bound.no_args)) index else rest) get
-    ∙ ap (λ (b : Bool). if b then node_or (call_value env base space read.0 read.1 (Some bound.no_args)) index else rest) no_parameters ∙ ap (λ (y : terms.Term). node_or y index) value_is
-    ∙ ap (λ (o : Option Declared). with_type o (numbers_of (operand_of env) (g ∷ gs)) T) element ∙ ap (λ (o : Option Exprs). with_type (Some u) o T) numbers in
+    ∙ ap (λ (b : Bool). if b then node_or (call_value env base space read.0 read.1 (Some bound.no_args)) index else rest) no_parameters ∙ ap (λ (y : terms.Term). node_or y index) value_is ∙ h in
     ap (λ (y : terms.Term). indexed env place y (g ∷ gs)) (routine_item env place z base space number w is ∙ is) ∙ ap (λ (y : terms.Term). term_or y (wrong_term env place routine (g ∷ gs))) taken
 
 -- ---- arguments begin
@@ -162,12 +157,9 @@ opens_property env has x r ending d m e i known v c p =
     let same : routine_term u.base u.space u.number u.written ≡ routine_term b.base b.space b.number b.written = sym u.is ∙ b.is in
     let call : bare_call env u.base u.space u.number u.written ≡ a_value b.called.made (declared_view ending.of) = same_routine u.base b.base u.space b.space u.number b.number u.written b.written same env ∙ b.called.is in
     let property : is_property u.written.kind ≡ true = ap (λ (w : Written). is_property w.kind) u.written_is ∙ v.property in
-    let no = p.elements.none env b.called.made place m.pieces below known b.called.ends in
-    let element = indexed_by env b.called.made place (declared_view ending.of) (declared_view i.of) no p.elements.element_is in
-    record {
-      whole = expression_of b.called.made place (declared_view ending.of);
-      is = λ gs es numbers.
-          property_indexed env place z u.base u.space u.number u.written u.read b.called.made (declared_view ending.of) (declared_view i.of) gs es u.is u.reads (read_get env.scope u.space u.number u.written u.read property u.reads)
-          (sym u.parameters_are ∙ ap (λ l. map parameter_view l) v.none) call element numbers;
-      on_top = p.stands b.called.made below b.called.ends ∙ ap (λ (q : Place). an_expr (expression_of b.called.made q (declared_view ending.of)) ∷ below) at;
-    })
+    let of = declared_view ending.of in
+    let way : IndexedAs env place z b.called.made of =
+    property_indexed env place z u.base u.space u.number u.written u.read b.called.made of u.is u.reads (read_get env.scope u.space u.number u.written u.read property u.reads)
+    (sym u.parameters_are ∙ ap (λ l. map parameter_view l) v.none) call in
+    whole_stands env has m.tables ending i.target i.of place z b.called.made m.pieces e.pieces below known p.how b.called.ends way
+    (p.stands b.called.made below b.called.ends ∙ ap (λ (q : Place). an_expr (expression_of b.called.made q of) ∷ below) at))

@@ -6,8 +6,7 @@ use Rattle.bound_project.specs.Pieces.{an_expr}
 use Rattle.bound_project.specs.Drafts.{Drafted}
 use Rattle.declared_names.specs.binder.specs.Classes.{has_class}
 use Rattle.bound_accesses.specs.bound_names.specs.bound_members.specs.bound_calls.specs.bound_forms.specs.Terms.{Env, expression_of}
-use Rattle.bound_accesses.specs.bound_names.specs.bound_members.specs.bound_calls.specs.bound_forms.specs.Terms as terms
-use Rattle.bound_accesses.specs.bound_names.specs.bound_members.specs.bound_calls.specs.bound_forms.specs.ExpressionsBound.{callee, indexed, item_of, place_told, term_of}
+use Rattle.bound_accesses.specs.bound_names.specs.bound_members.specs.bound_calls.specs.bound_forms.specs.ExpressionsBound.{callee, item_of, place_told, term_of}
 use Rattle.bound_accesses.specs.bound_names.specs.bound_members.specs.bound_calls.specs.declared.term.Ending.{Ending}
 use Rattle.bound_accesses.specs.bound_names.specs.bound_members.specs.bound_calls.specs.declared.term.Indexed.{Indexed}
 use Rattle.bound_accesses.specs.bound_names.specs.bound_members.specs.bound_calls.specs.declared.term.Item.TheVariants as items
@@ -19,7 +18,7 @@ use Rattle.bound_accesses.specs.bound_names.specs.bound_members.specs.bound_call
 use Rattle.bound_accesses.specs.bound_names.specs.bound_members.specs.bound_calls.proofs.Growing.{grown_twice}
 use Rattle.bound_accesses.specs.Items.{MakesItem}
 use Rattle.bound_operands.specs.Indexing.{PushesWhole}
-use Rattle.bound_operands.proofs.Elements.{indexed_by, opens_whole, value_indexed}
+use Rattle.bound_operands.proofs.Elements.{indexed_as, opens_whole, whole_stands}
 
 -- what is told of one is indexed
 pub opens_lacking : (env : Env) (has : Bool) (x : Tree) (y : Term) (v : Ending) (i : Indexed) (d e f : Drafted) → has_class env.scope.spaces ≡ has → MakesItem env x.place y d e (term.Value v) → PushesWhole has v x.place e f i
@@ -30,10 +29,5 @@ opens_lacking env has x y v i d e f known m p =
     let z = callee env tree (term_of env tree) in
     let A : Place → Type 0 = λ (q : Place). TermStands env e.tables (term.Value v) (item_of env q z) e.pieces below in
     let t : ValueStands e.tables v (item_of env place z) e.pieces below = subst A at (m.stands z below h) in
-    let no = p.elements.none env t.made place e.pieces below known t.ends in
-    let element_is = indexed_by env t.made place (declared_view v.of) (declared_view i.of) no p.elements.element_is in
-    record {
-      whole = expression_of t.made place (declared_view v.of);
-      is = λ gs es numbers. ap (λ (w : terms.Term). indexed env place w gs) t.is ∙ value_indexed env place t.made (declared_view v.of) gs (declared_view i.of) es element_is numbers;
-      on_top = p.stands t.made below t.ends ∙ ap (λ (q : Place). an_expr (expression_of t.made q (declared_view v.of)) ∷ below) at;
-    })
+    whole_stands env has e.tables v i.target i.of place z t.made e.pieces f.pieces below known p.how t.ends (indexed_as env place z t.made (declared_view v.of) t.is)
+    (p.stands t.made below t.ends ∙ ap (λ (q : Place). an_expr (expression_of t.made q (declared_view v.of)) ∷ below) at))

@@ -1,7 +1,7 @@
 -- What doesn't take its arguments, which are read from now on.
 use Rattle.std.proofs.Common.{◌≡◌, ℕ, zero, suc, ◌<◌, ◌==◌, Bool, true, false, ◌&&◌, ◌||◌, not, List, [], ◌∷◌, map, length, is_some, Option, Some, None, option_map, if◌then◌else◌, refl, sym, ap, subst, ◌∙◌, arith}
 use Rattle.std.specs.Prelude.{codes}
-use Rattle.std.proofs.lemmas.Bool.{eqb-true}
+use Rattle.std.proofs.lemmas.Bool.{and_right, eqb-true}
 use Rattle.vba_base.specs.declared.place.Place.{Place}
 use Rattle.vba_values.specs.Types.{Declared}
 use Rattle.vba_values.specs.Types as type
@@ -13,12 +13,13 @@ use Rattle.bound_project.specs.declared.node.NodeKind.{NodeKind}
 use Rattle.bound_project.specs.declared.declared_type.DeclaredType.{DeclaredType}
 use Rattle.bound_project.specs.declared.declarations.Parameter.{Parameter as ParameterHere}
 use Rattle.bound_project.specs.View.{declared_view, parameter_view}
-use Rattle.bound_project.specs.Expressions.{Exprs, Lvalue, also, element_value, host_member, named_member}
+use Rattle.bound_project.specs.Expressions.{Exprs, Lvalue, also, element_along, element_value, host_member, late_item, named_member}
 use Rattle.bound_project.specs.Expressions as bound
 use Rattle.bound_project.specs.Project as project
 use Rattle.bound_project.specs.Lists.{above}
 use Rattle.bound_project.specs.Pieces.{Piece, Tables, an_expr, put}
 use Rattle.bound_project.specs.Drafts.{Drafted}
+use Rattle.declared_names.specs.binder.specs.Classes.{has_class}
 use Rattle.declared_names.specs.binder.specs.Constants.{home}
 use Rattle.declared_names.specs.binder.specs.Declarations.{Written}
 use Rattle.declared_names.specs.binder.specs.Scopes.{Scope, Space}
@@ -28,7 +29,7 @@ use Rattle.declared_names.specs.binder.specs.Options.{from_two}
 use Rattle.declared_names.specs.binder.specs.Storage.{bound_parameters, takes_value}
 use Rattle.bound_accesses.specs.bound_names.specs.bound_members.specs.bound_calls.specs.bound_forms.specs.Terms.{Env, Given, HostMember, a_value, bound_arguments, expression_of, has_names, no_term, read_of, routine_term, takes}
 use Rattle.bound_accesses.specs.bound_names.specs.bound_members.specs.bound_calls.specs.bound_forms.specs.Terms as terms
-use Rattle.bound_accesses.specs.bound_names.specs.bound_members.specs.bound_calls.specs.bound_forms.specs.ExpressionsBound.{argument_of, arguments_rule, bare_call, behind_base, call_value, call_with, callee, element_place, element_type, host_arguments, host_behind, host_called, if_there, indexed, indexed_value, indexes_value, is_host_type, item_of, may_be_instance, may_index, member_called, member_takes, names_taken, node_or, numbers_of, operand_of, place_told, takes_arguments, term_of, term_or, with_type, wrong_arguments, wrong_call, wrong_index, wrong_term}
+use Rattle.bound_accesses.specs.bound_names.specs.bound_members.specs.bound_calls.specs.bound_forms.specs.ExpressionsBound.{along_of, argument_of, arguments_rule, bare_call, behind_base, call_value, call_with, callee, element_place, element_type, host_called, if_there, indexed, indexed_type, indexed_value, indexes_value, is_called_late, is_found_late, is_host_type, item_of, late_called, may_be_instance, may_index, member_called, member_takes, names_taken, node_or, numbers_of, object_member, operand_of, place_told, takes_arguments, term_of, term_or, variant_arguments, with_type, wrong_arguments, wrong_call, wrong_index, wrong_term}
 use Rattle.bound_accesses.specs.bound_names.specs.bound_members.specs.bound_calls.specs.declared.term.Ending.{Ending}
 use Rattle.declared_names.specs.View.{written_view}
 use Rattle.bound_accesses.specs.bound_names.specs.bound_members.specs.bound_calls.specs.declared.term.HostMember.{HostMember as MemberHere}
@@ -105,13 +106,27 @@ not_numbers_of : (b : Bool) (value : terms.Term → Place → Option bound.Expr)
 not_numbers_of true value of gs T h = refl
 not_numbers_of false value of gs T h = not_numbers value of gs T h
 
+-- the run says nothing of it
+not_found : (env : Env) (place : Place) (node : bound.Node) (of : Declared) (gs : List Given) → may_index of gs ≡ false → is_found_late env (expression_of node place of) ≡ false
+not_found env place node type.variant gs h = let e : true ≡ false = h in absurd cc
+not_found env place node type.object gs h = let e : true ≡ false = h in absurd cc
+not_found env place node (type.class n) gs h = let e : true ≡ false = h in absurd cc
+not_found env place node of gs h = and_right (has_class env.scope.spaces) false refl
+
+not_indexed_value : (env : Env) (place : Place) (made : bound.Node) (of : Declared) (gs : List Given) → may_index of gs ≡ false → indexed_value (operand_of env) env place made of gs ≡ no_term
+not_indexed_value env place made of gs h =
+    let T : Declared → Exprs → terms.Term = λ (u : Declared) (xs : Exprs). a_value (element_value (expression_of made place of) xs) u in
+    let along : terms.Term = if_there (option_map (λ (xs : Exprs). a_value (late_item (expression_of made place of) xs) type.variant) (along_of (operand_of env) gs)) in
+    ap (λ (b : Bool). if b then along else with_type (indexed_type env (expression_of made place of)) (numbers_of (operand_of env) gs) T) (not_found env place made of gs h)
+    ∙ not_numbers_of (may_be_instance env (expression_of made place of)) (operand_of env) of gs T h
+
 value_refused : (env : Env) (place : Place) (made : bound.Node) (of : Declared) (gs : List Given) (rule : ℕ) → (if may_index of gs then None else Some 25) ≡ Some rule
     → indexed env place (item_of env place (a_value made of)) gs ≡ wrong_arguments env place rule (also (expression_of made place of)) gs
 value_refused env place made of gs rule h =
     let b = broken_by (may_index of gs) rule h in
-    let T : Declared → Exprs → terms.Term = λ (u : Declared) (xs : Exprs). a_value (element_value (expression_of made place of) xs) u in
-    ap (λ (c : Bool). indexed env place (if c then host_behind env place place made of (codes "item") else a_value made of) gs) (not_host of gs b.0)
-    ∙ ap (λ (z : terms.Term). term_or z (wrong_term env place (a_value made of) gs)) (not_numbers_of (may_be_instance env (expression_of made place of)) (operand_of env) of gs T b.0)
+    let no_class : Bool = not (may_be_instance env (expression_of made place of)) in
+    ap (λ (c : Bool). indexed env place (if c && no_class then object_member place place made of (codes "item") else a_value made of) gs) (not_host of gs b.0)
+    ∙ ap (λ (z : terms.Term). term_or z (wrong_term env place (a_value made of) gs)) (not_indexed_value env place made of gs b.0)
     ∙ ap (λ (c : Bool). if c then no_term else wrong_arguments env place 25 (also (expression_of made place of)) gs) b.0
     ∙ ap (λ (n : ℕ). wrong_arguments env place n (also (expression_of made place of)) gs) b.1
 
@@ -120,8 +135,12 @@ place_refused : (env : Env) (place : Place) (at : Lvalue) (of : Declared) (bound
 place_refused env place at of bounded lends makes gs rule h =
     let b = broken_by (may_index of gs) rule h in
     let T : Declared → Exprs → terms.Term = λ (u : Declared) (xs : Exprs). terms.a_place (element_place at xs) u false lends false in
-    ap (λ (c : Bool). indexed env place (if c then host_behind env place place (read_of makes at) of (codes "item") else terms.a_place at of bounded lends makes) gs) (not_host of gs b.0)
-    ∙ ap (λ (z : terms.Term). term_or z (wrong_term env place (terms.a_place at of bounded lends makes) gs)) (not_numbers_of (may_be_instance env (expression_of (read_of makes at) place of)) (operand_of env) of gs T b.0)
+    let along : terms.Term = if_there (option_map (λ (xs : Exprs). terms.a_place (element_along at xs) type.variant false lends false) (along_of (operand_of env) gs)) in
+    let wrong = wrong_term env place (terms.a_place at of bounded lends makes) gs in
+    let no_class : Bool = not (may_be_instance env (expression_of (read_of makes at) place of)) in
+    ap (λ (c : Bool). indexed env place (if c && no_class then object_member place place (read_of makes at) of (codes "item") else terms.a_place at of bounded lends makes) gs) (not_host of gs b.0)
+    ∙ ap (λ (c : Bool). term_or (if c then along else with_type (indexed_type env (expression_of (read_of makes at) place of)) (numbers_of (operand_of env) gs) T) wrong) (not_found env place (read_of makes at) of gs b.0)
+    ∙ ap (λ (z : terms.Term). term_or z wrong) (not_numbers_of (may_be_instance env (expression_of (read_of makes at) place of)) (operand_of env) of gs T b.0)
     ∙ ap (λ (c : Bool). if c then no_term else wrong_arguments env place 25 (also (expression_of (read_of makes at) place of)) gs) b.0
     ∙ ap (λ (n : ℕ). wrong_arguments env place n (also (expression_of (read_of makes at) place of)) gs) b.1
 
@@ -275,7 +294,7 @@ procedure_refused env t place r z s none own gs rule h =
     let ps = parameters_in env.scope s.space s.read.1 in
     let b = broken_by (takes (map parameter_view r.parameters.now) gs) rule h in
     let no_takes : takes ps gs ≡ false = ap (λ (l : List project.Parameter). takes l gs) (sym s.parameters_are) ∙ b.0 in
-    let index : bound.Node → Declared → terms.Term = λ (n : bound.Node) (v : Declared). indexed_value env place n v (numbers_of (operand_of env) gs) in
+    let index : bound.Node → Declared → terms.Term = λ (n : bound.Node) (v : Declared). indexed_value (operand_of env) env place n v gs in
     let wrong : bound.Node → Declared → terms.Term = λ (n : bound.Node) (v : Declared). wrong_index env place n v gs in
     let taken_as : ℕ × Written → terms.Term = λ (f : ℕ × Written).
     if indexes_value f.1 gs then node_or (call_value env None s.space f.0 f.1 (Some bound.no_args)) index else call_value env None s.space f.0 f.1 (bound_arguments (argument_of env) (parameters_in env.scope s.space f.1) gs) in
@@ -306,7 +325,7 @@ called_refused env t place z base space number w read made u [] rule is reads ge
 called_refused env t place z base space number w read made u (g ∷ gs) rule is reads get none call h =
     let of = declared_view u in
     let b = broken_by (may_index of (g ∷ gs)) rule h in
-    let index : bound.Node → Declared → terms.Term = λ (n : bound.Node) (v : Declared). indexed_value env place n v (numbers_of (operand_of env) (g ∷ gs)) in
+    let index : bound.Node → Declared → terms.Term = λ (n : bound.Node) (v : Declared). indexed_value (operand_of env) env place n v (g ∷ gs) in
     let wrong : bound.Node → Declared → terms.Term = λ (n : bound.Node) (v : Declared). wrong_index env place n v (g ∷ gs) in
     let test : ℕ × Written → Bool = λ (f : ℕ × Written). is_get f.1.kind && length f.1.parameters == 0 in
     let call_as : ℕ × Written → terms.Term = λ (f : ℕ × Written). call_value env base space f.0 f.1 (bound_arguments (argument_of env) (parameters_in env.scope space f.1) (g ∷ gs)) in
@@ -315,11 +334,10 @@ called_refused env t place z base space number w read made u (g ∷ gs) rule is 
     let wrong_as : ℕ × Written → terms.Term = λ (f : ℕ × Written). if test f then node_or (call_value env base space f.0 f.1 (Some bound.no_args)) wrong else broken_as f in
     let value_is : call_value env base space read.0 read.1 (Some bound.no_args) ≡ a_value made of = property_value env base space number w read made of reads none call in
     let one : test read ≡ true = ap (λ (c : Bool). c && length read.1.parameters == 0) get ∙ none_written (scope_in (home env.scope space) read.1) (takes_value read.1.kind) read.1.parameters none in
-    let T : Declared → Exprs → terms.Term = λ (v : Declared) (xs : Exprs). a_value (element_value (expression_of made place of) xs) v in
     let value = call_value env base space read.0 read.1 (Some bound.no_args) in
     routine_indexed env place z base space number w (g ∷ gs) is ∙ ap (λ (o : Option (ℕ × Written)). term_or (if_there (option_map taken_as o)) (if_there (option_map wrong_as o))) reads
     ∙ ap (λ (c : Bool). term_or (if c then node_or value index else call_as read) (if c then node_or value wrong else broken_as read)) one ∙ ap (λ (y : terms.Term). term_or (node_or y index) (node_or y wrong)) value_is
-    ∙ ap (λ (y : terms.Term). term_or y (wrong_index env place made of (g ∷ gs))) (not_numbers_of (may_be_instance env (expression_of made place of)) (operand_of env) of (g ∷ gs) T b.0)
+    ∙ ap (λ (y : terms.Term). term_or y (wrong_index env place made of (g ∷ gs))) (not_indexed_value env place made of (g ∷ gs) b.0)
     ∙ ap (λ (c : Bool). if c then no_term else wrong_arguments env place 25 (also (expression_of made place of)) (g ∷ gs)) b.0 ∙ ap (λ (n : ℕ). wrong_arguments env place n (also (expression_of made place of)) (g ∷ gs)) b.1
 
 pub property_untaken : (env : Env) (x : Tree) (r : Routine) (v : Ending) (d m e : Drafted) → IndexesValue r → CallsRoutine r d m v → e ≡ record m { pieces = put m.tables (node_of v.kind x.place v.of) m.pieces }
@@ -352,12 +370,13 @@ only_first true true h = h
 only_first true false h = h
 only_first false n h = refl
 
-no_names_taken : (e : bound.Expr) (m : HostMember) (a n : Bool) (names : Option bound.ByName) (es : Option Exprs) (other : Option bound.Node) → (a && (not n || is_some names)) ≡ false
-    → (if a then if_there (option_map (λ (node : bound.Node). a_value node m.of) (if n then from_two (λ by xs. named_member e m.name by xs) names es else other)) else no_term) ≡ no_term
-no_names_taken e m false n names es other h = refl
-no_names_taken e m true true None es other h = refl
-no_names_taken e m true true (Some by) es other h = let no : true ≡ false = h in absurd cc
-no_names_taken e m true false names es other h = let no : true ≡ false = h in absurd cc
+no_names_taken : (e : bound.Expr) (m : HostMember) (a n late : Bool) (names : Option bound.ByName) (es : Option Exprs) (other called : Option bound.Node) → (a && (not n || is_some names)) ≡ false
+    → (if a then if_there (option_map (λ (node : bound.Node). a_value node m.of) (if not late then (if n then from_two (λ by xs. named_member e m.name by xs) names es else other) else if not n || is_some names then called else None)) else no_term) ≡ no_term
+no_names_taken e m false n late names es other called h = refl
+no_names_taken e m true true false None es other called h = refl
+no_names_taken e m true true true None es other called h = refl
+no_names_taken e m true true late (Some by) es other called h = let no : true ≡ false = h in absurd cc
+no_names_taken e m true false late names es other called h = let no : true ≡ false = h in absurd cc
 
 not_called_by : (env : Env) (e : bound.Expr) (m : HostMember) (o : Option ℕ) (gs : List Given) → member_takes (record m { greatest = o }) gs ≡ false → host_called env e (record m { greatest = o }) gs ≡ no_term
 not_called_by env e m None gs h =
@@ -368,7 +387,7 @@ not_called_by env e m (Some zero) gs h =
     ap (λ (c : Bool). if c then if_there (option_map (λ (node : bound.Node). a_value node x.of) (member_called env e x gs)) else no_term) (only_first (takes_arguments x (length gs)) (has_names gs) h)
 not_called_by env e m (Some (suc k)) gs h =
     let x : HostMember = record m { greatest = Some (suc k) } in
-    no_names_taken e x (takes_arguments x (length gs)) (has_names gs) (names_taken x gs) (host_arguments env x gs) (option_map (λ es. host_member e x.name es) (host_arguments env x gs)) h
+    no_names_taken e x (takes_arguments x (length gs)) (has_names gs) (is_called_late env x gs) (names_taken x gs) (variant_arguments env gs) (option_map (λ es. host_member e x.name es) (variant_arguments env gs)) (late_called env e x gs) h
 
 not_called : (env : Env) (e : bound.Expr) (m : HostMember) (gs : List Given) → member_takes m gs ≡ false → host_called env e m gs ≡ no_term
 not_called env e m gs h = not_called_by env e m m.greatest gs h
@@ -404,5 +423,5 @@ member_untaken env x m d named = record {
       );
 }
 
-pub member_opened : (env : Env) (x : Tree) (m : MemberHere) (d e : Drafted) (c : MemberCall) → OpensMember x.place m d e c → OpensItem env x m d e (items.Member c)
-member_opened env x m d e c o = record { grown = o.grown; named = o.named; stands = λ tree xs is below base at h s. o.stands env tree xs is below base at h s }
+pub member_opened : (env : Env) (has : Bool) (x : Tree) (m : MemberHere) (d e : Drafted) (c : MemberCall) → has_class env.scope.spaces ≡ has → OpensMember has x.place m d e c → OpensItem env x m d e (items.Member c)
+member_opened env has x m d e c known o = record { grown = o.grown; named = o.named; stands = λ tree xs is below base at h s. o.stands env known tree xs is below base at h s }

@@ -20,7 +20,7 @@ use bound_accesses::bound_names::bound_members::open_member;
 use bound_accesses::bound_names::{Env, callee_term};
 use bound_accesses::{item_member, item_term, lacks_item, takes_item};
 use bound_operands::{open_call, open_function, open_place, open_value, push_whole, refused_rule};
-use bound_project::Draft;
+use bound_project::{Draft, LateUse};
 use std::alloc::Global;
 use vba_base::{NoMemory, OrMemory};
 
@@ -71,7 +71,7 @@ fn refuse_property<'a>(
     Ok(untaken(tree, Refuser::Called(ending.of)))
 }
 
-/// A property that is called without arguments, and whose value's numbers in brackets are read from now on.
+/// A property that is called without arguments, and whose value these in brackets index, which are read from now on.
 fn open_property<'a>(
     alloc: Global,
     draft: &mut Draft,
@@ -268,18 +268,20 @@ fn open_term<'a>(
 fn open_item<'a>(
     alloc: Global,
     draft: &mut Draft,
+    env: Env<'a>,
     tree: Tree<'a>,
     member: HostMember,
     shapes: &[Shape<'a>],
 ) -> Result<Item<'a>, OrMemory<NotYet>>
     requires { member.name < length (draft_view draft.old).tables.constants }
-    ensures { IfOk result (λ item. (env : plain.Env) → OpensItem env tree.entry member (draft_view draft.old) (draft_view draft.new) item) }
+    ensures { IfOk result (λ item. OpensItem (env_view env.entry) tree.entry member (draft_view draft.old) (draft_view draft.new) item) }
 {
     let refuser = Refuser::Member(member);
     if is_refused(alloc, draft, refuser, shapes)? {
         return Ok(untaken(tree, refuser));
     }
-    let call = open_member(alloc, draft, tree.place, member, shapes)?;
+    let aim = LateUse::Reading;
+    let call = open_member(alloc, draft, tree.place, member, shapes, aim, env.has_class)?;
     Ok(Item::Member(call))
 }
 
@@ -296,9 +298,9 @@ pub fn begin_arguments<'a>(
     ensures { IfOk result (λ item. Opens (env_view env.entry) tree.entry (draft_view draft.old) (draft_view draft.new) item) }
 {
     let term = callee_term(alloc, draft, env, tree)?;
-    if takes_item(term) {
+    if takes_item(env.has_class, draft, term) {
         let member = item_member(alloc, draft, env, tree.place, term)?;
-        return open_item(alloc, draft, tree, member, shapes);
+        return open_item(alloc, draft, env, tree, member, shapes);
     }
     open_term(alloc, draft, env, tree, term, shapes)
 }

@@ -125,11 +125,9 @@ fn step<'a>(
         }
         ExpressionNode::NoArguments => step_no_arguments(alloc, draft, env, stack, shapes),
         ExpressionNode::MissingArgument { .. } => step_missing_argument(alloc, draft, stack),
-        ExpressionNode::PlainArgument { .. } => {
-            step_plain_argument(alloc, draft, stack, env.has_class)
-        }
+        ExpressionNode::PlainArgument { .. } => step_plain_argument(alloc, draft, stack),
         ExpressionNode::NamedArgument { name, .. } => {
-            step_named_argument(alloc, draft, stack, name, env.has_class)
+            step_named_argument(alloc, draft, stack, name)
         }
         ExpressionNode::Index { .. } => step_index(alloc, draft, stack),
         ExpressionNode::Me(token) => step_me(alloc, draft, env, stack, refers, *token),

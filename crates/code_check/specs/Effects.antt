@@ -3,7 +3,7 @@ use Rattle.std.specs.Prelude.{ℕ, zero, suc, List, [], ◌∷◌, Option, Some,
 use Rattle.bound_project.specs.Pieces.{Tables, order_in}
 use Rattle.pcode.specs.WellFormed.{Kind, a_value, a_path, Way, no_way, brings, value_off, path_off, taken_off, brings_value, brings_path, statement_over, kinds_pushed, kinds_reordered}
 use Rattle.code_check.specs.declared.effects.Takes.{Takes}
-use Rattle.code_check.specs.declared.effects.Takes.TheVariants.{Values, PathAndValues, CountedAndValues, CountedAndPath, PathAndCounted, ValueAndPath}
+use Rattle.code_check.specs.declared.effects.Takes.TheVariants.{Values, PathAndValues, CountedAndValues, CountedPathAndValues, PathAndCounted, ValueAndPath}
 use Rattle.code_check.specs.declared.effects.Gives.{Gives}
 use Rattle.code_check.specs.declared.effects.Gives.TheVariants as gives
 use Rattle.code_check.specs.declared.effects.Effect.{Effect}
@@ -18,7 +18,7 @@ abbrev pub takes_off : Takes → List Kind → (List Kind → Option Way) → Op
 takes_off (Values n) ks go = values_off n ks go
 takes_off (PathAndValues n) ks go = path_off ks (λ js. values_off n js go)
 takes_off (CountedAndValues k n) ks go = taken_off k ks [] (λ xs js. values_off n js go)
-takes_off (CountedAndPath k) ks go = taken_off k ks [] (λ xs js. path_off js go)
+takes_off (CountedPathAndValues k n) ks go = taken_off k ks [] (λ xs js. path_off js (λ is. values_off n is go))
 takes_off ValueAndPath ks go = value_off ks (λ js. path_off js go)
 takes_off (PathAndCounted k) ks go = path_off ks (λ js. taken_off k js [] (λ xs is. go is))
 

@@ -265,6 +265,20 @@ fn is_sound(code: &Code, procedure: usize, instr: Instr) -> bool
         | Instr::OperateAlone { .. }
         | Instr::Plain
         | Instr::PlainIfAny
+        | Instr::Enumerate
+        | Instr::FindLate { .. }
+        | Instr::BindValue { .. }
+        | Instr::BindPlace { .. }
+        | Instr::CallLate(_)
+        | Instr::LetLate(_)
+        | Instr::SetLate(_)
+        | Instr::ItemAlong { .. }
+        | Instr::WriteThrough
+        | Instr::LetElement { .. }
+        | Instr::SetElement { .. }
+        | Instr::ElementAlong { .. }
+        | Instr::LateField { .. }
+        | Instr::PlaceOf
         | Instr::FirstSheet
         | Instr::MemberThere { .. }
         | Instr::MemberOf { .. }

@@ -93,15 +93,24 @@ impl Operands {
         true
     }
 
+    // A path, and so many values below it.
+    pub fn take_path_and_values(&mut self, count: u32) -> bool
+        ensures { (go : List plain.Kind → Option Way) → path_off (operands_view self.old) (λ js. values_off count js go) ≡ (if result then go (operands_view self.new) else None) }
+    {
+        self.take_path() && self.take_values(count)
+    }
+
     pub fn take(&mut self, takes: Takes) -> bool
         ensures { (go : List plain.Kind → Option Way) → takes_off takes (operands_view self.old) go ≡ (if result then go (operands_view self.new) else None) }
     {
         match takes {
             Takes::Values(values) => self.take_values(values),
-            Takes::PathAndValues(values) => self.take_path() && self.take_values(values),
+            Takes::PathAndValues(values) => self.take_path_and_values(values),
             Takes::CountedAndValues(count, values) => self.take_any(count)
                 && self.take_values(values),
-            Takes::CountedAndPath(count) => self.take_any(count) && self.take_path(),
+            Takes::CountedPathAndValues(count, values) => {
+                self.take_any(count) && self.take_path_and_values(values)
+            }
             Takes::PathAndCounted(count) => self.take_path() && self.take_any(count),
             Takes::ValueAndPath => self.take_value() && self.take_path(),
         }

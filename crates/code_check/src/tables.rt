@@ -1,5 +1,5 @@
 // Whether the tables of a code say where its procedures and statements begin.
-ghost use Rattle.std.specs.Prelude.{◌≡◌, ◌↔◌, ◌<◌, ◌≤◌, ℕ, IsTrue, Some, drop, length, slice_get, slice_index};
+ghost use Rattle.std.specs.Prelude.{◌≡◌, ◌↔◌, ◌<◌, ◌≤◌, ℕ, IsTrue, Some, drop, length, option_map, slice_get, slice_index};
 ghost use Rattle.bound_project.specs.Project.{Named};
 ghost use Rattle.bound_project.specs.View.{class_member_view, class_view, declarations_view};
 ghost use Rattle.bound_project.specs.Whole.{All, IfThere, WholeClass, WholeMember};
@@ -276,10 +276,11 @@ fn are_whole_members(code: &Code, class: &Class) -> bool
     true
 }
 
-fn is_whole_default(code: &Code, class: &Class) -> bool
-    ensures { IsTrue result ↔ IfThere (WholeMember (declarations_view code.now.declared) (length (class_view class.now).fields)) (class_view class.now).default }
+// A default member, or an enumerator, where there is one.
+fn is_whole_if_any(code: &Code, class: &Class, member: Option<Member>) -> bool
+    ensures { IsTrue result ↔ IfThere (WholeMember (declarations_view code.now.declared) (length (class_view class.now).fields)) (option_map class_member_view member) }
 {
-    match class.default {
+    match member {
         Some(member) => is_whole_member(code, field_count(class), member),
         None => true,
     }
@@ -290,7 +291,9 @@ fn class_ends(code: &Code, class: &Class) -> bool
 {
     has_procedure_if_any(code, class.initialize)
         && (has_procedure_if_any(code, class.terminate)
-            && (are_whole_members(code, class) && is_whole_default(code, class)))
+            && (are_whole_members(code, class)
+                && (is_whole_if_any(code, class, class.default)
+                    && is_whole_if_any(code, class, class.enumerator))))
 }
 
 /// Whether the procedures that classes end with are there.

@@ -1,7 +1,7 @@
 ghost use Rattle.std.specs.Prelude.{◌≡◌, ◌<◌, ◌++◌, IfOk, length, string_bytes, if◌then◌else◌};
 ghost use Rattle.std.specs.Fmt.{decimal};
 ghost use Rattle.vba_values.specs.View.{view};
-ghost use Rattle.bound_project.specs.Pieces.{constant_in, name_in};
+ghost use Rattle.bound_project.specs.Pieces.{constant_in, flags_in, name_in};
 ghost use Rattle.bound_project.specs.View.{variable_view};
 ghost use Rattle.pcode.specs.View.{code_view, instr_view, tables_of};
 ghost use Rattle.code_listing.specs.Listing as lists;
@@ -13,7 +13,7 @@ use crate::numbers::{
     member_number, operator_number, policy_number, storage_number, type_detail, type_number,
     value_number, value_size, variable_number,
 };
-use bound_project::Variable;
+use bound_project::{LateName, Variable};
 use pcode::{Code, Instr};
 use std::alloc::{AllocError, Global};
 use vba_base::NoMemory;
@@ -239,7 +239,14 @@ fn control_line(code: &Code, instr: Instr) -> Line
     }
 }
 
-// The same of the kinds from 69 on: objects of classes.
+// The length of the name of a late-bound member, and how many arguments it has.
+fn late_line(op: u32, code: &Code, member: LateName) -> Line
+    ensures { line_view result ≡ lists.listed_as op (length (name_in (tables_of code.now) member.name)) (length (flags_in (tables_of code.now) member)) }
+{
+    name_line(op, code, member.name, member.arguments)
+}
+
+// The same of the kinds from 69 on; here up to 76: objects of classes.
 fn object_line(code: &Code, instr: Instr) -> Line
     requires { 68 < kind_of (tables_of code.now) instr }
     ensures { line_view result ≡ lists.listed (instr_view (tables_of code.now) instr) }
@@ -259,8 +266,40 @@ fn object_line(code: &Code, instr: Instr) -> Line
         } => listed_as(73, number(procedure), number(arguments)),
         Instr::AsNew { class } => listed_as(74, number(class), 0),
         Instr::MakeThere => listed_as(75, 0, 0),
-        // Only StoreMade is left.
-        _ => listed_as(76, 0, 0),
+        Instr::StoreMade => listed_as(76, 0, 0),
+        _ => late_bound_line(code, instr),
+    }
+}
+
+// The same of the kinds from 77 on: late-bound members, and what arguments lead to.
+fn late_bound_line(code: &Code, instr: Instr) -> Line
+    requires { 76 < kind_of (tables_of code.now) instr }
+    ensures { line_view result ≡ lists.listed (instr_view (tables_of code.now) instr) }
+{
+    match instr {
+        Instr::FindLate { member, .. } => late_line(77, code, member),
+        Instr::BindValue {
+            member,
+            argument,
+            ..
+        } => name_line(78, code, member.name, argument),
+        Instr::BindPlace {
+            member,
+            argument,
+            ..
+        } => name_line(79, code, member.name, argument),
+        Instr::CallLate(member) => late_line(80, code, member),
+        Instr::LetLate(member) => late_line(81, code, member),
+        Instr::SetLate(member) => late_line(82, code, member),
+        Instr::ItemAlong { arguments } => listed_as(83, number(arguments), 0),
+        Instr::WriteThrough => listed_as(84, 0, 0),
+        Instr::LetElement { numbers } => listed_as(85, number(numbers), 0),
+        Instr::ElementAlong { arguments } => listed_as(87, number(arguments), 0),
+        Instr::SetElement { numbers } => listed_as(88, number(numbers), 0),
+        Instr::LateField { name } => name_line(89, code, name, 0),
+        Instr::Enumerate => listed_as(90, 0, 0),
+        // Only PlaceOf is left.
+        _ => listed_as(91, 0, 0),
     }
 }
 

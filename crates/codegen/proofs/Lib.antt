@@ -1,4 +1,5 @@
 pub mod Pieces
+pub mod Late
 pub mod Nodes
 pub mod Statements
 pub mod Loops

@@ -1,5 +1,5 @@
 -- The code of the pieces behind a node is that of the pieces before it, and the node's instructions.
-use Rattle.std.proofs.Common.{◌≡◌, ℕ, List, [], ◌∷◌, ◌++◌, length, map, refl, sym, ap, ◌∙◌, append_assoc}
+use Rattle.std.proofs.Common.{◌≡◌, Bool, ℕ, List, [], ◌∷◌, ◌++◌, length, map, refl, sym, ap, ◌∙◌, append_assoc}
 use Rattle.vba_values.specs.Types.{Declared}
 use Rattle.vba_values.specs.Val.{missing, empty}
 use Rattle.bound_project.specs.declared.declared_type.DeclaredType.{DeclaredType}
@@ -7,16 +7,21 @@ use Rattle.bound_project.specs.declared.node.NodeKind.{NodeKind}
 use Rattle.bound_project.specs.declared.node.NodeKind.TheVariants as node
 use Rattle.bound_project.specs.declared.node.Node.{Node}
 use Rattle.bound_project.specs.declared.node.ArgumentNames.{ArgumentNames}
+use Rattle.bound_project.specs.declared.node.LateName.{LateName}
+use Rattle.bound_project.specs.declared.node.LateUse.{LateUse}
+use Rattle.bound_project.specs.declared.node.LateUse.TheVariants.{Reading}
 use Rattle.bound_project.specs.View.{declared_view}
 use Rattle.bound_project.specs.Expressions.{Expr, expr, ByName, operand_type}
-use Rattle.bound_project.specs.Pieces.{Piece, Tables, constant_in, name_of, name_in, by_name_in, order_in, as_operand, put_kind, put, read}
+use Rattle.bound_project.specs.Pieces.{Piece, Sought, Tables, constant_in, name_of, name_in, by_name_in, flags, flags_in, sought_in, order_in, as_operand, put_kind, put, read}
 use Rattle.pcode.specs.Instructions as plain
-use Rattle.pcode.specs.Code.{expr_code, args_code, count as count_of}
-use Rattle.pcode.specs.View.{instr_view}
+use Rattle.pcode.specs.Code.{expr_code, place_code, args_code, count as count_of}
+use Rattle.pcode.specs.View.{instr_view, use_view}
+use Rattle.pcode.proofs.LateCode.{late_code}
 use Rattle.codegen.specs.declared.node.Around.{Around}
 use Rattle.codegen.specs.declared.node.Added.{Added}
 use Rattle.codegen.specs.Emission.{constant_number, node_instrs, nodes_instrs}
-use Rattle.codegen.proofs.Pieces.{codes, Emits, append_none, value_emits, place_emits, both_emits, test_emits, range_emits, found_emits, args_emit, place_found_emits, value_found_emits, member_found_emits, object_found_emits, named_found_emits}
+use Rattle.codegen.proofs.Pieces.{find_code, codes, Emits, append_none, value_emits, place_emits, both_emits, test_emits, range_emits, found_emits, args_emit, place_found_emits, value_found_emits, member_found_emits, object_found_emits, named_found_emits}
+use Rattle.codegen.proofs.Late.{late_found_emits}
 
 -- the tables of the code are those of the project with two constants more
 pub record Grown (t u : Tables) (added : Added) : Type 0 where
@@ -34,6 +39,17 @@ by_name_seen : (t u : Tables) (added : Added) → Grown t u added → (by : Argu
 by_name_seen t u added g by =
     let made : List (List ℕ) → ByName = λ names. record { before = by.before; names = names } in
     ap (λ is. made (map (name_in u) is)) (g.order by.order) ∙ ap made (each_name_seen t u added g (order_in t by.order))
+
+-- so is what a late-bound member is looked up by
+pub sought_seen : (t u : Tables) (added : Added) → Grown t u added → (aim : LateUse) (m : LateName) → sought_in u aim m ≡ sought_in t aim m
+sought_seen t u added g aim m =
+    let made : List ℕ → ByName → List Bool → Sought = λ name by given. record { aim = aim; name = name; by = by; given = given } in
+    ap (λ name. made name (by_name_in u m.names) (flags_in u m)) (g.name m.name) ∙ ap (λ by. made (name_in t m.name) by (flags_in u m)) (by_name_seen t u added g m.names)
+    ∙ ap (λ o. made (name_in t m.name) (by_name_in t m.names) (flags m.arguments o)) (g.order m.given)
+
+-- the instruction of a late-bound member that is called
+abbrev call_late : Sought → List plain.Instr
+call_late s = plain.CallLate s.name s.by s.given ∷ []
 
 same_code : (of : DeclaredType) (e : Expr) → expr_code (as_operand of e) ≡ expr_code e
 same_code of (expr node place written operand) = refl
@@ -67,6 +83,10 @@ node_emits t u added g around n (node.KeptPlace header) st there = (refl, there.
 node_emits t u added g around n (node.ObjectField i of bounded) st there = value_emits around _ _ (λ e. refl) st there
 node_emits t u added g around n (node.NewVariable x c) st there = (refl, there.1)
 node_emits t u added g around n (node.AsNew c) st there = place_emits around _ _ (λ x. refl) st there
+node_emits t u added g around n (node.ElementAlong count) st there =
+    place_found_emits around count st _ (λ c. map (instr_view u) (node_instrs added t.orders around (node.ElementAlong c))) (λ x es. refl) there
+node_emits t u added g around n (node.LateField i) st there = value_emits around _ _ (λ e. ap (λ name. expr_code e ++ plain.LateField name ∷ []) (sym (g.name i))) st there
+node_emits t u added g around n node.PlaceOf st there = value_emits around _ _ (λ e. refl) st there
 node_emits t u added g around n node.LoadMade st there = place_emits around _ _ (λ x. refl) st there
 node_emits t u added g around n node.Load st there = place_emits around _ _ (λ x. refl) st there
 node_emits t u added g around n (node.ElementValue count) st there = value_found_emits around count st _ (λ c. map (instr_view u) (node_instrs added t.orders around (node.ElementValue c))) (λ x es. refl) there
@@ -95,6 +115,9 @@ node_emits t u added g around n (node.Library f text_form count compare one) st 
 node_emits t u added g around n (node.BoundOf upper z) st there = place_emits around _ _ (λ x. refl) st there
 node_emits t u added g around n node.DefaultOf st there = value_emits around _ _ (λ e. refl) st there
 node_emits t u added g around n node.DefaultIfAny st there = value_emits around _ _ (λ e. refl) st there
+node_emits t u added g around n node.Enumerated st there = value_emits around _ _ (λ e. refl) st there
+node_emits t u added g around n (node.ItemAlong count) st there =
+    value_found_emits around count st _ (λ c. map (instr_view u) (node_instrs added t.orders around (node.ItemAlong c))) (λ x es. refl) there
 node_emits t u added g around n node.Same st there = both_emits around _ _ (λ a b. refl) st there
 node_emits t u added g around n (node.IsType of) st there = value_emits around _ _ (λ e. refl) st there
 node_emits t u added g around n (node.HostObject reference) st there = (refl, there.1)
@@ -111,6 +134,14 @@ node_emits t u added g around n (node.NamedThere i by given) st there =
 node_emits t u added g around n (node.NamedMember i by count) st there =
     along around _ st _ _ (ap (λ v. plain.NamedOf (name_of v) (by_name_in t by) count ∷ []) (sym (g.constant i)) ∙ ap (λ how. plain.NamedOf (name_in u (constant_number added i)) how count ∷ []) (sym (by_name_seen t u added g by)))
     (named_found_emits around count st (name_in t i) (by_name_in t by) _ (λ c. plain.NamedOf (name_in t i) (by_name_in t by) c ∷ []) (λ e es. refl)) there
+node_emits t u added g around n (node.LateThere aim m) st there = value_emits around _ _ (λ e. ap (λ s. expr_code e ++ find_code s) (sym (sought_seen t u added g aim m))) st there
+node_emits t u added g around n (node.LateValue aim m i) st there =
+    value_emits around _ _ (λ e. ap (λ s. expr_code e ++ plain.BindValue (use_view aim) s.name s.by s.given i ∷ []) (sym (sought_seen t u added g aim m))) st there
+node_emits t u added g around n (node.LatePlace aim m i) st there =
+    place_emits around _ _ (λ x. ap (λ s. place_code x ++ plain.BindPlace (use_view aim) s.name s.by s.given i ∷ []) (sym (sought_seen t u added g aim m))) st there
+node_emits t u added g around n (node.LateMember m) st there =
+    let s = sought_in t Reading m in
+    along around _ st _ _ (ap call_late (sym (sought_seen t u added g Reading m))) (late_found_emits around s m.arguments st _ (call_late s) (λ e given same. late_code e s.name s.by given s.given same)) there
 node_emits t u added g around n node.ByPlace st there = place_emits around _ _ (λ x. refl) st there
 node_emits t u added g around n (node.ByCopy of) st there = value_emits around _ _ (λ e. refl) st there
 node_emits t u added g around n (node.ByDefault i) st there = (ap (λ v. codes around st ++ plain.Push v ∷ []) (sym (g.constant i)), there.1)

@@ -6,9 +6,10 @@ use Rattle.std.proofs.lemmas.Slice.Eq.{bytes_eq-Decides}
 use Rattle.vba_values.specs.Val.{empty}
 use Rattle.bound_project.specs.View.{declared_view}
 use Rattle.bound_project.specs.Expressions.{Expr, Exprs, no_exprs, also, given_count, ByName, Lvalue, Args, no_args, operand_type}
-use Rattle.bound_project.specs.Pieces.{Argument, place_lent, value_copied, default_taken, values_listed, Piece, nothing, an_expr, a_place, an_argument, a_member, an_object, a_named_member, a_value_shown, a_zone, a_test_begun, a_test_is, a_test_range, a_resize, an_erased, of_value, of_place, of_both, of_test, of_range, of_found, of_place_found, of_value_found, is_member, misfit, of_member, of_member_found, of_object, of_object_found, same_names, same_by_name, is_named_member, of_named, of_named_found, exprs_off, arguments_off, with_argument}
-use Rattle.pcode.specs.Instructions.{Instr, Push, Selected, Plain, Fit, Lend, Pack, MemberThere, ObjectThere, NamedThere, ShowText, IfFits, IfBetween, Redim, EraseAt}
+use Rattle.bound_project.specs.Pieces.{Argument, place_lent, value_copied, default_taken, values_listed, GivenArgument, place_there, value_there, Sought, Piece, nothing, an_expr, a_place, an_argument, a_member, an_object, a_named_member, a_late, a_given, a_value_shown, a_zone, a_test_begun, a_test_is, a_test_range, a_resize, an_erased, of_value, of_place, of_both, of_test, of_range, of_found, of_place_found, of_value_found, is_member, misfit, of_member, of_member_found, of_object, of_object_found, same_names, same_by_name, is_named_member, of_named, of_named_found, exprs_off, arguments_off, with_argument}
+use Rattle.pcode.specs.Instructions.{Instr, Push, Selected, Plain, Fit, Lend, Pack, MemberThere, ObjectThere, NamedThere, FindLate, BindValue, BindPlace, ShowText, IfFits, IfBetween, Redim, EraseAt}
 use Rattle.pcode.specs.Code.{count, list_count, expr_code, place_code, args_code, list_code}
+use Rattle.pcode.specs.View.{use_view}
 use Rattle.codegen.specs.declared.node.Around.{Around}
 
 abbrev pub argument_code : Argument → List Instr
@@ -17,6 +18,14 @@ argument_code (value_copied e of) = expr_code e ++ Fit of ∷ []
 argument_code (default_taken v) = Push v ∷ []
 argument_code (values_listed es) = list_code es ++ Pack (list_count es) ∷ []
 
+-- a late-bound member is looked up, and an argument of this number is bound
+abbrev pub find_code : Sought → List Instr
+find_code s = FindLate (use_view s.aim) s.name s.by s.given ∷ []
+
+abbrev pub bound_code : GivenArgument → Sought → ℕ → List Instr
+bound_code (place_there x) s i = place_code x ++ BindPlace (use_view s.aim) s.name s.by s.given i ∷ []
+bound_code (value_there e) s i = expr_code e ++ BindValue (use_view s.aim) s.name s.by s.given i ∷ []
+
 abbrev pub piece_code : Around → Piece → List Instr
 piece_code around nothing = []
 piece_code around (an_expr e) = expr_code e
@@ -24,6 +33,8 @@ piece_code around (a_place x) = place_code x
 piece_code around (an_argument a) = argument_code a
 piece_code around (a_member e name given) = expr_code e ++ MemberThere name given ∷ []
 piece_code around (a_named_member e name by given) = expr_code e ++ NamedThere name by given ∷ []
+piece_code around (a_late e s) = expr_code e ++ find_code s
+piece_code around (a_given a s i) = bound_code a s i
 piece_code around (an_object e) = expr_code e ++ ObjectThere ∷ []
 piece_code around (a_value_shown e) = expr_code e ++ ShowText ∷ []
 piece_code around a_zone = Push empty ∷ []
@@ -251,7 +262,7 @@ names_same (x ∷ xs) (y ∷ ys) h =
     let both = and_parts (bytes_eq x y) (same_names xs ys) h in
     ap (λ l. l ∷ xs) ((bytes_eq-Decides x y).0 both.0) ∙ ap (λ r. y ∷ r) (names_same xs ys both.1)
 
-by_name_same : (by how : ByName) → same_by_name by how ≡ true → by ≡ how
+pub by_name_same : (by how : ByName) → same_by_name by how ≡ true → by ≡ how
 by_name_same by how h =
     let both = and_parts (by.before == how.before) (same_names by.names how.names) h in
     let made : ℕ → List (List ℕ) → ByName = λ k names. record { before = k; names = names } in

@@ -11,12 +11,13 @@ use Rattle.bound_project.specs.declared.statement.Handling.TheVariants.{PassedOn
 use Rattle.bound_project.specs.declared.statement.ActionKind.{ActionKind}
 use Rattle.bound_project.specs.declared.statement.ActionKind.TheVariants as kind
 use Rattle.bound_project.specs.declared.statement.StatementNode.{StatementNode}
+use Rattle.bound_project.specs.declared.node.LateUse.TheVariants.{Assigning, Setting}
 use Rattle.bound_project.specs.declared.node.Node.{Node}
 use Rattle.bound_project.specs.View.{declared_view, variable_view}
-use Rattle.bound_project.specs.Expressions.{Expr, Exprs, no_exprs, given_count, Lvalue, Args, no_args, Prints, no_prints, shown, zone, operand_type}
+use Rattle.bound_project.specs.Expressions.{Expr, Exprs, no_exprs, given_count, Lvalue, Args, no_args, Given, none_given, Prints, no_prints, shown, zone, operand_type}
 use Rattle.bound_project.specs.Statements.{Tests, no_tests, test_is, test_range, Resizes, no_resizes, resize, Arrays, no_arrays, an_array, Action, assign_item, assign_member}
-use Rattle.bound_project.specs.Pieces.{Piece, an_expr, a_place, a_member, an_object, is_member, name_of, name_in, exprs_off, a_value_shown, a_zone, a_test_is, a_test_range, a_resize, an_erased, Tables, order_in, prints_off, tests_off, resizes_off, arrays_off, arguments_off, pieces}
-use Rattle.bound_project.specs.Bodies.{whole, one_value, one_place, behind_value, behind_object, member_found, item_found, alone, action_of, action_or, part, statement_view, StatementFits, AllFit, BodiesFit, body_view}
+use Rattle.bound_project.specs.Pieces.{Piece, an_expr, a_place, a_member, an_object, a_late, Sought, which_there, is_member, is_late, name_of, name_in, sought_in, exprs_off, given_off, a_value_shown, a_zone, a_test_is, a_test_range, a_resize, an_erased, Tables, order_in, prints_off, tests_off, resizes_off, arrays_off, arguments_off, pieces}
+use Rattle.bound_project.specs.Bodies.{whole, one_value, one_place, behind_value, behind_object, member_found, item_found, element_found, late_found, alone, action_of, action_or, part, statement_view, StatementFits, AllFit, BodiesFit, body_view}
 use Rattle.bound_project.specs.declared.project.Body.{Body}
 use Rattle.std.proofs.lemmas.Bool.{false≢true}
 use Rattle.std.proofs.lemmas.List.{length-map}
@@ -24,11 +25,13 @@ use Rattle.pcode.specs.Layout.{statement_length, body_length, addresses, entries
 use Rattle.pcode.specs.Instructions as plain
 use Rattle.pcode.specs.Code.{Entry, count, prints_count, expr_code, place_code, args_code, prints_code, resizes_code, erases_code, tests_code, action_code, statement_code, list_code, list_count}
 use Rattle.pcode.specs.View.{instr_view}
+use Rattle.pcode.proofs.LateCode.{late_let_code, late_set_code}
 use Rattle.codegen.specs.declared.node.Around.{Around}
 use Rattle.codegen.specs.declared.node.Added.{Added}
 use Rattle.codegen.specs.Emission.{Row, around_of, before_instrs, work_instrs, end_instr, nodes_instrs, action_instrs, statement_instrs, statement_size, body_size, body_instrs, row_in, bodies_instrs, row_of, table_of}
-use Rattle.codegen.proofs.Pieces.{codes, AllThere, ExprsOff, exprs_are, ArgsOff, args_are, append_none, one, two, member_code}
-use Rattle.codegen.proofs.Nodes.{Grown, same_two, map_append, nodes_emit}
+use Rattle.codegen.proofs.Pieces.{find_code, codes, AllThere, ExprsOff, exprs_are, ArgsOff, args_are, append_none, one, two, member_code}
+use Rattle.codegen.proofs.Late.{given_list, GivenOff, given_are, late_parts}
+use Rattle.codegen.proofs.Nodes.{Grown, same_two, sought_seen, map_append, nodes_emit}
 
 -- ---- lists of a statement off the stack
 
@@ -234,6 +237,39 @@ item_made around code back h n st (Some (es, an_expr base ∷ an_expr e ∷ []))
     )
 item_made around code back h n st (Some (es, rest)) off = tt
 
+-- an assignment to what numbers lead to from a place, behind a value
+element_made : (around : Around) (code : Action → List plain.Instr) (back : ℕ → List plain.Instr) (go : Lvalue → Exprs → Expr → Action)
+    → ((x : Lvalue) (e : Expr) (es : Exprs) → code (go x es e) ≡ expr_code e ++ (place_code x ++ (list_code es ++ back (list_count es))))
+    → (n : ℕ) (st : List Piece) (found : Option (Exprs × List Piece)) → ExprsOff around n st no_exprs found → Made around code [] (back n) st (element_found go found)
+element_made around code back go h n st None off = tt
+element_made around code back go h n st (Some (es, a_place x ∷ an_expr e ∷ [])) off =
+    let k : list_count es ≡ n = omega (arith, off.1) in (
+      h x e es ∙ two (expr_code e) (place_code x) (list_code es) (back (list_count es)) _ refl
+          ∙ all_there around st ((expr_code e ++ place_code x) ++ list_code es) (back (list_count es)) off.0 ∙ ap (λ m. codes around st ++ back m) k,
+      off.2 (tt, (tt, tt)),
+    )
+element_made around code back go h n st (Some (es, rest)) off = tt
+
+-- an assignment to a late-bound member: its arguments behind the object that was looked at for it, behind a value
+late_if_made : (around : Around) (code : Action → List plain.Instr) (back : List plain.Instr) (s other : Sought) (go : Expr → Given → Expr → Action) (given : Given) (base e : Expr)
+    → (s.given ≡ which_there given → code (go base given e) ≡ expr_code e ++ (expr_code base ++ (find_code s ++ (given_list s given 0 ++ back)))) → (n : ℕ) (st : List Piece)
+    → GivenOff around s n st none_given (Some (given, a_late base other ∷ an_expr e ∷ [])) → (b : Bool) → is_late s other given ≡ b
+    → Made around code [] back st (if b then Some (go base given e) else None)
+late_if_made around code back s other go given base e h n st off true k =
+    let parts = late_parts s other given k in
+    let list = given_list s given 0 in
+    let parted : expr_code base ++ (find_code s ++ (list ++ back)) ≡ (expr_code base ++ find_code s) ++ (list ++ back) = sym (append_assoc (expr_code base) (find_code s) (list ++ back)) in
+    let there : (expr_code e ++ (expr_code base ++ find_code s)) ++ list ≡ codes around st ++ [] = ap (λ x. (expr_code e ++ (expr_code base ++ find_code x)) ++ list) parts.0 ∙ off.0 in
+    (h parts.1 ∙ two (expr_code e) (expr_code base ++ find_code s) list back _ parted ∙ all_there around st ((expr_code e ++ (expr_code base ++ find_code s)) ++ list) back there, off.1 (tt, (tt, tt)))
+late_if_made around code back s other go given base e h n st off false k = tt
+
+late_made : (around : Around) (code : Action → List plain.Instr) (back : List plain.Instr) (s : Sought) (go : Expr → Given → Expr → Action)
+    → ((base e : Expr) (given : Given) → s.given ≡ which_there given → code (go base given e) ≡ expr_code e ++ (expr_code base ++ (find_code s ++ (given_list s given 0 ++ back))))
+    → (n : ℕ) (st : List Piece) (found : Option (Given × List Piece)) → GivenOff around s n st none_given found → Made around code [] back st (late_found s go found)
+late_made around code back s go h n st None off = tt
+late_made around code back s go h n st (Some (given, a_late base other ∷ an_expr e ∷ [])) off = late_if_made around code back s other go given base e (h base e given) n st off (is_late s other given) refl
+late_made around code back s go h n st (Some (given, rest)) off = tt
+
 tests_made : (row : Row) (header : ℕ) (of : DeclaredType) (compare : Compare) (first other : ℕ) (code : Action → List plain.Instr) (go : Tests → Action)
     → ((ts : Tests) → code (go ts) ≡ tests_in row header of compare first other ts)
     → (st : List Piece) (found : Option (Tests × List Piece)) → TestsOff row header of compare first other st no_tests found
@@ -286,6 +322,32 @@ action_made t u added g row p i next (kind.AssignMember m count) st =
     count st (exprs_off count st no_exprs) (exprs_are (around_of row k) count st no_exprs))
 action_made t u added g row p i next kind.SetMember (an_expr x ∷ an_expr e ∷ []) = (sym (append_assoc (expr_code e) (expr_code x) _), (tt, (tt, tt)))
 action_made t u added g row p i next kind.SetMember st = tt
+action_made t u added g row p i next kind.AssignThrough (an_expr x ∷ an_expr e ∷ []) = (sym (append_assoc (expr_code e) (expr_code x) _), (tt, (tt, tt)))
+action_made t u added g row p i next kind.AssignThrough st = tt
+action_made t u added g row p i next (kind.AssignElement count) st =
+    let k = kind.AssignElement count in
+    element_made (around_of row k) (action_code (entry row) p i next) (λ n. plain.LetElement n ∷ plain.Drop ∷ plain.Finish (slice_index row next) ∷ []) _ (λ x e es. refl)
+    count st (exprs_off count st no_exprs) (exprs_are (around_of row k) count st no_exprs)
+action_made t u added g row p i next (kind.SetElement count) st =
+    let k = kind.SetElement count in
+    element_made (around_of row k) (action_code (entry row) p i next) (λ n. plain.SetElement n ∷ plain.Drop ∷ plain.Finish (slice_index row next) ∷ []) _ (λ x e es. refl)
+    count st (exprs_off count st no_exprs) (exprs_are (around_of row k) count st no_exprs)
+action_made t u added g row p i next (kind.AssignLate m) st =
+    let k = kind.AssignLate m in
+    let s = sought_in t Assigning m in
+    let last : Sought → List plain.Instr = λ x. plain.LetLate x.name x.by x.given ∷ plain.Drop ∷ plain.Finish (slice_index row next) ∷ [] in
+    subst (λ (x : Sought). Made (around_of row k) (action_code (entry row) p i next) [] (last x) st (action_of t k st)) (sym (sought_seen t u added g Assigning m))
+    (late_made (around_of row k) (action_code (entry row) p i next) (last s) s _
+    (λ base e given same. late_let_code (entry row) p i next base e s.name s.by given s.given same)
+    m.arguments st (given_off s m.arguments st none_given) (given_are (around_of row k) s m.arguments st none_given))
+action_made t u added g row p i next (kind.SetLate m) st =
+    let k = kind.SetLate m in
+    let s = sought_in t Setting m in
+    let last : Sought → List plain.Instr = λ x. plain.SetLate x.name x.by x.given ∷ plain.Drop ∷ plain.Finish (slice_index row next) ∷ [] in
+    subst (λ (x : Sought). Made (around_of row k) (action_code (entry row) p i next) [] (last x) st (action_of t k st)) (sym (sought_seen t u added g Setting m))
+    (late_made (around_of row k) (action_code (entry row) p i next) (last s) s _
+    (λ base e given same. late_set_code (entry row) p i next base e s.name s.by given s.given same)
+    m.arguments st (given_off s m.arguments st none_given) (given_are (around_of row k) s m.arguments st none_given))
 action_made t u added g row p i next kind.Evaluate st = value_made (around_of row kind.Evaluate) (action_code (entry row) p i next) [] _ _ (λ e. refl) st
 action_made t u added g row p i next (kind.LetProperty q count of) st =
     behind_made (around_of row (kind.LetProperty q count of)) (action_code (entry row) p i next) (λ n. back t u added row p i next (kind.LetProperty q n of)) _ (λ args e. sym (append_assoc (expr_code e) (args_code args) _)) count st (arguments_off count st no_args) (args_are (around_of row (kind.LetProperty q count of)) count st no_args)

@@ -61,6 +61,9 @@ place_instrs (node.KeptPlace header) = instr.Dot header ∷ []
 place_instrs (node.ObjectField i of bounded) = instr.FieldIn i of bounded ∷ []
 place_instrs (node.NewVariable x c) = instr.PathOf x ∷ instr.AsNew c ∷ []
 place_instrs (node.AsNew c) = instr.AsNew c ∷ []
+place_instrs (node.ElementAlong count) = instr.ElementAlong count ∷ []
+place_instrs (node.LateField i) = instr.LateField i ∷ []
+place_instrs node.PlaceOf = instr.PlaceOf ∷ []
 place_instrs node.Load = instr.ReadThrough ∷ []
 place_instrs node.LoadMade = instr.MakeThere ∷ instr.Drop ∷ instr.StoreMade ∷ instr.ReadThrough ∷ []
 place_instrs (node.ElementValue count) = instr.Index count ∷ []
@@ -76,11 +79,13 @@ operator_instrs (node.Marked broken count) = instr.Library function.Array false 
 operator_instrs (node.Library f text_form count compare one) = instr.Library f text_form compare one count ∷ []
 operator_instrs node.DefaultOf = instr.Plain ∷ []
 operator_instrs node.DefaultIfAny = instr.PlainIfAny ∷ []
+operator_instrs node.Enumerated = instr.Enumerate ∷ []
+operator_instrs (node.ItemAlong count) = instr.ItemAlong count ∷ []
 operator_instrs node.Same = instr.Same ∷ []
 operator_instrs (node.IsType of) = instr.IsType of ∷ []
 operator_instrs k = []
 
--- a call, a member of an object of the host, or an argument
+-- a call, a member of an object, or an argument
 abbrev pub call_instrs : Added → List (List ℕ) → NodeKind → List Instr
 call_instrs added orders (node.Call p count) = instr.Call p count ∷ []
 call_instrs added orders (node.CallInOrder p count order) = instr.Reorder order count ∷ instr.Call p (order_length orders order) ∷ []
@@ -91,6 +96,10 @@ call_instrs added orders (node.MemberThere i given) = instr.MemberThere (constan
 call_instrs added orders (node.HostMember i count) = instr.MemberOf (constant_number added i) count ∷ []
 call_instrs added orders (node.NamedThere i by given) = instr.NamedThere (constant_number added i) by given ∷ []
 call_instrs added orders (node.NamedMember i by count) = instr.NamedOf (constant_number added i) by count ∷ []
+call_instrs added orders (node.LateThere aim m) = instr.FindLate aim m ∷ []
+call_instrs added orders (node.LateValue aim m i) = instr.BindValue aim m i ∷ []
+call_instrs added orders (node.LatePlace aim m i) = instr.BindPlace aim m i ∷ []
+call_instrs added orders (node.LateMember m) = instr.CallLate m ∷ []
 call_instrs added orders node.ByPlace = instr.Lend ∷ []
 call_instrs added orders (node.ByCopy of) = instr.Fit of ∷ []
 call_instrs added orders (node.ByList count) = instr.Pack count ∷ []
@@ -162,6 +171,15 @@ assignment_instrs added (kind.AssignMember n count) = instr.StoreMember (constan
 assignment_instrs added kind.SetMember = instr.SetMember ∷ []
 assignment_instrs added k = []
 
+-- an assignment that gives a value of its own, as that of a procedure that it ends in: nothing uses it
+abbrev pub assignment_along_instrs : ActionKind → List Instr
+assignment_along_instrs kind.AssignThrough = instr.WriteThrough ∷ instr.Drop ∷ []
+assignment_along_instrs (kind.AssignElement count) = instr.LetElement count ∷ instr.Drop ∷ []
+assignment_along_instrs (kind.SetElement count) = instr.SetElement count ∷ instr.Drop ∷ []
+assignment_along_instrs (kind.AssignLate m) = instr.LetLate m ∷ instr.Drop ∷ []
+assignment_along_instrs (kind.SetLate m) = instr.SetLate m ∷ instr.Drop ∷ []
+assignment_along_instrs k = []
+
 -- an assignment to a property
 abbrev pub property_assignment_instrs : List (List ℕ) → ActionKind → List Instr
 property_assignment_instrs orders (kind.LetProperty q count of) = property_instrs q count of
@@ -206,7 +224,7 @@ control_instrs i next k = []
 -- what is done behind its nodes: all of these but one are empty
 abbrev pub work_instrs : Added → List (List ℕ) → (statement next : ℕ) → ActionKind → List Instr
 work_instrs added orders i next k =
-    assignment_instrs added k ++ (property_assignment_instrs orders k ++ (method_assignment_instrs orders k ++ (loop_instrs i k ++ control_instrs i next k)))
+    assignment_instrs added k ++ (assignment_along_instrs k ++ (property_assignment_instrs orders k ++ (method_assignment_instrs orders k ++ (loop_instrs i k ++ control_instrs i next k))))
 
 -- where it goes on
 abbrev pub end_instr : List (List ℕ) → Row → (procedure next : ℕ) → ActionKind → Instr

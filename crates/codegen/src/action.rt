@@ -1,5 +1,5 @@
 ghost use Rattle.std.specs.Prelude.{◌≡◌, suc, [], ◌∷◌, ◌++◌, IfOk, OnOk, slice_index};
-ghost use Rattle.codegen.specs.Emission.{action_instrs, around_of, assignment_instrs, before_instrs, control_instrs, end_instr, lists_of, loop_instrs, method_assignment_instrs, method_instrs, object_method_instrs, object_property_instrs, order_length, policy_in, property_assignment_instrs, property_instrs, work_instrs};
+ghost use Rattle.codegen.specs.Emission.{action_instrs, around_of, assignment_along_instrs, assignment_instrs, before_instrs, control_instrs, end_instr, lists_of, loop_instrs, method_assignment_instrs, method_instrs, object_method_instrs, object_property_instrs, order_length, policy_in, property_assignment_instrs, property_instrs, work_instrs};
 
 use crate::node::{Added, Around, constant_number, emit_nodes, order_length, put, put_two};
 use bound_project::{ActionKind, DeclaredType, ElementType, Handling, Node, TooLong};
@@ -271,6 +271,21 @@ fn put_assignment(
     put(code, instr)
 }
 
+// An assignment that gives a value of its own, as that of a procedure that it ends in: nothing uses it.
+fn put_assignment_along(code: &mut Vec<Instr>, action: ActionKind) -> Result<(), OrMemory<TooLong>>
+    ensures { OnOk result (code.new.items ≡ code.old.items ++ assignment_along_instrs action) }
+{
+    let instr = match action {
+        ActionKind::AssignThrough => Instr::WriteThrough,
+        ActionKind::AssignElement { numbers } => Instr::LetElement { numbers },
+        ActionKind::SetElement { numbers } => Instr::SetElement { numbers },
+        ActionKind::AssignLate(member) => Instr::LetLate(member),
+        ActionKind::SetLate(member) => Instr::SetLate(member),
+        _ => return Ok(()),
+    };
+    put_two(code, instr, Instr::Drop)
+}
+
 // An assignment to a property.
 fn put_property_assignment(
     code: &mut Vec<Instr>,
@@ -417,6 +432,7 @@ fn put_work(
     ensures { OnOk result (code.new.items ≡ code.old.items ++ work_instrs added (lists_of orders.now) statement next action) }
 {
     put_assignment(code, added, action)?;
+    put_assignment_along(code, action)?;
     put_property_assignment(code, orders, action)?;
     put_method_assignment(code, orders, action)?;
     put_loop(code, statement, action)?;

@@ -123,6 +123,9 @@ fn put_place(code: &mut Vec<Instr>, kind: NodeKind) -> Result<(), OrMemory<TooLo
             return put_two(code, Instr::PathOf(variable), Instr::AsNew { class });
         }
         NodeKind::AsNew { class } => Instr::AsNew { class },
+        NodeKind::ElementAlong { arguments } => Instr::ElementAlong { arguments },
+        NodeKind::LateField { name } => Instr::LateField { name },
+        NodeKind::PlaceOf => Instr::PlaceOf,
         NodeKind::Load => Instr::ReadThrough,
         NodeKind::LoadMade => {
             put_two(code, Instr::MakeThere, Instr::Drop)?;
@@ -181,6 +184,8 @@ fn put_operator(code: &mut Vec<Instr>, kind: NodeKind) -> Result<(), OrMemory<To
         },
         NodeKind::DefaultOf => Instr::Plain,
         NodeKind::DefaultIfAny => Instr::PlainIfAny,
+        NodeKind::Enumerated => Instr::Enumerate,
+        NodeKind::ItemAlong { arguments } => Instr::ItemAlong { arguments },
         NodeKind::Same => Instr::Same,
         NodeKind::IsType(of) => Instr::IsType(of),
         _ => return Ok(()),
@@ -224,7 +229,7 @@ fn put_method_in_order(
     put_two(code, Instr::Reorder { order, arguments }, call)
 }
 
-// A call, a member of an object of the host, or an argument.
+// A call, a member of an object, or an argument.
 fn put_call(
     code: &mut Vec<Instr>,
     added: Added,
@@ -281,6 +286,26 @@ fn put_call(
             names,
             arguments,
         },
+        NodeKind::LateThere { aim, member } => Instr::FindLate { aim, member },
+        NodeKind::LateValue {
+            aim,
+            member,
+            argument,
+        } => Instr::BindValue {
+            aim,
+            member,
+            argument,
+        },
+        NodeKind::LatePlace {
+            aim,
+            member,
+            argument,
+        } => Instr::BindPlace {
+            aim,
+            member,
+            argument,
+        },
+        NodeKind::LateMember(member) => Instr::CallLate(member),
         NodeKind::ByPlace => Instr::Lend,
         NodeKind::ByCopy(of) => Instr::Fit(of),
         NodeKind::ByList { values } => Instr::Pack { arguments: values },

@@ -4,3 +4,4 @@ pub mod OneEnd
 pub mod Ways
 pub mod Sounds
 pub mod Steady
+pub mod LateCode

@@ -1,4 +1,4 @@
-use bound_project::{ArgumentNames, DeclaredType, ErrMember, Variable};
+use bound_project::{ArgumentNames, DeclaredType, ErrMember, LateName, LateUse, Variable};
 use error_frames::Policy;
 use vba_lib::LibraryFunction;
 use vba_values::{Compare, HostRef, OpKind};
@@ -58,6 +58,8 @@ pub enum Instr {
     Plain,
     /// The same, but an object without such a value stays.
     PlainIfAny,
+    /// An object of a class gives way to the Collection that its enumerator gives.
+    Enumerate,
     FirstSheet,
     /// Whether the object on top has a member of this name that takes so many arguments, with what they index put above
     /// it; and that member, with so many arguments above both. The name is a text constant, folded.
@@ -99,6 +101,47 @@ pub enum Instr {
     },
     MakeThere,
     StoreMade,
+    /// Whether the object on top has a member of this name for such a use and these arguments, with what they index put
+    /// above it; the argument of this number, whose base stands so many operands below, as the member takes it: a value and
+    /// a place; and what is done with the member, with the arguments above both and an assigned value below.
+    FindLate {
+        aim: LateUse,
+        member: LateName,
+    },
+    BindValue {
+        aim: LateUse,
+        member: LateName,
+        argument: u32,
+    },
+    BindPlace {
+        aim: LateUse,
+        member: LateName,
+        argument: u32,
+    },
+    CallLate(LateName),
+    LetLate(LateName),
+    SetLate(LateName),
+    /// What so many arguments lead to in the value below them; the default member of the object on top is written.
+    ItemAlong {
+        arguments: u32,
+    },
+    WriteThrough,
+    /// What so many numbers lead to from the path below them takes the value below that; and by Set.
+    LetElement {
+        numbers: u32,
+    },
+    SetElement {
+        numbers: u32,
+    },
+    /// The place to which so many arguments lead from the path below them: an element, or an item along default members.
+    ElementAlong {
+        arguments: u32,
+    },
+    /// The place of the public variable of this name of the object on top; and that of the value on top.
+    LateField {
+        name: u32,
+    },
+    PlaceOf,
     /// Is and TypeOf.
     Same,
     IsType(DeclaredType),

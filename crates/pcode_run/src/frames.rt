@@ -120,6 +120,19 @@ pub fn returns(
             finish_object(machine, alloc, object, count, after)?;
             Ok(Step::On)
         }
+        Some(
+            Back::Within {
+                place,
+                left,
+                tasks,
+                pc,
+                operands,
+            },
+        ) => {
+            machine.memory.hold(alloc, &value)?;
+            machine.operands = operands;
+            machine.resume(alloc, code, turns, place, left, tasks, pc, value)
+        }
     }
 }
 
@@ -134,7 +147,7 @@ pub fn pass_on(
 {
     machine.memory.left(alloc)?;
     match machine.backs.pop() {
-        Some(Back::Caller { .. }) => {
+        Some(Back::Caller { .. } | Back::Within { .. }) => {
             machine.operands.clear();
             machine.turn(Mode::Failing(error));
             Ok(Step::On)

@@ -6,4 +6,6 @@ pub mod Carried
 pub mod Tellings
 pub mod Making
 pub mod Counted
+pub mod Following
+pub mod Coming
 mod Popped

@@ -3,3 +3,4 @@ pub mod Operands
 pub mod Odd
 pub mod Does
 pub mod Made
+pub mod Late

@@ -3,6 +3,7 @@ ghost use Rattle.std.specs.Prelude.{◌≡◌, ◌∷◌, [], OnOk};
 ghost use Rattle.pcode_vm.specs.View.{back_view, backs_view, LeavesBack};
 
 use crate::operands::Operands;
+use run_defaults::Task;
 use run_memory::RunError;
 use vba_base::NoMemory;
 use vba_values::Value;
@@ -29,8 +30,9 @@ pub enum Mode {
     Letting { count: usize, after: After },
 }
 
-/// What a frame returns to: a call, with the operands that wait there, or the end of an object whose Class_Terminate
-/// it is.
+/// What a frame returns to: a call, with the operands that wait there; the end of an object whose Class_Terminate it is;
+/// or the use of an object by an instruction, with what is then to be done, how many calls it may still make, and whether
+/// it leaves a place.
 #[derive(Drop)]
 pub enum Back {
     Caller {
@@ -41,6 +43,13 @@ pub enum Back {
         object: u32,
         count: usize,
         after: After,
+    },
+    Within {
+        place: bool,
+        left: u32,
+        tasks: Vec<Task>,
+        pc: usize,
+        operands: Operands,
     },
 }
 

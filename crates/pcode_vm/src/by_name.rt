@@ -24,7 +24,7 @@ use vba_base::{NoMemory, OrMemory};
 use vba_values::{Bad, Value};
 
 /// How arguments are named, with their names.
-fn named_arguments<'a>(code: &'a Code, names: ArgumentNames) -> NamedArguments<'a>
+pub fn named_arguments<'a>(code: &'a Code, names: ArgumentNames) -> NamedArguments<'a>
     ensures { by_name_view result ≡ by_name_in (tables_of code.now) names }
 {
     NamedArguments {

@@ -185,6 +185,30 @@ impl Machine {
                 procedure,
                 arguments,
             } => self.call_of(alloc, code, turns, pc, procedure, arguments),
+            Instr::FindLate { aim, member } => self.find_late(alloc, code, turns, pc, aim, member),
+            Instr::BindValue {
+                aim,
+                member,
+                argument,
+            } => self.bind_value(alloc, code, turns, pc, aim, member, argument),
+            Instr::BindPlace {
+                aim,
+                member,
+                argument,
+            } => self.bind_place(alloc, code, turns, pc, aim, member, argument),
+            Instr::CallLate(member) => self.call_late(alloc, code, turns, pc, member),
+            Instr::LetLate(member) => self.let_late(alloc, code, turns, pc, member),
+            Instr::SetLate(member) => self.set_late(alloc, code, turns, pc, member),
+            Instr::ItemAlong { arguments } => self.item_along(alloc, code, turns, pc, arguments),
+            Instr::WriteThrough => self.write_through(alloc, code, turns, pc),
+            Instr::LetElement { numbers } => self.let_element(alloc, code, turns, pc, numbers),
+            Instr::SetElement { numbers } => self.set_element(alloc, code, turns, pc, numbers),
+            Instr::ElementAlong { arguments } => self.element_along(
+                alloc, code, turns, pc, arguments,
+            ),
+            Instr::LateField { name } => self.late_field(alloc, code, turns, pc, name),
+            Instr::PlaceOf => self.place_of(alloc, code, turns, pc),
+            Instr::Enumerate => self.enumerate(alloc, code, turns, pc),
         }
     }
 }

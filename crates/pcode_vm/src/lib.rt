@@ -26,6 +26,7 @@ mod control;
 mod dispatch;
 mod host;
 mod instances;
+mod late;
 mod library;
 mod loops;
 mod machine;

@@ -1,4 +1,5 @@
-//! The table of a class: the procedures that begin and end its objects, its public members, and its default member.
+//! The table of a class: the procedures that begin and end its objects, its public members, its default member and its
+//! enumerator.
 
 ghost use Rattle.std.specs.Prelude.{◌≡◌, ◌++◌, ◌==◌, ◌&&◌, IfOk, OnOk, Some, bytes_eq, codes, length, map, option_map};
 ghost use Rattle.bound_declarations.specs.constant_values.specs.declared_names.specs.binder.specs.ClassTables as plain;
@@ -13,7 +14,7 @@ ghost use Rattle.bound_declarations.specs.constant_values.specs.Tables.{AreConst
 ghost use Rattle.bound_declarations.specs.constant_values.specs.declared_names.specs.Lookup.{found_view};
 ghost use Rattle.bound_declarations.specs.constant_values.specs.declared_names.specs.View.{entry_view, scope_view, what_view, written_view};
 ghost use Rattle.bound_declarations.specs.constant_values.specs.declared_names.specs.module_parts.specs.View.{part_view, parts_view};
-ghost use Rattle.project_tables.specs.ClassParts.{counts, is_part, marks};
+ghost use Rattle.project_tables.specs.ClassParts.{counts, is_part, marks, member_marked};
 ghost use Rattle.vba_module.specs.Headers.{parameters_of};
 ghost use Rattle.vba_tree.specs.View.{listed_view, parameters_view, variable_view};
 
@@ -38,7 +39,7 @@ use vba_words::Identifier;
 
 /// Which attribute a member has: that of a default member, or that of an enumerator.
 #[derive(Clone, Copy)]
-pub enum Mark {
+enum Mark {
     Default,
     Enumerator,
 }
@@ -358,7 +359,7 @@ fn is_of_member(name: &Identifier) -> bool
 }
 
 /// The name before such an attribute.
-pub fn attribute_name(mark: Mark, line: &AttributeLine) -> Option<&Identifier>
+fn attribute_name(mark: Mark, line: &AttributeLine) -> Option<&Identifier>
     ensures { option_map (λ name. name.now) result ≡ plain.name_marked (marks mark) (listed_view (λ name. name) line.now.names) (listed_view (λ value. value) line.now.values) }
 {
     match line.names.others.as_slice() {
@@ -425,14 +426,18 @@ fn member_named(
     }
 }
 
-/// The default member, which may be Private.
-fn default_member(alloc: Global, constants: Constants) -> Result<Option<Member>, OrMemory<NotYet>>
+/// The member that such an attribute marks, which may be Private.
+fn member_marked(
+    alloc: Global,
+    constants: Constants,
+    mark: Mark,
+) -> Result<Option<Member>, OrMemory<NotYet>>
     requires { AreConstants constants }
-    ensures { IfOk result (λ member. option_map class_member_view member ≡ plain.default_member (scope_view constants.entry.scope)) }
+    ensures { IfOk result (λ member. option_map class_member_view member ≡ member_marked mark (scope_view constants.entry.scope)) }
 {
     let here = constants.scope.here;
     let source = here.source;
-    match first_marked(Mark::Default, source.parts.as_slice()) {
+    match first_marked(mark, source.parts.as_slice()) {
         None => Ok(None),
         Some(name) => member_named(alloc, constants, name),
     }
@@ -467,7 +472,8 @@ pub(crate) fn class_table<'a>(
     let constants = constants_in(scope, project, &own);
     let fields = class_fields(alloc, constants)?;
     let members = public_members(alloc, constants)?;
-    let default = default_member(alloc, constants)?;
+    let default = member_marked(alloc, constants, Mark::Default)?;
+    let enumerator = member_marked(alloc, constants, Mark::Enumerator)?;
     Ok(Class {
         name: copy_name(alloc, &scope.here.name)?,
         fields,
@@ -475,5 +481,6 @@ pub(crate) fn class_table<'a>(
         terminate: plain_sub(scope, b"class_terminate")?,
         members,
         default,
+        enumerator,
     })
 }

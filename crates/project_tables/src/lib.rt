@@ -10,7 +10,6 @@ mod scopes;
 mod signing;
 mod startup;
 
-pub use class_tables::{Mark, attribute_name};
 pub use declaring::declarations;
 pub use rows::{ProcedureRow, Rows, project_rows};
 pub use signing::{Signatures, project_signatures};

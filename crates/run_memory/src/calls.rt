@@ -146,7 +146,7 @@ fn release(pending: &mut Vec<Path>, arguments: &[Slot])
 
 /// What parameters have: an object or an item that an index gave is no variable, so it is copied.
 #[tactic(auto, using(crate::proofs::Received::received_all))]
-fn receive(alloc: Global, arguments: &mut Vec<Slot>) -> Result<(), NoMemory>
+pub fn receive(alloc: Global, arguments: &mut Vec<Slot>) -> Result<(), NoMemory>
     ensures { OnOk result (map slot_view arguments.new.items ≡ map received (map slot_view arguments.old.items)) }
 {
     receive_from(alloc, arguments, 0)

@@ -30,6 +30,7 @@ mod values;
 mod variables;
 
 pub use area::{area_in, has_area, has_sheet, is_area_inside};
+pub use calls::receive;
 pub use frame::{Frame, Kept, Loop, Slot, Typed};
 pub use initial::{first_value, first_values, own_slots, shared_values};
 pub use loops::{fits, fits_between};

@@ -1,4 +1,3 @@
 pub mod Numbered
 pub mod Objects
 pub mod Making
-pub mod Operands

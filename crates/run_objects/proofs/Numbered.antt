@@ -33,6 +33,9 @@ fields_there cs i d h = ap (λ c. c.fields) (class_there cs i d h)
 pub default_there : (cs : List RustClass) (i : ℕ) (d : RustClass) → i < length cs → (slice_index_or (map class_view cs) i no_class).default ≡ option_map class_member_view (get_or cs i d).default
 default_there cs i d h = ap (λ c. c.default) (class_there cs i d h)
 
+pub enumerator_there : (cs : List RustClass) (i : ℕ) (d : RustClass) → i < length cs → (slice_index_or (map class_view cs) i no_class).enumerator ≡ option_map class_member_view (get_or cs i d).enumerator
+enumerator_there cs i d h = ap (λ c. c.enumerator) (class_there cs i d h)
+
 -- no class has WithEvents variables
 none_in : (cs : List RustClass) (i : ℕ) → (slice_index_or (map class_view cs) i no_class).with_events ≡ []
 none_in [] i = refl

@@ -1,9 +1,9 @@
 // Classes by their numbers: 0 is that of Collection.
-ghost use Rattle.std.specs.Prelude.{◌≡◌, map, slice_index_or};
+ghost use Rattle.std.specs.Prelude.{◌≡◌, map, option_map, slice_index_or};
 ghost use Rattle.bound_project.specs.Project.{class_at, no_class};
-ghost use Rattle.bound_project.specs.View.{class_view, declaration_view, declarations_view};
+ghost use Rattle.bound_project.specs.View.{class_member_view, class_view, declaration_view, declarations_view};
 
-use bound_project::{Class, Declaration, Declarations};
+use bound_project::{Class, Declaration, Declarations, Member};
 
 /// The Class_Initialize of a class.
 #[tactic(auto, using(crate::proofs::Numbered::class_before))]
@@ -45,5 +45,49 @@ fn fields_at(classes: &[Class], number: usize) -> &[Declaration]
     match classes.get(number) {
         Some(class) => class.fields.as_slice(),
         None => &[],
+    }
+}
+
+/// The default member of a class.
+#[tactic(auto, using(crate::proofs::Numbered::class_before))]
+pub fn default_of(declared: &Declarations, class: u32) -> Option<Member>
+    ensures { option_map class_member_view result ≡ (class_at (declarations_view declared.now) class).default }
+{
+    if class == 0 {
+        return None;
+    }
+    default_at(declared.classes.as_slice(), class as usize - 1)
+}
+
+#[tactic(auto, using(crate::proofs::Numbered::default_there, crate::proofs::Numbered::class_past))]
+fn default_at(classes: &[Class], number: usize) -> Option<Member>
+    ensures { option_map class_member_view result ≡ (slice_index_or (map class_view classes.now) number no_class).default }
+{
+    if number < classes.len() {
+        classes[number].default
+    } else {
+        None
+    }
+}
+
+/// The enumerator of a class.
+#[tactic(auto, using(crate::proofs::Numbered::class_before))]
+pub fn enumerator_of(declared: &Declarations, class: u32) -> Option<Member>
+    ensures { option_map class_member_view result ≡ (class_at (declarations_view declared.now) class).enumerator }
+{
+    if class == 0 {
+        return None;
+    }
+    enumerator_at(declared.classes.as_slice(), class as usize - 1)
+}
+
+#[tactic(auto, using(crate::proofs::Numbered::enumerator_there, crate::proofs::Numbered::class_past))]
+fn enumerator_at(classes: &[Class], number: usize) -> Option<Member>
+    ensures { option_map class_member_view result ≡ (slice_index_or (map class_view classes.now) number no_class).enumerator }
+{
+    if number < classes.len() {
+        classes[number].enumerator
+    } else {
+        None
     }
 }

@@ -3,9 +3,7 @@
 #![tactic(auto)]
 
 mod classes;
-mod defaults;
 mod instances;
 
-pub use classes::initialize_of;
-pub use defaults::{counted_if_any, counted_operand};
+pub use classes::{default_of, enumerator_of, fields_of, initialize_of};
 pub use instances::{field_in, made, made_there, object_there, own_object, stored_made};

@@ -1,5 +1,5 @@
 -- Arrays and their bounds are pushed one after another.
-use Rattle.std.proofs.Common.{◌≡◌, ℕ, ◌+◌, List, ◌∷◌, refl, ◌∙◌, sym, ap, subst}
+use Rattle.std.proofs.Common.{◌≡◌, ℕ, ◌+◌, Bool, List, ◌∷◌, refl, ◌∙◌, sym, ap, subst}
 use Rattle.std.specs.Prelude.{Option, Some, None, option_map, if◌then◌else◌}
 use Rattle.vba_base.specs.declared.place.Place.{Place}
 use Rattle.vba_values.specs.Types.{Declared}
@@ -109,11 +109,12 @@ resized env a rest of x es of_is place bounds =
     ∙ ap (λ (t : Option Declared). option_map (resize x (resized_by env a es) t) (redim_arrays env rest)) (sym of_is)
 
 -- the bounds that it gets, by its type and the written one
-bounds_got : (env : Env) (a : ReDimArray) (of : Option Declared) (x : terms.Term) (place : Place) (es : Exprs) → of ≡ redim_type env a.type_clause → term_of env a.place ≡ x → place ≡ place_told a.place
+bounds_got : (env : Env) (a : ReDimArray) (of : Option Declared) (x : terms.Term) (place : Place) (es : Exprs) → of ≡ redim_type env a.type_clause
+    → ((written : Option Declared) → may_resize (term_of env a.place) written ≡ may_resize x written) → place ≡ place_told a.place
     → (if may_resize x of then es else last_broken place es) ≡ resized_by env a es
-bounds_got env a of x place es of_is is place_is =
+bounds_got env a of x place es of_is resizes place_is =
     ap (λ (t : Option Declared). if may_resize x t then es else last_broken place es) of_is
-    ∙ (ap (λ (y : terms.Term). if may_resize y (redim_type env a.type_clause) then es else last_broken place es) (sym is)
+    ∙ (ap (λ (b : Bool). if b then es else last_broken place es) (sym (resizes (redim_type env a.type_clause)))
     ∙ ap (λ (p : Place). if may_resize (term_of env a.place) (redim_type env a.type_clause) then es else last_broken p es) place_is)
 
 -- the place and the bounds of an array
@@ -133,7 +134,7 @@ array_pushed env a rest of own place count d e f m g of_is p r b is =
     let taken : exprs_off count f.pieces no_exprs ≡ Some (made, a_place p.at ∷ d.pieces) = r.taken no_exprs ∙ ap (λ (ps : List Piece). Some (made, ps)) p.on_top in
     let marked : exprs_off count m.pieces no_exprs ≡ Some (got, a_place p.at ∷ d.pieces) = b.stands p.at p.bounded p.lends p.makes made (a_place p.at ∷ d.pieces) taken in
     let whole : exprs_off count m.pieces no_exprs ≡ Some (es, a_place p.at ∷ d.pieces) =
-    marked ∙ ap (λ (fs : Exprs). Some (fs, a_place p.at ∷ d.pieces)) (bounds_got env a of (terms.a_place p.at (declared_view own) p.bounded p.lends p.makes) place made of_is p.is p.place_is) in
+    marked ∙ ap (λ (fs : Exprs). Some (fs, a_place p.at ∷ d.pieces)) (bounds_got env a of (terms.a_place p.at (declared_view own) p.bounded p.lends p.makes) place made of_is p.resizes p.place_is) in
     record {
       same = record {
         statements = ap (λ (x : Drafted). x.statements) is ∙ (b.same.statements ∙ (r.same.statements ∙ p.grown.statements));
@@ -141,7 +142,7 @@ array_pushed env a rest of own place count d e f m g of_is p r b is =
       };
       piece = a_resize p.at es of;
       make = resize p.at es of;
-      is = resized env a rest of p.at made of_is (ap (λ (x : terms.Term). place_in x) p.is) r.is;
+      is = resized env a rest of p.at made of_is p.is r.is;
       on_top = ap (λ (x : Drafted). x.pieces) is ∙ resize_made (λ x fs. a_resize x fs of) (exprs_off count m.pieces no_exprs) p.at es d.pieces whole;
       taken = λ n st b. refl;
     }

@@ -31,7 +31,7 @@ use Rattle.vba_expression.specs.Tree.{Expr}
 use Rattle.vba_tree.specs.Tree.{StepClause}
 use Rattle.bound_calls.specs.Calls.{node_of}
 use Rattle.statement_nodes.specs.Pushed.{ActionPushed}
-use Rattle.statement_nodes.specs.Actions.{ToldPushed, Walks, counted_in, for_in}
+use Rattle.statement_nodes.specs.Actions.{GroupPushed, Walks, counted_in, for_in}
 
 pub rule_marked : (rule : ℕ) (place : Place) (d e : Drafted) → d.pieces ≡ []
     → e ≡ record d { pieces = put d.tables (node_of (node.Marked (record { rule = rule; place = place }) 0) place (Plain Variant)) d.pieces }
@@ -88,39 +88,39 @@ over_plain control group of found is found_is = found_is ∙ sym (ap (λ (g : De
 -- a For Each with a variable that may go over its group, and with one that may not
 each_made : (env : Env) (named : Option bound.Variable) (group : Expr) (place at : Place) (first behind : ℕ) (x : bound.Variable) (made : bound.Expr) (fits : Bool) → Some x ≡ named → bound_as_given env group ≡ Some made
     → goes_over x.of (bound.operand_type made) ≡ fits
-    → option_and_then (λ (v : bound.Variable). option_map (for_each_of v place at first behind) (bound_as_given env group)) named
-    ≡ Some (if fits then to.for_each x (walked at made) first behind else to.evaluate (broken_rule 29 place (also made no_exprs)))
+    → option_and_then (λ (v : bound.Variable). option_map (for_each_of env v place at first behind) (bound_as_given env group)) named
+    ≡ Some (if fits then to.for_each x (walked env at made) first behind else to.evaluate (broken_rule 29 place (also made no_exprs)))
 each_made env named group place at first behind x made fits name is goes =
-    ap (λ o. option_and_then (λ (v : bound.Variable). option_map (for_each_of v place at first behind) (bound_as_given env group)) o) (sym name)
-    ∙ ap (λ o. option_map (for_each_of x place at first behind) o) is
-    ∙ ap (λ b. Some (if b then to.for_each x (walked at made) first behind else to.evaluate (broken_rule 29 place (also made no_exprs)))) goes
+    ap (λ o. option_and_then (λ (v : bound.Variable). option_map (for_each_of env v place at first behind) (bound_as_given env group)) o) (sym name)
+    ∙ ap (λ o. option_map (for_each_of env x place at first behind) o) is
+    ∙ ap (λ b. Some (if b then to.for_each x (walked env at made) first behind else to.evaluate (broken_rule 29 place (also made no_exprs)))) goes
 
-pub each_goes : (env : Env) (control : Variable) (named : Option bound.Variable) (group : Expr) (of : DeclaredType) (place at : Place) (first behind : ℕ) (d e g : Drafted)
-    → d.pieces ≡ [] → Some (variable_view control) ≡ named → ToldPushed env group of at d e → goes_over (declared_view control.of) (declared_view of) ≡ true → Walks of at e g
-    → ActionPushed (kind.ForEach control first behind) (option_and_then (λ v. option_map (for_each_of v place (place_told group) first behind) (bound_as_given env group)) named) d g
-each_goes env control named group of place at first behind d e g empty name t goes w =
+pub each_goes : (env : Env) (control : Variable) (named : Option bound.Variable) (group : Expr) (of : DeclaredType) (place at : Place) (may : Bool) (first behind : ℕ) (d e g : Drafted)
+    → d.pieces ≡ [] → Some (variable_view control) ≡ named → GroupPushed env group of at (Some may) d e → goes_over (declared_view control.of) (declared_view of) ≡ true → Walks may of at e g
+    → ActionPushed (kind.ForEach control first behind) (option_and_then (λ v. option_map (for_each_of env v place (place_told group) first behind) (bound_as_given env group)) named) d g
+each_goes env control named group of place at may first behind d e g empty name t goes w =
     let v = t.pushed in
-    let found = λ (p : Place). option_and_then (λ (x : bound.Variable). option_map (for_each_of x place p first behind) (bound_as_given env group)) named in
+    let found = λ (p : Place). option_and_then (λ (x : bound.Variable). option_map (for_each_of env x place p first behind) (bound_as_given env group)) named in
     let P : Place → Type 0 = λ (p : Place). ActionPushed (kind.ForEach control first behind) (found p) d g in
     subst P t.place_is (record {
       statements = w.same.statements ∙ v.same.statements;
       bodies = w.same.bodies ∙ v.same.bodies;
       named = tt;
-      made = to.for_each (variable_view control) (walked at v.pushed.made) first behind;
+      made = to.for_each (variable_view control) (walked env at v.pushed.made) first behind;
       is = each_made env named group place at first behind (variable_view control) v.pushed.made true name v.pushed.is (ap (λ u. goes_over (declared_view control.of) u) v.pushed.operand ∙ goes);
       fits =
           ap (action_of g.tables (kind.ForEach control first behind))
-          (w.stands v.pushed.made d.pieces v.pushed.operand v.pushed.on_top ∙ ap (λ ps. an_expr (walked at v.pushed.made) ∷ ps) empty);
+          (w.stands env v.pushed.made d.pieces t.may_is v.pushed.operand v.pushed.on_top ∙ ap (λ ps. an_expr (walked env at v.pushed.made) ∷ ps) empty);
     })
 
-pub each_stays : (env : Env) (control : Variable) (named : Option bound.Variable) (group : Expr) (of : DeclaredType) (place at : Place) (first behind : ℕ) (d e g : Drafted)
-    → d.pieces ≡ [] → Some (variable_view control) ≡ named → ToldPushed env group of at d e → goes_over (declared_view control.of) (declared_view of) ≡ false
+pub each_stays : (env : Env) (control : Variable) (named : Option bound.Variable) (group : Expr) (of : DeclaredType) (place at : Place) (may : Option Bool) (first behind : ℕ) (d e g : Drafted)
+    → d.pieces ≡ [] → Some (variable_view control) ≡ named → GroupPushed env group of at may d e → goes_over (declared_view control.of) (declared_view of) ≡ false
     → g ≡ record e { pieces = put e.tables (node_of (node.Marked (record { rule = 29; place = place }) 1) place (Plain Variant)) e.pieces }
-    → ActionPushed kind.Evaluate (option_and_then (λ v. option_map (for_each_of v place (place_told group) first behind) (bound_as_given env group)) named) d g
-each_stays env control named group of place at first behind d e g empty name t goes is =
+    → ActionPushed kind.Evaluate (option_and_then (λ v. option_map (for_each_of env v place (place_told group) first behind) (bound_as_given env group)) named) d g
+each_stays env control named group of place at may first behind d e g empty name t goes is =
     let v = t.pushed in
     let n = node_of (node.Marked (record { rule = 29; place = place }) 1) place (Plain Variant) in
-    let found = option_and_then (λ (x : bound.Variable). option_map (for_each_of x place (place_told group) first behind) (bound_as_given env group)) named in
+    let found = option_and_then (λ (x : bound.Variable). option_map (for_each_of env x place (place_told group) first behind) (bound_as_given env group)) named in
     let P : Drafted → Type 0 = λ x. ActionPushed kind.Evaluate found d x in
     subst P (sym is) (record {
       statements = v.same.statements;

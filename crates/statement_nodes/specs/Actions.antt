@@ -1,5 +1,5 @@
 -- Serves the code: what a statement does, by the scope of its part.
-use Rattle.std.specs.Prelude.{◌≡◌, Bool, true, false, List, [], ◌∷◌, Option, Some, IsSome, is_some, option_map, option_and_then}
+use Rattle.std.specs.Prelude.{◌≡◌, Bool, true, false, List, [], ◌∷◌, Option, Some, IfSome, IsSome, is_some, option_map, option_and_then}
 use Rattle.vba_base.specs.declared.place.Place.{Place}
 use Rattle.vba_values.specs.Types.{Declared}
 use Rattle.vba_values.specs.Types as type
@@ -24,7 +24,7 @@ use Rattle.bound_calls.specs.bound_declarations.specs.constant_values.specs.decl
 use Rattle.bound_calls.specs.bound_declarations.specs.constant_values.specs.declared_names.specs.binder.specs.Constants.{compare_in, place_of_expression}
 use Rattle.bound_calls.specs.bound_declarations.specs.constant_values.specs.declared_names.specs.binder.specs.Numbering.{Opened, Standing, Sought, here, an_arm, behind_block, sought_behind}
 use Rattle.bound_calls.specs.bound_forms.specs.Terms as terms
-use Rattle.bound_calls.specs.bound_forms.specs.ExpressionsBound.{bound_as_given, bound_operand, givens, term_of, place_told}
+use Rattle.bound_calls.specs.bound_forms.specs.ExpressionsBound.{bound_as_given, bound_operand, givens, may_be_instance, term_of, place_told}
 use Rattle.bound_calls.specs.bound_forms.specs.StatementsBound.{Around, assigned_to, called_place, called_with, redim_arrays, erased_arrays, value_shown, items_shown, ends_line, simple_action, block_action, loop_variable, if_broken, cannot_count, for_each_of, is_other_name, name_place, loop_name, next_action, set_given, loop_action, for_action, step_value, step_place, case_tests, selected, line_of, value_given, walked, with_action}
 use Rattle.bound_calls.specs.bound_declarations.specs.constant_values.specs.declared_names.specs.binder.specs.Blocks.{header_of}
 use Rattle.bound_calls.specs.Standing.{PushedIs}
@@ -49,7 +49,7 @@ for_in env s x start limit step = if_broken (cannot_count (loop_variable env x))
 
 abbrev pub each_in : terms.Env → Standing → Identifier → Expr → Option Action
 each_in env s x group =
-    option_and_then (λ v. option_map (for_each_of v x.token.place (place_told group) (sought_behind here s) (sought_behind (behind_block 0) s)) (bound_as_given env group)) (loop_variable env x)
+    option_and_then (λ v. option_map (for_each_of env v x.token.place (place_told group) (sought_behind here s) (sought_behind (behind_block 0) s)) (bound_as_given env group)) (loop_variable env x)
 
 abbrev pub next_in : terms.Env → Standing → Option Identifier → Option Action
 next_in env s x = if_broken (is_other_name x (loop_name s.around)) 29 (name_place x) (next_action env s.around)
@@ -145,17 +145,24 @@ pub record ForValues (start last step : Option bound.Expr) (to_type by : Declare
   pub last_pushed : ValuePushed last to_type behind_start behind_last
   pub step_pushed : ValuePushed step by behind_last g
 
--- a value was pushed as it is, of this type and told at this place
-pub record ToldPushed (env : terms.Env) (e : Expr) (of : DeclaredType) (place : Place) (d f : Drafted) : Type 0 where
+-- a value was pushed as it is, of this type and told at this place, and whether it may be an object of a class, where that
+-- is known
+pub record GroupPushed (env : terms.Env) (e : Expr) (of : DeclaredType) (place : Place) (may : Option Bool) (d f : Drafted) : Type 0 where
   pub pushed : ValuePushed (bound_as_given env e) of d f
   pub place_is : place ≡ place_told e
+  pub may_is : IfSome may (λ (b : Bool). may_be_instance env pushed.pushed.made ≡ b)
 
 -- a type of arrays of a Type's values
 abbrev pub holds_types : Declared → Bool
 holds_types (type.array_of of) = terms.is_user_type of
 holds_types of = false
 
--- what a For Each goes over was pushed, and marked where it is an array of a Type's values
-pub record Walks (of : DeclaredType) (place : Place) (d e : Drafted) : Type 0 where
+-- whether a value of a type, which may be an object of a class or not, is walked by what its enumerator gives
+abbrev pub is_enumerated : Declared → (may : Bool) → Bool
+is_enumerated (type.array_of of) may = false
+is_enumerated of may = may
+
+-- what a For Each goes over was pushed, and behind it what it is walked by
+pub record Walks (may : Bool) (of : DeclaredType) (place : Place) (d e : Drafted) : Type 0 where
   pub same : OnlyPieces d e
-  pub stands : (made : bound.Expr) (below : List Piece) → bound.operand_type made ≡ declared_view of → d.pieces ≡ an_expr made ∷ below → e.pieces ≡ an_expr (walked place made) ∷ below
+  pub stands : (env : terms.Env) (made : bound.Expr) (below : List Piece) → may_be_instance env made ≡ may → bound.operand_type made ≡ declared_view of → d.pieces ≡ an_expr made ∷ below → e.pieces ≡ an_expr (walked env place made) ∷ below

@@ -11,18 +11,20 @@ use Rattle.bound_project.specs.View.{declared_view}
 use Rattle.bound_calls.specs.bound_forms.specs.Terms.{Env}
 use Rattle.bound_calls.specs.bound_forms.specs.Terms as terms
 use Rattle.bound_calls.specs.bound_forms.specs.ExpressionsBound.{term_of, place_told}
-use Rattle.bound_calls.specs.bound_forms.specs.StatementsBound.{last_broken, may_resize}
+use Rattle.bound_calls.specs.bound_forms.specs.StatementsBound.{last_broken, may_resize, place_in}
 use Rattle.bound_calls.specs.Standing.{Grown}
 use Rattle.statement_nodes.specs.Actions.{OnlyPieces}
 
--- the place that an expression is was pushed, of this type and told at this place
+-- the place that an expression is was pushed, of this type and told at this place; a variable of an object that the run
+-- finds is resized as a Variant is
 pub record ArrayTold (env : Env) (tree : Expr) (of : DeclaredType) (place : Place) (d e : Drafted) : Type 0 where
   pub grown : Grown d e
   pub at : Lvalue
   pub bounded : Bool
   pub lends : Bool
   pub makes : Bool
-  pub is : term_of env tree ≡ terms.a_place at (declared_view of) bounded lends makes
+  pub is : place_in (term_of env tree) ≡ Some at
+  pub resizes : (written : Option Declared) → may_resize (term_of env tree) written ≡ may_resize (terms.a_place at (declared_view of) bounded lends makes) written
   pub place_is : place ≡ place_told tree
   pub on_top : e.pieces ≡ a_place at ∷ d.pieces
 

@@ -6,7 +6,7 @@ ghost use Rattle.bound_calls.specs.bound_forms.specs.StatementsBound as plain;
 ghost use Rattle.bound_calls.specs.bound_declarations.specs.constant_values.specs.declared_names.specs.binder.specs.Types.{is_object};
 ghost use Rattle.bound_project.specs.DraftView.{draft_view};
 ghost use Rattle.bound_project.specs.View.{declared_view, element_view};
-ghost use Rattle.statement_nodes.specs.Actions.{Walks, holds_types};
+ghost use Rattle.statement_nodes.specs.Actions.{Walks, holds_types, is_enumerated};
 ghost use Rattle.bound_calls.specs.bound_declarations.specs.constant_values.specs.declared_names.specs.module_parts.specs.View.{part_view};
 ghost use Rattle.statement_numbers.specs.View.{part_at, standing_view};
 ghost use Rattle.vba_tree.specs.View.{block_line_view, step_view};
@@ -86,20 +86,40 @@ fn holds_types(of: DeclaredType) -> bool
     }
 }
 
-/// Marks what a For Each goes over, which was pushed, where it is an array of a Type's values: a Variant takes none.
-#[tactic(auto, using(crate::proofs::Walking::walks_types, crate::proofs::Walking::walks_others))]
-pub fn mark_walked(draft: &mut Draft, of: DeclaredType, place: Place) -> Result<(), NoMemory>
-    ensures { OnOk result (Walks of place (draft_view draft.old) (draft_view draft.new)) }
+/// Is a value of a type walked by what its enumerator gives, where it may be an object of a class?
+#[tactic(auto, using(crate::proofs::Walking::array_stays, crate::proofs::Walking::plain_gives))]
+fn is_enumerated(of: DeclaredType, may_be: bool) -> bool
+    ensures { result ≡ is_enumerated (declared_view of) may_be }
 {
-    if !holds_types(of) {
-        return Ok(());
+    match of {
+        DeclaredType::ArrayOf(_) => false,
+        DeclaredType::Plain(_) => may_be,
     }
+}
+
+/// Pushes behind what a For Each goes over, which was pushed, what it is walked by: an array of a Type's values is marked, as
+/// a Variant takes none, and what may be an object of a class gives way to the Collection of its enumerator.
+#[tactic(auto, using(crate::proofs::Walking::walks_types, crate::proofs::Walking::walks_objects, crate::proofs::Walking::walks_others))]
+pub fn push_walked(
+    draft: &mut Draft,
+    of: DeclaredType,
+    place: Place,
+    may_be: bool,
+) -> Result<(), NoMemory>
+    ensures { OnOk result (Walks may_be of place (draft_view draft.old) (draft_view draft.new)) }
+{
     let variant = DeclaredType::Plain(ElementType::Variant);
-    let broken = NodeKind::Marked {
-        broken: Refusal { rule: 27, place },
-        values: 1,
-    };
-    push_node(draft, broken, variant, place)
+    if holds_types(of) {
+        let broken = NodeKind::Marked {
+            broken: Refusal { rule: 27, place },
+            values: 1,
+        };
+        return push_node(draft, broken, variant, place);
+    }
+    if is_enumerated(of, may_be) {
+        return push_node(draft, NodeKind::Enumerated, variant, place);
+    }
+    Ok(())
 }
 
 /// The name of the loop that a line opens.

@@ -13,7 +13,7 @@ mod with_blocks;
 
 pub use case_lines::{begin_test, end_range, end_test, selected_value};
 pub use for_lines::{
-    goes_over, is_counting, is_other_name, loop_name, mark_walked, name_place, step_place,
+    goes_over, is_counting, is_other_name, loop_name, name_place, push_walked, step_place,
 };
 pub use innermost::{each_header, header_of, innermost_block, opening_line};
 pub use prints::{ends_line, push_mark, show};

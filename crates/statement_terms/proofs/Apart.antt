@@ -10,7 +10,7 @@ use Rattle.vba_expression.specs.declared.operator.BinaryOperator.TheVariants as 
 use Rattle.vba_expression.specs.Tree.{Expr, literal, me, name, with_member, member, index, parenthesised, new, type_of, unary, binary}
 use Rattle.vba_lib.specs.declared.function.LibraryFunction.{LibraryFunction}
 use Rattle.vba_lib.specs.Names.{function_named}
-use Rattle.bound_project.specs.Expressions.{Lvalue, variable, field, object_field, as_new, Exprs, also, Storage, active_sheet, element_value, err_description, err_number, err_source, err_value, field_value, host_member, host_object, own}
+use Rattle.bound_project.specs.Expressions.{Lvalue, variable, field, object_field, as_new, Exprs, also, Storage, active_sheet, element_along, element_value, err_description, err_number, err_source, err_value, field_value, host_object, late_item, own}
 use Rattle.bound_project.specs.Expressions as bound
 use Rattle.bound_project.specs.Project.{Declaration, nowhere}
 use Rattle.bound_members.specs.bound_calls.specs.bound_declarations.specs.constant_values.specs.declared_names.specs.binder.specs.Classes.{class_space, field_number, found_at, has_class, made_class, member_entry}
@@ -21,8 +21,8 @@ use Rattle.bound_members.specs.bound_calls.specs.bound_declarations.specs.consta
 use Rattle.bound_members.specs.bound_calls.specs.bound_declarations.specs.constant_values.specs.declared_names.specs.binder.specs.Signatures.{call_type, parameters_in, reader}
 use Rattle.bound_members.specs.bound_calls.specs.bound_declarations.specs.constant_values.specs.declared_names.specs.binder.specs.Storage.{declared_variable, has_bounds, module_storage, own_declaration, own_storage, procedure_number}
 use Rattle.bound_members.specs.bound_calls.specs.bound_declarations.specs.constant_values.specs.declared_names.specs.binder.specs.Types.{class_number, is_object, meant_type, type_meant}
-use Rattle.bound_members.specs.bound_calls.specs.bound_forms.specs.Terms.{Env, Given, HostMember, Term, Within, a_function, a_host_member, a_method, a_place, a_routine, a_value, bound_arguments, broken_value, err_clear, err_object, err_raise, error_word, expression_of, no_term, read_of, takes}
-use Rattle.bound_members.specs.bound_calls.specs.bound_forms.specs.ExpressionsBound.{HostKind, argument_of, array_base, arguments_rule, bare_call, behind_base, behind_term, call_node, call_value, call_with, callee, class_member, constant_term, declared_place, element_place, entry_term, err_member, field_named, field_of_place, field_of_value, from_zero, function_takes, function_value, function_values, given_as, givens, host_behind, host_kind, host_term, if_there, indexed, indexed_type, indexed_value, indexes_value, is_host_type, item_of, kept_member, library_term, made_place, may_be_instance, may_index, meant_term, member_called, member_in, member_of, member_of_kind, member_of_other, member_takes, new_term, node_or, numbers_of, object_behind, object_member, object_term, operand_of, own_object, own_term, place_told, reference_of, result_of, sheet_term, sheets_value, taken_by_term, takes_arguments, term_of, term_or, unknown_member, value_term, variable_term, variant_arguments, workbook, wrong_arguments, wrong_call, wrong_index, wrong_some, wrong_term}
+use Rattle.bound_members.specs.bound_calls.specs.bound_forms.specs.Terms.{Env, Given, HostMember, Term, Within, a_function, a_host_member, a_method, a_place, a_routine, a_value, bound_arguments, broken_value, err_clear, err_object, err_raise, error_word, expression_of, member_read, no_term, read_of, takes}
+use Rattle.bound_members.specs.bound_calls.specs.bound_forms.specs.ExpressionsBound.{HostKind, along_of, argument_of, array_base, arguments_rule, bare_call, behind_base, behind_term, call_node, call_value, call_with, callee, class_member, constant_term, declared_place, element_place, entry_term, err_member, field_named, field_of_place, field_of_value, found_member, from_zero, function_takes, function_value, function_values, given_as, givens, has_item_member, host_behind, host_kind, host_term, if_there, indexed, indexed_type, indexed_value, indexes_value, is_found_late, item_of, kept_member, library_term, made_place, may_index, meant_term, member_called, member_in, member_of, member_of_kind, member_of_other, member_takes, new_term, node_or, numbers_of, object_behind, object_member, object_term, operand_of, own_object, own_term, place_told, reference_of, result_of, sheet_term, sheets_value, taken_by_term, takes_arguments, term_of, term_or, unknown_member, value_term, variable_term, variant_arguments, workbook, wrong_arguments, wrong_call, wrong_index, wrong_some, wrong_term}
 use Rattle.bound_members.specs.bound_calls.specs.bound_forms.specs.StatementsBound.{is_of_object}
 
 -- what is no place of another object, but for one that isn't lent in a project with a class
@@ -131,7 +131,8 @@ free_member has place dot node of fold =
     free_unwrap has (λ (kind : HostKind). member_of_kind kind dot e fold) (host_kind node of) (member_of_other dot e) (λ kind. free_kind has kind dot e fold) (free_if has (is_object of) no_term (unknown_member dot e) refl refl)
 
 free_host : (has : Bool) (env : Env) (place dot : Place) (node : bound.Node) (of : Declared) (fold : List ℕ) → is_free has (host_behind env place dot node of fold) ≡ true
-free_host has env place dot node of fold = free_if has (may_be_instance env (expression_of node place of)) no_term (object_member place dot node of fold) refl (free_member has place dot node of fold)
+free_host has env place dot node of fold =
+    let e = expression_of node place of in free_if has (is_found_late env e) (a_host_member e (found_member true fold)) (object_member place dot node of fold) refl (free_member has place dot node of fold)
 
 -- a class that is found is there
 class_there : (spaces : List Space) (from number : ℕ) (space : Space) → option_map found_at (first_at (λ (o : Space). o.source.is_class && (class_number spaces o == number)) from spaces) ≡ Some space → has_class spaces ≡ true
@@ -206,8 +207,7 @@ free_member_of env place dot (a_routine space number p) f h =
 free_member_of env place dot (a_method base space number p) f h =
     free_node (has_class env.scope.spaces) (bare_call env (Some base) space number p) (λ node of. field_of_value env place dot node of f) (λ node of. free_of_value env place dot node of f)
 free_member_of env place dot (a_host_member e m) f h =
-    free_if (has_class env.scope.spaces) (m.least == 0) (object_member place dot (host_member e m.name bound.no_exprs) m.of f.name) no_term
-    (free_member (has_class env.scope.spaces) place dot (host_member e m.name bound.no_exprs) m.of f.name) refl
+    free_if (has_class env.scope.spaces) (m.least == 0) (host_behind env place dot (member_read e m) m.of f.name) no_term (free_host (has_class env.scope.spaces) env place dot (member_read e m) m.of f.name) refl
 free_member_of env place dot err_object f h = free_err (has_class env.scope.spaces) dot f.name
 free_member_of env place dot t f h = refl
 
@@ -222,9 +222,13 @@ element_of : (x : Lvalue) (es : Exprs) → is_of_object (element_place x es) ≡
 element_of (variable v) es = refl
 element_of x es = refl
 
-free_indexed_value : (has : Bool) (env : Env) (place : Place) (node : bound.Node) (of : Declared) (es : Option Exprs) → is_free has (indexed_value env place node of es) ≡ true
-free_indexed_value has env place node of es =
-    free_two has (λ u xs. a_value (element_value (expression_of node place of) xs) u) (indexed_type env (expression_of node place of)) es (λ u xs. refl)
+free_indexed_value : (has : Bool) (env : Env) (place : Place) (node : bound.Node) (of : Declared) (gs : List Given) → is_free has (indexed_value (operand_of env) env place node of gs) ≡ true
+free_indexed_value has env place node of gs =
+    let e = expression_of node place of in
+    let along : Exprs → Term = λ (es : Exprs). a_value (late_item e es) type.variant in
+    let element : Declared → Exprs → Term = λ (u : Declared) (xs : Exprs). a_value (element_value e xs) u in
+    free_if has (is_found_late env e) (if_there (option_map along (along_of (operand_of env) gs))) (if_there (from_two element (indexed_type env e) (numbers_of (operand_of env) gs)))
+    (free_option has along (along_of (operand_of env) gs) (λ es. refl)) (free_two has element (indexed_type env e) (numbers_of (operand_of env) gs) (λ u xs. refl))
 
 free_call_value : (has : Bool) (env : Env) (base : Option bound.Expr) (space : Space) (number : ℕ) (p : Written) (args : Option bound.Args) → is_free has (call_value env base space number p args) ≡ true
 free_call_value has env base space number p args =
@@ -235,10 +239,10 @@ free_call : (has : Bool) (env : Env) (place : Place) (gs : List Given) (base : O
 free_call has env place gs base space number p =
     let bare : ℕ × Written → Term = λ (f : ℕ × Written). call_value env base space f.0 f.1 (Some bound.no_args) in
     let whole : ℕ × Written → Term = λ (f : ℕ × Written). call_value env base space f.0 f.1 (bound_arguments (argument_of env) (parameters_in env.scope space f.1) gs) in
-    let at : bound.Node → Declared → Term = λ node of. indexed_value env place node of (numbers_of (operand_of env) gs) in
+    let at : bound.Node → Declared → Term = λ node of. indexed_value (operand_of env) env place node of gs in
     free_option has (λ (f : ℕ × Written). if indexes_value f.1 gs then node_or (bare f) at else whole f) (reader env.scope space number p)
     (λ f.
-    free_if has (indexes_value f.1 gs) (node_or (bare f) at) (whole f) (free_node has (bare f) at (λ node of. free_indexed_value has env place node of (numbers_of (operand_of env) gs)))
+    free_if has (indexes_value f.1 gs) (node_or (bare f) at) (whole f) (free_node has (bare f) at (λ node of. free_indexed_value has env place node of gs))
     (free_call_value has env base space f.0 f.1 (bound_arguments (argument_of env) (parameters_in env.scope space f.1) gs)))
 
 free_function : (has : Bool) (env : Env) (place : Place) (f : LibraryFunction) (text_form : Bool) (base : ℕ) (takes : Bool) (es : Exprs) → is_free has (function_value env place f text_form base takes es) ≡ true
@@ -247,9 +251,13 @@ free_function has env place f text_form base false es = refl
 
 free_taken : (has : Bool) (env : Env) (place : Place) (t : Term) (gs : List Given) → is_free has t ≡ true → is_free has (taken_by_term env place t gs) ≡ true
 free_taken has env place (a_place x of bounded lends makes) gs h =
-    free_two has (λ u es. a_place (element_place x es) u false lends false) (indexed_type env (expression_of (read_of makes x) place of)) (numbers_of (operand_of env) gs)
-    (λ u es. ap (λ (b : Bool). (has && not lends) || not b) (element_of x es) ∙ h)
-free_taken has env place (a_value node of) gs h = free_indexed_value has env place node of (numbers_of (operand_of env) gs)
+    let e = expression_of (read_of makes x) place of in
+    let along : Exprs → Term = λ (es : Exprs). a_place (element_along x es) type.variant false lends false in
+    let element : Declared → Exprs → Term = λ (u : Declared) (es : Exprs). a_place (element_place x es) u false lends false in
+    free_if has (is_found_late env e) (if_there (option_map along (along_of (operand_of env) gs))) (if_there (from_two element (indexed_type env e) (numbers_of (operand_of env) gs)))
+    (free_option has along (along_of (operand_of env) gs) (λ es. h))
+    (free_two has element (indexed_type env e) (numbers_of (operand_of env) gs) (λ u es. ap (λ (b : Bool). (has && not lends) || not b) (element_of x es) ∙ h))
+free_taken has env place (a_value node of) gs h = free_indexed_value has env place node of gs
 free_taken has env place (a_routine space number p) gs h = free_call has env place gs None space number p
 free_taken has env place (a_method base space number p) gs h = free_call has env place gs (Some base) space number p
 free_taken has env place (a_function f text_form base) gs h =
@@ -296,9 +304,10 @@ free_wrong_term has env place t gs = refl
 
 free_item : (has : Bool) (env : Env) (place : Place) (t : Term) → is_free has t ≡ true → is_free has (item_of env place t) ≡ true
 free_item has env place (a_place x of bounded lends makes) h =
-    free_if has (is_host_type of) (host_behind env place place (read_of makes x) of (codes "item")) (a_place x of bounded lends makes) (free_host has env place place (read_of makes x) of (codes "item")) h
+    let made = read_of makes x in
+    free_if has (has_item_member env (expression_of made place of)) (object_member place place made of (codes "item")) (a_place x of bounded lends makes) (free_member has place place made of (codes "item")) h
 free_item has env place (a_value node of) h =
-    free_if has (is_host_type of) (host_behind env place place node of (codes "item")) (a_value node of) (free_host has env place place node of (codes "item")) refl
+    free_if has (has_item_member env (expression_of node place of)) (object_member place place node of (codes "item")) (a_value node of) (free_member has place place node of (codes "item")) refl
 free_item has env place t h = h
 
 free_index : (has : Bool) (env : Env) (place : Place) (t : Term) (gs : List Given) → is_free has t ≡ true → is_free has (indexed env place (item_of env place t) gs) ≡ true

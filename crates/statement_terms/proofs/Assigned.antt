@@ -1,6 +1,6 @@
 -- What the value of an assignment goes to.
 use Rattle.std.proofs.Common.{◌≡◌, ℕ, Bool, true, false, List, [], ◌∷◌, ◌++◌, map, length, Option, Some, None, is_some, if◌then◌else◌, refl, sym, ap, subst, ◌∙◌}
-use Rattle.std.specs.Prelude.{◌||◌, not, option_and_then, option_map, slice_get}
+use Rattle.std.specs.Prelude.{◌||◌, option_and_then, option_map, slice_get}
 use Rattle.vba_base.specs.declared.place.Place.{Place}
 use Rattle.vba_lexer.specs.declared.token.Token.{Token}
 use Rattle.bound_project.specs.Project as project
@@ -12,7 +12,6 @@ use Rattle.vba_expression.specs.declared.node.ExpressionNode.TheVariants as node
 use Rattle.bound_project.specs.declared.declared_type.DeclaredType.{DeclaredType}
 use Rattle.bound_project.specs.declared.declarations.Parameter.{Parameter}
 use Rattle.bound_project.specs.declared.statement.ActionKind.{ActionKind}
-use Rattle.bound_project.specs.declared.statement.ActionKind.TheVariants as action
 use Rattle.bound_project.specs.Expressions.{no_exprs}
 use Rattle.bound_project.specs.Expressions as bound
 use Rattle.bound_project.specs.Statements as to
@@ -27,8 +26,8 @@ use Rattle.bound_members.specs.bound_calls.specs.bound_declarations.specs.consta
 use Rattle.bound_members.specs.bound_calls.specs.bound_declarations.specs.constant_values.specs.declared_names.specs.binder.specs.Scopes.{Space}
 use Rattle.bound_members.specs.bound_calls.specs.bound_forms.specs.Terms.{Env, Given, routine_term}
 use Rattle.bound_members.specs.bound_calls.specs.bound_forms.specs.Terms as plain
-use Rattle.bound_members.specs.bound_calls.specs.bound_forms.specs.ExpressionsBound.{argument_of, item_of, givens, indexed, term_of, place_told, behind_base, may_be_instance}
-use Rattle.bound_members.specs.bound_calls.specs.bound_forms.specs.StatementsBound.{assigned, assigned_to, broken_target, is_given_with, is_no_target, is_variant_place, takes_value, target_before, untaken, value_given, written_to, property_given}
+use Rattle.bound_members.specs.bound_calls.specs.bound_forms.specs.ExpressionsBound.{argument_of, item_of, givens, indexed, term_of, place_told, behind_base}
+use Rattle.bound_members.specs.bound_calls.specs.bound_forms.specs.StatementsBound.{assigned, assigned_to, broken_target, is_given_with, is_indexed_late, is_no_target, takes_value, target_before, untaken, value_given, written_to, property_given}
 use Rattle.bound_members.specs.bound_calls.specs.bound_declarations.specs.constant_values.specs.declared_names.specs.View.{space_view}
 use Rattle.statement_terms.specs.declared.trees.Split.{Split}
 use Rattle.bound_members.specs.bound_calls.specs.declared.term.Routine.{Routine}
@@ -36,10 +35,10 @@ use Rattle.bound_members.specs.bound_calls.specs.declared.term.Tree.{Tree}
 use Rattle.bound_members.specs.bound_calls.specs.Standing.{PropertyStands, RoutineStands, TreeStands, IsReceiver, ReceiverThere}
 use Rattle.bound_members.specs.bound_calls.specs.Steps.{Leaves}
 use Rattle.statement_nodes.specs.Pushed.{ActionStands}
-use Rattle.statement_terms.specs.Assigning.{ValueFor, goes_anywhere}
+use Rattle.statement_terms.specs.Assigning.{ValueFor}
 use Rattle.statement_terms.specs.Members.{AssignsTree}
 use Rattle.bound_members.specs.bound_calls.specs.Calls.{PassesRest}
-use Rattle.statement_terms.specs.Called.{ActionIs, AllPassed, AssignsTo, IsBare, LetMade, SplitAt, let_with, property_kind, GoesThere, is_method}
+use Rattle.statement_terms.specs.Called.{ActionIs, AllPassed, AssignsTo, IsBare, LetMade, SplitAt, let_with, property_kind, is_method}
 use Rattle.statement_terms.specs.Heights.{AddsOne}
 use Rattle.bound_members.specs.bound_calls.proofs.Growing.{grown_twice}
 use Rattle.bound_members.specs.bound_calls.proofs.Arguing.{left_long}
@@ -146,9 +145,9 @@ property_of env r y ps below s =
     }
 
 -- to another expression that doesn't end with arguments
-pub assigns_tree : (has : Bool) (env : Env) (place : Expr) (x : Tree) (d f e : Drafted) (kind : ActionKind) (given : Bool) → has_class env.scope.spaces ≡ has → IsBare place → is_no_target env place ≡ false → Leaves env place d f x
-    → AssignsTree has x f e kind given → AssignsTo env place d e kind given
-assigns_tree has env place x d f e kind given known bare target l a = record {
+pub assigns_tree : (has : Bool) (may : Option Bool) (env : Env) (place : Expr) (x : Tree) (d f e : Drafted) (kind : ActionKind) (given : Bool) → has_class env.scope.spaces ≡ has → IsBare place → is_no_target env place ≡ false → Leaves env place d f x
+    → AssignsTree has may x f e kind given → AssignsTo env may place d e kind given
+assigns_tree has may env place x d f e kind given known bare target l a = record {
   grown = grown_twice d f e l.grown a.grown;
   named = a.named;
   takes = a.takes env place d.pieces bare l.stands;
@@ -162,7 +161,7 @@ pub item_itself : (env : Env) (place : Place) (y : plain.Term) (base : Option bo
 item_itself env place y base space number p e = routine_item env place y base space number p e
 
 pub split_given : (env : Env) (base : Expr) (left right : Token) (args : Args) → takes_value env (target_before env base) ≡ true → is_given_with env (index base left args right) ≡ true
-split_given env base left right args h = ap (λ (b : Bool). b || is_variant_place (target_before env base)) h
+split_given env base left right args h = ap (λ (b : Bool). b || is_indexed_late env (place_told base) (target_before env base)) h
 
 pub split_assigned : (env : Env) (base : Expr) (left right : Token) (args : Args) (value : bound.Expr) → is_no_target env (index base left args right) ≡ false → takes_value env (target_before env base) ≡ true
     → assigned_to env (index base left args right) value ≡ assigned env (place_told base) value (givens env args) (target_before env base)
@@ -179,14 +178,6 @@ all_is split all s alone =
     ap tree_in s.is ∙ ap last_tree (behind_both [] split.target.now split.closed.now) ∙ ap (λ is. last_tree (behind_nodes is split.closed.now)) alone
     ∙ ap (λ (l : List ExpressionNode). last_tree (behind_nodes base l)) s.closed_is
 
--- to what brackets make of what takes no value with arguments
-pub record Untaken (env : Env) (place : Place) (given : Bool) (z : plain.Term) : Type 0 where
-  pub takes : takes_value env (item_of env place z) ≡ false
-  pub variant : is_variant_place (item_of env place z) ≡ given
-
-pub other_untaken : (env : Env) (place : Place) (given : Bool) (z y : plain.Term) → item_of env place z ≡ y → takes_value env y ≡ false → is_variant_place y ≡ given → Untaken env place given z
-other_untaken env place given z y is a b = record { takes = ap (λ (t : plain.Term). takes_value env t) is ∙ a; variant = ap is_variant_place is ∙ b }
-
 -- arguments that are one more item
 pub index_at : (split : Split) (all : List ExpressionNode) (s : SplitAt split all) → behind_nodes [] split.target.now ≡ nodes.tree (tree_in split.target.now) ∷ [] → AddsOne split.arguments.now
     → (args : Args) × (tree_in all ≡ index (tree_in split.target.now) s.left args s.right)
@@ -196,28 +187,18 @@ index_at split all s alone one =
       all_is split all s alone ∙ ap last_tree (behind_push base split.arguments.now (node.Index s.left s.right)) ∙ ap (λ (l : List nodes.Item). last_tree (behind_node (node.Index s.left s.right) l)) (one.is base),
     )
 
-not_either : (b : Bool) → not b ≡ true → b ≡ false
-not_either false h = refl
-not_either true h = let e : false ≡ true = h in absurd cc
-
--- what may be an object of a class goes there
-goes_there : (env : Env) (may_be : Bool) (kind : ActionKind) (made : bound.Expr) → goes_anywhere may_be kind ≡ true → (may_be ≡ false → may_be_instance env made ≡ false) → GoesThere env kind made
-goes_there env may_be (action.AssignMember name count) made a f = f (not_either may_be a)
-goes_there env may_be action.AssignDefault made a f = f (not_either may_be a)
-goes_there env may_be kind made a f = tt
-
-pub action_assigned : (env : Env) (value place : Expr) (may_be : Bool) (d e g : Drafted) (kind : ActionKind) (given : Bool) → d.pieces ≡ [] → ValueFor env may_be (value_given env place value) d e → goes_anywhere may_be kind ≡ true → AssignsTo env place e g kind given
+pub action_assigned : (env : Env) (value place : Expr) (may : Option Bool) (d e g : Drafted) (kind : ActionKind) (given : Bool) → d.pieces ≡ [] → ValueFor env may (value_given env place value) d e → AssignsTo env may place e g kind given
     → ActionStands (Some kind) (option_and_then (assigned_to env place) (value_given env place value)) d g
-action_assigned env value place may_be d e g kind given none b goes a =
+action_assigned env value place may d e g kind given none b a =
     let made = b.pushed.made in
     let alone : e.pieces ≡ an_expr made ∷ [] = b.pushed.on_top ∙ ap (λ (ps : List Piece). an_expr made ∷ ps) none in
-    let s = a.stands made (goes_there env may_be kind made goes b.free) alone in
+    let s = a.stands made b.known alone in
     let all = grown_twice d e g b.grown a.grown in
     record { statements = all.statements; bodies = all.bodies; named = a.named; made = s.made; is = ap (λ o. option_and_then (assigned_to env place) o) b.pushed.is ∙ s.is; fits = s.fits }
 
 -- what an assignment says
-pub done_is : (env : Env) (place : Expr) (d e : Drafted) (kind k : ActionKind) (given g : Bool) → k ≡ kind → g ≡ given → AssignsTo env place d e kind given → AssignsTo env place d e k g
-done_is env place d e kind k given g same is a =
-    let K : ActionKind → Type 0 = λ (x : ActionKind). AssignsTo env place d e x given in
-    let G : Bool → Type 0 = λ (b : Bool). AssignsTo env place d e k b in
+pub done_is : (env : Env) (may : Option Bool) (place : Expr) (d e : Drafted) (kind k : ActionKind) (given g : Bool) → k ≡ kind → g ≡ given → AssignsTo env may place d e kind given → AssignsTo env may place d e k g
+done_is env may place d e kind k given g same is a =
+    let K : ActionKind → Type 0 = λ (x : ActionKind). AssignsTo env may place d e x given in
+    let G : Bool → Type 0 = λ (b : Bool). AssignsTo env may place d e k b in
     subst G (sym is) (subst K (sym same) a)

@@ -1,6 +1,6 @@
 -- The value of an assignment: as it is, or as an operand.
 use Rattle.std.proofs.Common.{◌≡◌, ℕ, Bool, true, false, List, [], Option, Some, None, if◌then◌else◌, refl, sym, ap, subst, ◌∙◌, ◌==◌}
-use Rattle.std.specs.Prelude.{◌&&◌, ◌||◌, not, option_map, option_and_then}
+use Rattle.std.specs.Prelude.{◌&&◌, ◌||◌, not, option_map, option_and_then, IfSome}
 use Rattle.vba_base.specs.declared.place.Place.{Place}
 use Rattle.vba_values.specs.Types.{Declared}
 use Rattle.vba_values.specs.Types as type
@@ -13,25 +13,25 @@ use Rattle.bound_project.specs.View.{declared_view}
 use Rattle.bound_members.specs.bound_calls.specs.bound_declarations.specs.constant_values.specs.declared_names.specs.binder.specs.Options.{or_else}
 use Rattle.bound_members.specs.bound_calls.specs.bound_declarations.specs.constant_values.specs.declared_names.specs.binder.specs.Types.{is_object}
 use Rattle.bound_members.specs.bound_calls.specs.bound_declarations.specs.constant_values.specs.declared_names.specs.binder.specs.Constants.{is_variant}
-use Rattle.bound_members.specs.bound_calls.specs.bound_forms.specs.Terms.{Env, a_place, a_value, a_routine, a_function, a_host_member, err_object, err_raise, err_clear, error_word, no_term, expression_of, given_rule, given_to, typed_value, unless_broken, a_method, read_of, value_in, broken_rule, takes}
+use Rattle.bound_members.specs.bound_calls.specs.bound_forms.specs.Terms.{Env, a_place, a_value, a_routine, a_function, a_host_member, err_object, err_raise, err_clear, error_word, no_term, expression_of, given_rule, given_to, member_read, typed_value, unless_broken, a_method, read_of, value_in, broken_rule, takes}
 use Rattle.bound_members.specs.bound_calls.specs.bound_forms.specs.Terms as plain
 use Rattle.bound_members.specs.bound_calls.specs.bound_forms.specs.ExpressionsBound.{bound_as_given, bound_operand, default_value, given_as, may_be_object as may_be_object_at, operand_of, plain_operand, reference_of, term_of, value_of, place_told, bare_call, has_default, has_object, is_instance_type, is_of_host, may_be_instance, given_way, default_rule, host_kind, lacking_call, behind_base}
 use Rattle.bound_members.specs.bound_calls.specs.bound_forms.specs.StatementsBound.{given_to_term, is_given_with, target_term, value_for, value_given}
 use Rattle.bound_members.specs.bound_calls.specs.declared.term.Term.{Term}
 use Rattle.bound_members.specs.bound_calls.specs.declared.term.Term.TheVariants as term
 use Rattle.bound_members.specs.bound_calls.specs.declared.term.Tree.{Tree}
-use Rattle.bound_members.specs.bound_calls.specs.Standing.{TermStands}
+use Rattle.bound_members.specs.bound_calls.specs.Standing.{TermStands, ValueEnds}
 use Rattle.bound_members.specs.bound_calls.specs.Steps.{Leaves, PushesOperand, PushesValue}
 use Rattle.bound_members.specs.bound_calls.proofs.Growing.{grown_twice, grown_pieces}
 use Rattle.statement_terms.specs.Terms.{may_be_object}
-use Rattle.statement_terms.specs.Assigning.{ExprPushed, PushesFor, ValueBound, ValueFor, is_plain, taken_for}
+use Rattle.statement_terms.specs.Assigning.{ExprPushed, PushesFor, ValueBound, ValueFor, is_plain, marked_may, taken_for}
+use Rattle.statement_terms.specs.Called.{MayBe}
 use Rattle.statement_terms.specs.declared.takers.Taker.{Taker}
 use Rattle.statement_terms.specs.Takers.{MarksTaken, TakenBy, given_by, may_break}
 use Rattle.bound_members.specs.bound_calls.specs.bound_declarations.specs.constant_values.specs.declared_names.specs.binder.specs.Classes.{has_class}
 use Rattle.bound_members.specs.bound_calls.specs.declared.term.Ending.{Ending}
 use Rattle.bound_members.specs.bound_calls.specs.Calls.{node_of}
-use Rattle.bound_members.specs.bound_calls.specs.References.{TakesGiven, may_be_instance_by}
-use Rattle.bound_members.specs.bound_calls.proofs.LastNodes.{no_instance}
+use Rattle.bound_members.specs.bound_calls.specs.References.{IsInstance, TakesGiven}
 use Rattle.bound_members.specs.bound_calls.specs.bound_declarations.specs.constant_values.specs.declared_names.specs.binder.specs.Signatures.{parameters_in, reader}
 use Rattle.bound_members.specs.bound_calls.specs.bound_declarations.specs.constant_values.specs.declared_names.specs.binder.specs.Scopes.{Space}
 use Rattle.bound_members.specs.bound_calls.specs.bound_declarations.specs.constant_values.specs.declared_names.specs.binder.specs.Declarations.{Written}
@@ -166,8 +166,8 @@ either_plain (Some x) l e f g h = f e h
 nothing_plain : (x : bound.Expr) → None ≡ Some x → is_object (type_in x) ≡ false
 nothing_plain x h = let none : None ≡ Some x = h in absurd cc
 
-member_plain : (least : Bool) (o : bound.Expr) (m : plain.HostMember) (place : Place) (e : bound.Expr) → (if least then typed_value (bound.host_member o m.name bound.no_exprs) place m.of else None) ≡ Some e → is_object (type_in e) ≡ false
-member_plain true o m place e k = typed_plain (bound.host_member o m.name bound.no_exprs) place m.of e k
+member_plain : (least : Bool) (o : bound.Expr) (m : plain.HostMember) (place : Place) (e : bound.Expr) → (if least then typed_value (member_read o m) place m.of else None) ≡ Some e → is_object (type_in e) ≡ false
+member_plain true o m place e k = typed_plain (member_read o m) place m.of e k
 member_plain false o m place e k = let none : None ≡ Some e = k in absurd cc
 
 needed_plain : (least : Bool) (o : bound.Expr) (place : Place) (e : bound.Expr) → (if least then None else Some (broken_rule 25 place (bound.also o bound.no_exprs))) ≡ Some e → is_object (type_in e) ≡ false
@@ -182,7 +182,7 @@ value_typed : (env : Env) (t : plain.Term) (place : Place) (e : bound.Expr) → 
 value_typed env (a_place x of bounded lends makes) place e h = either_plain (typed_value (read_of makes x) place of) None e (λ y k. typed_plain (read_of makes x) place of y k) nothing_plain h
 value_typed env (a_value node of) place e h = either_plain (typed_value node place of) None e (λ y k. typed_plain node place of y k) nothing_plain h
 value_typed env (a_host_member o m) place e h =
-    either_plain (if m.least == 0 then typed_value (bound.host_member o m.name bound.no_exprs) place m.of else None) (if m.least == 0 then None else Some (broken_rule 25 place (bound.also o bound.no_exprs))) e
+    either_plain (if m.least == 0 then typed_value (member_read o m) place m.of else None) (if m.least == 0 then None else Some (broken_rule 25 place (bound.also o bound.no_exprs))) e
     (λ y k. member_plain (m.least == 0) o m place y k) (λ y k. needed_plain (m.least == 0) o place y k) h
 value_typed env (a_routine space number p) place e h =
     either_plain (value_in typed_value (bare_call env None space number p) place) (lacking_call env None space number p place) e (λ y k. in_typed (bare_call env None space number p) place y k) (λ y k. lacking_plain env None space number p place y k) h
@@ -240,7 +240,7 @@ operand_free env err_object place e h =
     subst A same (free_of env (bound.err_value bound.err_number) place type.long type.long refl)
 operand_free env t place e h = either_free env t place e h
 
-pub plain_pushed : (has given : Bool) (x : Tree) (of : DeclaredType) (d e : Drafted) → is_plain x.term ≡ true → PushesValue x d e (Some of) → PushesFor has false given x d e of
+pub plain_pushed : (has given : Bool) (x : Tree) (of : DeclaredType) (d e : Drafted) → is_plain x.term ≡ true → PushesValue x d e (Some of) → PushesFor has (Some false) given x d e of
 plain_pushed has given x of d e plain p = record {
   grown = p.grown;
   stands = λ env known tree below k.
@@ -250,14 +250,20 @@ plain_pushed has given x of d e plain p = record {
       let itself = plain_itself env d.tables x.term t d.pieces below at m.made plain k.term_is m.is in
       record {
         pushed = record { made = m.made; is = value_taken given env t at m.made m.is itself; operand = m.operand; on_top = m.on_top };
-        free = λ no. operand_free env t at m.made (value_operand env t at m.made m.is itself);
+        known = operand_free env t at m.made (value_operand env t at m.made m.is itself);
       };
 }
 
-pub given_pushed : (has may_be : Bool) (x : Tree) (d m e : Drafted) (v : Ending) → TakesGiven x.term x.place d m v → e ≡ record m { pieces = put m.tables (node_of v.kind x.place v.of) m.pieces } → may_be_instance_by has m.tables v ≡ may_be
-    → PushesFor has may_be true x d e v.of
-given_pushed has may_be x d m e v t eq same =
-    let P : Drafted → Type 0 = λ (z : Drafted). PushesFor has may_be true x d z v.of in
+-- whether a value may be an object of a class, where that is known of its last node
+ending_may : (has : Bool) (may : Option Bool) (t : Tables) (v : Ending) → IfSome may (λ b. IsInstance has t v b) → (env : Env) (made : bound.Node) (place : Place) (ps below : List Piece) → has_class env.scope.spaces ≡ has → ValueEnds t v.kind made ps below
+    → MayBe env may (expression_of made place (declared_view v.of))
+ending_may has None t v h env made place ps below known ends = tt
+ending_may has (Some b) t v h env made place ps below known ends = h env made place ps below known ends
+
+pub given_pushed : (has : Bool) (may : Option Bool) (x : Tree) (d m e : Drafted) (v : Ending) → TakesGiven x.term x.place d m v → e ≡ record m { pieces = put m.tables (node_of v.kind x.place v.of) m.pieces } → IfSome may (λ b. IsInstance has m.tables v b)
+    → PushesFor has may true x d e v.of
+given_pushed has may x d m e v t eq same =
+    let P : Drafted → Type 0 = λ (z : Drafted). PushesFor has may true x d z v.of in
     let n = node_of v.kind x.place v.of in
     subst P (sym eq) (record {
       grown = grown_twice d m (record m { pieces = put m.tables n m.pieces }) t.grown (grown_pieces m (put m.tables n m.pieces));
@@ -267,17 +273,17 @@ given_pushed has may_be x d m e v t eq same =
           let A : Place → Type 0 = λ (place : Place). given_as env (term_of env tree) place ≡ Some made in
           record {
             pushed = record { made = made; is = subst A k.place_is g.is; operand = refl; on_top = g.ends n };
-            free = λ no. no_instance has m.tables v (same ∙ no) env g.made x.place m.pieces below known g.ends;
+            known = ending_may has may m.tables v same env g.made x.place m.pieces below known g.ends;
           };
     })
 
-pub operand_pushed : (has given : Bool) (x : Tree) (of : DeclaredType) (d e : Drafted) → given ≡ false → PushesOperand x d e (Some of) → PushesFor has false given x d e of
+pub operand_pushed : (has given : Bool) (x : Tree) (of : DeclaredType) (d e : Drafted) → given ≡ false → PushesOperand x d e (Some of) → PushesFor has (Some false) given x d e of
 operand_pushed has given x of d e b p =
-    let P : Bool → Type 0 = λ (c : Bool). PushesFor has false c x d e of in
+    let P : Bool → Type 0 = λ (c : Bool). PushesFor has (Some false) c x d e of in
     subst P (sym b) (record {
       grown = p.grown;
       stands = λ env known tree below k.
-          let m = p.stands env tree below k in record { pushed = m; free = λ no. operand_free env (term_of env tree) (place_told tree) m.made m.is };
+          let m = p.stands env tree below k in record { pushed = m; known = operand_free env (term_of env tree) (place_told tree) m.made m.is };
     })
 
 -- ---- of an assignment to an expression
@@ -287,14 +293,14 @@ taken_is true env e = refl
 taken_is false env e = refl
 
 -- the value was pushed, and its type
-pub value_bound : (has may_be : Bool) (env : Env) (place value : Expr) (x : Tree) (of : DeclaredType) (d f e : Drafted) → has_class env.scope.spaces ≡ has → Leaves env value d f x → PushesFor has may_be (is_given_with env place) x f e of
-    → ValueBound env may_be of (value_for env place value) d e
-value_bound has may_be env place value x of d f e known l p =
+pub value_bound : (has : Bool) (may : Option Bool) (env : Env) (place value : Expr) (x : Tree) (of : DeclaredType) (d f e : Drafted) → has_class env.scope.spaces ≡ has → Leaves env value d f x → PushesFor has may (is_given_with env place) x f e of
+    → ValueBound env may of (value_for env place value) d e
+value_bound has may env place value x of d f e known l p =
     let m = p.stands env known value d.pieces l.stands in
     let v = m.pushed in
     record {
       grown = grown_twice d f e l.grown p.grown;
-      pushed = record { pushed = record { made = v.made; is = sym (taken_is (is_given_with env place) env value) ∙ v.is; operand = v.operand; on_top = v.on_top }; free = m.free };
+      pushed = record { pushed = record { made = v.made; is = sym (taken_is (is_given_with env place) env value) ∙ v.is; operand = v.operand; on_top = v.on_top }; known = m.known };
     }
 
 -- one that is taken everywhere
@@ -320,8 +326,8 @@ by_taker : (t : plain.Term) (taker : Option Taker) (place : Place) (found : Opti
 by_taker t taker place None h = refl
 by_taker t taker place (Some v) h = ap (λ (e : bound.Expr). Some e) (h place v)
 
-pub value_kept : (env : Env) (may_be : Bool) (place value : Expr) (of : DeclaredType) (d e : Drafted) → may_break (declared_view of) ≡ false → ValueBound env may_be of (value_for env place value) d e → ValueFor env may_be (value_given env place value) d e
-value_kept env may_be place value of d e h b =
+pub value_kept : (env : Env) (may : Option Bool) (place value : Expr) (of : DeclaredType) (d e : Drafted) → may_break (declared_view of) ≡ false → ValueBound env may of (value_for env place value) d e → ValueFor env may (value_given env place value) d e
+value_kept env may place value of d e h b =
     let u = b.pushed.pushed in
     let v = u.made in
     let term = target_term env place in
@@ -334,7 +340,7 @@ value_kept env may_be place value of d e h b =
         is = ap (λ (o : Option bound.Expr). option_map (given_to_term term at) o) u.is ∙ ap (λ (e : bound.Expr). Some e) kept;
         on_top = u.on_top;
       };
-      free = b.pushed.free;
+      known = b.pushed.known;
     }
 
 -- marking makes no object of a class
@@ -346,10 +352,16 @@ taker_free : (env : Env) (taker : Option Taker) (place : Place) (v : bound.Expr)
 taker_free env None place v h = h
 taker_free env (Some k) place v h = unless_free env (given_rule (declared_view k.of) k.is_bounded (bound.operand_type v)) place v h
 
+-- what is known of a value once it was marked
+marked_known : (env : Env) (may : Option Bool) (taker : Option Taker) (place : Place) (v w : bound.Expr) → given_by taker place v ≡ w → MayBe env may v → MayBe env (marked_may may) w
+marked_known env None taker place v w same h = tt
+marked_known env (Some true) taker place v w same h = tt
+marked_known env (Some false) taker place v w same h = let F : bound.Expr → Type 0 = λ (y : bound.Expr). may_be_instance env y ≡ false in subst F same (taker_free env taker place v h)
+
 -- one that was marked where the target doesn't take it
-pub value_marked : (env : Env) (may_be : Bool) (place value : Expr) (x : Tree) (of : DeclaredType) (taker : Option Taker) (d f e g : Drafted) → Leaves env value d f x → TakenBy (target_term env place) taker
-    → ValueBound env may_be of (value_for env place value) d e → MarksTaken taker x.place of e g → ValueFor env may_be (value_given env place value) d g
-value_marked env may_be place value x of taker d f e g l t b m =
+pub value_marked : (env : Env) (may : Option Bool) (place value : Expr) (x : Tree) (of : DeclaredType) (taker : Option Taker) (d f e g : Drafted) → Leaves env value d f x → TakenBy (target_term env place) taker
+    → ValueBound env may of (value_for env place value) d e → MarksTaken taker x.place of e g → ValueFor env (marked_may may) (value_given env place value) d g
+value_marked env may place value x of taker d f e g l t b m =
     let u = b.pushed.pushed in
     let v = u.made in
     let at = place_told value in
@@ -360,9 +372,8 @@ value_marked env may_be place value x of taker d f e g l t b m =
     let given : option_map (given_to_term term at) (value_for env place value) ≡ option_map (given_by taker at) (value_for env place value) = by_taker term taker at (value_for env place value) t in
     let both : Some (given_by taker at v) ≡ Some there.made = ap (λ (o : Option bound.Expr). option_map (given_by taker at) o) (sym u.is) ∙ there.is in
     let same : given_by taker at v ≡ there.made = cc in
-    let F : bound.Expr → Type 0 = λ (y : bound.Expr). may_be_instance env y ≡ false in
     record {
       grown = grown_twice d e g b.grown m.grown;
       pushed = record { made = there.made; is = given ∙ there.is; on_top = there.on_top };
-      free = λ no. subst F same (taker_free env taker at v (b.pushed.free no));
+      known = marked_known env may taker at v there.made same b.pushed.known;
     }

@@ -19,13 +19,12 @@ use Rattle.bound_members.specs.bound_calls.specs.bound_declarations.specs.consta
 use Rattle.bound_members.specs.bound_calls.specs.bound_forms.specs.Terms.{Env}
 use Rattle.bound_members.specs.bound_calls.specs.bound_forms.specs.Terms as terms
 use Rattle.bound_members.specs.bound_calls.specs.bound_forms.specs.ExpressionsBound.{given_as, term_of, place_told}
-use Rattle.bound_members.specs.bound_calls.specs.bound_forms.specs.StatementsBound.{is_of_object, place_in, with_action}
+use Rattle.bound_members.specs.bound_calls.specs.bound_forms.specs.StatementsBound.{is_of_object, with_action}
 use Rattle.bound_members.specs.bound_calls.specs.declared.term.Ending.{Ending}
 use Rattle.bound_members.specs.bound_calls.specs.declared.term.Term.{Term}
 use Rattle.bound_members.specs.bound_calls.specs.declared.term.Term.TheVariants as term
 use Rattle.bound_members.specs.bound_calls.specs.declared.term.Tree.{Tree}
-use Rattle.statement_nodes.specs.Pushed.{ActionStands, PlacePushed}
-use Rattle.statement_nodes.specs.Resizing.{ArrayTold}
+use Rattle.statement_nodes.specs.Pushed.{ActionStands}
 use Rattle.statement_terms.specs.Terms.{may_be_object}
 use Rattle.bound_members.specs.bound_calls.specs.Calls.{node_of}
 use Rattle.statement_terms.specs.Kept.{WithPlacePushed, lends, place_ending, is_of_object as is_object_field}
@@ -53,31 +52,6 @@ place_there env t (term.Place kind of bounded lent makes) e z ps below is h =
     let P : Ending → Type 0 = λ (y : Ending). PlaceThere t y lent z ps below in
     subst P same (record { bounded = bounded; makes = makes; stands = h })
 place_there env t x e z ps below is h = let k : None ≡ Some e = is in absurd cc
-
-pub array_bound : (env : Env) (tree : Expr) (x : Tree) (at : Ending) (d e g : Drafted) → Leaves env tree d e x → place_ending x.term ≡ Some at
-    → g ≡ record e { pieces = put e.tables (node_of at.kind x.place at.of) e.pieces } → ArrayTold env tree at.of x.place d g
-array_bound env tree x at d e g l is eq =
-    let P : Drafted → Type 0 = λ (z : Drafted). ArrayTold env tree at.of x.place d z in
-    let q = place_there env e.tables x.term at (term_of env tree) e.pieces d.pieces is l.stands.term_is in
-    let p = q.stands in
-    subst P (sym eq) (record {
-      grown = grown_twice d e (record e { pieces = put e.tables (node_of at.kind x.place at.of) e.pieces }) l.grown (grown_pieces e (put e.tables (node_of at.kind x.place at.of) e.pieces));
-      at = p.at;
-      bounded = q.bounded;
-      lends = lends x.term;
-      makes = q.makes;
-      is = p.is;
-      place_is = l.stands.place_is;
-      on_top = p.ends (node_of at.kind x.place at.of);
-    })
-
-pub array_place : (env : Env) (tree : Expr) (of : DeclaredType) (place : Place) (d e : Drafted) → ArrayTold env tree of place d e → PlacePushed (place_in (term_of env tree)) d e
-array_place env tree of place d e a = record {
-  grown = a.grown;
-  made = a.at;
-  is = ap (λ (z : terms.Term). place_in z) a.is;
-  on_top = a.on_top;
-}
 
 pub with_pushed : (kind : NodeKind) (of : DeclaredType) (place : Place) (d e : Drafted) → may_be_object of ≡ false → e ≡ record d { pieces = put d.tables (node_of kind place of) d.pieces } → WithPlacePushed kind of d e
 with_pushed kind of place d e none eq =

@@ -14,12 +14,12 @@ use Rattle.bound_project.specs.declared.node.NodeKind.{NodeKind}
 use Rattle.bound_project.specs.declared.node.NodeKind.TheVariants as node
 use Rattle.bound_project.specs.declared.statement.ActionKind.{ActionKind}
 use Rattle.bound_project.specs.declared.statement.ActionKind.TheVariants as action
-use Rattle.bound_project.specs.Bodies.{action_of}
+use Rattle.bound_project.specs.Bodies.{action_of, element_found}
 use Rattle.bound_project.specs.Drafts.{Drafted}
-use Rattle.bound_project.specs.Expressions.{Exprs, Lvalue, no_exprs, also, marked}
+use Rattle.bound_project.specs.Expressions.{Exprs, Lvalue, no_exprs, also, element_along, marked}
 use Rattle.bound_project.specs.Expressions as bound
 use Rattle.bound_project.specs.Pieces.{Piece, Tables, an_expr, expr_of, exprs_off, misfit, of_found, put, put_kind}
-use Rattle.bound_project.specs.Statements.{Action, set, set_member}
+use Rattle.bound_project.specs.Statements.{Action, set, set_element, set_member}
 use Rattle.bound_project.specs.View.{declared_view}
 use Rattle.bound_members.specs.bound_calls.specs.bound_declarations.specs.constant_values.specs.declared_names.specs.binder.specs.Options.{or_else}
 use Rattle.bound_members.specs.bound_calls.specs.bound_declarations.specs.constant_values.specs.declared_names.specs.binder.specs.Types.{is_object}
@@ -28,7 +28,7 @@ use Rattle.bound_members.specs.bound_calls.specs.bound_declarations.specs.consta
 use Rattle.bound_members.specs.bound_calls.specs.bound_forms.specs.Terms.{Env, Given, a_host_member, a_method, a_place, a_routine, a_value, expression_of, no_term}
 use Rattle.bound_members.specs.bound_calls.specs.bound_forms.specs.Terms as plain
 use Rattle.bound_members.specs.bound_calls.specs.bound_forms.specs.ExpressionsBound.{bound_as_given, givens, indexed, term_of, place_told}
-use Rattle.bound_members.specs.bound_calls.specs.bound_forms.specs.StatementsBound.{broken_target, is_sub, is_unassignable, may_refer, no_reference, not_assignable, object_set, set_by, set_given, set_target, set_to, set_value, target_before, target_of_call}
+use Rattle.bound_members.specs.bound_calls.specs.bound_forms.specs.StatementsBound.{broken_target, is_sub, is_unassignable, may_refer, no_reference, not_assignable, object_set, place_set, set_by, set_given, set_target, set_to, set_value, target_before, target_of_call}
 use Rattle.bound_members.specs.bound_calls.specs.declared.term.Ending.{Ending}
 use Rattle.bound_members.specs.bound_calls.specs.declared.term.HostMember.{HostMember}
 use Rattle.bound_members.specs.bound_calls.specs.declared.term.Term.TheVariants as term
@@ -42,34 +42,57 @@ use Rattle.statement_terms.specs.Terms.{may_be_object}
 use Rattle.bound_members.specs.bound_calls.specs.Taking.{broken_ending}
 use Rattle.statement_terms.specs.Called.{ActionIs, IsBare}
 use Rattle.statement_terms.specs.Setting.{SetsTerm, SetsTo, is_marked, set_there}
-use Rattle.statement_terms.specs.Targets.{ends_unassignable}
-use Rattle.statement_terms.proofs.WrittenTargets.{unassignable}
+use Rattle.statement_terms.specs.Targets.{ends_unassignable, numbers_along}
+use Rattle.statement_terms.proofs.WrittenTargets.{along_there, is_along, no_along, unassignable}
 
 -- ---- terms
 
-place_set : (word place : Place) (y : plain.Term) (value : bound.Expr) (x : Lvalue) (of : Declared) (bounded lends makes : Bool) → y ≡ a_place x of bounded lends makes → (is_object of || is_variant of) ≡ true → set_to word place y value ≡ Some (set x value)
-place_set word place y value x of bounded lends makes e h =
+place_given : (word place : Place) (y : plain.Term) (value : bound.Expr) (x : Lvalue) (of : Declared) (bounded lends makes : Bool) → y ≡ a_place x of bounded lends makes → (is_object of || is_variant of) ≡ true → set_to word place y value ≡ Some (place_set x value)
+place_given word place y value x of bounded lends makes e h =
     ap (λ (z : plain.Term). set_to word place z value) e
-    ∙ ap (λ (b : Bool). if b then Some (set x value) else Some (no_reference word (also value (also (expression_of (bound.load x) word of) no_exprs)))) h
+    ∙ ap (λ (b : Bool). if b then Some (place_set x value) else Some (no_reference word (also value (also (expression_of (bound.load x) word of) no_exprs)))) h
 
-pub sets_place : (word : Place) (kind : NodeKind) (of : DeclaredType) (place : Place) (d e : Drafted) → may_be_object of ≡ true → e ≡ record d { pieces = put d.tables (node_of kind place of) d.pieces }
+set_plainly : (x : Lvalue) (v : bound.Expr) → is_along x ≡ false → place_set x v ≡ set x v
+set_plainly (element_along x es) v h = let e : true ≡ false = h in absurd cc
+set_plainly x v h = refl
+
+pub sets_place : (word : Place) (kind : NodeKind) (of : DeclaredType) (place : Place) (d e : Drafted) → may_be_object of ≡ true → numbers_along kind ≡ None → e ≡ record d { pieces = put d.tables (node_of kind place of) d.pieces }
     → (bounded lends makes : Bool) → SetsTerm word place (term.Place kind of bounded lends makes) d e action.Set
-sets_place word kind of place d e h eq bounded lends makes =
+sets_place word kind of place d e h other eq bounded lends makes =
     let P : Drafted → Type 0 = λ (z : Drafted). SetsTerm word place (term.Place kind of bounded lends makes) d z action.Set in
     let n = node_of kind place of in
     subst P (sym eq) (record {
       grown = grown_pieces d (put d.tables n d.pieces);
       named = tt;
       stands = λ env y value k.
-          record { made = set k.at value; is = place_set word place y value k.at (declared_view of) bounded lends makes k.is h; fits = ap (λ (ps : List Piece). action_of d.tables action.Set ps) (k.ends n) };
+          record {
+            made = set k.at value;
+            is = place_given word place y value k.at (declared_view of) bounded lends makes k.is h ∙ ap (λ (a : Action). Some a) (set_plainly k.at value (no_along d.tables kind k.at d.pieces (an_expr value ∷ []) other k.ends));
+            fits = ap (λ (ps : List Piece). action_of d.tables action.Set ps) (k.ends n);
+          };
     })
+
+-- one to which arguments lead from another one, as the run says
+pub sets_along : (word : Place) (at : Ending) (place : Place) (count : ℕ) (d : Drafted) → may_be_object at.of ≡ true → numbers_along at.kind ≡ Some count
+    → (bounded lends makes : Bool) → SetsTerm word place (term.Place at.kind at.of bounded lends makes) d d (action.SetElement count)
+sets_along word at place count d h along bounded lends makes = record {
+  grown = grown_same d;
+  named = tt;
+  stands = λ env y value k.
+      let there = along_there d.tables at.kind count k.at d.pieces (an_expr value ∷ []) along k.ends in
+      record {
+        made = set_element there.base there.numbers value;
+        is = place_given word place y value k.at (declared_view at.of) bounded lends makes k.is h ∙ ap (λ (x : Lvalue). Some (place_set x value)) there.at_is;
+        fits = ap (λ o. element_found (λ x es e. set_element x es e) o) there.is;
+      };
+}
 
 -- a place that can't have an object
 no_place_set : (word place : Place) (y : plain.Term) (value : bound.Expr) (x : Lvalue) (of : Declared) (bounded lends makes : Bool) → y ≡ a_place x of bounded lends makes → (is_object of || is_variant of) ≡ false
     → set_to word place y value ≡ Some (no_reference word (also value (also (expression_of (bound.load x) word of) no_exprs)))
 no_place_set word place y value x of bounded lends makes e h =
     ap (λ (z : plain.Term). set_to word place z value) e
-    ∙ ap (λ (b : Bool). if b then Some (set x value) else Some (no_reference word (also value (also (expression_of (bound.load x) word of) no_exprs)))) h
+    ∙ ap (λ (b : Bool). if b then Some (place_set x value) else Some (no_reference word (also value (also (expression_of (bound.load x) word of) no_exprs)))) h
 
 pub sets_no_place : (word : Place) (kind : NodeKind) (of : DeclaredType) (place : Place) (d d1 d2 e : Drafted) → may_be_object of ≡ false → d1 ≡ record d { pieces = put d.tables (node_of kind place of) d.pieces }
     → d2 ≡ record d1 { pieces = put d1.tables (node_of node.Load word of) d1.pieces } → e ≡ record d2 { pieces = put d2.tables (node_of (node.Marked (record { rule = 28; place = word }) 2) word (Plain Variant)) d2.pieces }

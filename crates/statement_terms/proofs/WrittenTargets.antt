@@ -1,52 +1,91 @@
 -- Places and values that are assigned to.
 use Rattle.std.proofs.Common.{◌≡◌, ℕ, Bool, true, false, List, [], ◌∷◌, Option, Some, None, if◌then◌else◌, refl, sym, ap, subst, ◌∙◌}
-use Rattle.std.specs.Prelude.{◌&&◌, ◌||◌, not, MatchBool}
+use Rattle.std.specs.Prelude.{◌&&◌, ◌||◌, not, IfSome, MatchBool}
 use Rattle.vba_base.specs.declared.place.Place.{Place}
 use Rattle.vba_values.specs.Types.{Declared}
 use Rattle.vba_values.specs.Types as type
+use Rattle.bound_project.specs.declared.declared_type.DeclaredType.{DeclaredType}
+use Rattle.bound_project.specs.declared.node.LateUse.TheVariants.{Reading}
 use Rattle.bound_project.specs.declared.node.NodeKind.{NodeKind}
 use Rattle.bound_project.specs.declared.node.NodeKind.TheVariants as kinds
 use Rattle.bound_project.specs.declared.node.Node.{Node}
 use Rattle.bound_project.specs.declared.statement.ActionKind.{ActionKind}
 use Rattle.bound_project.specs.declared.statement.ActionKind.TheVariants as action
-use Rattle.bound_project.specs.Bodies.{action_of, item_found}
-use Rattle.bound_project.specs.Expressions.{Exprs, Lvalue, no_exprs, also, expr, constant, load, err_value, marked, element_value, field_value, unary, binary, call, same, is_type, library, host_member, named_member, no_args, in_order, load_made, method}
+use Rattle.bound_project.specs.declared.variable.Variable.{Variable}
+use Rattle.bound_project.specs.Bodies.{action_of, element_found, item_found}
+use Rattle.bound_project.specs.Expressions.{Exprs, Lvalue, no_exprs, also, expr, constant, load, err_value, marked, element_value, field_value, unary, binary, call, same, is_type, library, host_member, named_member, late_item, late_member, none_given, no_args, in_order, load_made, method, item, element_along}
 use Rattle.bound_project.specs.Expressions as bound
-use Rattle.bound_project.specs.Pieces.{Piece, Tables, an_expr, arguments_off, as_operand, expr_of, exprs_off, misfit, by_name_in, name_in, of_value, of_value_found, order_in, put, put_kind}
-use Rattle.bound_project.specs.Drafts.{Drafted}
-use Rattle.bound_project.specs.Statements.{assign, assign_default, assign_item}
-use Rattle.bound_project.specs.View.{base_view, declared_view}
+use Rattle.bound_project.specs.Pieces.{Piece, Tables, a_place, an_expr, arguments_off, as_operand, expr_of, exprs_off, given_off, misfit, by_name_in, name_in, of_place, of_place_found, of_value, of_value_found, order_in, put, put_kind, sought_in}
+use Rattle.bound_project.specs.Drafts.{ActionNamed, Drafted}
+use Rattle.bound_project.specs.Statements.{Action, assign, assign_default, assign_element, assign_item, assign_through}
+use Rattle.bound_project.specs.View.{base_view, declared_view, variable_view}
 use Rattle.bound_members.specs.bound_calls.specs.bound_declarations.specs.constant_values.specs.declared_names.specs.binder.specs.Types.{is_object}
 use Rattle.bound_members.specs.bound_calls.specs.bound_forms.specs.Terms.{Env, expression_of, read_of}
 use Rattle.bound_members.specs.bound_calls.specs.bound_forms.specs.Terms as plain
-use Rattle.bound_members.specs.bound_calls.specs.bound_forms.specs.ExpressionsBound.{HostKind, has_object, host_kind, kind_by_type, may_be_instance}
-use Rattle.bound_members.specs.bound_calls.specs.bound_forms.specs.StatementsBound.{assigned, broken_target, default_written, has_written_default, is_unassignable, not_assignable, takes_value, value_written, write_rule, written_or_broken}
+use Rattle.bound_members.specs.bound_calls.specs.bound_forms.specs.ExpressionsBound.{HostKind, has_object, host_kind, is_found_late, is_of_class, kind_by_type, may_be_instance}
+use Rattle.bound_members.specs.bound_calls.specs.bound_forms.specs.StatementsBound.{assigned, broken_target, default_written, has_written_default, is_indexed_late, is_unassignable, not_assignable, place_assigned, takes_value, value_written, write_rule, written_or_broken}
 use Rattle.bound_members.specs.bound_calls.specs.declared.term.Ending.{Ending}
 use Rattle.bound_members.specs.declared.kinds.HostKind as declared
 use Rattle.bound_members.specs.Kinds.{EndingOfKind, kind_view}
 use Rattle.bound_members.specs.bound_calls.specs.declared.term.Term.{Term}
 use Rattle.bound_members.specs.bound_calls.specs.declared.term.Term.TheVariants as term
 use Rattle.bound_members.specs.bound_calls.specs.Calls.{node_of}
-use Rattle.bound_members.specs.bound_calls.specs.References.{EndingGives, NoInstance}
-use Rattle.bound_members.specs.bound_calls.specs.Standing.{ValueEnds}
+use Rattle.bound_members.specs.bound_calls.specs.References.{EndingGives, IsFoundLate}
+use Rattle.bound_members.specs.bound_calls.specs.Standing.{PlaceEnds, ValueEnds}
 use Rattle.bound_members.specs.bound_calls.specs.Taking.{broken_ending, read_kind}
 use Rattle.bound_members.specs.bound_calls.proofs.Growing.{grown_pieces, grown_same}
-use Rattle.bound_members.specs.bound_calls.proofs.LastNodes.{any_node, both_pass, found_passes, member_found_passes, named_found_passes, place_passes, value_found_passes, value_passes, object_found_passes}
+use Rattle.bound_members.specs.bound_calls.proofs.LastNodes.{any_node, both_pass, found_passes, late_found_passes, member_found_passes, named_found_passes, place_passes, value_found_passes, value_passes, object_found_passes}
+use Rattle.bound_members.specs.bound_calls.proofs.PlaceNodes.{no_item}
+use Rattle.bound_members.specs.bound_calls.specs.bound_declarations.specs.constant_values.specs.declared_names.specs.View.{space_view, written_view}
+use Rattle.bound_members.specs.bound_calls.specs.bound_declarations.specs.constant_values.specs.declared_names.specs.binder.specs.Constants.{is_variant}
+use Rattle.bound_members.specs.bound_calls.specs.bound_declarations.specs.constant_values.specs.declared_names.specs.binder.specs.Declarations.{Written}
+use Rattle.bound_members.specs.bound_calls.specs.bound_declarations.specs.constant_values.specs.declared_names.specs.binder.specs.Scopes.{Space}
 use Rattle.statement_terms.specs.Members.{AssignsTerm}
-use Rattle.statement_terms.specs.Targets.{AssignsIndexed, EndsItem, EndsObject, EndsValue, EndsWrong, ends_unassignable, ends_value, gives_object, is_library, is_value_kind}
+use Rattle.statement_terms.specs.Targets.{AssignsIndexed, EndsItem, EndsLate, EndsObject, EndsValue, EndsWrong, IndexedLate, IsLateValue, default_kind, ends_unassignable, ends_value, gives_object, is_item_along, is_library, is_value_kind, numbers_along}
 use Rattle.bound_members.specs.bound_calls.proofs.Taking.{read_ends}
 
 -- ---- places
 
-to_place : (env : Env) (place : Place) (v : bound.Expr) (t : plain.Term) (x : Lvalue) (of : Declared) (bounded lends makes : Bool) → t ≡ plain.a_place x of bounded lends makes → is_object of ≡ false → assigned env place v [] t ≡ Some (assign x v)
+to_place : (env : Env) (place : Place) (v : bound.Expr) (t : plain.Term) (x : Lvalue) (of : Declared) (bounded lends makes : Bool) → t ≡ plain.a_place x of bounded lends makes → is_object of ≡ false → assigned env place v [] t ≡ Some (place_assigned x v)
 to_place env place v t x of bounded lends makes e h =
     ap (λ (z : plain.Term). assigned env place v [] z) e
-    ∙ ap (λ (b : Bool). if b then default_written env place (read_of makes x) of v else Some (assign x v)) h
+    ∙ ap (λ (b : Bool). if b then default_written env place (read_of makes x) of v else Some (place_assigned x v)) h
 
-pub plain_assigned : (place : Place) (at : Ending) (d e : Drafted) → is_object (declared_view at.of) ≡ false → e ≡ record d { pieces = put d.tables (node_of at.kind place at.of) d.pieces }
-    → (has bounded lends makes : Bool) → AssignsTerm has place (term.Place at.kind at.of bounded lends makes) d e action.Assign false
-plain_assigned place at d e none eq has bounded lends makes =
-    let P : Drafted → Type 0 = λ (z : Drafted). AssignsTerm has place (term.Place at.kind at.of bounded lends makes) d z action.Assign false in
+-- a place to which arguments lead from another one, as the run says
+abbrev pub is_along : Lvalue → Bool
+is_along (element_along x es) = true
+is_along x = false
+
+no_along_on_top : List Piece → Bool
+no_along_on_top (a_place x ∷ st) = not (is_along x)
+no_along_on_top st = true
+
+no_along_item : (t : Tables) (n : Node) (x : Variable) (count : ℕ) (st : List Piece) → no_along_on_top (put_kind t n (kinds.Item x count) st) ≡ true
+unfolding no_along_on_top
+no_along_item t n x count st = found_passes no_along_on_top refl (λ es. a_place (item (variable_view x) es)) (λ es rest. refl) (exprs_off count st no_exprs)
+
+no_item_along : (x : Lvalue) → not (plain.may_be_item x) ≡ true → is_along x ≡ false
+no_item_along (element_along x es) h = let e : false ≡ true = h in absurd cc
+no_item_along x h = refl
+
+not_along : (b : Bool) → not b ≡ true → b ≡ false
+not_along false h = refl
+not_along true h = let e : false ≡ true = h in absurd cc
+
+pub no_along : (t : Tables) (kind : NodeKind) (at : Lvalue) (ps below : List Piece) → numbers_along kind ≡ None → PlaceEnds t kind at ps below → is_along at ≡ false
+unfolding no_along_on_top
+no_along t (kinds.Item x count) at ps below h ends = not_along (is_along at) (sym (ap no_along_on_top (ends any_node)) ∙ no_along_item t any_node x count ps)
+no_along t (kinds.ElementAlong count) at ps below h ends = let e : Some count ≡ None = h in absurd cc
+no_along t kind at ps below h ends = no_item_along at (no_item t kind at ps below refl ends)
+
+assigned_plainly : (x : Lvalue) (v : bound.Expr) → is_along x ≡ false → place_assigned x v ≡ assign x v
+assigned_plainly (element_along x es) v h = let e : true ≡ false = h in absurd cc
+assigned_plainly x v h = refl
+
+pub plain_assigned : (place : Place) (at : Ending) (d e : Drafted) → is_object (declared_view at.of) ≡ false → numbers_along at.kind ≡ None → e ≡ record d { pieces = put d.tables (node_of at.kind place at.of) d.pieces }
+    → (has bounded lends makes : Bool) (may : Option Bool) → AssignsTerm has may place (term.Place at.kind at.of bounded lends makes) d e action.Assign false
+plain_assigned place at d e none other eq has bounded lends makes may =
+    let P : Drafted → Type 0 = λ (z : Drafted). AssignsTerm has may place (term.Place at.kind at.of bounded lends makes) d z action.Assign false in
     let n = node_of at.kind place at.of in
     subst P (sym eq) (record {
       grown = grown_pieces d (put d.tables n d.pieces);
@@ -55,10 +94,53 @@ plain_assigned place at d e none eq has bounded lends makes =
       stands = λ env known z value goes h.
           record {
             made = assign h.at value;
-            is = to_place env place value z h.at (declared_view at.of) bounded lends makes h.is none;
+            is = to_place env place value z h.at (declared_view at.of) bounded lends makes h.is none
+                ∙ ap (λ (a : Action). Some a) (assigned_plainly h.at value (no_along d.tables at.kind h.at d.pieces (an_expr value ∷ []) other h.ends));
             fits = ap (λ (ps : List Piece). action_of d.tables action.Assign ps) (h.ends n);
           };
     })
+
+-- numbers stand above a place from which they lead on, as the run says
+pub record AlongThere (at : Lvalue) (o : Option (Exprs × List Piece)) (below : List Piece) : Type 0 where
+  pub base : Lvalue
+  pub numbers : Exprs
+  pub at_is : at ≡ element_along base numbers
+  pub is : o ≡ Some (numbers, a_place base ∷ below)
+
+along_at : (at : Lvalue) (es : Exprs) (st below : List Piece) → of_place (λ x. a_place (element_along x es)) st ≡ a_place at ∷ below → AlongThere at (Some (es, st)) below
+along_at at es (a_place x ∷ st) below h =
+    let same : element_along x es ≡ at = (let e : a_place (element_along x es) ∷ st ≡ a_place at ∷ below = h in cc) in
+    let rest : st ≡ below = (let e : a_place (element_along x es) ∷ st ≡ a_place at ∷ below = h in cc) in
+    record { base = x; numbers = es; at_is = sym same; is = ap (λ (l : List Piece). Some (es, a_place x ∷ l)) rest }
+along_at at es st below h = let e : misfit ≡ a_place at ∷ below = h in absurd cc
+
+along_of : (at : Lvalue) (o : Option (Exprs × List Piece)) (below : List Piece) → of_place_found (λ x es. a_place (element_along x es)) o ≡ a_place at ∷ below → AlongThere at o below
+along_of at None below h = let e : misfit ≡ a_place at ∷ below = h in absurd cc
+along_of at (Some found) below h = along_at at found.0 found.1 below h
+
+along_kind : (kind : NodeKind) (count : ℕ) → numbers_along kind ≡ Some count → kind ≡ kinds.ElementAlong count
+along_kind (kinds.ElementAlong n) count h = let e : Some n ≡ Some count = h in let same : n ≡ count = cc in ap (λ (k : ℕ). kinds.ElementAlong k) same
+along_kind kind count h = let e : None ≡ Some count = h in absurd cc
+
+pub along_there : (t : Tables) (kind : NodeKind) (count : ℕ) (at : Lvalue) (ps below : List Piece) → numbers_along kind ≡ Some count → PlaceEnds t kind at ps below → AlongThere at (exprs_off count ps no_exprs) below
+along_there t kind count at ps below h ends =
+    let K : NodeKind → Type 0 = λ (k : NodeKind). put_kind t any_node k ps ≡ a_place at ∷ below in
+    along_of at (exprs_off count ps no_exprs) below (subst K (along_kind kind count h) (ends any_node))
+
+pub along_assigned : (place : Place) (at : Ending) (count : ℕ) (d : Drafted) → is_object (declared_view at.of) ≡ false → numbers_along at.kind ≡ Some count
+    → (has bounded lends makes : Bool) (may : Option Bool) → AssignsTerm has may place (term.Place at.kind at.of bounded lends makes) d d (action.AssignElement count) false
+along_assigned place at count d none along has bounded lends makes may = record {
+  grown = grown_same d;
+  named = tt;
+  takes = λ env z ps below h. ap (λ (y : plain.Term). takes_value env y) h.is;
+  stands = λ env known z value goes h.
+      let there = along_there d.tables at.kind count h.at d.pieces (an_expr value ∷ []) along h.ends in
+      record {
+        made = assign_element there.base there.numbers value;
+        is = to_place env place value z h.at (declared_view at.of) bounded lends makes h.is none ∙ ap (λ (x : Lvalue). Some (place_assigned x value)) there.at_is;
+        fits = ap (λ o. element_found (λ x es e. assign_element x es e) o) there.is;
+      };
+}
 
 -- the default member of an object of a kind
 kind_written : (env : Env) (place : Place) (made : bound.Node) (of : Declared) (v : bound.Expr) (k : Option HostKind) (rule : Option ℕ) → host_kind made of ≡ k → write_rule k ≡ rule
@@ -67,12 +149,40 @@ kind_written env place made of v k rule h w =
     let target = expression_of made place of in
     ap (λ (o : Option HostKind). written_or_broken env (write_rule o) place target of v) h ∙ ap (λ (r : Option ℕ). written_or_broken env r place target of v) w
 
-default_done : (env : Env) (place : Place) (made : bound.Node) (of : Declared) (v : bound.Expr) (k : Option HostKind) → host_kind made of ≡ k → write_rule k ≡ None → has_written_default of ≡ true → may_be_instance env (expression_of made place of) ≡ false
-    → default_written env place made of v ≡ Some (assign_default (expression_of made place of) v)
-default_done env place made of v k h w d none =
+-- what is done with the default member of what may be an object of a class, or not
+abbrev default_action : (through : Bool) → (target value : bound.Expr) → Action
+default_action true target value = assign_through target value
+default_action false target value = assign_default target value
+
+default_picked : (through : Bool) (target value : bound.Expr) → (if through then Some (assign_through target value) else Some (assign_default target value)) ≡ Some (default_action through target value)
+default_picked true target value = refl
+default_picked false target value = refl
+
+default_fits : (t : Tables) (through : Bool) (target value : bound.Expr) → action_of t (default_kind through) (an_expr target ∷ an_expr value ∷ []) ≡ Some (default_action through target value)
+default_fits t true target value = refl
+default_fits t false target value = refl
+
+default_named : (t : Tables) (through : Bool) → ActionNamed t (default_kind through)
+default_named t true = tt
+default_named t false = tt
+
+-- what has a default member that is written isn't declared as of a class
+written_no_class : (of : Declared) → has_written_default of ≡ true → is_of_class of ≡ false
+written_no_class type.object h = refl
+written_no_class type.range h = refl
+written_no_class type.variant h = refl
+written_no_class of h = let e : false ≡ true = h in absurd cc
+
+found_may : (env : Env) (target : bound.Expr) (of : Declared) (through : Bool) → has_written_default of ≡ true → (not (is_of_class of) && may_be_instance env target) ≡ through → may_be_instance env target ≡ through
+found_may env target of through written h = sym (ap (λ (b : Bool). not b && may_be_instance env target) (written_no_class of written)) ∙ h
+
+default_done : (env : Env) (place : Place) (made : bound.Node) (of : Declared) (v : bound.Expr) (k : Option HostKind) (through : Bool) → host_kind made of ≡ k → write_rule k ≡ None → has_written_default of ≡ true
+    → may_be_instance env (expression_of made place of) ≡ through → default_written env place made of v ≡ Some (default_action through (expression_of made place of) v)
+default_done env place made of v k through h w d may =
     let target = expression_of made place of in
-    kind_written env place made of v k None h w ∙ ap (λ (b : Bool). if b && not (may_be_instance env target) then Some (assign_default target v) else None) d
-    ∙ ap (λ (b : Bool). if not b then Some (assign_default target v) else None) none
+    let either : Option Action = if may_be_instance env target then Some (assign_through target v) else Some (assign_default target v) in
+    kind_written env place made of v k None h w ∙ ap (λ (b : Bool). if not b then None else either) d
+    ∙ ap (λ (b : Bool). if b then Some (assign_through target v) else Some (assign_default target v)) may ∙ default_picked through target v
 
 -- a place whose type has a default member that is written
 type_written : (of : Declared) → has_written_default of ≡ true → write_rule (kind_by_type of) ≡ None
@@ -86,36 +196,38 @@ read_kind_of : (makes : Bool) (x : Lvalue) (of : Declared) → host_kind (read_o
 read_kind_of true x of = refl
 read_kind_of false x of = refl
 
-to_object : (env : Env) (place : Place) (v : bound.Expr) (t : plain.Term) (x : Lvalue) (of : Declared) (bounded lends makes : Bool) → t ≡ plain.a_place x of bounded lends makes → is_object of ≡ true → has_written_default of ≡ true
-    → may_be_instance env (expression_of (read_of makes x) place of) ≡ false → assigned env place v [] t ≡ Some (assign_default (expression_of (read_of makes x) place of) v)
-to_object env place v t x of bounded lends makes e h k none =
-    ap (λ (z : plain.Term). assigned env place v [] z) e ∙ ap (λ (b : Bool). if b then default_written env place (read_of makes x) of v else Some (assign x v)) h
-    ∙ default_done env place (read_of makes x) of v (kind_by_type of) (read_kind_of makes x of) (type_written of k) k none
+to_object : (env : Env) (place : Place) (v : bound.Expr) (t : plain.Term) (x : Lvalue) (of : Declared) (bounded lends makes through : Bool) → t ≡ plain.a_place x of bounded lends makes → is_object of ≡ true → has_written_default of ≡ true
+    → may_be_instance env (expression_of (read_of makes x) place of) ≡ through → assigned env place v [] t ≡ Some (default_action through (expression_of (read_of makes x) place of) v)
+to_object env place v t x of bounded lends makes through e h k may =
+    ap (λ (z : plain.Term). assigned env place v [] z) e ∙ ap (λ (b : Bool). if b then default_written env place (read_of makes x) of v else Some (place_assigned x v)) h
+    ∙ default_done env place (read_of makes x) of v (kind_by_type of) through (read_kind_of makes x of) (type_written of k) k may
 
-pub object_assigned : (place : Place) (at : Ending) (makes : Bool) (d f e : Drafted) → is_object (declared_view at.of) ≡ true → has_written_default (declared_view at.of) ≡ true
+pub object_assigned : (place : Place) (at : Ending) (makes through : Bool) (d f e : Drafted) → is_object (declared_view at.of) ≡ true → has_written_default (declared_view at.of) ≡ true
     → f ≡ record d { pieces = put d.tables (node_of at.kind place at.of) d.pieces } → e ≡ record f { pieces = put f.tables (node_of (read_kind makes) place at.of) f.pieces }
-    → (has bounded lends : Bool) → NoInstance has d.tables (record { kind = read_kind makes; of = at.of }) → AssignsTerm has place (term.Place at.kind at.of bounded lends makes) d e action.AssignDefault false
-object_assigned place at makes d f e object written first second has bounded lends free =
+    → (has bounded lends : Bool) (may : Option Bool) → IsFoundLate has d.tables (record { kind = read_kind makes; of = at.of }) through
+    → AssignsTerm has may place (term.Place at.kind at.of bounded lends makes) d e (default_kind through) false
+object_assigned place at makes through d f e object written first second has bounded lends may late =
     let n = node_of at.kind place at.of in
     let m = node_of (read_kind makes) place at.of in
     let low = put d.tables n d.pieces in
     let E : Drafted = record d { pieces = put d.tables m low } in
-    let P : Drafted → Type 0 = λ (z : Drafted). AssignsTerm has place (term.Place at.kind at.of bounded lends makes) d z action.AssignDefault false in
+    let P : Drafted → Type 0 = λ (z : Drafted). AssignsTerm has may place (term.Place at.kind at.of bounded lends makes) d z (default_kind through) false in
     let is : e ≡ E = second ∙ ap (λ (z : Drafted). record z { pieces = put z.tables m z.pieces }) first in
     subst P (sym is) (record {
       grown = grown_pieces d (put d.tables m low);
-      named = tt;
+      named = default_named d.tables through;
       takes = λ env z ps below h. ap (λ (y : plain.Term). takes_value env y) h.is;
       stands = λ env known z value goes h.
           let below : List Piece = an_expr value ∷ [] in
           let made = read_of makes h.at in
-          let target = expression_of made place (declared_view at.of) in
+          let of = declared_view at.of in
+          let target = expression_of made place of in
           let ends = read_ends makes d.tables h.at low below (h.ends n) in
-          let none = free env made place low below known ends in
+          let may_be = found_may env target of through written (late env made place low below known ends) in
           record {
-            made = assign_default target value;
-            is = to_object env place value z h.at (declared_view at.of) bounded lends makes h.is object written none;
-            fits = ap (λ (ps : List Piece). action_of d.tables action.AssignDefault ps) (ends m);
+            made = default_action through target value;
+            is = to_object env place value z h.at of bounded lends makes through h.is object written may_be;
+            fits = ap (λ (ps : List Piece). action_of d.tables (default_kind through) ps) (ends m) ∙ default_fits d.tables through target value;
           };
     })
 
@@ -132,19 +244,19 @@ evaluated t rule place v target ps h = ap (λ (st : List Piece). action_of t act
 to_unwritten : (env : Env) (place : Place) (v : bound.Expr) (t : plain.Term) (x : Lvalue) (of : Declared) (bounded lends makes : Bool) (rule : ℕ) → t ≡ plain.a_place x of bounded lends makes → is_object of ≡ true → write_rule (kind_by_type of) ≡ Some rule
     → assigned env place v [] t ≡ Some (broken_target rule place v (also (expression_of (read_of makes x) place of) no_exprs))
 to_unwritten env place v t x of bounded lends makes rule e object broken =
-    ap (λ (z : plain.Term). assigned env place v [] z) e ∙ ap (λ (b : Bool). if b then default_written env place (read_of makes x) of v else Some (assign x v)) object
+    ap (λ (z : plain.Term). assigned env place v [] z) e ∙ ap (λ (b : Bool). if b then default_written env place (read_of makes x) of v else Some (place_assigned x v)) object
     ∙ kind_written env place (read_of makes x) of v (kind_by_type of) (Some rule) (read_kind_of makes x of) broken
 
 pub unwritten_assigned : (place : Place) (at : Ending) (makes : Bool) (rule : ℕ) (d f g e : Drafted) → is_object (declared_view at.of) ≡ true → write_rule (kind_by_type (declared_view at.of)) ≡ Some rule
     → f ≡ record d { pieces = put d.tables (node_of at.kind place at.of) d.pieces } → g ≡ record f { pieces = put f.tables (node_of (read_kind makes) place at.of) f.pieces }
-    → e ≡ record g { pieces = put g.tables (mark_node rule place) g.pieces } → (has bounded lends : Bool) → AssignsTerm has place (term.Place at.kind at.of bounded lends makes) d e action.Evaluate false
-unwritten_assigned place at makes rule d f g e object broken first second third has bounded lends =
+    → e ≡ record g { pieces = put g.tables (mark_node rule place) g.pieces } → (has bounded lends : Bool) (may : Option Bool) → AssignsTerm has may place (term.Place at.kind at.of bounded lends makes) d e action.Evaluate false
+unwritten_assigned place at makes rule d f g e object broken first second third has bounded lends may =
     let n = node_of at.kind place at.of in
     let m = node_of (read_kind makes) place at.of in
     let low = put d.tables m (put d.tables n d.pieces) in
     let two : g ≡ record d { pieces = low } = second ∙ ap (λ (z : Drafted). record z { pieces = put z.tables m z.pieces }) first in
     let is : e ≡ record d { pieces = put d.tables (mark_node rule place) low } = third ∙ ap (λ (z : Drafted). record z { pieces = put z.tables (mark_node rule place) z.pieces }) two in
-    let P : Drafted → Type 0 = λ (z : Drafted). AssignsTerm has place (term.Place at.kind at.of bounded lends makes) d z action.Evaluate false in
+    let P : Drafted → Type 0 = λ (z : Drafted). AssignsTerm has may place (term.Place at.kind at.of bounded lends makes) d z action.Evaluate false in
     subst P (sym is) (record {
       grown = grown_pieces d (put d.tables (mark_node rule place) low);
       named = tt;
@@ -167,6 +279,12 @@ is_element node = false
 abbrev is_use : bound.Node → Bool
 is_use (library f text_form es compare base) = true
 is_use node = false
+
+-- neither that nor what arguments lead to in the run gives an object that is written
+abbrev is_apart : bound.Node → Bool
+is_apart (library f text_form es compare base) = true
+is_apart (late_item e es) = true
+is_apart node = false
 
 -- no element is on top
 none_on_top : List Piece → Bool
@@ -203,41 +321,45 @@ no_element : (t : Tables) (k : NodeKind) (made : bound.Node) (ps below : List Pi
 unfolding none_on_top
 no_element t k made ps below h ends = not_true (is_element made) (sym (ap none_on_top (ends any_node)) ∙ no_element_there t any_node k ps h)
 
--- no use of a function of the library is on top
+-- no use of a function of the library is on top, and nothing that arguments lead to in the run
 no_use_on_top : List Piece → Bool
-no_use_on_top (an_expr (expr made place of operand) ∷ st) = not (is_use made)
+no_use_on_top (an_expr (expr made place of operand) ∷ st) = not (is_apart made)
 no_use_on_top st = true
 
-no_use_there : (t : Tables) (n : Node) (k : NodeKind) (st : List Piece) → is_library k ≡ false → is_value_kind k ≡ true → no_use_on_top (put_kind t n k st) ≡ true
+no_use_there : (t : Tables) (n : Node) (k : NodeKind) (st : List Piece) → is_library k ≡ false → is_item_along k ≡ false → is_value_kind k ≡ true → no_use_on_top (put_kind t n k st) ≡ true
 unfolding no_use_on_top
-no_use_there t n (kinds.Constant i) st h value = refl
-no_use_there t n kinds.Load st h value = place_passes no_use_on_top refl (λ x. expr_of n (load x)) (λ x rest. refl) st
-no_use_there t n kinds.LoadMade st h value = place_passes no_use_on_top refl (λ x. expr_of n (load_made x)) (λ x rest. refl) st
-no_use_there t n kinds.This st h value = refl
-no_use_there t n (kinds.NewObject c) st h value = refl
-no_use_there t n (kinds.Method p count) st h value = object_found_passes no_use_on_top refl (λ e args. expr_of n (method e p args)) (λ e args rest. refl) (arguments_off count st no_args)
-no_use_there t n (kinds.MethodInOrder p count order) st h value =
+no_use_there t n (kinds.Constant i) st h along value = refl
+no_use_there t n kinds.Load st h along value = place_passes no_use_on_top refl (λ x. expr_of n (load x)) (λ x rest. refl) st
+no_use_there t n kinds.LoadMade st h along value = place_passes no_use_on_top refl (λ x. expr_of n (load_made x)) (λ x rest. refl) st
+no_use_there t n kinds.This st h along value = refl
+no_use_there t n (kinds.NewObject c) st h along value = refl
+no_use_there t n (kinds.Method p count) st h along value = object_found_passes no_use_on_top refl (λ e args. expr_of n (method e p args)) (λ e args rest. refl) (arguments_off count st no_args)
+no_use_there t n (kinds.MethodInOrder p count order) st h along value =
     object_found_passes no_use_on_top refl (λ e args. expr_of n (method e p (in_order (order_in t order) args))) (λ e args rest. refl) (arguments_off count st no_args)
-no_use_there t n (kinds.ElementValue count) st h value = value_found_passes no_use_on_top refl (λ e es. expr_of n (element_value e es)) (λ e es rest. refl) (exprs_off count st no_exprs)
-no_use_there t n (kinds.FieldValue i) st h value = value_passes no_use_on_top refl (λ e. expr_of n (field_value e i)) (λ e rest. refl) st
-no_use_there t n (kinds.Unary o of) st h value = value_passes no_use_on_top refl (λ a. expr_of n (unary o (as_operand of a))) (λ e rest. refl) st
-no_use_there t n (kinds.Binary o compare left right) st h value =
+no_use_there t n (kinds.ElementValue count) st h along value = value_found_passes no_use_on_top refl (λ e es. expr_of n (element_value e es)) (λ e es rest. refl) (exprs_off count st no_exprs)
+no_use_there t n (kinds.FieldValue i) st h along value = value_passes no_use_on_top refl (λ e. expr_of n (field_value e i)) (λ e rest. refl) st
+no_use_there t n (kinds.Unary o of) st h along value = value_passes no_use_on_top refl (λ a. expr_of n (unary o (as_operand of a))) (λ e rest. refl) st
+no_use_there t n (kinds.Binary o compare left right) st h along value =
     both_pass no_use_on_top refl (λ a b. expr_of n (binary o compare (as_operand left a) (as_operand right b))) (λ a b rest. refl) st
-no_use_there t n (kinds.Call p count) st h value = found_passes no_use_on_top refl (λ args. expr_of n (call p args)) (λ args rest. refl) (arguments_off count st no_args)
-no_use_there t n (kinds.CallInOrder p count order) st h value =
+no_use_there t n (kinds.Call p count) st h along value = found_passes no_use_on_top refl (λ args. expr_of n (call p args)) (λ args rest. refl) (arguments_off count st no_args)
+no_use_there t n (kinds.CallInOrder p count order) st h along value =
     found_passes no_use_on_top refl (λ args. expr_of n (call p (in_order (order_in t order) args))) (λ args rest. refl) (arguments_off count st no_args)
-no_use_there t n (kinds.ErrValue _) st h value = refl
-no_use_there t n (kinds.Library f text_form count compare one) st h value = let e : true ≡ false = h in absurd cc
-no_use_there t n (kinds.Marked broken count) st h value = found_passes no_use_on_top refl (λ es. expr_of n (marked broken es)) (λ es rest. refl) (exprs_off count st no_exprs)
-no_use_there t n kinds.Same st h value = both_pass no_use_on_top refl (λ a b. expr_of n (same a b)) (λ a b rest. refl) st
-no_use_there t n (kinds.IsType of) st h value = value_passes no_use_on_top refl (λ e. expr_of n (is_type e (declared_view of))) (λ e rest. refl) st
-no_use_there t n (kinds.HostObject reference) st h value = refl
-no_use_there t n kinds.ActiveSheet st h value = refl
-no_use_there t n (kinds.HostMember i count) st h value =
+no_use_there t n (kinds.ErrValue _) st h along value = refl
+no_use_there t n (kinds.Library f text_form count compare one) st h along value = let e : true ≡ false = h in absurd cc
+no_use_there t n (kinds.Marked broken count) st h along value = found_passes no_use_on_top refl (λ es. expr_of n (marked broken es)) (λ es rest. refl) (exprs_off count st no_exprs)
+no_use_there t n kinds.Same st h along value = both_pass no_use_on_top refl (λ a b. expr_of n (same a b)) (λ a b rest. refl) st
+no_use_there t n (kinds.IsType of) st h along value = value_passes no_use_on_top refl (λ e. expr_of n (is_type e (declared_view of))) (λ e rest. refl) st
+no_use_there t n (kinds.HostObject reference) st h along value = refl
+no_use_there t n kinds.ActiveSheet st h along value = refl
+no_use_there t n (kinds.HostMember i count) st h along value =
     member_found_passes no_use_on_top refl (name_in t i) (λ e es. expr_of n (host_member e (name_in t i) es)) (λ e es rest. refl) (exprs_off count st no_exprs)
-no_use_there t n (kinds.NamedMember i by count) st h value =
+no_use_there t n (kinds.NamedMember i by count) st h along value =
     named_found_passes no_use_on_top refl (name_in t i) (by_name_in t by) (λ e es. expr_of n (named_member e (name_in t i) (by_name_in t by) es)) (λ e es rest. refl) (exprs_off count st no_exprs)
-no_use_there t n k st h value = let e : false ≡ true = value in absurd cc
+no_use_there t n (kinds.LateMember x) st h along value =
+    late_found_passes no_use_on_top refl (sought_in t Reading x) (λ e given. expr_of n (late_member e (name_in t x.name) (by_name_in t x.names) given)) (λ e given rest. refl)
+    (given_off (sought_in t Reading x) x.arguments st none_given)
+no_use_there t n (kinds.ItemAlong count) st h along value = let e : true ≡ false = along in absurd cc
+no_use_there t n k st h along value = let e : false ≡ true = value in absurd cc
 
 or_left : (a b : Bool) → a ≡ true → (a || b) ≡ true
 or_left a b h = ap (λ (c : Bool). c || b) h
@@ -250,53 +372,58 @@ or_none : (a b : Bool) → a ≡ false → b ≡ false → (a || b) ≡ false
 or_none true b h k = h
 or_none false b h k = k
 
-no_use : (e : Ending) (t : Tables) (made : bound.Node) (ps below : List Piece) → is_library e.kind ≡ false → is_value_kind e.kind ≡ true → ValueEnds t e.kind made ps below → is_use made ≡ false
+no_use : (e : Ending) (t : Tables) (made : bound.Node) (ps below : List Piece) → is_library e.kind ≡ false → is_item_along e.kind ≡ false → is_value_kind e.kind ≡ true → ValueEnds t e.kind made ps below → is_apart made ≡ false
 unfolding no_use_on_top
-no_use e t made ps below other value ends = not_true (is_use made) (sym (ap no_use_on_top (ends any_node)) ∙ no_use_there t any_node e.kind ps other value)
+no_use e t made ps below other along value ends = not_true (is_apart made) (sym (ap no_use_on_top (ends any_node)) ∙ no_use_there t any_node e.kind ps other along value)
 
 -- ---- values that give objects
 
-object_gives : (made : bound.Node) (of : Declared) → is_use made ≡ false → is_object of ≡ true → gives_object made of ≡ true
+object_gives : (made : bound.Node) (of : Declared) → is_apart made ≡ false → is_object of ≡ true → gives_object made of ≡ true
+object_gives (late_item x es) of n h = let e : true ≡ false = n in absurd cc
 object_gives (element_value x es) of n h = h
 object_gives (library f text_form es compare base) of n h = let e : true ≡ false = n in absurd cc
 object_gives made of n h = or_left (is_object of) (has_object made of) h
 
-pub ends_object : (e : Ending) → is_library e.kind ≡ false → is_value_kind e.kind ≡ true → is_object (declared_view e.of) ≡ true → EndsObject e
-ends_object e other value object t made ps below ends = object_gives made (declared_view e.of) (no_use e t made ps below other value ends) object
+pub ends_object : (e : Ending) → is_library e.kind ≡ false → is_item_along e.kind ≡ false → is_value_kind e.kind ≡ true → is_object (declared_view e.of) ≡ true → EndsObject e
+ends_object e other along value object t made ps below ends = object_gives made (declared_view e.of) (no_use e t made ps below other along value ends) object
 
-variant_gives : (made : bound.Node) (of : Declared) → is_element made ≡ false → is_use made ≡ false → has_object made of ≡ true → gives_object made of ≡ true
+variant_gives : (made : bound.Node) (of : Declared) → is_element made ≡ false → is_apart made ≡ false → has_object made of ≡ true → gives_object made of ≡ true
+variant_gives (late_item x es) of n u h = let e : true ≡ false = u in absurd cc
 variant_gives (element_value x es) of n u h = let e : true ≡ false = n in absurd cc
 variant_gives (library f text_form es compare base) of n u h = let e : true ≡ false = u in absurd cc
 variant_gives made of n u h = or_right (is_object of) (has_object made of) h
 
-pub ends_variant : (e : Ending) (gives : Bool) → is_library e.kind ≡ false → is_value_kind e.kind ≡ true → ends_value e.kind ≡ true → EndingGives e gives → MatchBool gives (EndsObject e) (Unit {0})
-ends_variant e true other value no_item g = λ t made ps below ends.
-    variant_gives made (declared_view e.of) (no_element t e.kind made ps below no_item ends) (no_use e t made ps below other value ends) (g t made ps below ends)
-ends_variant e false other value no_item g = tt
+pub ends_variant : (e : Ending) (gives : Bool) → is_library e.kind ≡ false → is_item_along e.kind ≡ false → is_value_kind e.kind ≡ true → ends_value e.kind ≡ true → EndingGives e gives → MatchBool gives (EndsObject e) (Unit {0})
+ends_variant e true other along value no_item g = λ t made ps below ends.
+    variant_gives made (declared_view e.of) (no_element t e.kind made ps below no_item ends) (no_use e t made ps below other along value ends) (g t made ps below ends)
+ends_variant e false other along value no_item g = tt
 
 value_default : (env : Env) (place : Place) (v : bound.Expr) (made : bound.Node) (of : Declared) → gives_object made of ≡ true → value_written env place v made of ≡ default_written env place made of v
+value_default env place v (late_item x es) of h = let e : false ≡ true = h in absurd cc
 value_default env place v (element_value x es) of h = ap (λ (b : Bool). if b then default_written env place (element_value x es) of v else Some (assign_item x es v)) h
 value_default env place v (library f text_form es compare base) of h = let e : false ≡ true = h in absurd cc
 value_default env place v made of h = ap (λ (b : Bool). if b then default_written env place made of v else (if is_unassignable made then Some (not_assignable place v made of) else None)) h
 
-pub value_assigned : (has : Bool) (place : Place) (ending : Ending) (kind : declared.HostKind) (d e : Drafted) → NoInstance has d.tables ending → EndsObject ending → EndingOfKind ending kind → write_rule (Some (kind_view kind)) ≡ None
-    → has_written_default (declared_view ending.of) ≡ true → e ≡ record d { pieces = put d.tables (node_of ending.kind place ending.of) d.pieces } → AssignsTerm has place (term.Value ending) d e action.AssignDefault false
-value_assigned has place ending kind d e free gives known_kind rule written eq =
-    let P : Drafted → Type 0 = λ (z : Drafted). AssignsTerm has place (term.Value ending) d z action.AssignDefault false in
+pub value_assigned : (has : Bool) (may : Option Bool) (place : Place) (ending : Ending) (kind : declared.HostKind) (through : Bool) (d e : Drafted) → IsFoundLate has d.tables ending through → EndsObject ending → EndingOfKind ending kind
+    → write_rule (Some (kind_view kind)) ≡ None → has_written_default (declared_view ending.of) ≡ true → e ≡ record d { pieces = put d.tables (node_of ending.kind place ending.of) d.pieces }
+    → AssignsTerm has may place (term.Value ending) d e (default_kind through) false
+value_assigned has may place ending kind through d e late gives known_kind rule written eq =
+    let P : Drafted → Type 0 = λ (z : Drafted). AssignsTerm has may place (term.Value ending) d z (default_kind through) false in
     let n = node_of ending.kind place ending.of in
     subst P (sym eq) (record {
       grown = grown_pieces d (put d.tables n d.pieces);
-      named = tt;
+      named = default_named d.tables through;
       takes = λ env z ps below h. ap (λ (y : plain.Term). takes_value env y) h.is;
       stands = λ env known z value goes h.
           let of = declared_view ending.of in
           let below : List Piece = an_expr value ∷ [] in
-          let none = free env h.made place d.pieces below known h.ends in
+          let target = expression_of h.made place of in
+          let may_be = found_may env target of through written (late env h.made place d.pieces below known h.ends) in
           record {
-            made = assign_default (expression_of h.made place of) value;
+            made = default_action through target value;
             is = ap (λ (y : plain.Term). assigned env place value [] y) h.is ∙ value_default env place value h.made of (gives d.tables h.made d.pieces below h.ends)
-                ∙ default_done env place h.made of value (Some (kind_view kind)) (known_kind d.tables h.made d.pieces below h.ends) rule written none;
-            fits = ap (λ (ps : List Piece). action_of d.tables action.AssignDefault ps) (h.ends n);
+                ∙ default_done env place h.made of value (Some (kind_view kind)) through (known_kind d.tables h.made d.pieces below h.ends) rule written may_be;
+            fits = ap (λ (ps : List Piece). action_of d.tables (default_kind through) ps) (h.ends n) ∙ default_fits d.tables through target value;
           };
     })
 
@@ -370,12 +497,12 @@ ends_plain ending true none g = tt
 ends_plain ending false none g = λ t made ps below ends. or_none (is_object (declared_view ending.of)) (has_object made (declared_view ending.of)) none (g t made ps below ends)
 
 pub value_broken : (place : Place) (ending : Ending) (rule : ℕ) (d f e : Drafted) → EndsWrong ending rule place → f ≡ record d { pieces = put d.tables (node_of ending.kind place ending.of) d.pieces }
-    → e ≡ record f { pieces = put f.tables (mark_node rule place) f.pieces } → (has : Bool) → AssignsTerm has place (term.Value ending) d e action.Evaluate false
-value_broken place ending rule d f e wrong first second has =
+    → e ≡ record f { pieces = put f.tables (mark_node rule place) f.pieces } → (has : Bool) (may : Option Bool) → AssignsTerm has may place (term.Value ending) d e action.Evaluate false
+value_broken place ending rule d f e wrong first second has may =
     let n = node_of ending.kind place ending.of in
     let low = put d.tables n d.pieces in
     let is : e ≡ record d { pieces = put d.tables (mark_node rule place) low } = second ∙ ap (λ (z : Drafted). record z { pieces = put z.tables (mark_node rule place) z.pieces }) first in
-    let P : Drafted → Type 0 = λ (z : Drafted). AssignsTerm has place (term.Value ending) d z action.Evaluate false in
+    let P : Drafted → Type 0 = λ (z : Drafted). AssignsTerm has may place (term.Value ending) d z action.Evaluate false in
     subst P (sym is) (record {
       grown = grown_pieces d (put d.tables (mark_node rule place) low);
       named = tt;
@@ -414,8 +541,8 @@ item_written : (env : Env) (place : Place) (v base : bound.Expr) (numbers : Expr
 item_written env place v base numbers of h =
     ap (λ (b : Bool). if b then default_written env place (element_value base numbers) of v else Some (assign_item base numbers v)) h
 
-pub item_indexed : (has : Bool) (place : Place) (ending : Ending) (count : ℕ) (d : Drafted) → EndsItem ending count → AssignsIndexed has place (term.Value ending) d d (action.AssignItem count)
-item_indexed has place ending count d ends = record {
+pub item_indexed : (has : Bool) (may : Option Bool) (place : Place) (ending : Ending) (count : ℕ) (d : Drafted) → EndsItem ending count → AssignsIndexed has may place (term.Value ending) d d (action.AssignItem count)
+item_indexed has may place ending count d ends = record {
   grown = grown_same d;
   named = tt;
   stands = λ env known z value goes h.
@@ -431,5 +558,56 @@ item_indexed has place ending count d ends = record {
 }
 
 -- what brackets made
-pub term_indexed : (has : Bool) (place : Place) (x : Term) (d e : Drafted) (kind : ActionKind) → AssignsTerm has place x d e kind false → AssignsIndexed has place x d e kind
-term_indexed has place x d e kind a = record { grown = a.grown; named = a.named; stands = λ env known z value goes h. a.stands env known z value goes h }
+pub term_indexed : (has : Bool) (may : Option Bool) (place : Place) (x : Term) (d e : Drafted) (kind : ActionKind) → AssignsTerm has may place x d e kind false → AssignsIndexed has may place x d e kind
+term_indexed has may place x d e kind a = record { grown = a.grown; named = a.named; stands = λ env known z value goes h. a.stands env known z value goes h }
+
+-- ---- what arguments index as the run says
+
+pub late_variant : (has : Bool) (t : Tables) (e : Ending) → is_variant (declared_view e.of) ≡ true → EndsLate has t e true
+late_variant has t e h env made place ps below known ends = ap (λ (b : Bool). b || is_found_late env (expression_of made place (declared_view e.of))) h
+
+pub late_other : (has : Bool) (t : Tables) (e : Ending) (late : Option Bool) → is_variant (declared_view e.of) ≡ false → IfSome late (λ b. IsFoundLate has t e b) → IfSome late (λ b. EndsLate has t e b)
+late_other has t e None h l = tt
+late_other has t e (Some b) h l = λ env made place ps below known ends. ap (λ (c : Bool). c || is_found_late env (expression_of made place (declared_view e.of))) h ∙ l env made place ps below known ends
+
+pub place_late : (has : Bool) (t : Tables) (kind read : NodeKind) (of : DeclaredType) (bounded lends makes : Bool) (late : Option Bool) → read ≡ read_kind makes → IfSome late (λ b. EndsLate has t (record { kind = read; of = of }) b)
+    → IfSome late (λ b. IndexedLate has t (term.Place kind of bounded lends makes) b)
+place_late has t kind read of bounded lends makes None reads l = tt
+place_late has t kind read of bounded lends makes (Some b) reads l = λ env place z ps below known h.
+    let N : NodeKind → Type 0 = λ (q : NodeKind). EndsLate has t (record { kind = q; of = of }) b in
+    let n = node_of kind place of in
+    let qs = put t n ps in
+    ap (λ (y : plain.Term). is_indexed_late env place y) h.is ∙ subst N reads l env (read_of makes h.at) place qs below known (read_ends makes t h.at qs below (h.ends n))
+
+pub value_late : (has : Bool) (t : Tables) (e : Ending) (late : Option Bool) → IfSome late (λ b. EndsLate has t e b) → IfSome late (λ b. IndexedLate has t (term.Value e) b)
+value_late has t e None l = tt
+value_late has t e (Some b) l = λ env place z ps below known h. ap (λ (y : plain.Term). is_indexed_late env place y) h.is ∙ l env h.made place ps below known h.ends
+
+-- what is no place and no value isn't indexed
+routine_late : (env : Env) (place : Place) (base : Option bound.Expr) (space : Space) (number : ℕ) (w : Written) → is_indexed_late env place (plain.routine_term base space number w) ≡ false
+routine_late env place None space number w = refl
+routine_late env place (Some b) space number w = refl
+
+pub other_late : (has : Bool) (t : Tables) (x : Term) → ((kind : NodeKind) (of : DeclaredType) (bounded lends makes : Bool) → (x ≡ term.Place kind of bounded lends makes) → ⊥) → ((e : Ending) → (x ≡ term.Value e) → ⊥) → IndexedLate has t x false
+other_late has t (term.Place kind of bounded lends makes) n o = absurd (n kind of bounded lends makes refl)
+other_late has t (term.Value e) n o = absurd (o e refl)
+other_late has t (term.Routine r) n o = λ env place z ps below known h.
+    let q = h.routine in ap (λ (y : plain.Term). is_indexed_late env place y) q.is ∙ routine_late env place q.base q.space q.number q.written
+other_late has t (term.Property p) n o = λ env place z ps below known h.
+    let q = h.property in ap (λ (y : plain.Term). is_indexed_late env place y) q.is ∙ routine_late env place q.base (space_view p.space.now) q.number (written_view p.written)
+other_late has t (term.Function f) n o = λ env place z ps below known h. ap (λ (y : plain.Term). is_indexed_late env place y) h.0.is
+other_late has t (term.HostMember m) n o = λ env place z ps below known h. ap (λ (y : plain.Term). is_indexed_late env place y) h.is
+other_late has t (term.SheetMember m) n o = λ env place z ps below known h. ap (λ (y : plain.Term). is_indexed_late env place y) h.0
+other_late has t term.Err n o = λ env place z ps below known h. ap (λ (y : plain.Term). is_indexed_late env place y) h.0
+other_late has t term.ErrRaise n o = λ env place z ps below known h. ap (λ (y : plain.Term). is_indexed_late env place y) h.0
+other_late has t term.ErrClear n o = λ env place z ps below known h. ap (λ (y : plain.Term). is_indexed_late env place y) h.0
+other_late has t term.ErrorWord n o = λ env place z ps below known h. ap (λ (y : plain.Term). is_indexed_late env place y) h.0
+other_late has t term.Nothing n o = λ env place z ps below known h. ap (λ (y : plain.Term). is_indexed_late env place y) h
+
+-- a value in which arguments lead on is indexed so
+pub late_value_indexed : (has : Bool) (t : Tables) (x : Term) (e : Ending) → IsLateValue has t x e → IndexedLate has t x true
+late_value_indexed has t x e v =
+    let P : Term → Type 0 = λ (y : Term). IndexedLate has t y true in
+    subst P (sym v.is) (λ env place z ps below known h.
+    let of = declared_view e.of in
+    ap (λ (y : plain.Term). is_indexed_late env place y) h.is ∙ or_right (is_variant of) (is_found_late env (expression_of h.made place of)) (v.late env h.made place ps below known h.ends))

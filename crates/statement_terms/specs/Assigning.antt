@@ -1,5 +1,5 @@
 -- Serves the code: the value of an assignment.
-use Rattle.std.specs.Prelude.{◌≡◌, Bool, true, false, not, List, ◌∷◌, Option, Some}
+use Rattle.std.specs.Prelude.{◌≡◌, Bool, true, false, not, List, ◌∷◌, Option, Some, None}
 use Rattle.vba_base.specs.declared.place.Place.{Place}
 use Rattle.vba_expression.specs.Tree.{Expr}
 use Rattle.bound_project.specs.declared.declared_type.DeclaredType.{DeclaredType}
@@ -8,14 +8,13 @@ use Rattle.bound_project.specs.Drafts.{Drafted}
 use Rattle.bound_project.specs.Pieces.{Piece, an_expr}
 use Rattle.bound_members.specs.bound_calls.specs.bound_forms.specs.Terms.{Env}
 use Rattle.bound_members.specs.bound_calls.specs.bound_forms.specs.Terms as plain
-use Rattle.bound_members.specs.bound_calls.specs.bound_forms.specs.ExpressionsBound.{given_as, operand_of, term_of, place_told, may_be_instance}
+use Rattle.bound_members.specs.bound_calls.specs.bound_forms.specs.ExpressionsBound.{given_as, operand_of, term_of, place_told}
 use Rattle.bound_members.specs.bound_calls.specs.declared.term.Term.{Term}
 use Rattle.bound_members.specs.bound_calls.specs.declared.term.Term.TheVariants as term
 use Rattle.bound_members.specs.bound_calls.specs.declared.term.Tree.{Tree}
 use Rattle.bound_members.specs.bound_calls.specs.Standing.{TermStands, TreeStands, PushedIs, Grown}
+use Rattle.statement_terms.specs.Called.{MayBe}
 use Rattle.statement_terms.specs.Terms.{may_be_object}
-use Rattle.bound_project.specs.declared.statement.ActionKind.{ActionKind}
-use Rattle.bound_project.specs.declared.statement.ActionKind.TheVariants as action
 use Rattle.bound_members.specs.bound_calls.specs.bound_declarations.specs.constant_values.specs.declared_names.specs.binder.specs.Classes.{has_class}
 
 -- an expression that was pushed
@@ -24,10 +23,10 @@ pub record ExprPushed (found : Option bound.Expr) (ps below : List Piece) : Type
   pub is : found ≡ Some made
   pub on_top : ps ≡ an_expr made ∷ below
 
--- what is assigned was pushed, and its type, and whether it may be an object of a class
-pub record AssignedPushed (env : Env) (may_be : Bool) (of : DeclaredType) (found : Option bound.Expr) (ps below : List Piece) : Type 0 where
+-- what is assigned was pushed, and its type, and whether it may be an object of a class, where that is known
+pub record AssignedPushed (env : Env) (may : Option Bool) (of : DeclaredType) (found : Option bound.Expr) (ps below : List Piece) : Type 0 where
   pub pushed : PushedIs of found ps below
-  pub free : may_be ≡ false → may_be_instance env pushed.made ≡ false
+  pub known : MayBe env may pushed.made
 
 -- a place or a value that is no object and can be none
 abbrev pub is_plain : Term → Bool
@@ -41,26 +40,25 @@ taken_for true env t place = given_as env t place
 taken_for false env t place = operand_of env t place
 
 -- its type, and whether it may be an object of a class
-pub record PushesFor (has may_be given : Bool) (x : Tree) (d e : Drafted) (of : DeclaredType) : Type 0 where
+pub record PushesFor (has : Bool) (may : Option Bool) (given : Bool) (x : Tree) (d e : Drafted) (of : DeclaredType) : Type 0 where
   pub grown : Grown d e
   pub stands : (env : Env) → has_class env.scope.spaces ≡ has → (tree : Expr) (below : List Piece) → TreeStands env d.tables x tree d.pieces below
-      → AssignedPushed env may_be of (taken_for given env (term_of env tree) (place_told tree)) e.pieces below
-
--- whether what may be an object of a class goes there: to no member of the host and to no default member
-abbrev pub goes_anywhere : (may_be : Bool) → ActionKind → Bool
-goes_anywhere may_be (action.AssignMember name count) = not may_be
-goes_anywhere may_be action.AssignDefault = not may_be
-goes_anywhere may_be kind = true
+      → AssignedPushed env may of (taken_for given env (term_of env tree) (place_told tree)) e.pieces below
 
 -- a value was pushed for an expression that it is assigned to, as it is or as an operand; and one that is marked where that doesn't take it
-pub record ValueBound (env : Env) (may_be : Bool) (of : DeclaredType) (found : Option bound.Expr) (d e : Drafted) : Type 0 where
+pub record ValueBound (env : Env) (may : Option Bool) (of : DeclaredType) (found : Option bound.Expr) (d e : Drafted) : Type 0 where
   pub grown : Grown d e
-  pub pushed : AssignedPushed env may_be of found e.pieces d.pieces
+  pub pushed : AssignedPushed env may of found e.pieces d.pieces
 
-pub record ValueFor (env : Env) (may_be : Bool) (found : Option bound.Expr) (d e : Drafted) : Type 0 where
+pub record ValueFor (env : Env) (may : Option Bool) (found : Option bound.Expr) (d e : Drafted) : Type 0 where
   pub grown : Grown d e
   pub pushed : ExprPushed found e.pieces d.pieces
-  pub free : may_be ≡ false → may_be_instance env pushed.made ≡ false
+  pub known : MayBe env may pushed.made
+
+-- what is known of a value that was marked where it isn't taken
+abbrev pub marked_may : (may : Option Bool) → Option Bool
+marked_may (Some false) = Some false
+marked_may may = None
 
 -- a term was pushed as it is
 pub record GivenPushed (x : Term) (place : Place) (d e : Drafted) : Type 0 where

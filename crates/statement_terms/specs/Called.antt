@@ -1,5 +1,5 @@
 -- Serves the code: calls that stand as statements.
-use Rattle.std.specs.Prelude.{◌≡◌, ℕ, ◌+◌, length, Bool, false, List, [], ◌∷◌, ◌++◌, map, Option, Some, option_map, true, is_some}
+use Rattle.std.specs.Prelude.{◌≡◌, ℕ, ◌+◌, length, Bool, false, List, [], ◌∷◌, ◌++◌, map, Option, Some, None, option_map, true, is_some}
 use Rattle.vba_base.specs.declared.place.Place.{Place}
 use Rattle.vba_lexer.specs.declared.token.Token.{Token}
 use Rattle.vba_values.specs.Types.{Declared}
@@ -186,15 +186,14 @@ pub record LetsOn (sets : Bool) (env : Env) (p : Property) (place : Place) (ns :
   pub framed : Framed ns
   pub lets : (items : List nodes.Item) → Lets sets env p place (givens env (args_on items ns)) d e kind
 
--- what goes to a member of the host, and to a default member, is no object of a class
-abbrev pub GoesThere : Env → ActionKind → bound.Expr → Type 0
-GoesThere env (action.AssignMember name count) value = may_be_instance env value ≡ false
-GoesThere env action.AssignDefault value = may_be_instance env value ≡ false
-GoesThere env kind value = Unit {0}
+-- whether a value may be an object of a class, where that is known
+abbrev pub MayBe : Env → (may : Option Bool) → bound.Expr → Type 0
+MayBe env None value = Unit {0}
+MayBe env (Some may) value = may_be_instance env value ≡ may
 
--- an expression is assigned the value that was pushed, and whether that comes as it is
-pub record AssignsTo (env : Env) (place : Expr) (d e : Drafted) (kind : ActionKind) (given : Bool) : Type 0 where
+-- an expression is assigned the value that was pushed, which may be an object of a class or not, and whether that comes as it is
+pub record AssignsTo (env : Env) (may : Option Bool) (place : Expr) (d e : Drafted) (kind : ActionKind) (given : Bool) : Type 0 where
   pub grown : Grown d e
   pub named : ActionNamed e.tables kind
   pub takes : is_given_with env place ≡ given
-  pub stands : (value : bound.Expr) → GoesThere env kind value → d.pieces ≡ an_expr value ∷ [] → ActionIs kind (assigned_to env place value) e.tables e.pieces
+  pub stands : (value : bound.Expr) → MayBe env may value → d.pieces ≡ an_expr value ∷ [] → ActionIs kind (assigned_to env place value) e.tables e.pieces

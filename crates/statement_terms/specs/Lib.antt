@@ -9,3 +9,4 @@ pub mod Targets
 pub mod Heights
 pub mod Setting
 pub mod Takers
+pub mod Late

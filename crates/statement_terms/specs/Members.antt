@@ -1,5 +1,5 @@
 -- Serves the code: members of objects, and other objects, that are assigned to.
-use Rattle.std.specs.Prelude.{◌≡◌, ◌≢◌, ℕ, length, Bool, true, false, ◌&&◌, ◌||◌, not, List, [], ◌∷◌, ◌++◌, map, Option, Some, None, is_some, if◌then◌else◌}
+use Rattle.std.specs.Prelude.{◌≡◌, ◌≢◌, ℕ, length, Bool, true, false, ◌&&◌, ◌||◌, not, List, [], ◌∷◌, ◌++◌, map, Option, Some, None, is_some, if◌then◌else◌, bytes_eq, codes}
 use Rattle.vba_base.specs.declared.place.Place.{Place}
 use Rattle.vba_values.specs.Types.{Declared}
 use Rattle.vba_lexer.specs.declared.token.Token.{Token}
@@ -26,12 +26,12 @@ use Rattle.bound_members.specs.bound_calls.specs.declared.term.Tree.{Tree}
 use Rattle.bound_members.specs.bound_calls.specs.declared.term.Item.TheVariants as item
 use Rattle.bound_members.specs.bound_calls.specs.Standing.{MemberStands, TermStands, TreeStands, Grown, member_is}
 use Rattle.bound_members.specs.bound_calls.specs.Steps.{Goes}
-use Rattle.statement_terms.specs.Called.{ActionIs, IsBare, GoesThere}
+use Rattle.statement_terms.specs.Called.{ActionIs, IsBare, MayBe}
 use Rattle.bound_members.specs.bound_calls.specs.bound_declarations.specs.constant_values.specs.declared_names.specs.binder.specs.Classes.{has_class}
 
 -- whether a member is written, by its name, the type of what it gives and the greatest number of its arguments
 abbrev pub is_written : List ℕ → Declared → (greatest : Option ℕ) → Bool
-is_written name of greatest = is_written_member (record { name = name; of = of; least = 0; greatest = greatest })
+is_written name of greatest = is_written_member (record { name = name; of = of; least = 0; greatest = greatest; late = false })
 
 -- the rule that an assignment breaks to a member with arguments that it takes
 abbrev pub taken_rule : plain.HostMember → Option ℕ
@@ -46,20 +46,21 @@ pub record WritesBroken (rule count : ℕ) (place : Place) (d e : Drafted) (kind
 
 -- ---- without arguments
 
--- a term at this place in the source is assigned the value that was pushed below it, and whether that comes as it is
-pub record AssignsTerm (has : Bool) (place : Place) (x : Term) (d e : Drafted) (kind : ActionKind) (given : Bool) : Type 0 where
+-- a term at this place in the source is assigned the value that was pushed below it, which may be an object of a class or not,
+-- and whether that comes as it is
+pub record AssignsTerm (has : Bool) (may : Option Bool) (place : Place) (x : Term) (d e : Drafted) (kind : ActionKind) (given : Bool) : Type 0 where
   pub grown : Grown d e
   pub named : ActionNamed e.tables kind
   pub takes : (env : Env) (z : plain.Term) (ps below : List Piece) → TermStands env d.tables x z ps below → takes_value env z ≡ given
-  pub stands : (env : Env) → has_class env.scope.spaces ≡ has → (z : plain.Term) (value : bound.Expr) → GoesThere env kind value → TermStands env d.tables x z d.pieces (an_expr value ∷ [])
+  pub stands : (env : Env) → has_class env.scope.spaces ≡ has → (z : plain.Term) (value : bound.Expr) → MayBe env may value → TermStands env d.tables x z d.pieces (an_expr value ∷ [])
       → ActionIs kind (assigned env place value [] z) e.tables e.pieces
 
 -- the same of an expression that doesn't end with arguments in brackets, and is no Sub and no ParamArray
-pub record AssignsTree (has : Bool) (x : Tree) (d e : Drafted) (kind : ActionKind) (given : Bool) : Type 0 where
+pub record AssignsTree (has : Bool) (may : Option Bool) (x : Tree) (d e : Drafted) (kind : ActionKind) (given : Bool) : Type 0 where
   pub grown : Grown d e
   pub named : ActionNamed e.tables kind
   pub takes : (env : Env) (tree : Expr) (below : List Piece) → IsBare tree → TreeStands env d.tables x tree d.pieces below → is_given_with env tree ≡ given
-  pub stands : (env : Env) → has_class env.scope.spaces ≡ has → (tree : Expr) (value : bound.Expr) → GoesThere env kind value → IsBare tree → is_no_target env tree ≡ false → TreeStands env d.tables x tree d.pieces (an_expr value ∷ [])
+  pub stands : (env : Env) → has_class env.scope.spaces ≡ has → (tree : Expr) (value : bound.Expr) → MayBe env may value → IsBare tree → is_no_target env tree ≡ false → TreeStands env d.tables x tree d.pieces (an_expr value ∷ [])
       → ActionIs kind (assigned_to env tree value) e.tables e.pieces
 
 -- ---- with arguments
@@ -70,29 +71,34 @@ pub record ReadsOnto (env : Env) (x : MemberCall) (ns : List ExpressionNode) (d 
   pub is : ns ≡ node.NoArguments ∷ behind
   pub goes : Goes env d (item.Member x ∷ []) e (item.Member y ∷ []) (λ is. behind_nodes is behind)
 
--- a member has all its arguments, some, and what it gives is written
+-- a member has some arguments, and what it gives is written
 pub record IsWritten (t : Tables) (x : MemberCall) : Type 0 where
-  pub given_is : x.given ≡ x.written
   pub some : x.count ≢ 0
   pub takes : takes_arguments (member_is t x.member) x.count ≡ true
   pub default : has_written_default (declared_view x.member.of) ≡ true
   pub written : (not (is_some x.member.greatest) || is_object (declared_view x.member.of) || is_item_name (name_in t x.member.name)) ≡ true
 
--- a member with its arguments is assigned the value below its object
-pub record WritesCall (x : MemberCall) (d e : Drafted) (kind : ActionKind) : Type 0 where
+-- the run finds no such member, some of its arguments have names, and it gives something
+pub record IsReadNamed (t : Tables) (x : MemberCall) : Type 0 where
+  pub some : x.named ≢ 0
+  pub early : x.member.is_late ≡ false
+  pub gives : bytes_eq (name_in t x.member.name) (codes "raise") ≡ false
+
+-- a member with its arguments is assigned the value below its object, which may be an object of a class or not
+pub record WritesCall (may : Option Bool) (x : MemberCall) (d e : Drafted) (kind : ActionKind) : Type 0 where
   pub grown : Grown d e
   pub named : ActionNamed e.tables kind
-  pub stands : (env : Env) (base : Expr) (args : Args) (value : bound.Expr) → GoesThere env kind value → (s : MemberStands env d.tables x base args d.pieces (an_expr value ∷ []))
+  pub stands : (env : Env) (base : Expr) (args : Args) (value : bound.Expr) → MayBe env may value → (s : MemberStands env d.tables x base args d.pieces (an_expr value ∷ []))
       → ActionIs kind (member_written env (place_told base) s.object (member_is d.tables x.member) (givens env args) value) e.tables e.pieces
 
 -- an expression that is a member with arguments is assigned the value below its object
-pub record GivesMember (env : Env) (place : Expr) (kind : ActionKind) (t : Tables) (ps below : List Piece) : Type 0 where
+pub record GivesMember (env : Env) (may : Option Bool) (place : Expr) (kind : ActionKind) (t : Tables) (ps below : List Piece) : Type 0 where
   pub given : is_given_with env place ≡ true
-  pub does : (value : bound.Expr) → GoesThere env kind value → below ≡ an_expr value ∷ [] → ActionIs kind (assigned_to env place value) t ps
+  pub does : (value : bound.Expr) → MayBe env may value → below ≡ an_expr value ∷ [] → ActionIs kind (assigned_to env place value) t ps
 
 -- what is called is assigned a value with these arguments
-pub record AssignsItem (env : Env) (place : Place) (x : Term) (ns : List ExpressionNode) (d e : Drafted) (kind : ActionKind) : Type 0 where
+pub record AssignsItem (env : Env) (may : Option Bool) (place : Place) (x : Term) (ns : List ExpressionNode) (d e : Drafted) (kind : ActionKind) : Type 0 where
   pub grown : Grown d e
   pub named : ActionNamed e.tables kind
   pub stands : (tree : Expr) (left right : Token) (below : List Piece) → place ≡ place_told tree → TermStands env d.tables x (callee env tree (term_of env tree)) d.pieces below
-      → GivesMember env (last_tree (behind_nodes (nodes.tree tree ∷ []) (ns ++ node.Index left right ∷ []))) kind e.tables e.pieces below
+      → GivesMember env may (last_tree (behind_nodes (nodes.tree tree ∷ []) (ns ++ node.Index left right ∷ []))) kind e.tables e.pieces below

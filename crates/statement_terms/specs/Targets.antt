@@ -1,12 +1,13 @@
 -- Serves the code: places and values that are assigned to.
-use Rattle.std.specs.Prelude.{◌≡◌, ℕ, Bool, true, false, ◌||◌, List, [], ◌∷◌, Some}
+use Rattle.std.specs.Prelude.{◌≡◌, ℕ, Bool, true, false, ◌||◌, List, [], ◌∷◌, Option, Some, None}
 use Rattle.vba_base.specs.declared.place.Place.{Place}
 use Rattle.bound_project.specs.declared.node.NodeKind.{NodeKind}
 use Rattle.bound_project.specs.declared.node.NodeKind.TheVariants as kinds
 use Rattle.bound_project.specs.declared.statement.ActionKind.{ActionKind}
+use Rattle.bound_project.specs.declared.statement.ActionKind.TheVariants as action
 use Rattle.vba_values.specs.Types.{Declared}
 use Rattle.bound_project.specs.View.{declared_view}
-use Rattle.bound_project.specs.Expressions.{element_value, library, no_exprs, also}
+use Rattle.bound_project.specs.Expressions.{element_value, late_item, library, no_exprs, also}
 use Rattle.bound_project.specs.Expressions as bound
 use Rattle.bound_project.specs.Pieces.{Piece, Tables, an_expr}
 use Rattle.bound_project.specs.Drafts.{Drafted, ActionNamed}
@@ -14,14 +15,14 @@ use Rattle.bound_members.specs.bound_calls.specs.bound_declarations.specs.consta
 use Rattle.bound_members.specs.bound_calls.specs.bound_declarations.specs.constant_values.specs.declared_names.specs.binder.specs.Constants.{is_variant}
 use Rattle.bound_members.specs.bound_calls.specs.bound_forms.specs.Terms.{Env, expression_of}
 use Rattle.bound_members.specs.bound_calls.specs.bound_forms.specs.Terms as plain
-use Rattle.bound_members.specs.bound_calls.specs.bound_forms.specs.ExpressionsBound.{has_object}
-use Rattle.bound_members.specs.bound_calls.specs.bound_forms.specs.StatementsBound.{assigned, broken_target, value_written}
+use Rattle.bound_members.specs.bound_calls.specs.bound_forms.specs.ExpressionsBound.{has_object, is_found_late}
+use Rattle.bound_members.specs.bound_calls.specs.bound_forms.specs.StatementsBound.{assigned, broken_target, is_indexed_late, value_written}
 use Rattle.bound_members.specs.bound_calls.specs.declared.term.Ending.{Ending}
 use Rattle.bound_members.specs.bound_calls.specs.declared.term.Term.{Term}
 use Rattle.bound_members.specs.bound_calls.specs.declared.term.Term.TheVariants as term
-use Rattle.bound_members.specs.bound_calls.specs.References.{is_typed_kind}
+use Rattle.bound_members.specs.bound_calls.specs.References.{IsFoundLate, is_typed_kind}
 use Rattle.bound_members.specs.bound_calls.specs.Standing.{TermStands, ValueEnds, Grown}
-use Rattle.statement_terms.specs.Called.{ActionIs, GoesThere}
+use Rattle.statement_terms.specs.Called.{ActionIs, MayBe}
 use Rattle.bound_members.specs.bound_calls.specs.bound_declarations.specs.constant_values.specs.declared_names.specs.binder.specs.Classes.{has_class}
 
 -- the last node of a value, other than an element, that may give an object
@@ -41,9 +42,25 @@ ends_value kinds.ActiveSheet = true
 ends_value (kinds.Marked broken count) = true
 ends_value kind = false
 
+-- the last node of what arguments lead to in a value, as the run says
+abbrev pub is_item_along : NodeKind → Bool
+is_item_along (kinds.ItemAlong count) = true
+is_item_along kind = false
+
+-- how many arguments lead to a place from another one, where the run says what they lead to
+abbrev pub numbers_along : NodeKind → Option ℕ
+numbers_along (kinds.ElementAlong count) = Some count
+numbers_along kind = None
+
+-- how the default member of an object is written that may be one of a class, or not
+abbrev pub default_kind : (through : Bool) → ActionKind
+default_kind true = action.AssignThrough
+default_kind false = action.AssignDefault
+
 -- a value that is an object, or that may be one and is no element; no use of a function of the library, to which nothing is
--- assigned
+-- assigned, and nothing that arguments lead to in the run
 abbrev pub gives_object : bound.Node → Declared → Bool
+gives_object (late_item e es) of = false
 gives_object (element_value e es) of = is_object of
 gives_object (library f text_form es compare base) of = false
 gives_object node of = is_object of || has_object node of
@@ -88,14 +105,22 @@ pub record EndsItem (e : Ending) (count : ℕ) : Type 0 where
   pub no_object : is_object (declared_view e.of) ≡ false
 
 -- what brackets made of a term is assigned the value that was pushed below it
-pub record AssignsIndexed (has : Bool) (place : Place) (x : Term) (d e : Drafted) (kind : ActionKind) : Type 0 where
+pub record AssignsIndexed (has : Bool) (may : Option Bool) (place : Place) (x : Term) (d e : Drafted) (kind : ActionKind) : Type 0 where
   pub grown : Grown d e
   pub named : ActionNamed e.tables kind
-  pub stands : (env : Env) → has_class env.scope.spaces ≡ has → (z : plain.Term) (value : bound.Expr) → GoesThere env kind value → TermStands env d.tables x z d.pieces (an_expr value ∷ [])
+  pub stands : (env : Env) → has_class env.scope.spaces ≡ has → (z : plain.Term) (value : bound.Expr) → MayBe env may value → TermStands env d.tables x z d.pieces (an_expr value ∷ [])
       → ActionIs kind (assigned env place value [] z) e.tables e.pieces
 
--- a place or a value of type Variant
-abbrev pub is_variant_term : Term → Bool
-is_variant_term (term.Place kind of bounded lends makes) = is_variant (declared_view of)
-is_variant_term (term.Value e) = is_variant (declared_view e.of)
-is_variant_term x = false
+-- whether the run says what arguments lead to that index a value whose last node isn't pushed, in a project with a class or
+-- without; and the same of a term
+abbrev pub EndsLate : (has : Bool) → Tables → Ending → (late : Bool) → Type 0
+EndsLate has t e late = (env : Env) (made : bound.Node) (place : Place) (ps below : List Piece) → has_class env.scope.spaces ≡ has → ValueEnds t e.kind made ps below
+    → (is_variant (declared_view e.of) || is_found_late env (expression_of made place (declared_view e.of))) ≡ late
+
+abbrev pub IndexedLate : (has : Bool) → Tables → Term → (late : Bool) → Type 0
+IndexedLate has t x late = (env : Env) (place : Place) (z : plain.Term) (ps below : List Piece) → has_class env.scope.spaces ≡ has → TermStands env t x z ps below → is_indexed_late env place z ≡ late
+
+-- a term is a value in which arguments lead on as the run says
+pub record IsLateValue (has : Bool) (t : Tables) (x : Term) (e : Ending) : Type 0 where
+  pub is : x ≡ term.Value e
+  pub late : IsFoundLate has t e true

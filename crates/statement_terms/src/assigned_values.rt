@@ -7,9 +7,7 @@ ghost use Rattle.bound_members.specs.bound_calls.specs.Standing.{TermNamed};
 
 use crate::targets::may_be_object;
 use bound_members::bound_calls::bound_declarations::NotYet;
-use bound_members::bound_calls::{
-    Term, Tree, given_ending, may_be_instance, push_node, push_operand,
-};
+use bound_members::bound_calls::{Term, Tree, given_ending, instance_of, push_node, push_operand};
 use bound_project::{DeclaredType, Draft};
 use std::alloc::Global;
 use vba_base::OrMemory;
@@ -26,25 +24,25 @@ pub fn is_plain<'a>(term: Term<'a>) -> bool
 }
 
 /// Pushes what is assigned, as it is or as an operand; answers the type that it has as an operand, and whether it may be an
-/// object of a class.
+/// object of a class, where that is known.
 pub fn push_assigned<'a>(
     alloc: Global,
     draft: &mut Draft,
     tree: Tree<'a>,
     given: bool,
     has_class: bool,
-) -> Result<(DeclaredType, bool), OrMemory<NotYet>>
+) -> Result<(DeclaredType, Option<bool>), OrMemory<NotYet>>
     requires { TermNamed (draft_view draft.old).tables tree.term }
     ensures { IfOk result (λ pushed. PushesFor has_class pushed.1 given tree.entry (draft_view draft.old) (draft_view draft.new) pushed.0) }
 {
     if given {
         let ending = given_ending(alloc, draft, tree)?;
-        let may_be = may_be_instance(has_class, draft, ending);
+        let may_be = instance_of(has_class, draft, ending);
         push_node(draft, ending.kind, ending.of, tree.place)?;
         return Ok((ending.of, may_be));
     }
     let Some(of) = push_operand(alloc, draft, tree)? else {
         return Err(OrMemory::Fault(NotYet));
     };
-    Ok((of, false))
+    Ok((of, Some(false)))
 }

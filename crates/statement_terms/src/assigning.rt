@@ -11,10 +11,11 @@ use crate::targets::{assign_place, assign_value};
 use bound_members::bound_calls::bound_declarations::NotYet;
 use bound_members::bound_calls::{Ending, Ordered, Receiver, Term, Tree, push_broken};
 use bound_project::{ActionKind, DeclaredType, Draft};
+use std::alloc::Global;
 use vba_base::OrMemory;
 
 /// What is done with a value that was pushed, where it is assigned, and whether it comes as it is: where its target takes
-/// it with arguments or is an item of a Variant.
+/// it with arguments, or is what arguments lead to in the run.
 #[derive(Clone, Copy)]
 pub struct Assignment {
     pub kind: ActionKind,
@@ -136,14 +137,17 @@ pub fn ordered_kind(property: PropertyLet, ordered: Ordered) -> ActionKind
     }
 }
 
-/// An expression that doesn't end with arguments in brackets, behind the value that it is given.
+/// An expression that doesn't end with arguments in brackets, behind the value that it is given, which may be an object of a
+/// class or not.
 pub fn assign_tree<'a>(
+    alloc: Global,
     draft: &mut Draft,
     tree: Tree<'a>,
     has_class: bool,
+    may_be: Option<bool>,
 ) -> Result<Assignment, OrMemory<NotYet>>
     requires { TermNamed (draft_view draft.old).tables tree.term }
-    ensures { IfOk result (λ done. AssignsTree has_class tree.entry (draft_view draft.old) (draft_view draft.new) done.kind done.is_given) }
+    ensures { IfOk result (λ done. AssignsTree has_class may_be tree.entry (draft_view draft.old) (draft_view draft.new) done.kind done.is_given) }
 {
     let place = tree.place;
     match tree.term {
@@ -161,11 +165,11 @@ pub fn assign_tree<'a>(
             Ok(as_operand(kind))
         }
         Term::HostMember(member) => {
-            let kind = assign_member(draft, member, place)?;
+            let kind = assign_member(alloc, draft, member, place, may_be)?;
             Ok(as_given(kind))
         }
         Term::SheetMember(member) => {
-            let kind = assign_sheet(draft, member, place)?;
+            let kind = assign_sheet(alloc, draft, member, place, may_be)?;
             Ok(as_given(kind))
         }
         Term::Err => {

@@ -5,6 +5,7 @@ mod actions;
 mod assigned_values;
 mod assigning;
 mod indexed_calls;
+mod late_targets;
 mod member_targets;
 mod places;
 mod pushed_terms;
@@ -21,6 +22,7 @@ pub use assigning::{
     Assignment, PropertyLet, as_given, as_operand, assign_tree, ordered_kind, property_kind,
 };
 pub use indexed_calls::{brackets, gives_some};
+pub use late_targets::{set_call, set_late};
 pub use member_targets::{is_late, write_broken, write_call, written_rule};
 pub use places::{place_ending, with_place};
 pub use pushed_terms::push_term;
@@ -28,7 +30,7 @@ pub use raising::raise_parameters;
 pub use setting::{push_broken, set_marked, set_member, set_term};
 pub use statement_calls::{are_none, bare_term, push_given, push_rest};
 pub use takers::{Taker, mark_taken, may_break, taker_of};
-pub use targets::{assign_indexed, assign_value, is_variant_term, may_be_object};
+pub use targets::{assign_indexed, assign_value, is_indexed_late, late_value, may_be_object};
 pub use trees::{Split, adds_one, ends_bare, split_call};
 
 // What stands below, for the crates above.

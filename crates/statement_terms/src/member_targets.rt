@@ -1,6 +1,6 @@
 //! Members of objects that are assigned to, once their arguments were read.
 
-ghost use Rattle.std.specs.Prelude.{◌≡◌, ◌≢◌, ◌<◌, ◌||◌, [], true, not, length, is_some, IfOk, MatchBool, Some, Bool, bytes_eq};
+ghost use Rattle.std.specs.Prelude.{◌≡◌, ◌≢◌, ◌<◌, ◌||◌, [], true, false, not, length, is_some, IfOk, MatchBool, Option, Some, None, Bool, bytes_eq};
 ghost use Rattle.std.specs.List.{list_any};
 ghost use Rattle.bound_project.specs.DraftView.{draft_view};
 ghost use Rattle.bound_project.specs.Pieces.{name_in};
@@ -10,18 +10,24 @@ ghost use Rattle.bound_members.specs.bound_calls.specs.bound_forms.specs.Express
 ghost use Rattle.bound_members.specs.bound_calls.specs.bound_forms.specs.StatementsBound as plain;
 ghost use Rattle.bound_members.specs.bound_calls.specs.bound_forms.specs.Terms as terms;
 ghost use Rattle.bound_members.specs.bound_calls.specs.Shapes.{shapes_given};
-ghost use Rattle.statement_terms.specs.Members.{AssignsTerm, IsWritten, WritesBroken, WritesCall, is_written, taken_rule};
+ghost use Rattle.statement_terms.specs.Late.{is_written_late};
+ghost use Rattle.statement_terms.specs.Members.{AssignsTerm, IsReadNamed, IsWritten, WritesBroken, WritesCall, is_written, taken_rule};
+ghost use Rattle.bound_members.specs.bound_calls.specs.declared.term.Looked.TheVariants as looked;
 ghost use Rattle.bound_members.specs.bound_calls.specs.declared.term.Term.TheVariants as term;
 ghost use Rattle.bound_members.specs.bound_calls.specs.Standing.{MemberNamed, member_is};
 
+use crate::late_targets::{is_written_late, write_given, write_late};
 use crate::targets::has_written_default;
 use bound_members::bound_calls::bound_declarations::NotYet;
 use bound_members::bound_calls::bound_declarations::constant_values::declared_names::is_object;
 use bound_members::bound_calls::{
-    HostMember, MemberCall, Shape, is_item_name, push_broken, push_node, push_sheet, sum,
+    HostMember, Looked, MemberCall, Shape, is_item_name, push_broken, push_node, push_sheet, sum,
 };
-use bound_members::{arguments_rule, is_word, member_takes, names_fit, takes_arguments};
-use bound_project::{ActionKind, ArgumentNames, DeclaredType, Draft, ElementType, NodeKind};
+use bound_members::{
+    arguments_rule, is_called_late, is_word, member_kind, member_takes, takes_arguments,
+};
+use bound_project::{ActionKind, DeclaredType, Draft, ElementType, LateUse, NodeKind};
+use std::alloc::Global;
 use vba_base::{NoMemory, OrMemory, Place};
 
 /// Is it the name of a mark of Application?
@@ -118,18 +124,15 @@ pub fn written_rule<'a>(
     given_rule(draft, member, shapes)
 }
 
-/// `object.member = value`, behind the value and the object, of a member that is written.
-fn write_member(
-    draft: &mut Draft,
-    member: HostMember,
-    place: Place,
-) -> Result<ActionKind, OrMemory<NotYet>>
-    requires { member.name < length (draft_view draft.old).tables.constants }
-    ensures { IfOk result (λ kind. (has : Bool) → AssignsTerm has place (term.HostMember member) (draft_view draft.old) (draft_view draft.new) kind true) }
+/// `object.member = value`, behind the value, which is no object of a class, and the object, of a member of the host that is
+/// written.
+fn write_early(draft: &mut Draft, member: HostMember, place: Place) -> Result<ActionKind, NoMemory>
+    requires named { member.name < length (draft_view draft.old).tables.constants }
+    requires least { member.least ≡ 0 }
+    requires written { is_written (name_in (draft_view draft.old).tables member.name) (declared_view member.of) member.greatest ≡ true }
+    ensures { IfOk result (λ kind. (has : Bool) (may : Option Bool) → is_written_late member.is_late may ≡ Some false
+        → AssignsTerm has may place (term.HostMember member) (draft_view draft.old) (draft_view draft.new) kind true) }
 {
-    if member.least != 0 || !is_written(draft.name(member.name), member.of, member.greatest) {
-        return Err(OrMemory::Fault(NotYet));
-    }
     let there = NodeKind::MemberThere {
         name: member.name,
         given: 0,
@@ -139,6 +142,30 @@ fn write_member(
         name: member.name,
         arguments: 0,
     })
+}
+
+/// `object.member = value`, behind the value, which may be an object of a class or not, and the object, of a member that is
+/// written.
+fn write_member(
+    alloc: Global,
+    draft: &mut Draft,
+    member: HostMember,
+    place: Place,
+    may_be: Option<bool>,
+) -> Result<ActionKind, OrMemory<NotYet>>
+    requires { member.name < length (draft_view draft.old).tables.constants }
+    ensures { IfOk result (λ kind. (has : Bool) → AssignsTerm has may_be place (term.HostMember member) (draft_view draft.old) (draft_view draft.new) kind true) }
+{
+    if member.least != 0 || !is_written(draft.name(member.name), member.of, member.greatest) {
+        return Err(OrMemory::Fault(NotYet));
+    }
+    let Some(is_late) = is_written_late(member, may_be) else {
+        return Err(OrMemory::Fault(NotYet));
+    };
+    if is_late {
+        return Ok(write_late(alloc, draft, member, place)?);
+    }
+    Ok(write_early(draft, member, place)?)
 }
 
 /// What breaks a rule as the target of an assignment: the value, the object and so many arguments were pushed.
@@ -155,32 +182,36 @@ pub fn write_broken(
     Ok(ActionKind::Evaluate)
 }
 
-/// `object.member = value`, behind the value and the object.
+/// `object.member = value`, behind the value, which may be an object of a class or not, and the object.
 pub fn assign_member(
+    alloc: Global,
     draft: &mut Draft,
     member: HostMember,
     place: Place,
+    may_be: Option<bool>,
 ) -> Result<ActionKind, OrMemory<NotYet>>
     requires { member.name < length (draft_view draft.old).tables.constants }
-    ensures { IfOk result (λ kind. (has : Bool) → AssignsTerm has place (term.HostMember member) (draft_view draft.old) (draft_view draft.new) kind true) }
+    ensures { IfOk result (λ kind. (has : Bool) → AssignsTerm has may_be place (term.HostMember member) (draft_view draft.old) (draft_view draft.new) kind true) }
 {
     match bare_rule(draft, member) {
         Some(rule) => write_broken(draft, rule, 0, place),
-        None => write_member(draft, member, place),
+        None => write_member(alloc, draft, member, place, may_be),
     }
 }
 
 /// The same of a member of the active sheet, behind the value.
 pub fn assign_sheet(
+    alloc: Global,
     draft: &mut Draft,
     member: HostMember,
     place: Place,
+    may_be: Option<bool>,
 ) -> Result<ActionKind, OrMemory<NotYet>>
     requires { member.name < length (draft_view draft.old).tables.constants }
-    ensures { IfOk result (λ kind. (has : Bool) → AssignsTerm has place (term.SheetMember member) (draft_view draft.old) (draft_view draft.new) kind true) }
+    ensures { IfOk result (λ kind. (has : Bool) → AssignsTerm has may_be place (term.SheetMember member) (draft_view draft.old) (draft_view draft.new) kind true) }
 {
     push_sheet(draft)?;
-    assign_member(draft, member, place)
+    assign_member(alloc, draft, member, place, may_be)
 }
 
 /// Is what a member gives of arguments written by its default member: of a member that the run finds, an object, or an item?
@@ -194,7 +225,7 @@ fn gives_written(draft: &Draft, member: HostMember) -> bool
 fn is_written_call(draft: &Draft, call: MemberCall) -> bool
     ensures { MatchBool result (IsWritten (draft_view draft.now).tables call) (Unit {0}) }
 {
-    if call.written != call.given || call.count == 0 {
+    if call.count == 0 {
         return false;
     }
     let member = call.member;
@@ -207,45 +238,87 @@ fn is_written_call(draft: &Draft, call: MemberCall) -> bool
     true
 }
 
-/// The assignment to a member whose last arguments have names: what it gives is pushed. Err.Raise gives nothing.
+/// The assignment to a member of the host whose arguments were read, and have no names: as many written ones as were counted.
+fn write_plain(draft: &Draft, call: MemberCall, given: u32) -> Result<ActionKind, OrMemory<NotYet>>
+    requires named { MemberNamed (draft_view draft.now).tables call }
+    requires early { call.looked ≡ looked.Early None given }
+    requires written { IsWritten (draft_view draft.now).tables call }
+    ensures { IfOk result (λ kind. (may : Option Bool) → WritesCall may call (draft_view draft.now) (draft_view draft.now) kind) }
+{
+    if call.written != given {
+        return Err(OrMemory::Fault(NotYet));
+    }
+    if is_called_late(call.member, call.has_class, call.count != 0) {
+        return Err(OrMemory::Fault(NotYet));
+    }
+    Ok(ActionKind::AssignMember {
+        name: call.member.name,
+        arguments: call.count,
+    })
+}
+
+/// Is a member read whose last arguments have names, to write the default member of what it gives? The run looks for other
+/// members as they are written. Err.Raise gives nothing.
+fn is_read_named(draft: &Draft, call: MemberCall) -> bool
+    ensures { MatchBool result (IsReadNamed (draft_view draft.now).tables call) (Unit {0}) }
+{
+    if call.named == 0 || call.member.is_late {
+        return false;
+    }
+    !is_word(draft.name(call.member.name), b"raise")
+}
+
+/// Is it known that a value is no object of a class?
+fn is_no_instance(may_be: Option<bool>) -> bool
+    ensures { MatchBool result (may_be ≡ Some false) (Unit {0}) }
+{
+    match may_be {
+        Some(may) => !may,
+        None => false,
+    }
+}
+
+/// The assignment to a member whose last arguments have names, of a value that may be an object of a class or not: what it
+/// gives is pushed.
 fn write_named(
     draft: &mut Draft,
     call: MemberCall,
-    names: ArgumentNames,
+    may_be: Option<bool>,
 ) -> Result<ActionKind, OrMemory<NotYet>>
     requires named { MemberNamed (draft_view draft.old).tables call }
-    requires told { call.names ≡ Some names }
     requires written { IsWritten (draft_view draft.old).tables call }
-    ensures { IfOk result (λ kind. WritesCall call (draft_view draft.old) (draft_view draft.new) kind) }
+    ensures { IfOk result (λ kind. WritesCall may_be call (draft_view draft.old) (draft_view draft.new) kind) }
 {
-    if is_word(draft.name(call.member.name), b"raise") {
+    if !is_no_instance(may_be) {
         return Err(OrMemory::Fault(NotYet));
     }
-    if !names_fit(draft, call, names) {
+    if !is_read_named(draft, call) {
         return Err(OrMemory::Fault(NotYet));
     }
-    let kind = NodeKind::NamedMember {
-        name: call.member.name,
-        names,
-        arguments: call.count,
-    };
+    let kind = member_kind(draft, call)?;
     push_node(draft, kind, call.member.of, call.place)?;
     Ok(ActionKind::AssignDefault)
 }
 
-/// The assignment to a member whose arguments were read: to the default member of what it gives.
-pub fn write_call(draft: &mut Draft, call: MemberCall) -> Result<ActionKind, OrMemory<NotYet>>
+/// The assignment to a member whose arguments were read, of a value that may be an object of a class or not: to the default
+/// member of what it gives, or to what the run finds.
+pub fn write_call(
+    draft: &mut Draft,
+    call: MemberCall,
+    may_be: Option<bool>,
+) -> Result<ActionKind, OrMemory<NotYet>>
     requires { MemberNamed (draft_view draft.old).tables call }
-    ensures { IfOk result (λ kind. WritesCall call (draft_view draft.old) (draft_view draft.new) kind) }
+    ensures { IfOk result (λ kind. WritesCall may_be call (draft_view draft.old) (draft_view draft.new) kind) }
 {
     if !is_written_call(draft, call) {
         return Err(OrMemory::Fault(NotYet));
     }
-    match call.names {
-        Some(names) => write_named(draft, call, names),
-        None => Ok(ActionKind::AssignMember {
-            name: call.member.name,
-            arguments: call.count,
-        }),
+    match call.looked {
+        Looked::Early { names: None, given } => write_plain(draft, call, given),
+        Looked::Late {
+            aim: LateUse::Assigning,
+            found,
+        } => write_given(draft, call, found),
+        _ => write_named(draft, call, may_be),
     }
 }

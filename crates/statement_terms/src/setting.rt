@@ -5,6 +5,7 @@ ghost use Rattle.vba_base.specs.declared.place.Place as told;
 ghost use Rattle.bound_project.specs.DraftView.{draft_view};
 ghost use Rattle.bound_project.specs.Drafts.{Drafted, NodeNamed};
 ghost use Rattle.statement_terms.specs.Setting.{SetsTerm, is_marked};
+ghost use Rattle.statement_terms.specs.Terms.{may_be_object};
 ghost use Rattle.statement_terms.specs.Targets.{ends_unassignable};
 ghost use Rattle.bound_members.specs.bound_calls.specs.declared.term.Term.TheVariants as term;
 ghost use Rattle.bound_members.specs.bound_calls.specs.Calls.{node_of};
@@ -15,7 +16,7 @@ ghost use Rattle.bound_project.specs.declared.node.NodeKind.TheVariants as node;
 ghost use Rattle.bound_project.specs.Pieces.{put};
 
 use crate::member_targets::is_late;
-use crate::targets::{is_unassignable, may_be_object};
+use crate::targets::{is_unassignable, may_be_object, numbers_along};
 use bound_members::bound_calls;
 use bound_members::bound_calls::bound_declarations::NotYet;
 use bound_members::bound_calls::{Ending, HostMember, Term, push_node};
@@ -37,6 +38,20 @@ pub fn push_broken(draft: &mut Draft, set_word: Place, values: u32) -> Result<()
     push_node(draft, broken, variant, set_word)
 }
 
+/// What a place is given, behind the reference: where the run says what arguments lead to, these are given with it.
+fn set_reference(draft: &mut Draft, at: Ending, place: Place) -> Result<ActionKind, NoMemory>
+    requires named { NodeNamed (draft_view draft.old).tables at.kind }
+    requires object { may_be_object at.of ≡ true }
+    ensures { IfOk result (λ kind. (word : told.Place) (bounded lends makes : Bool)
+        → SetsTerm word place (term.Place at.kind at.of bounded lends makes) (draft_view draft.old) (draft_view draft.new) kind) }
+{
+    if let Some(numbers) = numbers_along(at.kind) {
+        return Ok(ActionKind::SetElement { numbers });
+    }
+    push_node(draft, at.kind, at.of, place)?;
+    Ok(ActionKind::Set)
+}
+
 /// A place, behind the reference that it is given: one that has no object breaks a static rule.
 fn set_place(
     draft: &mut Draft,
@@ -48,10 +63,10 @@ fn set_place(
     ensures { IfOk result (λ kind. (bounded lends makes : Bool)
         → SetsTerm set_word place (term.Place at.kind at.of bounded lends makes) (draft_view draft.old) (draft_view draft.new) kind) }
 {
-    push_node(draft, at.kind, at.of, place)?;
     if may_be_object(at.of) {
-        return Ok(ActionKind::Set);
+        return Ok(set_reference(draft, at, place)?);
     }
+    push_node(draft, at.kind, at.of, place)?;
     push_node(draft, NodeKind::Load, at.of, set_word)?;
     push_broken(draft, set_word, 2)?;
     Ok(ActionKind::Evaluate)

@@ -1,6 +1,6 @@
 //! Places and values that are assigned to, other than members of objects.
 
-ghost use Rattle.std.specs.Prelude.{◌≡◌, true, false, Bool, Some, None, IfOk, IfSome, MatchBool};
+ghost use Rattle.std.specs.Prelude.{◌≡◌, true, false, Bool, Option, Some, None, IfOk, IfSome, MatchBool};
 ghost use Rattle.vba_base.specs.declared.place.Place as told;
 ghost use Rattle.bound_project.specs.DraftView.{draft_view};
 ghost use Rattle.bound_project.specs.Drafts.{NodeNamed};
@@ -10,8 +10,8 @@ ghost use Rattle.bound_members.specs.bound_calls.specs.bound_forms.specs.Stateme
 ghost use Rattle.bound_members.specs.bound_calls.specs.bound_declarations.specs.constant_values.specs.declared_names.specs.binder.specs.Types as types;
 ghost use Rattle.statement_terms.specs.Terms.{may_be_object};
 ghost use Rattle.statement_terms.specs.Members.{AssignsTerm};
-ghost use Rattle.statement_terms.specs.Targets.{AssignsIndexed, EndsItem, EndsObject, EndsValue, EndsWrong, ends_unassignable, ends_value, is_library, is_value_kind, is_variant_term};
-ghost use Rattle.bound_members.specs.bound_calls.specs.References.{NoInstance};
+ghost use Rattle.statement_terms.specs.Targets.{AssignsIndexed, EndsItem, EndsLate, EndsObject, EndsValue, EndsWrong, IndexedLate, IsLateValue, default_kind, ends_unassignable, ends_value, is_item_along, is_library, is_value_kind, numbers_along};
+ghost use Rattle.bound_members.specs.bound_calls.specs.References.{IsFoundLate};
 ghost use Rattle.bound_members.specs.bound_calls.specs.Taking.{read_kind};
 ghost use Rattle.bound_members.specs.bound_calls.specs.declared.term.Term.TheVariants as term;
 ghost use Rattle.bound_members.specs.bound_calls.specs.Standing.{TermNamed};
@@ -21,10 +21,10 @@ ghost use Rattle.bound_members.specs.Kinds.{EndingOfKind, kind_view};
 use bound_members::bound_calls::bound_declarations::NotYet;
 use bound_members::bound_calls::bound_declarations::constant_values::declared_names::is_object;
 use bound_members::bound_calls::{
-    Ending, Term, has_object, is_typed_kind, is_variant, may_be_instance, push_broken, push_node,
+    Ending, Term, has_object, is_found_late, is_typed_kind, is_variant, push_broken, push_node,
     read_kind,
 };
-use bound_members::{HostKind, kind_of_ending, kind_of_type};
+use bound_members::{HostKind, is_known_late, kind_of_ending, kind_of_type};
 use bound_project::{ActionKind, DeclaredType, Draft, ElementType, NodeKind};
 use vba_base::{NoMemory, OrMemory, Place};
 
@@ -47,14 +47,54 @@ pub fn has_written_default(of: DeclaredType) -> bool
     }
 }
 
-/// Is a term a place or a value of type Variant?
-pub fn is_variant_term<'a>(term: Term<'a>) -> bool
-    ensures { result ≡ is_variant_term term.entry }
+/// Does the run say what arguments lead to that index a value whose last node isn't pushed yet: is it a Variant, or may it be
+/// an object of a class that isn't declared as of one? None where that isn't known.
+fn is_led_late(has_class: bool, draft: &Draft, ending: Ending) -> Option<bool>
+    ensures { IfSome result (λ late. EndsLate has_class (draft_view draft.now).tables ending late) }
+{
+    if is_variant(ending.of) {
+        return Some(true);
+    }
+    is_found_late(has_class, draft, ending)
+}
+
+/// The same of a term, in a project with classes or without.
+pub fn is_indexed_late<'a>(has_class: bool, draft: &Draft, term: Term<'a>) -> Option<bool>
+    ensures { IfSome result (λ late. IndexedLate has_class (draft_view draft.now).tables term.entry late) }
 {
     match term {
-        Term::Place { of, .. } => is_variant(of),
-        Term::Value(ending) => is_variant(ending.of),
-        _ => false,
+        Term::Place { of, makes, .. } => {
+            let read = Ending {
+                kind: read_kind(makes),
+                of,
+            };
+            is_led_late(has_class, draft, read)
+        }
+        Term::Value(ending) => is_led_late(has_class, draft, ending),
+        _ => Some(false),
+    }
+}
+
+/// The value that a term is, where the run says what arguments lead to in it.
+pub fn late_value<'a>(has_class: bool, draft: &Draft, term: Term<'a>) -> Option<Ending>
+    ensures { IfSome result (λ ending. IsLateValue has_class (draft_view draft.now).tables term.entry ending) }
+{
+    let Term::Value(ending) = term else {
+        return None;
+    };
+    if !is_known_late(has_class, draft, ending) {
+        return None;
+    }
+    Some(ending)
+}
+
+/// How many arguments lead to a place from another one, where the run says what they lead to.
+pub fn numbers_along(kind: NodeKind) -> Option<u32>
+    ensures { result ≡ numbers_along kind }
+{
+    match kind {
+        NodeKind::ElementAlong { arguments } => Some(arguments),
+        _ => None,
     }
 }
 
@@ -76,6 +116,16 @@ fn ends_value(kind: NodeKind) -> bool
         NodeKind::HostObject(_) => true,
         NodeKind::ActiveSheet => true,
         NodeKind::Marked { .. } => true,
+        _ => false,
+    }
+}
+
+/// Ends a node what arguments lead to in a value, as the run says? What such a value is assigned they are given with.
+fn is_item_along(kind: NodeKind) -> bool
+    ensures { result ≡ is_item_along kind }
+{
+    match kind {
+        NodeKind::ItemAlong { .. } => true,
         _ => false,
     }
 }
@@ -121,7 +171,7 @@ pub fn is_unassignable(kind: NodeKind) -> bool
 fn gives_object(ending: Ending) -> bool
     ensures { MatchBool result (EndsObject ending) (Unit {0}) }
 {
-    if is_library(ending.kind) {
+    if is_library(ending.kind) || is_item_along(ending.kind) {
         return false;
     }
     if !is_value_kind(ending.kind) {
@@ -139,33 +189,49 @@ fn gives_object(ending: Ending) -> bool
     }
 }
 
-/// A place of a type that is no object's, behind the value that it is given.
+/// A place of a type that is no object's, behind the value that it is given: where the run says what arguments lead to, these
+/// are given with the value.
 fn assign_plain(draft: &mut Draft, at: Ending, place: Place) -> Result<ActionKind, NoMemory>
     requires named { NodeNamed (draft_view draft.old).tables at.kind }
     requires plain { types.is_object (declared_view at.of) ≡ false }
-    ensures { IfOk result (λ kind. (has bounded lends makes : Bool)
-        → AssignsTerm has place (term.Place at.kind at.of bounded lends makes) (draft_view draft.old) (draft_view draft.new) kind false) }
+    ensures { IfOk result (λ kind. (has bounded lends makes : Bool) (may : Option Bool)
+        → AssignsTerm has may place (term.Place at.kind at.of bounded lends makes) (draft_view draft.old) (draft_view draft.new) kind false) }
 {
+    if let Some(numbers) = numbers_along(at.kind) {
+        return Ok(ActionKind::AssignElement { numbers });
+    }
     push_node(draft, at.kind, at.of, place)?;
     Ok(ActionKind::Assign)
 }
 
-/// A place of an object, whose default member is written, behind the value that it is given.
+/// How the default member of an object is written: in the run, where the object may be one of a class, or as one of the host.
+fn default_kind(through: bool) -> ActionKind
+    ensures { result ≡ default_kind through }
+{
+    if through {
+        return ActionKind::AssignThrough;
+    }
+    ActionKind::AssignDefault
+}
+
+/// A place of an object, which may be one of a class or not, and whose default member is written, behind the value that it is
+/// given.
 fn assign_object(
     draft: &mut Draft,
     at: Ending,
     makes: bool,
+    through: bool,
     place: Place,
 ) -> Result<ActionKind, NoMemory>
     requires named { NodeNamed (draft_view draft.old).tables at.kind }
     requires object { types.is_object (declared_view at.of) ≡ true }
     requires written { plain.has_written_default (declared_view at.of) ≡ true }
-    ensures { IfOk result (λ kind. (has bounded lends : Bool) → NoInstance has (draft_view draft.old).tables (record { kind = read_kind makes; of = at.of })
-        → AssignsTerm has place (term.Place at.kind at.of bounded lends makes) (draft_view draft.old) (draft_view draft.new) kind false) }
+    ensures { IfOk result (λ kind. (has bounded lends : Bool) (may : Option Bool) → IsFoundLate has (draft_view draft.old).tables (record { kind = read_kind makes; of = at.of }) through
+        → AssignsTerm has may place (term.Place at.kind at.of bounded lends makes) (draft_view draft.old) (draft_view draft.new) kind false) }
 {
     push_node(draft, at.kind, at.of, place)?;
     push_node(draft, read_kind(makes), at.of, place)?;
-    Ok(ActionKind::AssignDefault)
+    Ok(default_kind(through))
 }
 
 /// A place of an object that has no default member, or none that is written, behind the value that it is given.
@@ -179,8 +245,8 @@ fn assign_unwritten(
     requires named { NodeNamed (draft_view draft.old).tables at.kind }
     requires object { types.is_object (declared_view at.of) ≡ true }
     requires broken { plain.write_rule (kind_by_type (declared_view at.of)) ≡ Some rule }
-    ensures { IfOk result (λ kind. (has bounded lends : Bool)
-        → AssignsTerm has place (term.Place at.kind at.of bounded lends makes) (draft_view draft.old) (draft_view draft.new) kind false) }
+    ensures { IfOk result (λ kind. (has bounded lends : Bool) (may : Option Bool)
+        → AssignsTerm has may place (term.Place at.kind at.of bounded lends makes) (draft_view draft.old) (draft_view draft.new) kind false) }
 {
     push_node(draft, at.kind, at.of, place)?;
     push_node(draft, read_kind(makes), at.of, place)?;
@@ -223,8 +289,8 @@ fn assign_default(
 ) -> Result<ActionKind, OrMemory<NotYet>>
     requires named { NodeNamed (draft_view draft.old).tables at.kind }
     requires object { types.is_object (declared_view at.of) ≡ true }
-    ensures { IfOk result (λ kind. (bounded lends : Bool)
-        → AssignsTerm has_class place (term.Place at.kind at.of bounded lends makes) (draft_view draft.old) (draft_view draft.new) kind false) }
+    ensures { IfOk result (λ kind. (bounded lends : Bool) (may : Option Bool)
+        → AssignsTerm has_class may place (term.Place at.kind at.of bounded lends makes) (draft_view draft.old) (draft_view draft.new) kind false) }
 {
     if let Some(rule) = type_rule(at.of) {
         let broken = assign_unwritten(draft, at, makes, rule, place)?;
@@ -237,10 +303,10 @@ fn assign_default(
     if !has_written_default(at.of) {
         return Err(OrMemory::Fault(NotYet));
     }
-    if may_be_instance(has_class, draft, read) {
+    let Some(through) = is_found_late(has_class, draft, read) else {
         return Err(OrMemory::Fault(NotYet));
-    }
-    let done = assign_object(draft, at, makes, place)?;
+    };
+    let done = assign_object(draft, at, makes, through, place)?;
     Ok(done)
 }
 
@@ -253,8 +319,8 @@ pub fn assign_place(
     has_class: bool,
 ) -> Result<ActionKind, OrMemory<NotYet>>
     requires { NodeNamed (draft_view draft.old).tables at.kind }
-    ensures { IfOk result (λ kind. (bounded lends : Bool)
-        → AssignsTerm has_class place (term.Place at.kind at.of bounded lends makes) (draft_view draft.old) (draft_view draft.new) kind false) }
+    ensures { IfOk result (λ kind. (bounded lends : Bool) (may : Option Bool)
+        → AssignsTerm has_class may place (term.Place at.kind at.of bounded lends makes) (draft_view draft.old) (draft_view draft.new) kind false) }
 {
     if !is_object(at.of) {
         let plain = assign_plain(draft, at, place)?;
@@ -271,17 +337,17 @@ fn assign_written(
     has_class: bool,
 ) -> Result<ActionKind, OrMemory<NotYet>>
     requires { NodeNamed (draft_view draft.old).tables ending.kind }
-    ensures { IfOk result (λ kind. (of : declared.HostKind) → EndsObject ending → EndingOfKind ending of → plain.write_rule (Some (kind_view of)) ≡ None
-        → AssignsTerm has_class place (term.Value ending) (draft_view draft.old) (draft_view draft.new) kind false) }
+    ensures { IfOk result (λ kind. (of : declared.HostKind) (may : Option Bool) → EndsObject ending → EndingOfKind ending of → plain.write_rule (Some (kind_view of)) ≡ None
+        → AssignsTerm has_class may place (term.Value ending) (draft_view draft.old) (draft_view draft.new) kind false) }
 {
     if !has_written_default(ending.of) {
         return Err(OrMemory::Fault(NotYet));
     }
-    if may_be_instance(has_class, draft, ending) {
+    let Some(through) = is_found_late(has_class, draft, ending) else {
         return Err(OrMemory::Fault(NotYet));
-    }
+    };
     push_node(draft, ending.kind, ending.of, place)?;
-    Ok(ActionKind::AssignDefault)
+    Ok(default_kind(through))
 }
 
 /// A value that breaks a rule where it is assigned to, behind the value that it is given.
@@ -293,7 +359,7 @@ fn assign_wrong(
 ) -> Result<ActionKind, OrMemory<NotYet>>
     requires named { NodeNamed (draft_view draft.old).tables ending.kind }
     requires wrong { EndsWrong ending rule place }
-    ensures { IfOk result (λ kind. (has : Bool) → AssignsTerm has place (term.Value ending) (draft_view draft.old) (draft_view draft.new) kind false) }
+    ensures { IfOk result (λ kind. (has : Bool) (may : Option Bool) → AssignsTerm has may place (term.Value ending) (draft_view draft.old) (draft_view draft.new) kind false) }
 {
     push_node(draft, ending.kind, ending.of, place)?;
     push_broken(draft, rule, place, 2)?;
@@ -311,7 +377,7 @@ fn assign_known(
     requires named { NodeNamed (draft_view draft.old).tables ending.kind }
     requires gives { EndsObject ending }
     requires known { EndingOfKind ending of }
-    ensures { IfOk result (λ kind. AssignsTerm has_class place (term.Value ending) (draft_view draft.old) (draft_view draft.new) kind false) }
+    ensures { IfOk result (λ kind. (may : Option Bool) → AssignsTerm has_class may place (term.Value ending) (draft_view draft.old) (draft_view draft.new) kind false) }
 {
     match write_rule(of) {
         Some(rule) => assign_wrong(draft, ending, rule, place),
@@ -352,7 +418,7 @@ fn assign_constant(
     place: Place,
 ) -> Result<ActionKind, OrMemory<NotYet>>
     requires { NodeNamed (draft_view draft.old).tables ending.kind }
-    ensures { IfOk result (λ kind. (has : Bool) → AssignsTerm has place (term.Value ending) (draft_view draft.old) (draft_view draft.new) kind false) }
+    ensures { IfOk result (λ kind. (has : Bool) (may : Option Bool) → AssignsTerm has may place (term.Value ending) (draft_view draft.old) (draft_view draft.new) kind false) }
 {
     if !is_wrong(ending) {
         return Err(OrMemory::Fault(NotYet));
@@ -368,7 +434,7 @@ pub fn assign_value(
     has_class: bool,
 ) -> Result<ActionKind, OrMemory<NotYet>>
     requires { NodeNamed (draft_view draft.old).tables ending.kind }
-    ensures { IfOk result (λ kind. AssignsTerm has_class place (term.Value ending) (draft_view draft.old) (draft_view draft.new) kind false) }
+    ensures { IfOk result (λ kind. (may : Option Bool) → AssignsTerm has_class may place (term.Value ending) (draft_view draft.old) (draft_view draft.new) kind false) }
 {
     if !gives_object(ending) {
         return assign_constant(draft, ending, place);
@@ -401,7 +467,7 @@ fn assign_indexed_value(
     has_class: bool,
 ) -> Result<ActionKind, OrMemory<NotYet>>
     requires { NodeNamed (draft_view draft.old).tables ending.kind }
-    ensures { IfOk result (λ kind. AssignsIndexed has_class place (term.Value ending) (draft_view draft.old) (draft_view draft.new) kind) }
+    ensures { IfOk result (λ kind. (may : Option Bool) → AssignsIndexed has_class may place (term.Value ending) (draft_view draft.old) (draft_view draft.new) kind) }
 {
     match item_numbers(ending) {
         Some(numbers) => Ok(ActionKind::AssignItem { numbers }),
@@ -417,7 +483,7 @@ pub fn assign_indexed<'a>(
     has_class: bool,
 ) -> Result<ActionKind, OrMemory<NotYet>>
     requires { TermNamed (draft_view draft.old).tables term }
-    ensures { IfOk result (λ kind. AssignsIndexed has_class place term.entry (draft_view draft.old) (draft_view draft.new) kind) }
+    ensures { IfOk result (λ kind. (may : Option Bool) → AssignsIndexed has_class may place term.entry (draft_view draft.old) (draft_view draft.new) kind) }
 {
     match term {
         Term::Place {

@@ -8,12 +8,13 @@ use Rattle.bound_project.specs.declared.declared_type.DeclaredType.{DeclaredType
 use Rattle.bound_project.specs.declared.node.NodeKind.{NodeKind}
 use Rattle.bound_project.specs.declared.node.NodeKind.TheVariants as node
 use Rattle.bound_project.specs.declared.node.Node.{Node}
+use Rattle.bound_project.specs.declared.node.LateUse.TheVariants.{Reading}
 use Rattle.bound_project.specs.View.{declared_view}
 use Rattle.bound_project.specs.Expressions.{Expr, expr, operand_type}
-use Rattle.bound_project.specs.Pieces.{Piece, Tables, name_in, by_name_in, as_operand, put_kind, put, read}
+use Rattle.bound_project.specs.Pieces.{Piece, Tables, name_in, by_name_in, sought_in, as_operand, put_kind, put, read}
 use Rattle.static_rules.specs.Broken.{double_at, broken}
 use Rattle.static_rules.specs.Scan.{kind_places, nodes_places}
-use Rattle.static_rules.proofs.Pieces.{found_in, Adds, value_adds, value_keeps, place_keeps, both_add, both_keep, test_adds, range_adds, list_adds, list_kept, args_kept, place_and_list, value_and_list, member_kept, object_kept, named_kept}
+use Rattle.static_rules.proofs.Pieces.{found_in, Adds, value_adds, value_keeps, place_keeps, both_add, both_keep, test_adds, range_adds, list_adds, list_kept, args_kept, place_and_list, value_and_list, member_kept, object_kept, named_kept, late_kept}
 
 -- an operand keeps its places, and has the type that its operator says
 pub as_one : (of : DeclaredType) (e : Expr) (more : Declared → List Refusal) → broken (as_operand of e) ++ more (operand_type (as_operand of e)) ≡ broken e ++ more (declared_view of)
@@ -35,6 +36,9 @@ node_adds t selected n (node.KeptPlace header) st there = (refl, there.1)
 node_adds t selected n (node.ObjectField i of bounded) st there = value_keeps (declared_view selected) _ (λ e. refl) st there
 node_adds t selected n (node.NewVariable x c) st there = (refl, there.1)
 node_adds t selected n (node.AsNew c) st there = place_keeps (declared_view selected) _ (λ x. refl) st there
+node_adds t selected n (node.ElementAlong count) st there = place_and_list (declared_view selected) count st _ (λ x es. refl) there
+node_adds t selected n (node.LateField i) st there = value_keeps (declared_view selected) _ (λ e. refl) st there
+node_adds t selected n node.PlaceOf st there = value_keeps (declared_view selected) _ (λ e. refl) st there
 node_adds t selected n node.Load st there = place_keeps (declared_view selected) _ (λ x. refl) st there
 node_adds t selected n node.LoadMade st there = place_keeps (declared_view selected) _ (λ x. refl) st there
 node_adds t selected n (node.ElementValue count) st there = value_and_list (declared_view selected) count st _ (λ x es. refl) there
@@ -56,6 +60,8 @@ node_adds t selected n (node.Marked broken count) st there = list_adds (declared
 node_adds t selected n (node.BoundOf upper z) st there = place_keeps (declared_view selected) _ (λ x. refl) st there
 node_adds t selected n node.DefaultOf st there = value_keeps (declared_view selected) _ (λ e. refl) st there
 node_adds t selected n node.DefaultIfAny st there = value_keeps (declared_view selected) _ (λ e. refl) st there
+node_adds t selected n node.Enumerated st there = value_keeps (declared_view selected) _ (λ e. refl) st there
+node_adds t selected n (node.ItemAlong count) st there = value_and_list (declared_view selected) count st _ (λ x es. refl) there
 node_adds t selected n node.Same st there = both_keep (declared_view selected) _ (λ a b. refl) st there
 node_adds t selected n (node.IsType of) st there = value_keeps (declared_view selected) _ (λ e. refl) st there
 node_adds t selected n (node.HostObject reference) st there = (refl, there.1)
@@ -64,6 +70,10 @@ node_adds t selected n (node.MemberThere i given) st there = value_keeps (declar
 node_adds t selected n (node.HostMember i count) st there = member_kept (declared_view selected) count st (name_in t i) _ (λ e es. refl) there
 node_adds t selected n (node.NamedThere i by given) st there = value_keeps (declared_view selected) _ (λ e. refl) st there
 node_adds t selected n (node.NamedMember i by count) st there = named_kept (declared_view selected) count st (name_in t i) (by_name_in t by) _ (λ e es. refl) there
+node_adds t selected n (node.LateThere aim m) st there = value_keeps (declared_view selected) _ (λ e. refl) st there
+node_adds t selected n (node.LateValue aim m i) st there = value_keeps (declared_view selected) _ (λ e. refl) st there
+node_adds t selected n (node.LatePlace aim m i) st there = place_keeps (declared_view selected) _ (λ x. refl) st there
+node_adds t selected n (node.LateMember m) st there = late_kept (declared_view selected) m.arguments st (sought_in t Reading m) _ (λ e given. refl) there
 node_adds t selected n node.ByPlace st there = place_keeps (declared_view selected) _ (λ x. refl) st there
 node_adds t selected n (node.ByCopy of) st there = value_keeps (declared_view selected) _ (λ e. refl) st there
 node_adds t selected n (node.ByDefault i) st there = (refl, there.1)

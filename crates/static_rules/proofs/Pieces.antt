@@ -1,17 +1,22 @@
 -- The places in pieces, and that nothing is lost where no piece is.
 use Rattle.std.proofs.Common.{◌≡◌, Bool, true, false, cond, ℕ, zero, suc, List, [], ◌∷◌, ◌++◌, Option, Some, None, refl, sym, ap, ◌∙◌, append_assoc}
+use Rattle.std.specs.Prelude.{◌==◌, ◌&&◌}
 use Rattle.std.proofs.lemmas.List.{append-nil}
 use Rattle.vba_base.specs.declared.place.Refusal.{Refusal}
 use Rattle.vba_values.specs.Types.{Declared}
-use Rattle.bound_project.specs.Expressions.{Expr, Exprs, no_exprs, also, ByName, Lvalue, Args, no_args, operand_type}
-use Rattle.bound_project.specs.Pieces.{Argument, place_lent, value_copied, default_taken, values_listed, Piece, nothing, an_expr, a_place, an_argument, a_member, an_object, a_named_member, a_value_shown, a_zone, a_test_begun, a_test_is, a_test_range, a_resize, an_erased, of_value, of_place, of_both, of_test, of_range, of_found, of_place_found, of_value_found, is_member, misfit, of_member, of_member_found, of_object, of_object_found, is_named_member, of_named, of_named_found, exprs_off, arguments_off, with_argument}
-use Rattle.static_rules.specs.Broken.{double_at, broken, place_broken, args_broken, list_broken, range_broken}
+use Rattle.bound_project.specs.Expressions.{Expr, Exprs, no_exprs, also, ByName, Lvalue, Args, no_args, Given, none_given, operand_type}
+use Rattle.bound_project.specs.Pieces.{Argument, place_lent, value_copied, default_taken, values_listed, GivenArgument, place_there, value_there, Sought, Piece, nothing, an_expr, a_place, an_argument, a_member, an_object, a_named_member, a_late, a_given, a_value_shown, a_zone, a_test_begun, a_test_is, a_test_range, a_resize, an_erased, of_value, of_place, of_both, of_test, of_range, of_found, of_place_found, of_value_found, is_member, misfit, of_member, of_member_found, of_object, of_object_found, is_named_member, of_named, of_named_found, same_sought, is_late, of_late, of_late_found, exprs_off, arguments_off, with_argument, given_off, with_given}
+use Rattle.static_rules.specs.Broken.{double_at, broken, place_broken, args_broken, given_broken, list_broken, range_broken}
 
 abbrev pub argument_broken : Argument → List Refusal
 argument_broken (place_lent x) = place_broken x
 argument_broken (value_copied e of) = broken e
 argument_broken (default_taken v) = []
 argument_broken (values_listed es) = list_broken es
+
+abbrev pub given_one : GivenArgument → List Refusal
+given_one (place_there x) = place_broken x
+given_one (value_there e) = broken e
 
 -- of a piece, where the value of a Select Case has this type
 abbrev pub piece_broken : (selected : Declared) → Piece → List Refusal
@@ -21,6 +26,8 @@ piece_broken selected (a_place x) = place_broken x
 piece_broken selected (an_argument a) = argument_broken a
 piece_broken selected (a_member e name given) = broken e
 piece_broken selected (a_named_member e name by given) = broken e
+piece_broken selected (a_late e s) = broken e
+piece_broken selected (a_given a s i) = given_one a
 piece_broken selected (an_object e) = broken e
 piece_broken selected (a_value_shown e) = broken e
 piece_broken selected a_zone = []
@@ -244,3 +251,50 @@ object_off selected st make h (Some (args, rest)) off there =
 pub object_kept : (selected : Declared) (n : ℕ) (st : List Piece) (make : Expr → Args → Piece) → ((e : Expr) (args : Args) → piece_broken selected (make e args) ≡ broken e ++ args_broken args)
     → Adds selected (of_object_found make (arguments_off n st no_args)) st []
 object_kept selected n st make h = object_off selected st make h (arguments_off n st no_args) (args_are selected n st no_args)
+
+-- ---- late-bound members
+
+abbrev pub GivenOff : (selected : Declared) → List Piece → Given → Option (Given × List Piece) → Type 0
+GivenOff selected st acc None = Unit {0}
+GivenOff selected st acc (Some (given, rest)) = (found_in selected rest ++ given_broken given ≡ found_in selected st ++ given_broken acc) × (AllThere rest → AllThere st)
+
+with_one : (a : GivenArgument) (acc : Given) → given_broken (with_given a acc) ≡ given_one a ++ given_broken acc
+with_one (place_there x) acc = refl
+with_one (value_there e) acc = refl
+
+given_more : (selected : Declared) (a : GivenArgument) (other : Sought) (i : ℕ) (st : List Piece) (acc : Given) (o : Option (Given × List Piece))
+    → GivenOff selected st (with_given a acc) o → GivenOff selected (a_given a other i ∷ st) acc o
+given_more selected a other i st acc None h = tt
+given_more selected a other i st acc (Some (given, rest)) h = (h.0 ∙ one (found_in selected st) (given_one a) (given_broken acc) _ (with_one a acc), λ there. (tt, h.1 there))
+
+given_if : (selected : Declared) (a : GivenArgument) (other : Sought) (i : ℕ) (st : List Piece) (acc : Given) (o : Option (Given × List Piece)) → GivenOff selected st (with_given a acc) o
+    → (b : Bool) → GivenOff selected (a_given a other i ∷ st) acc (cond b o None)
+given_if selected a other i st acc o h true = given_more selected a other i st acc o h
+given_if selected a other i st acc o h false = tt
+
+pub given_are : (selected : Declared) (s : Sought) (n : ℕ) (st : List Piece) (acc : Given) → GivenOff selected st acc (given_off s n st acc)
+given_are selected s zero st acc = (refl, λ there. there)
+given_are selected s (suc n) (a_given a other i ∷ st) acc =
+    given_if selected a other i st acc (given_off s n st (with_given a acc)) (given_are selected s n st (with_given a acc)) (same_sought s other && (i == n))
+given_are selected s (suc n) st acc = tt
+
+late_if : (selected : Declared) (make : Expr → Given → Piece) (given : Given) (e : Expr) (other : Sought) → piece_broken selected (make e given) ≡ broken e ++ given_broken given
+    → (st : List Piece) (b : Bool) → Adds selected (cond b (make e given ∷ st) misfit) (a_late e other ∷ st) (given_broken given)
+late_if selected make given e other h st true there = (one (found_in selected st) (broken e) (given_broken given) _ h, (tt, there.1))
+late_if selected make given e other h st false there = absurd there.0
+
+late_adds : (selected : Declared) (s : Sought) (make : Expr → Given → Piece) (given : Given) → ((e : Expr) → piece_broken selected (make e given) ≡ broken e ++ given_broken given)
+    → (st : List Piece) → Adds selected (of_late s make given st) st (given_broken given)
+late_adds selected s make given h (a_late e other ∷ st) there = late_if selected make given e other (h e) st (is_late s other given) there
+late_adds selected s make given h st there = absurd there.0
+
+late_off : (selected : Declared) (st : List Piece) (s : Sought) (make : Expr → Given → Piece) → ((e : Expr) (given : Given) → piece_broken selected (make e given) ≡ broken e ++ given_broken given)
+    → (o : Option (Given × List Piece)) → GivenOff selected st none_given o → Adds selected (of_late_found s make o) st []
+late_off selected st s make h None off there = absurd there.0
+late_off selected st s make h (Some (given, rest)) off there =
+    let r = late_adds selected s make given (λ e. h e given) rest there in
+    (r.0 ∙ off.0, off.1 r.1)
+
+pub late_kept : (selected : Declared) (n : ℕ) (st : List Piece) (s : Sought) (make : Expr → Given → Piece) → ((e : Expr) (given : Given) → piece_broken selected (make e given) ≡ broken e ++ given_broken given)
+    → Adds selected (of_late_found s make (given_off s n st none_given)) st []
+late_kept selected n st s make h = late_off selected st s make h (given_off s n st none_given) (given_are selected s n st none_given)

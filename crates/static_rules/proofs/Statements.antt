@@ -11,17 +11,18 @@ use Rattle.bound_project.specs.declared.statement.ActionKind.{ActionKind}
 use Rattle.bound_project.specs.declared.statement.ActionKind.TheVariants as kind
 use Rattle.bound_project.specs.declared.statement.StatementNode.{StatementNode}
 use Rattle.bound_project.specs.declared.node.Node.{Node}
+use Rattle.bound_project.specs.declared.node.LateUse.TheVariants.{Assigning, Setting}
 use Rattle.bound_project.specs.declared.project.Body.{Body}
 use Rattle.bound_project.specs.declared.project.Project.{Project}
 use Rattle.bound_project.specs.View.{declared_view}
-use Rattle.bound_project.specs.Expressions.{Expr, Exprs, no_exprs, Lvalue, Args, no_args, Prints, no_prints, shown, zone, operand_type}
+use Rattle.bound_project.specs.Expressions.{Expr, Exprs, no_exprs, Lvalue, Args, no_args, Given, none_given, Prints, no_prints, shown, zone, operand_type}
 use Rattle.bound_project.specs.Statements.{Tests, no_tests, test_is, test_range, Resizes, no_resizes, resize, Arrays, no_arrays, an_array, Action, assign_member}
 use Rattle.bound_project.specs.Statements as plain
-use Rattle.bound_project.specs.Pieces.{Piece, an_expr, a_place, a_member, an_object, is_member, name_in, exprs_off, a_value_shown, a_zone, a_test_is, a_test_range, a_resize, an_erased, Tables, prints_off, tests_off, resizes_off, arrays_off, arguments_off, pieces}
-use Rattle.bound_project.specs.Bodies.{whole, one_value, one_place, behind_object, behind_value, member_found, item_found, alone, action_of, action_or, part, statement_view, StatementFits, AllFit, BodiesFit, Fits, body_view, tables_of, project_view}
-use Rattle.static_rules.specs.Broken.{double_at, broken, place_broken, args_broken, list_broken, prints_broken, range_broken, tests_broken, resizes_broken, arrays_broken, loop_broken, action_broken, body_broken, least_of, first_broken}
+use Rattle.bound_project.specs.Pieces.{Piece, an_expr, a_place, a_member, an_object, a_late, Sought, is_member, is_late, name_in, sought_in, exprs_off, given_off, a_value_shown, a_zone, a_test_is, a_test_range, a_resize, an_erased, Tables, prints_off, tests_off, resizes_off, arrays_off, arguments_off, pieces}
+use Rattle.bound_project.specs.Bodies.{whole, one_value, one_place, behind_object, behind_value, member_found, item_found, element_found, late_found, alone, action_of, action_or, part, statement_view, StatementFits, AllFit, BodiesFit, Fits, body_view, tables_of, project_view}
+use Rattle.static_rules.specs.Broken.{double_at, broken, place_broken, args_broken, given_broken, list_broken, prints_broken, range_broken, tests_broken, resizes_broken, arrays_broken, loop_broken, action_broken, body_broken, least_of, first_broken}
 use Rattle.static_rules.specs.Scan.{selected_type, nodes_places, loop_places, statement_places, statements_places, bodies_places}
-use Rattle.static_rules.proofs.Pieces.{found_in, AllThere, ExprsOff, exprs_are, ArgsOff, args_are, one, two}
+use Rattle.static_rules.proofs.Pieces.{found_in, AllThere, ExprsOff, exprs_are, ArgsOff, args_are, GivenOff, given_are, one, two}
 use Rattle.static_rules.proofs.Nodes.{as_two, nodes_add}
 
 -- ---- lists of a statement off the stack
@@ -158,6 +159,26 @@ item_made selected st None off = tt
 item_made selected st (Some (es, an_expr base ∷ an_expr e ∷ [])) off = (sym (append_assoc (broken e) (broken base) (list_broken es)) ∙ off.0, off.1 (tt, (tt, tt)))
 item_made selected st (Some (es, rest)) off = tt
 
+-- an assignment to what numbers lead to from a place, behind a value
+element_made : (selected : Declared) (go : Lvalue → Exprs → Expr → Action) → ((x : Lvalue) (es : Exprs) (e : Expr) → action_broken (go x es e) ≡ broken e ++ (place_broken x ++ list_broken es))
+    → (st : List Piece) (found : Option (Exprs × List Piece)) → ExprsOff selected st no_exprs found → Made selected [] st (element_found go found)
+element_made selected go h st None off = tt
+element_made selected go h st (Some (es, a_place x ∷ an_expr e ∷ [])) off = (h x es e ∙ sym (append_assoc (broken e) (place_broken x) (list_broken es)) ∙ off.0, off.1 (tt, (tt, tt)))
+element_made selected go h st (Some (es, rest)) off = tt
+
+-- an assignment to a late-bound member: its arguments behind the object that was looked at for it, behind a value
+late_if_made : (selected : Declared) (go : Expr → Given → Expr → Action) (other : Sought) (given : Given) (base e : Expr) → action_broken (go base given e) ≡ broken e ++ (broken base ++ given_broken given)
+    → (st : List Piece) → GivenOff selected st none_given (Some (given, a_late base other ∷ an_expr e ∷ [])) → (b : Bool) → Made selected [] st (cond b (Some (go base given e)) None)
+late_if_made selected go other given base e h st off true = (h ∙ sym (append_assoc (broken e) (broken base) (given_broken given)) ∙ off.0, off.1 (tt, (tt, tt)))
+late_if_made selected go other given base e h st off false = tt
+
+late_made : (selected : Declared) (s : Sought) (go : Expr → Given → Expr → Action)
+    → ((base : Expr) (given : Given) (e : Expr) → action_broken (go base given e) ≡ broken e ++ (broken base ++ given_broken given))
+    → (st : List Piece) (found : Option (Given × List Piece)) → GivenOff selected st none_given found → Made selected [] st (late_found s go found)
+late_made selected s go h st None off = tt
+late_made selected s go h st (Some (given, a_late base other ∷ an_expr e ∷ [])) off = late_if_made selected go other given base e (h base given e) st off (is_late s other given)
+late_made selected s go h st (Some (given, rest)) off = tt
+
 tests_made : (selected : Declared) (go : Tests → Action) → ((ts : Tests) → action_broken (go ts) ≡ tests_broken selected ts)
     → (st : List Piece) (found : Option (Tests × List Piece)) → TestsOff selected st no_tests found → Made selected [] st (whole found go)
 tests_made selected go h st None off = tt
@@ -197,6 +218,22 @@ action_made t (kind.AssignMember m count) st =
     member_made of (name_in t m) st (exprs_off count st no_exprs) (exprs_are of count st no_exprs)
 action_made t kind.SetMember (an_expr x ∷ an_expr e ∷ []) = (sym (append-nil (broken e ++ broken x)), (tt, (tt, tt)))
 action_made t kind.SetMember st = tt
+action_made t kind.AssignThrough (an_expr x ∷ an_expr e ∷ []) = (sym (append-nil (broken e ++ broken x)), (tt, (tt, tt)))
+action_made t kind.AssignThrough st = tt
+action_made t (kind.AssignElement count) st =
+    let of = selected_of (kind.AssignElement count) in
+    element_made of _ (λ x es e. refl) st (exprs_off count st no_exprs) (exprs_are of count st no_exprs)
+action_made t (kind.SetElement count) st =
+    let of = selected_of (kind.SetElement count) in
+    element_made of _ (λ x es e. refl) st (exprs_off count st no_exprs) (exprs_are of count st no_exprs)
+action_made t (kind.AssignLate m) st =
+    let of = selected_of (kind.AssignLate m) in
+    let s = sought_in t Assigning m in
+    late_made of s _ (λ base given e. refl) st (given_off s m.arguments st none_given) (given_are of s m.arguments st none_given)
+action_made t (kind.SetLate m) st =
+    let of = selected_of (kind.SetLate m) in
+    let s = sought_in t Setting m in
+    late_made of s _ (λ base given e. refl) st (given_off s m.arguments st none_given) (given_are of s m.arguments st none_given)
 action_made t kind.Evaluate st = value_made (selected_of kind.Evaluate) _ (λ e. refl) st
 action_made t (kind.LetProperty q count of) st =
     let selected = selected_of (kind.LetProperty q count of) in

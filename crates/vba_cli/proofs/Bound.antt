@@ -1,7 +1,7 @@
 -- Modules that are bound are the program of their files.
-use Rattle.std.proofs.Common.{◌≡◌, ℕ, Bool, true, false, List, [], ◌∷◌, ◌++◌, if◌then◌else◌, refl, sym, ap, ◌∙◌, subst}
+use Rattle.std.proofs.Common.{◌≡◌, ℕ, List, [], ◌∷◌, ◌++◌, refl, sym, ap, ◌∙◌, subst}
 use Rattle.std.proofs.lemmas.List.{map-append}
-use Rattle.std.specs.Prelude.{codes, map, nat_lt, Option, Some, None, Result, Ok, Err}
+use Rattle.std.specs.Prelude.{codes, map, Option, Some, None, Result, Ok, Err}
 use Rattle.std.specs.Result.{IsErrAnd}
 use Rattle.vba_base.specs.Answer.{Fails}
 use Rattle.vba_base.specs.declared.fault.OrMemory.{OrMemory}
@@ -16,10 +16,9 @@ use Rattle.constant_values.specs.declared_names.specs.binder.specs.Scopes.{Space
 use Rattle.constant_values.specs.declared_names.specs.binder.specs.Names.{scope_of}
 use Rattle.constant_values.specs.declared_names.specs.binder.specs.Violations.{violations, first_broken}
 use Rattle.constant_values.specs.declared_names.specs.binder.specs.Options.{or_else}
-use Rattle.bound_forms.specs.Bind.{Answer, refused, answer_by, bound_as, not_built, not_built_at, project_of}
+use Rattle.bound_forms.specs.Bind.{Answer, refused, answer_by, not_built, project_of}
 use Rattle.constant_values.specs.declared_names.specs.binder.specs.Projects.{Startup, startup_fault}
 use Rattle.constant_values.specs.declared_names.specs.binder.specs.LeftOut.{first_left_out}
-use Rattle.refusal_order.specs.Least.{least_of_both, lesser}
 use Rattle.signature_rules.specs.Signatures.{first_signature}
 use Rattle.constant_values.specs.Rounds.{AreNumbered}
 use Rattle.constant_values.proofs.Looked.{spaces_from_numbered}
@@ -32,7 +31,7 @@ use Rattle.list_file.specs.Plans.{ModuleFile}
 use Rattle.constant_values.specs.declared_names.specs.View.{source_view}
 use Rattle.constant_values.specs.declared_names.specs.declared.space.Source as declared_names
 use Rattle.vba_cli.specs.Program.{Kept, begins_at, bound_kept, bound_modules, bound_sources, bound_rule, each, first_of_two, judged_by, kept_of, main_of, module_of, named_rule, program_of}
-use Rattle.vba_cli.specs.Programs.{IsFitted, IsProgram, IsRefused, IsWhole, rule_of, first_fold, unless_refused}
+use Rattle.vba_cli.specs.Programs.{IsFitted, IsProgram, IsRefused, rule_of, first_fold, unless_refused}
 
 -- modules are numbered
 pub modules_numbered : (ms : List Source) (spaces : List Space) → spaces ≡ spaces_from 0 ms → AreNumbered spaces
@@ -150,50 +149,6 @@ program_unread start files ks r e is kept fails =
     subst (λ k. IsProgram (bound_kept start k) r) (sym kept)
     (fails_by (bound_sources start (each module_of 1 ks)) r e is
     (λ refusal fault. ap (λ ms. bound_sources start ms None) (fault_meant e (each module_of 1 ks) refusal fails fault)))
-
--- ---- a part that isn't built, told of modules that are bound
-
--- a project is bound where no rule is broken and no part is told
-answer_bound : (first : Option Refusal) (place : Option Place) (p : Option Project) (pr : Project) → answer_by first place p ≡ bound_as pr → first ≡ None
-answer_bound None place p pr h = refl
-answer_bound (Some refusal) place p pr h = let e : refused refusal ≡ bound_as pr = h in absurd cc
-
--- the first of two refusals is none where neither is there
-first_none : (l r : Option Refusal) → first_of_two l r ≡ None → l ≡ None
-first_none None r h = refl
-first_none (Some l) None h = let e : ◌≡◌ {A = Option Refusal} (Some l) None = h in absurd cc
-first_none (Some l) (Some r) h = at (nat_lt l.place.«module» r.place.«module») (nat_lt r.place.«module» l.place.«module») h
-  where
-    at : (b c : Bool) → (if b then Some l else if c then Some r else least_of_both (Some l) (Some r)) ≡ None → Some l ≡ None
-    at true c e = e
-    at false true e = let k : ◌≡◌ {A = Option Refusal} (Some r) None = e in absurd cc
-    at false false e = let k : ◌≡◌ {A = Option Refusal} (Some (lesser (Some l) r)) None = e in absurd cc
-
--- where no rule is broken, none is where the project isn't asked
-none_asked : (named fault broken : Option Refusal) → or_else named (first_of_two fault broken) ≡ None → or_else named (first_of_two fault None) ≡ None
-none_asked None fault broken h = ap (λ f. first_of_two f None) (first_none fault broken h)
-none_asked (Some refusal) fault broken h = h
-
-judged_told : (named : Option Refusal) (ms : List Source) (built : Option Place) (p : Option Project) (pr : Project) (place : Place) → judged_by named ms built p ≡ bound_as pr → judged_by named ms (Some place) p ≡ not_built_at place
-judged_told named ms built p pr place h =
-    let fault = fault_in (spaces_from 0 ms) in
-    ap (λ first. answer_by first (Some place) p) (none_asked named fault (bound_rule built p) (answer_bound (or_else named (first_of_two fault (bound_rule built p))) built p pr h))
-
-sources_told : (start : Option Start) (ms : Result (List Source) Refusal) (pr : Project) (place : Place) → bound_sources start ms None ≡ bound_as pr → bound_sources start ms (Some place) ≡ not_built_at place
-sources_told start (Err refusal) pr place h = let e : refused refusal ≡ bound_as pr = h in absurd cc
-sources_told start (Ok ms) pr place h = judged_told (named_rule ms (begins_at start ms)) ms (not_built the_outside ms) (project start ms) pr place h
-
-kept_told : (start : Option Start) (ks : Result (List Kept) Refusal) (pr : Project) (place : Place) → bound_kept start ks None ≡ bound_as pr → bound_kept start ks (Some place) ≡ not_built_at place
-kept_told start (Err refusal) pr place h = let e : refused refusal ≡ bound_as pr = h in absurd cc
-kept_told start (Ok ks) pr place h = sources_told start (each module_of 1 ks) pr place h
-
--- files that are bound to a project are bound to none where a part is told that isn't built yet
-pub program_told : (start : Option Start) (files : List ModuleFile) (pr : Project) (place : Place) → program_of start files None ≡ bound_as pr → program_of start files (Some place) ≡ not_built_at place
-unfolding program_of
-program_told start files pr place h = kept_told start (each kept_of 1 files) pr place h
-
-pub whole_program : (start : Option Start) (files : List ModuleFile) (pr : Project) → program_of start files None ≡ bound_as pr → IsWhole (program_of start files) pr
-whole_program start files pr h = record { bound = h; told = λ place. program_told start files pr place h }
 
 -- the fold by which the macro to begin with is looked up, where a list names none
 first_of : (ms : List Source) → first_fold (spaces_from 0 ms) ≡ (main_of ms).module_fold

@@ -6,7 +6,6 @@ use Rattle.vba_base.specs.declared.fault.OrMemory.TheVariants.{Fault, NoMemory}
 use Rattle.vba_base.specs.declared.place.Place.{Place}
 use Rattle.vba_base.specs.declared.place.Refusal.{Refusal}
 use Rattle.bound_project.specs.Bodies.{Fits, project_view}
-use Rattle.bound_project.specs.Project.{Project}
 use Rattle.bound_forms.specs.Bind.{Answer, refused, not_built_at, bound_as}
 use Rattle.bind_project.specs.declared.bound.Bound.{Bound}
 use Rattle.bind_project.specs.declared.bound.Bound.TheVariants as bound
@@ -45,11 +44,6 @@ IsProgram answer (Ok (bound.NotBuilt place)) = answer (Some place) ≡ not_built
 IsProgram answer (Ok (bound.Runs pr)) = Fits pr × (answer None ≡ bound_as (project_view pr))
 IsProgram answer (Err (Fault refusal)) = IsRefused answer refusal
 IsProgram answer (Err NoMemory) = Unit {0}
-
--- a program is bound to a project, and to none where vbarun tells that a part isn't built yet
-pub record IsWhole (answer : (told : Option Place) → Answer) (pr : Project) : Type 0 where
-  pub bound : answer None ≡ bound_as pr
-  pub told : (place : Place) → answer (Some place) ≡ not_built_at place
 
 -- a module behind the rules of tokens and directives
 abbrev pub kept_view : Kept → program.Kept

@@ -7,13 +7,11 @@ ghost use Rattle.command_words.specs.Words as words;
 ghost use Rattle.list_file.specs.Files.{FilesAt};
 ghost use Rattle.list_file.specs.Sources.{files_view, sheets_view};
 ghost use Rattle.list_file.specs.View.{start_view};
-ghost use Rattle.bound_forms.specs.Bind.{Answer};
 ghost use Rattle.code_listing.specs.Listing.{listing_of};
 ghost use Rattle.project_run.specs.pcode.specs.Layout.{code_of};
 ghost use Rattle.vba_cli.specs.Answer.{all_right, no_book, saved_by, shown_of_code, shown_of_run, shows_of, status_of, unread};
 ghost use Rattle.vba_cli.specs.Contract.{World};
 ghost use Rattle.vba_cli.specs.Program.{program_of};
-ghost use Rattle.vba_cli.specs.Programs.{IsWhole};
 ghost use Rattle.vba_cli.specs.Steps.{EndsSaved, IsReadable, PutsShown, Ran, RanAlone, RanOver, RanProject, RanSources};
 
 use crate::reading::program;
@@ -21,7 +19,7 @@ use crate::sheets::{ListedSheets, RunWords};
 use crate::status::Status;
 use bind_project::Bound;
 use book_files::{BookStop, read_book, save_book};
-use bound_project::{Class, Project};
+use bound_project::Project;
 use code_listing::listing;
 use command_words::Command;
 use list_file::{ModuleBytes, ReadStop, SheetPath, Startup};
@@ -30,7 +28,7 @@ use project_run::pcode_run::Shows;
 use project_run::{Outcome, RunFault, run_project};
 use sheet_host::Book;
 use std::alloc::Global;
-use vba_base::{Files, NoMemory, OrMemory, Place, Sink, WriteAnswer};
+use vba_base::{Files, NoMemory, OrMemory, Sink, WriteAnswer};
 
 /// Does with the files of standard modules what is asked. A run reads the sheets of the list before it begins, and saves
 /// them where it came to its end and that is asked.
@@ -64,51 +62,6 @@ pub fn take_sources<F: Files, O: Sink>(
     }
 }
 
-// The front of the first class that has a default member, which no run finds yet.
-fn default_front(sources: &[ModuleBytes], classes: &[Class]) -> Option<Place> {
-    let mut module: u32 = 0;
-    let mut left = classes;
-    for source in sources {
-        module = module.saturating_add(1);
-        if source.is_class {
-            let [class, rest @ ..] = left else {
-                return None;
-            };
-            if class.default.is_some() {
-                return Some(Place {
-                    module,
-                    line: 1,
-                    column: 1,
-                });
-            }
-            left = rest;
-        }
-    }
-    None
-}
-
-// Runs a project, unless a part of it isn't built.
-fn run_unless_default<F: Files, O: Sink>(
-    alloc: Global,
-    run: RunWords,
-    project: Project,
-    front: Option<Place>,
-    listed: ListedSheets,
-    files: &mut F,
-    out: &mut O,
-) -> Status
-    requires fits { Fits project }
-    requires readable { IsReadable listed }
-    ensures { let old : World = record { told = F.told files.old; counts = F.counts files.old; out = O.taken out.old; out_faults = O.faults out.old; err = None; err_faults = 0 } in
-        let new : World = record { told = F.told files.new; counts = F.counts files.new; out = O.taken out.new; out_faults = O.faults out.new; err = None; err_faults = 0 } in
-        (path : List ℕ) (program : (left : Option Place) → Answer) → IsWhole program (project_view project) → RanSources (words.run path run.entry.turns run.entry.trace (option_map (λ s. s.now) run.entry.save)) (sheets_view listed.entry.sheets.now) listed.entry.number listed.entry.taken program result old new }
-{
-    match front {
-        Some(place) => Status::NotBuilt(place),
-        None => run_bound(alloc, run, project, listed, files, out),
-    }
-}
-
 // Runs the files of standard modules.
 #[tactic(auto, using(crate::proofs::Taken::sources_refused, crate::proofs::Taken::sources_wanting))]
 fn run_sources<F: Files, O: Sink>(
@@ -127,10 +80,7 @@ fn run_sources<F: Files, O: Sink>(
         (path : List ℕ) → RanSources (words.run path run.entry.turns run.entry.trace (option_map (λ s. s.now) run.entry.save)) (sheets_view listed.entry.sheets.now) listed.entry.number listed.entry.taken (program_of (option_map (λ s. start_view s.now) start.entry) (files_view sources.now)) result old new }
 {
     match program(alloc, sources, start) {
-        Ok(Bound::Runs(project)) => {
-            let front = default_front(sources, &project.declared.classes);
-            run_unless_default(alloc, run, project, front, listed, files, out)
-        }
+        Ok(Bound::Runs(project)) => run_bound(alloc, run, project, listed, files, out),
         Ok(Bound::NotBuilt(place)) => Status::NotBuilt(place),
         Err(OrMemory::Fault(refusal)) => Status::Refused(refusal),
         Err(OrMemory::NoMemory) => Status::NoMemory,

@@ -1,7 +1,9 @@
-use Rattle.std.proofs.Common.{sym, ◌∙◌}
+use Rattle.std.proofs.Common.{Bool, Option, sym, subst, ◌∙◌}
 use Rattle.vba_expression.specs.View.{view as expression_view}
 use Rattle.bound_project.specs.DraftView.{draft_view}
 use Rattle.bound_terms.specs.bound_accesses.specs.bound_names.specs.View.{env_view}
+use Rattle.bound_terms.specs.bound_accesses.specs.bound_names.specs.bound_members.specs.bound_calls.specs.bound_forms.specs.StatementsBound.{value_given}
+use Rattle.statement_terms.specs.Assigning.{ValueFor}
 use Rattle.statement_terms.proofs.GivenValues.{value_bound, value_kept, value_marked}
 use Rattle.bound_actions.proofs.assigned_values.bind_assigned.Goals as goal
 
@@ -28,5 +30,7 @@ returns c =
     let d = draft_view c.args.draft.now in
     let f = draft_view c.tree_of.new.draft in
     let e = draft_view c.push_for.new.draft in
-    value_marked env p.may_be place value x p.of c.in_ok-taker.taker d f e (draft_view c.mark_taken.new.draft) c.in_ok-tree.ensures c.in_ok-taker.ensures
-    (value_bound has p.may_be env place value x p.of d f e (sym c.args.env.has_class_is) c.in_ok-tree.ensures p.ensures) c.in_ok-mark_taken.ensures
+    let K : Option Bool → Type 0 = λ (o : Option Bool). ValueFor env o (value_given env place value) d (draft_view c.mark_taken.new.draft) in
+    subst K (sym c.marked_may.ensures)
+    (value_marked env p.may_be place value x p.of c.in_ok-taker.taker d f e (draft_view c.mark_taken.new.draft) c.in_ok-tree.ensures c.in_ok-taker.ensures
+    (value_bound has p.may_be env place value x p.of d f e (sym c.args.env.has_class_is) c.in_ok-tree.ensures p.ensures) c.in_ok-mark_taken.ensures)

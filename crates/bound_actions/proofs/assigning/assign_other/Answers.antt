@@ -11,11 +11,11 @@ returns-in_ok-kind-in-Routine c =
     let d = draft_view c.args.draft.now in
     let m = draft_view c.called_ending.new.draft in
     let e = draft_view c.assign_value.new.draft in
-    other_is c.args.has_class x d e k c.as_operand.result.kind false c.as_operand.result.is_given c.as_operand.ensures.kind c.as_operand.ensures.given
-    (assigns_routine c.args.has_class x c.in-Routine.routine c.in_ok-ending-in-Routine.ending k d m e c.in-Routine.is (sym c.gives_value.ensures ∙ c.if-not-gives_value.false) c.in_ok-ending-in-Routine.ensures c.in_ok-kind-in-Routine.ensures)
+    other_is c.args.has_class c.args.may_be x d e k c.as_operand.result.kind false c.as_operand.result.is_given c.as_operand.ensures.kind c.as_operand.ensures.given
+    (assigns_routine c.args.has_class c.args.may_be x c.in-Routine.routine c.in_ok-ending-in-Routine.ending k d m e c.in-Routine.is (sym c.gives_value.ensures ∙ c.if-not-gives_value.false) c.in_ok-ending-in-Routine.ensures (c.in_ok-kind-in-Routine.ensures c.args.may_be))
 
 pub returns-in_default : goal.returns-in_default
 returns-in_default c =
     let d = draft_view c.args.draft.now in
     let e = draft_view c.assign_tree.new.draft in
-    IfOk-weaker c.assign_tree.result _ _ (λ done a. assigns_plainly c.args.has_class c.args.tree d e done.kind done.is_given a) c.assign_tree.ensures
+    IfOk-weaker c.assign_tree.result _ _ (λ done a. assigns_plainly c.args.has_class c.args.may_be c.args.tree d e done.kind done.is_given a) c.assign_tree.ensures

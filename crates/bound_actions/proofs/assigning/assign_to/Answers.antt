@@ -15,4 +15,4 @@ assign_bare-requires-clause-bare c =
 
 pub returns-in-Some : goal.returns-in-Some
 returns-in-Some c =
-    let B : Expr → Type 0 = λ e. IfOk c.assign_split.result (λ done. AssignsTo (env_view c.args.env) e (draft_view c.args.draft.now) (draft_view c.assign_split.new.draft) done.kind done.is_given) in subst B c.nodes-nodes.ensures c.assign_split.ensures
+    let B : Expr → Type 0 = λ e. IfOk c.assign_split.result (λ done. AssignsTo (env_view c.args.env) c.args.may_be e (draft_view c.args.draft.now) (draft_view c.assign_split.new.draft) done.kind done.is_given) in subst B c.nodes-nodes.ensures c.assign_split.ensures

@@ -15,6 +15,6 @@ returns c =
     let f = draft_view c.read_untaken.new.draft in
     let e = draft_view c.write_broken.new.draft in
     IfOk-weaker c.write_broken.result _ _
-    (λ k w. written_refused (env_view c.args.env) c.args.place c.args.member c.in-Some.rule c.in_ok-count.count c.args.nodes.now c.in_ok-shapes.shapes.items d f e k c.requires.named c.in_ok-shapes.ensures
+    (λ k w. written_refused (env_view c.args.env) c.args.place c.args.member c.in-Some.rule c.in_ok-count.count c.args.nodes.now c.in_ok-shapes.shapes.items d f e k c.requires.named c.if-member.false c.in_ok-shapes.ensures
     (sym c.in-Some.is ∙ c.in_ok-rule.ensures ∙ ap (λ (l : List Shape). written_rule (member_is f.tables c.args.member) (shapes_given l)) c.deref.ensures.value)
     (c.in_ok-count.ensures ∙ ap (λ (l : List Shape). length l) c.deref-2.ensures.value) w) c.write_broken.ensures

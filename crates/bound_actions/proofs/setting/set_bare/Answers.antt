@@ -1,9 +1,11 @@
-use Rattle.std.proofs.Common.{◌∙◌}
+use Rattle.std.proofs.Common.{subst, ◌∙◌}
+use Rattle.bound_terms.specs.bound_accesses.specs.bound_names.specs.bound_members.specs.bound_calls.specs.declared.term.Term.{Term}
+use Rattle.bound_terms.specs.bound_accesses.specs.bound_names.specs.bound_members.specs.bound_calls.specs.Standing.{TermNamed}
 use Rattle.std.proofs.lemmas.Result.{IfOk-weaker}
 use Rattle.vba_expression.specs.View.{view}
 use Rattle.bound_project.specs.DraftView.{draft_view}
 use Rattle.bound_terms.specs.bound_accesses.specs.bound_names.specs.View.{env_view}
-use Rattle.bound_actions.proofs.SetTargets.{sets_bare_routine, sets_bare_sub, sets_other, sets_property_bare}
+use Rattle.bound_actions.proofs.SetTargets.{other_member, sets_bare_member, sets_bare_routine, sets_bare_sub, sets_other, sets_property_bare}
 use Rattle.bound_actions.proofs.setting.set_bare.Goals as goal
 
 pub let_bare-requires-clause-writer : goal.let_bare-requires-clause-writer
@@ -35,11 +37,25 @@ returns-in-Routine c =
     (λ k s. sets_bare_routine c.args.set_word (env_view c.args.env) (view c.args.place.now) c.in_ok-tree.tree c.in-Routine.routine d f e k c.requires.bare c.in-Routine.is
     (λ env t y ps below h. c.is_sub.ensures env t y ps below h ∙ c.if-is_sub.false) c.in_default.ensures c.in_ok-tree.ensures s) c.set_routine.ensures
 
+pub returns-in-HostMember : goal.returns-in-HostMember
+returns-in-HostMember c =
+    let d = draft_view c.args.draft.now in
+    let f = draft_view c.tree_of.new.draft in
+    let e = draft_view c.set_bare_member.new.draft in
+    IfOk-weaker c.set_bare_member.result _ _
+    (λ k s. sets_bare_member c.args.set_word (env_view c.args.env) (view c.args.place.now) c.in_ok-tree.tree c.in-HostMember.member d f e k c.requires.bare c.in-HostMember.is
+    (λ env t y ps below h. c.is_sub.ensures env t y ps below h ∙ c.if-is_sub.false) c.in_ok-tree.ensures s) c.set_bare_member.ensures
+
+pub set_bare_member-requires : goal.set_bare_member-requires
+set_bare_member-requires c =
+    let N : Term → Type 0 = λ (x : Term). TermNamed (draft_view c.tree_of.new.draft).tables x in
+    subst N c.in-HostMember.is c.in_ok-tree.ensures.named
+
 pub returns-in_default-term : goal.returns-in_default-term
 returns-in_default-term c =
     let d = draft_view c.args.draft.now in
     let f = draft_view c.tree_of.new.draft in
     let e = draft_view c.set_term.new.draft in
     IfOk-weaker c.set_term.result _ _
-    (λ k s. sets_other c.args.set_word (env_view c.args.env) (view c.args.place.now) c.in_ok-tree.tree d f e k c.requires.bare (λ env t y ps below h. c.is_sub.ensures env t y ps below h ∙ c.if-is_sub.false) c.in_default.ensures
-    c.in_ok-tree.ensures s) c.set_term.ensures
+    (λ k s. sets_other c.args.set_word (env_view c.args.env) (view c.args.place.now) c.in_ok-tree.tree d f e k c.requires.bare (other_member c.in_ok-tree.tree.term c.in_default-term.not-HostMember c.in_default-term.not-SheetMember)
+    (λ env t y ps below h. c.is_sub.ensures env t y ps below h ∙ c.if-is_sub.false) c.in_default.ensures c.in_ok-tree.ensures s) c.set_term.ensures

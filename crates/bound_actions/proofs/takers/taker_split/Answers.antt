@@ -1,4 +1,6 @@
-use Rattle.std.proofs.Common.{sym, ◌∙◌}
+use Rattle.std.proofs.Common.{Bool, sym, subst}
+use Rattle.std.specs.Prelude.{MatchBool}
+use Rattle.bound_terms.specs.bound_accesses.specs.Items.{KeepsItem}
 use Rattle.bound_project.specs.DraftView.{draft_view}
 use Rattle.bound_terms.specs.bound_accesses.specs.bound_names.specs.View.{env_view}
 use Rattle.statement_terms.proofs.NodeTrees.{still_named}
@@ -21,6 +23,8 @@ returns-then-takes_item c =
 
 pub returns : goal.returns
 returns c =
-    indexed_taken (env_view c.args.env) c.args.split c.args.nodes.now c.in_ok-tree.tree c.in_ok-more.more c.in_ok-term.term c.taker_of-2.result (draft_view c.args.draft.now) (draft_view c.nodes_tree.new.draft)
+    let has = c.args.env.has_class in
+    let K : Bool → Type 0 = λ (b : Bool). MatchBool b (Unit {0}) (KeepsItem has (draft_view c.callee_term.new.draft).tables c.in_ok-term.term) in
+    indexed_taken has (env_view c.args.env) (sym c.args.env.has_class_is) c.args.split c.args.nodes.now c.in_ok-tree.tree c.in_ok-more.more c.in_ok-term.term c.taker_of-2.result (draft_view c.args.draft.now) (draft_view c.nodes_tree.new.draft)
     (draft_view c.callee_term.new.draft) (draft_view c.continue_tree.new.draft) c.requires.split c.if-not-adds_one.ensures c.in_ok-tree.ensures c.in_ok-term.ensures c.in_default.ensures
-    (sym c.takes_item.ensures ∙ c.if-takes_item.false) c.in_ok-more.ensures c.taker_of-2.ensures
+    (subst K c.if-takes_item.false c.takes_item.ensures) c.in_ok-more.ensures c.taker_of-2.ensures

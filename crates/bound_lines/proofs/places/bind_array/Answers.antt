@@ -2,8 +2,11 @@ use Rattle.std.proofs.Common.{sym}
 use Rattle.vba_expression.specs.View.{view}
 use Rattle.bound_project.specs.DraftView.{draft_view}
 use Rattle.bound_terms.specs.bound_accesses.specs.bound_names.specs.View.{env_view}
-use Rattle.statement_terms.proofs.Placing.{array_bound}
+use Rattle.bound_lines.proofs.Placing.{array_bound, array_named}
 use Rattle.bound_lines.proofs.places.bind_array.Goals as goal
+
+pub push_node-requires : goal.push_node-requires
+push_node-requires c = array_named (draft_view c.tree_of.new.draft).tables c.in_ok-tree.tree.term c.in-Some.at (sym c.in-Some.ensures) c.in_ok-tree.ensures.named
 
 pub returns : goal.returns
 returns c =

@@ -10,7 +10,5 @@ pub returns : goal.returns
 returns c =
     let d = draft_view c.args.draft.now in
     let e = draft_view c.add_value.new.draft in
-    let has = c.args.has_class in
-    let any = c.is_first_item-takes_any.result in
-    IfOk-weaker c.add_value.result (λ z. AddsValue has any c.args.call c.args.tree 0 d e z) (λ z. AddsArgument has (item.Member c.args.call) c.args.tree d e (item.Member z))
-    (λ z v. adds_given has any c.args.call z c.args.tree d e (c.is_first_item-takes_any.ensures d.tables) c.requires.member c.if-call-ne0.false v) c.add_value.ensures
+    IfOk-weaker c.add_value.result (λ z. AddsValue c.args.call c.args.tree 0 d e z) (λ z. AddsArgument (item.Member c.args.call) c.args.tree d e (item.Member z))
+    (λ z v. adds_given c.args.call z c.args.tree d e c.requires.member c.if-call-ne0.false v) c.add_value.ensures

@@ -10,7 +10,5 @@ returns c =
     let d = draft_view c.args.draft.now in
     let e = draft_view c.add_value.new.draft in
     let named = c.in_ok-named.named in
-    let has = c.args.has_class in
-    let any = c.is_named_item-takes_any.result in
-    IfOk-weaker c.add_value.result (λ z. AddsValue has any c.args.call c.args.tree named d e z) (λ z. AddsNamed has c.args.call c.args.tree c.args.name.now d e z)
-    (λ z v. adds_named has any c.args.call z c.args.tree c.in-Some.names c.args.name.now named d e (c.is_named_item-takes_any.ensures d.tables) c.requires.member c.in-Some.is (sym c.is_next.ensures ∙ c.if-not-is_next.false) c.in_ok-named.ensures v) c.add_value.ensures
+    IfOk-weaker c.add_value.result (λ z. AddsValue c.args.call c.args.tree named d e z) (λ z. AddsNamed c.args.call c.args.tree c.args.name.now d e z)
+    (λ z v. adds_named c.args.call z c.args.tree c.in-Some.names c.args.name.now named d e c.requires.member (sym c.in-Some.ensures) (sym c.is_next.ensures ∙ c.if-not-is_next.false) c.in_ok-named.ensures v) c.add_value.ensures

@@ -1,6 +1,6 @@
 use Rattle.std.specs.Prelude.{reverse}
 use Rattle.bound_project.specs.DraftView.{draft_view}
-use Rattle.bound_operands.proofs.Elements.{goes_end}
+use Rattle.bound_operands.proofs.ElementEnds.{goes_end}
 use Rattle.bound_operands.proofs.call_steps.step_index.Goals as goal
 
 pub returns : goal.returns

@@ -7,7 +7,7 @@ use Rattle.bound_project.specs.DraftView.{draft_view}
 use Rattle.bound_members.specs.bound_calls.specs.declared.term.Item.{Item}
 use Rattle.bound_members.specs.bound_calls.specs.Standing.{AllNamed}
 use Rattle.bound_members.specs.bound_calls.specs.Steps.{Goes}
-use Rattle.bound_operands.proofs.Elements.{goes_skipped}
+use Rattle.bound_operands.proofs.ElementEnds.{goes_skipped}
 use Rattle.bound_operands.proofs.call_steps.step_missing_argument.Goals as goal
 
 pub returns : goal.returns

@@ -5,25 +5,21 @@ use Rattle.bound_members.specs.bound_calls.specs.declared.term.Item.TheVariants 
 use Rattle.bound_members.specs.bound_calls.specs.Indexing.{AddsArgument}
 use Rattle.bound_members.specs.bound_calls.specs.Standing.{ItemNamed}
 use Rattle.bound_operands.proofs.indexing.add_argument.Goals as goal
-use Rattle.std.proofs.lemmas.Result.{IfOk-weaker}
 
 pub returns-in_ok-more-in-Function : goal.returns-in_ok-more-in-Function
 returns-in_ok-more-in-Function c =
-    let A : Item → Type 0 = λ (i : Item). AddsArgument c.args.has_class i c.args.tree (draft_view c.args.draft.now) (draft_view c.add_value.new.draft) (item.Function c.in_ok-more-in-Function.more) in
-    subst A (sym c.in-Function.is) (c.in_ok-more-in-Function.ensures c.args.has_class)
+    let A : Item → Type 0 = λ (i : Item). AddsArgument i c.args.tree (draft_view c.args.draft.now) (draft_view c.add_value.new.draft) (item.Function c.in_ok-more-in-Function.more) in
+    subst A (sym c.in-Function.is) c.in_ok-more-in-Function.ensures
 
 pub returns-in_ok-more-in-Indexed : goal.returns-in_ok-more-in-Indexed
 returns-in_ok-more-in-Indexed c =
-    let A : Item → Type 0 = λ (i : Item). AddsArgument c.args.has_class i c.args.tree (draft_view c.args.draft.now) (draft_view c.add_number.new.draft) (item.Indexed c.in_ok-more-in-Indexed.more) in
-    subst A (sym c.in-Indexed.is) (c.in_ok-more-in-Indexed.ensures c.args.has_class)
+    let A : Item → Type 0 = λ (i : Item). AddsArgument i c.args.tree (draft_view c.args.draft.now) (draft_view c.add_index.new.draft) (item.Indexed c.in_ok-more-in-Indexed.more) in
+    subst A (sym c.in-Indexed.is) c.in_ok-more-in-Indexed.ensures
 
 pub add_given-requires-clause-member : goal.add_given-requires-clause-member
 add_given-requires-clause-member c = (let N : Item → Type 0 = λ (i : Item). ItemNamed (draft_view c.args.draft.now).tables i in subst N c.in-Member.is c.requires.item)
 
 pub returns-in_ok-more-in-Member : goal.returns-in_ok-more-in-Member
 returns-in_ok-more-in-Member c =
-    let A : Item → Type 0 = λ (i : Item). AddsArgument c.args.has_class i c.args.tree (draft_view c.args.draft.now) (draft_view c.add_given.new.draft) (item.Member c.in_ok-more-in-Member.more) in
+    let A : Item → Type 0 = λ (i : Item). AddsArgument i c.args.tree (draft_view c.args.draft.now) (draft_view c.add_given.new.draft) (item.Member c.in_ok-more-in-Member.more) in
     subst A (sym c.in-Member.is) c.in_ok-more-in-Member.ensures
-
-pub returns-in_default : goal.returns-in_default
-returns-in_default c = IfOk-weaker c.add_passed.result _ _ (λ more h. h c.args.has_class) c.add_passed.ensures

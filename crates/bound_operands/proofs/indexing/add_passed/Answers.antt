@@ -9,6 +9,5 @@ pub returns : goal.returns
 returns c =
     let d = draft_view c.args.draft.now in
     let e = draft_view c.pass_plain.new.draft in
-    λ has.
-    let A : Item → Type 0 = λ (i : Item). AddsArgument has c.args.item c.args.tree d e i in
-    subst A (sym c.with_passed.ensures) (adds_passed has c.args.item c.in-Some.passed c.in_ok-passed.passed c.args.tree d e (sym c.in-Some.ensures) c.in_ok-passed.ensures)
+    let A : Item → Type 0 = λ (i : Item). AddsArgument c.args.item c.args.tree d e i in
+    subst A (sym c.with_passed.ensures) (adds_passed c.args.item c.in-Some.passed c.in_ok-passed.passed c.args.tree d e (sym c.in-Some.ensures) c.in_ok-passed.ensures)

@@ -1,4 +1,4 @@
-use Rattle.bound_operands.proofs.Elements.{ends_variable, ends_place, ends_value}
+use Rattle.bound_operands.proofs.ElementEnds.{ends_place, ends_place_along, ends_value, ends_value_along, ends_variable}
 use Rattle.bound_operands.proofs.indexing.element.Goals as goal
 
 pub returns-in-Variable : goal.returns-in-Variable
@@ -9,3 +9,9 @@ returns-in-Place c = ends_place c.args.indexed c.in-Place.is c.requires
 
 pub returns-in-Value : goal.returns-in-Value
 returns-in-Value c = ends_value c.args.indexed c.in-Value.is c.requires
+
+pub returns-in-PlaceAlong : goal.returns-in-PlaceAlong
+returns-in-PlaceAlong c = ends_place_along c.args.indexed c.in-PlaceAlong.is c.requires
+
+pub returns-in-ValueAlong : goal.returns-in-ValueAlong
+returns-in-ValueAlong c = ends_value_along c.args.indexed c.in-ValueAlong.is c.requires

@@ -5,7 +5,7 @@ use Rattle.bound_members.specs.bound_calls.specs.declared.term.Item.{Item}
 use Rattle.bound_members.specs.bound_calls.specs.Indexing.{Closes}
 use Rattle.bound_members.specs.bound_calls.specs.Standing.{ItemNamed}
 use Rattle.bound_members.proofs.MemberSteps.{closes_member}
-use Rattle.bound_operands.proofs.Elements.{ended, closes_indexed}
+use Rattle.bound_operands.proofs.ElementEnds.{ended, closes_indexed}
 use Rattle.bound_operands.proofs.Library.{ended_function, closes_function}
 use Rattle.bound_operands.proofs.indexing.end_arguments.Goals as goal
 

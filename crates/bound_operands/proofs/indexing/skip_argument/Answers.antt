@@ -11,6 +11,11 @@ returns-in_ok-more-in-Function c =
     let A : Item → Type 0 = λ (i : Item). AddsMissing i (draft_view c.args.draft.now) (draft_view c.add_missing_value.new.draft) (item.Function c.in_ok-more-in-Function.more) in
     subst A (sym c.in-Function.is) c.in_ok-more-in-Function.ensures
 
+pub returns-in_ok-more-in-Indexed : goal.returns-in_ok-more-in-Indexed
+returns-in_ok-more-in-Indexed c =
+    let A : Item → Type 0 = λ (i : Item). AddsMissing i (draft_view c.args.draft.now) (draft_view c.skip_along.new.draft) (item.Indexed c.in_ok-more-in-Indexed.more) in
+    subst A (sym c.in-Indexed.is) c.in_ok-more-in-Indexed.ensures
+
 pub add_missing-requires : goal.add_missing-requires
 add_missing-requires c = (let N : Item → Type 0 = λ (i : Item). ItemNamed (draft_view c.args.draft.now).tables i in subst N c.in-Member.is c.requires)
 

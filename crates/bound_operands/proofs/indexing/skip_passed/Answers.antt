@@ -2,7 +2,7 @@ use Rattle.std.proofs.Common.{sym, subst}
 use Rattle.bound_project.specs.DraftView.{draft_view}
 use Rattle.bound_members.specs.bound_calls.specs.declared.term.Item.{Item}
 use Rattle.bound_members.specs.bound_calls.specs.Indexing.{AddsMissing}
-use Rattle.bound_operands.proofs.Elements.{misses_passed}
+use Rattle.bound_operands.proofs.ElementEnds.{misses_passed}
 use Rattle.bound_operands.proofs.indexing.skip_passed.Goals as goal
 
 pub returns : goal.returns

@@ -12,5 +12,5 @@ add_named-requires-clause-member c = c.requires.1.0
 pub returns : goal.returns
 returns c =
     let xs = reverse c.args.stack.now.items in
-    λ env known comma mark. goes_to_member c.args.has_class env known c.args.tree c.args.call c.in_ok-more.more xs (reverse c.put_item.new.stack.items) c.args.name.now comma mark (draft_view c.args.draft.now) (draft_view c.add_named.new.draft)
+    λ env comma mark. goes_to_member env c.args.tree c.args.call c.in_ok-more.more xs (reverse c.put_item.new.stack.items) c.args.name.now comma mark (draft_view c.args.draft.now) (draft_view c.add_named.new.draft)
     c.in_ok-put_item.ensures c.requires c.in_ok-more.ensures

@@ -11,7 +11,6 @@ use Rattle.bound_members.specs.bound_calls.specs.declared.term.Item.TheVariants 
 use Rattle.bound_members.specs.bound_calls.specs.Standing.{AllNamed}
 use Rattle.bound_members.specs.bound_calls.specs.Steps.{Goes}
 use Rattle.bound_operands.proofs.named.step_named_argument.Goals as goal
-use Rattle.bound_members.specs.bound_calls.specs.bound_declarations.specs.constant_values.specs.declared_names.specs.binder.specs.Classes.{has_class}
 
 pub give_named-requires : goal.give_named-requires
 give_named-requires c =
@@ -35,7 +34,7 @@ returns-in-Some-Member c =
     let d = draft_view c.args.draft.now in
     let e = draft_view c.give_named.new.draft in
     let new = reverse c.give_named.new.stack.items in
-    let A : List Item → Type 0 = λ (l : List Item). OnOk c.give_named.result ((env : plain.Env) → has_class env.scope.spaces ≡ c.args.has_class → (comma : Option Token) (mark : Token) → Goes env d l e new (behind_node (node.NamedArgument comma c.args.name.now mark))) in
+    let A : List Item → Type 0 = λ (l : List Item). OnOk c.give_named.result ((env : plain.Env) (comma : Option Token) (mark : Token) → Goes env d l e new (behind_node (node.NamedArgument comma c.args.name.now mark))) in
     subst A (sym whole) c.give_named.ensures
 
 pub give_function-requires : goal.give_function-requires
@@ -60,8 +59,8 @@ returns-in-Some-Function c =
     let d = draft_view c.args.draft.now in
     let e = draft_view c.give_function.new.draft in
     let new = reverse c.give_function.new.stack.items in
-    let A : List Item → Type 0 = λ (l : List Item). OnOk c.give_function.result ((env : plain.Env) → has_class env.scope.spaces ≡ c.args.has_class → (comma : Option Token) (mark : Token) → Goes env d l e new (behind_node (node.NamedArgument comma c.args.name.now mark))) in
-    subst A (sym whole) (on_ok_weaker c.give_function.result (λ g env known comma mark. g env comma c.args.name.now mark) c.give_function.ensures)
+    let A : List Item → Type 0 = λ (l : List Item). OnOk c.give_function.result ((env : plain.Env) (comma : Option Token) (mark : Token) → Goes env d l e new (behind_node (node.NamedArgument comma c.args.name.now mark))) in
+    subst A (sym whole) (on_ok_weaker c.give_function.result (λ g env comma mark. g env comma c.args.name.now mark) c.give_function.ensures)
 
 pub pass_named-requires : goal.pass_named-requires
 pass_named-requires c =
@@ -80,7 +79,7 @@ returns-in_ok-put_item-in-Some c =
     let e = draft_view c.pass_named.new.draft in
     let new = reverse c.pass_named.new.stack.items in
     let A : List Item → Type 0 = λ (l : List Item). OnOk c.pass_named.result ((env : plain.Env) (comma : Option Token) (mark : Token) → Goes env d l e new (behind_node (node.NamedArgument comma c.args.name.now mark))) in
-    on_ok_weaker c.pass_named.result (λ g env known comma mark. g env comma mark) (subst A (sym whole) c.pass_named.ensures)
+    subst A (sym whole) c.pass_named.ensures
 
 pub refuse-requires-clause-named : goal.refuse-requires-clause-named
 refuse-requires-clause-named c =
@@ -99,6 +98,6 @@ returns-then-is_refused c =
     let e = draft_view c.refuse.new.draft in
     let new = reverse c.refuse.new.stack.items in
     on_ok_weaker c.refuse.result
-    (λ g env known comma mark.
+    (λ g env comma mark.
     let A : List Item → Type 0 = λ (l : List Item). Goes env d l e new (behind_node (node.NamedArgument comma c.args.name.now mark)) in
     subst A (sym whole) (g env comma mark)) c.refuse.ensures

@@ -28,4 +28,4 @@ returns-then-takes_item c =
     let e = draft_view c.callee_term.new.draft in
     let f = draft_view c.item_member.new.draft in
     let g = draft_view c.open_item.new.draft in
-    IfOk-weaker c.open_item.result _ _ (λ i o. opens_item env c.args.tree c.in_ok-term.term c.in_ok-member.member i d e f g c.in_ok-term.ensures c.in_ok-member.ensures (o env)) c.open_item.ensures
+    IfOk-weaker c.open_item.result _ _ (λ i o. opens_item env c.args.tree c.in_ok-term.term c.in_ok-member.member i d e f g c.in_ok-term.ensures c.in_ok-member.ensures o) c.open_item.ensures

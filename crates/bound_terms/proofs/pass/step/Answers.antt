@@ -86,7 +86,7 @@ returns-in-PlainArgument c =
     let d = draft_view c.args.draft.now in
     let xs = reverse c.args.stack.now.items in
     let A : ExpressionNode → Type 0 = λ k. Goes env d xs (draft_view c.step_plain_argument.new.draft) (reverse c.step_plain_argument.new.stack.items) (behind_node k) in
-    on_ok_weaker c.step_plain_argument.result (λ g. subst A (sym c.in-PlainArgument.is) (g env (sym c.args.env.has_class_is) c.in-PlainArgument.comma)) c.step_plain_argument.ensures
+    on_ok_weaker c.step_plain_argument.result (λ g. subst A (sym c.in-PlainArgument.is) (g env c.in-PlainArgument.comma)) c.step_plain_argument.ensures
 
 pub returns-in-NamedArgument : goal.returns-in-NamedArgument
 returns-in-NamedArgument c =
@@ -94,7 +94,7 @@ returns-in-NamedArgument c =
     let d = draft_view c.args.draft.now in
     let xs = reverse c.args.stack.now.items in
     let A : ExpressionNode → Type 0 = λ k. Goes env d xs (draft_view c.step_named_argument.new.draft) (reverse c.step_named_argument.new.stack.items) (behind_node k) in
-    on_ok_weaker c.step_named_argument.result (λ g. subst A (sym c.in-NamedArgument.is) (g env (sym c.args.env.has_class_is) c.in-NamedArgument.comma c.in-NamedArgument.colon_equal)) c.step_named_argument.ensures
+    on_ok_weaker c.step_named_argument.result (λ g. subst A (sym c.in-NamedArgument.is) (g env c.in-NamedArgument.comma c.in-NamedArgument.colon_equal)) c.step_named_argument.ensures
 
 pub returns-in-Index : goal.returns-in-Index
 returns-in-Index c =

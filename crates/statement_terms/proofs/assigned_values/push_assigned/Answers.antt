@@ -13,8 +13,8 @@ returns-then-given c =
     let e = draft_view c.push_node.new.draft in
     let has = c.args.has_class in
     let v = c.in_ok-ending.ending in
-    let A : Bool → Type 0 = λ (b : Bool). PushesFor has c.may_be_instance-may_be.result b c.args.tree d e v.of in
-    subst A (sym c.if-given.true) (given_pushed has c.may_be_instance-may_be.result c.args.tree d m e v c.in_ok-ending.ensures c.in_ok-push_node.ensures (sym c.may_be_instance-may_be.ensures))
+    let A : Bool → Type 0 = λ (b : Bool). PushesFor has c.instance_of-may_be.result b c.args.tree d e v.of in
+    subst A (sym c.if-given.true) (given_pushed has c.instance_of-may_be.result c.args.tree d m e v c.in_ok-ending.ensures c.in_ok-push_node.ensures c.instance_of-may_be.ensures)
 
 pub returns : goal.returns
 returns c =

@@ -12,4 +12,5 @@ returns-in-Some c =
     let e = draft_view c.write_broken.new.draft in
     let m = c.args.member in
     let place = c.args.place in
-    IfOk-weaker c.write_broken.result _ (λ k. (has : Bool) → AssignsTerm has place (term.HostMember m) d e k true) (λ k h has. member_broken has m c.in-Some.rule place d e k c.in-Some.ensures h) c.write_broken.ensures
+    let may = c.args.may_be in
+    IfOk-weaker c.write_broken.result _ (λ k. (has : Bool) → AssignsTerm has may place (term.HostMember m) d e k true) (λ k h has. member_broken has may m c.in-Some.rule place d e k c.in-Some.ensures h) c.write_broken.ensures

@@ -13,5 +13,6 @@ returns c =
     let e = draft_view c.assign_member.new.draft in
     let m = c.args.member in
     let place = c.args.place in
-    IfOk-weaker c.assign_member.result (λ k. (has : Bool) → AssignsTerm has place (term.HostMember m) f e k true) (λ k. (has : Bool) → AssignsTerm has place (term.SheetMember m) d e k true)
-    (λ k h has. sheet_assigned has m place d f e k c.in_ok-push_sheet.ensures (h has)) c.assign_member.ensures
+    let may = c.args.may_be in
+    IfOk-weaker c.assign_member.result (λ k. (has : Bool) → AssignsTerm has may place (term.HostMember m) f e k true) (λ k. (has : Bool) → AssignsTerm has may place (term.SheetMember m) d e k true)
+    (λ k h has. sheet_assigned has may m place d f e k c.in_ok-push_sheet.ensures (h has)) c.assign_member.ensures

@@ -4,7 +4,6 @@ use Rattle.statement_terms.proofs.member_targets.is_written_call.Goals as goal
 
 pub returns : goal.returns
 returns c = record {
-  given_is = sym c.if-call.false;
   some = c.if-call-eq0.false;
   takes = sym (c.takes_arguments.ensures (draft_view c.args.draft.now).tables) ∙ c.if-not-takes_arguments.false;
   default = sym c.has_written_default.ensures ∙ c.if-not-has_written_default.false;

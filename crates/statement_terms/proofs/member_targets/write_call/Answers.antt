@@ -1,13 +1,23 @@
-use Rattle.std.proofs.Common.{subst}
-use Rattle.std.specs.Prelude.{MatchBool}
+use Rattle.std.proofs.lemmas.Result.{IfOk-weaker}
 use Rattle.bound_project.specs.DraftView.{draft_view}
-use Rattle.statement_terms.specs.Members.{IsWritten}
-use Rattle.statement_terms.proofs.WrittenMembers.{writes_plain}
+use Rattle.statement_terms.specs.Members.{WritesCall}
 use Rattle.statement_terms.proofs.member_targets.write_call.Goals as goal
 
-pub write_named-requires-clause-written : goal.write_named-requires-clause-written
-write_named-requires-clause-written c = subst (λ b. MatchBool b (IsWritten (draft_view c.args.draft.now).tables c.args.call) (Unit {0})) c.if-not-is_written_call.false c.is_written_call.ensures
+pub write_plain-requires-clause-written : goal.write_plain-requires-clause-written
+write_plain-requires-clause-written c = c.if-not-is_written_call.ensures
 
-pub returns-in-None : goal.returns-in-None
-returns-in-None c =
-    writes_plain c.args.call (draft_view c.args.draft.now) c.requires c.in-None.is (subst (λ b. MatchBool b (IsWritten (draft_view c.args.draft.now).tables c.args.call) (Unit {0})) c.if-not-is_written_call.false c.is_written_call.ensures)
+pub write_given-requires-clause-written : goal.write_given-requires-clause-written
+write_given-requires-clause-written c = c.if-not-is_written_call.ensures
+
+pub write_named-requires-clause-written : goal.write_named-requires-clause-written
+write_named-requires-clause-written c = c.if-not-is_written_call.ensures
+
+pub returns-in-Early-None-default : goal.returns-in-Early-None-default
+returns-in-Early-None-default c =
+    let d = draft_view c.args.draft.now in
+    IfOk-weaker c.write_plain.result _ (λ k. WritesCall c.args.may_be c.args.call d d k) (λ k h. h c.args.may_be) c.write_plain.ensures
+
+pub returns-in-Late-Assigning-default : goal.returns-in-Late-Assigning-default
+returns-in-Late-Assigning-default c =
+    let d = draft_view c.args.draft.now in
+    IfOk-weaker c.write_given.result _ (λ k. WritesCall c.args.may_be c.args.call d d k) (λ k h. h c.args.may_be) c.write_given.ensures

@@ -7,7 +7,7 @@ pub assign_wrong-requires-clause-wrong : goal.assign_wrong-requires-clause-wrong
 assign_wrong-requires-clause-wrong c = known_wrong c.args.place c.args.ending c.args.of c.in-Some.rule c.requires.gives c.requires.known (sym c.in-Some.ensures)
 
 pub returns-in-Some : goal.returns-in-Some
-returns-in-Some c = IfOk-weaker c.assign_wrong.result _ _ (λ k h. h c.args.has_class) c.assign_wrong.ensures
+returns-in-Some c = IfOk-weaker c.assign_wrong.result _ _ (λ k h may. h c.args.has_class may) c.assign_wrong.ensures
 
 pub returns-in-None : goal.returns-in-None
-returns-in-None c = IfOk-weaker c.assign_written.result _ _ (λ k a. a c.args.of c.requires.gives c.requires.known (sym c.in-None.ensures)) c.assign_written.ensures
+returns-in-None c = IfOk-weaker c.assign_written.result _ _ (λ k a may. a c.args.of may c.requires.gives c.requires.known (sym c.in-None.ensures)) c.assign_written.ensures

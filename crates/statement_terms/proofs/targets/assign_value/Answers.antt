@@ -8,4 +8,4 @@ pub assign_known-requires-clause-known : goal.assign_known-requires-clause-known
 assign_known-requires-clause-known c = c.in-Some.ensures
 
 pub returns-then-not-gives_object : goal.returns-then-not-gives_object
-returns-then-not-gives_object c = IfOk-weaker c.assign_constant.result _ _ (λ k h. h c.args.has_class) c.assign_constant.ensures
+returns-then-not-gives_object c = IfOk-weaker c.assign_constant.result _ _ (λ k h may. h c.args.has_class may) c.assign_constant.ensures

@@ -20,14 +20,14 @@ returns-else-take_any c = λ go.
 
 pub returns-then-take_any-2 : goal.returns-then-take_any-2
 returns-then-take_any-2 c = λ go.
-    ap (λ t. takes_off t (operands_view c.args.self.now) go) c.in-CountedAndPath.is
-    ∙ c.take_any-in-CountedAndPath.ensures (λ js. path_off js go)
-    ∙ ap (λ b. cond b (path_off (operands_view c.take_any-in-CountedAndPath.new.self) go) None) c.if-take_any-2.true
-    ∙ c.take_path-then-take_any-2.ensures go
+    ap (λ t. takes_off t (operands_view c.args.self.now) go) c.in-CountedPathAndValues.is
+    ∙ c.take_any-in-CountedPathAndValues.ensures (λ js. path_off js (λ is. values_off c.in-CountedPathAndValues.values is go))
+    ∙ ap (λ b. cond b (path_off (operands_view c.take_any-in-CountedPathAndValues.new.self) (λ is. values_off c.in-CountedPathAndValues.values is go)) None) c.if-take_any-2.true
+    ∙ c.take_path_and_values-then-take_any-2.ensures go
 
 pub returns-else-take_any-2 : goal.returns-else-take_any-2
 returns-else-take_any-2 c = λ go.
-    ap (λ t. takes_off t (operands_view c.args.self.now) go) c.in-CountedAndPath.is
-    ∙ c.take_any-in-CountedAndPath.ensures (λ js. path_off js go)
-    ∙ ap (λ b. cond b (path_off (operands_view c.take_any-in-CountedAndPath.new.self) go) None) c.if-take_any-2.false
-    ∙ sym (ap (λ b. cond b (go (operands_view c.take_any-in-CountedAndPath.new.self)) None) c.if-take_any-2.false)
+    ap (λ t. takes_off t (operands_view c.args.self.now) go) c.in-CountedPathAndValues.is
+    ∙ c.take_any-in-CountedPathAndValues.ensures (λ js. path_off js (λ is. values_off c.in-CountedPathAndValues.values is go))
+    ∙ ap (λ b. cond b (path_off (operands_view c.take_any-in-CountedPathAndValues.new.self) (λ is. values_off c.in-CountedPathAndValues.values is go)) None) c.if-take_any-2.false
+    ∙ sym (ap (λ b. cond b (go (operands_view c.take_any-in-CountedPathAndValues.new.self)) None) c.if-take_any-2.false)

@@ -1,0 +1,34 @@
+use Rattle.std.proofs.Common.{refl}
+use Rattle.std.specs.Prelude.{false}
+use Rattle.vba_meaning.specs.Defaults.{most_calls}
+use Rattle.run_memory.specs.View.{memory_view}
+use Rattle.run_defaults.specs.View.{next_view}
+use Rattle.pcode.specs.View.{code_view}
+use Rattle.pcode.specs.Machine.{follows}
+use Rattle.pcode_vm.specs.View.{backs_view, operands_view, state_view}
+use Rattle.pcode_vm.proofs.Tellings.{told_on, told_raised, told_stopped}
+use Rattle.pcode_vm.proofs.machine.Machine.give_way_if_any.Goals as goal
+
+pub returns-in-Err-Fault-Raise : goal.returns-in-Err-Fault-Raise
+returns-in-Err-Fault-Raise c =
+    let old = c.args.self.now in
+    let mid = record old { memory = c.counted_if_any.new.memory; told = c.counted_if_any.new.told } in
+    told_raised c.args.turns old mid c.raise_number.new.self _ c.in-Err-Fault-Raise.number (memory_view mid.memory) (backs_view old.backs) (state_view old)
+    (follows (code_view c.args.code.now) false most_calls c.args.next (operands_view old.operands) (backs_view old.backs))
+    c.raise_number.result (rw (c.in-Err-Fault-Raise.field-0-is, c.in-Err-Fault-Raise.field-0-0-is) at c.in-Err-Fault-Raise.ensures) c.raise_number.ensures
+
+pub returns-in-Err-Fault-Outside : goal.returns-in-Err-Fault-Outside
+returns-in-Err-Fault-Outside c =
+    let old = c.args.self.now in
+    let mid = record old { memory = c.counted_if_any.new.memory; told = c.counted_if_any.new.told } in
+    told_stopped c.args.turns old mid _ _ (memory_view mid.memory) (backs_view old.backs) (state_view old)
+    (follows (code_view c.args.code.now) false most_calls c.args.next (operands_view old.operands) (backs_view old.backs)) c.stopped.result
+    (rw (c.in-Err-Fault-Outside.field-0-is, c.in-Err-Fault-Outside.field-0-0-is) at c.in-Err-Fault-Outside.ensures) c.stopped.ensures refl
+
+pub returns : goal.returns
+returns c =
+    let old = c.args.self.now in
+    let mid = record old { memory = c.counted_if_any.new.memory; told = c.counted_if_any.new.told } in
+    told_on c.args.turns old mid c.follow.new.self _ (next_view c.in-Ok.value) (memory_view mid.memory) (backs_view old.backs) (state_view old)
+    (follows (code_view c.args.code.now) false most_calls c.args.next (operands_view old.operands) (backs_view old.backs))
+    c.follow.result c.in-Ok.ensures c.follow.ensures

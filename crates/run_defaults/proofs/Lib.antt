@@ -1,0 +1,7 @@
+pub mod Given
+pub mod ButLast
+pub mod Making
+pub mod Passing
+pub mod Going
+pub mod Fields
+pub mod Items

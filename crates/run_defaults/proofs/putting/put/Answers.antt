@@ -1,0 +1,9 @@
+use Rattle.std.proofs.Common.{sym, ◌∙◌}
+use Rattle.run_defaults.proofs.Going.{use_refused, use_then}
+use Rattle.run_defaults.proofs.putting.put.Goals as goal
+
+pub returns-in_err-next : goal.returns-in_err-next
+returns-in_err-next c = rw (sym c.takes_itself.ensures ∙ c.if-takes_itself.false) (use_refused _ _ _ _ _ _ _ _ c.from_residual.ensures.1 c.in_err-next.ensures)
+
+pub returns : goal.returns
+returns c = rw (sym c.takes_itself.ensures ∙ c.if-takes_itself.false) (use_then _ _ _ _ _ _ _ _ _ _ c.in_ok-next.ensures c.put_next.ensures)

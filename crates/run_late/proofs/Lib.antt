@@ -1,0 +1,8 @@
+pub mod Flags
+pub mod Taken
+pub mod Arranged
+pub mod Uses
+pub mod Members
+pub mod Bound
+pub mod Assigned
+pub mod Set
