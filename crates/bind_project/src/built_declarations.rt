@@ -104,9 +104,6 @@ pub(crate) fn is_built_result(
 fn is_built_variable(scope: Scope, variable: &Variable) -> Result<bool, NoMemory>
     ensures { IfOk result (λ built. built ≡ plain.is_built_variable (scope_view scope.entry) (variable_view variable.now)) }
 {
-    if variable.with_events_word.is_some() {
-        return Ok(false);
-    }
     is_built_new(
         scope,
         variable.dims.is_some(),

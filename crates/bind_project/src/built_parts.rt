@@ -44,7 +44,7 @@ fn is_built_line(scope: Scope, line: &LineTree) -> Result<bool, NoMemory>
         LineTree::EnumEnd { .. } => Ok(true),
         LineTree::TypeHeader(_) => Ok(true),
         LineTree::TypeEnd { .. } => Ok(true),
-        LineTree::Event(_) => Ok(false),
+        LineTree::Event(event) => are_built_parameters(scope, &event.parameters),
         LineTree::Attribute(_) => Ok(true),
         LineTree::ProcedureEnd(_) => Ok(true),
         LineTree::Statements(_) => Ok(true),

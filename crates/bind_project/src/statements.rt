@@ -12,7 +12,7 @@ ghost use Rattle.bound_names.specs.View.{EnvStands, env_view};
 ghost use Rattle.statement_nodes.specs.statement_numbers.specs.View.{standing_view};
 ghost use Rattle.vba_tree.specs.View.{simple_view};
 
-use bound_actions::{bind_assignment, bind_call, bind_call_place, bind_set};
+use bound_actions::{bind_assignment, bind_call, bind_call_place, bind_raise_event, bind_set};
 use bound_lines::{Around, array_kind, bind_line, bind_print, plain_kind};
 use bound_names::bound_members::bound_calls::bound_declarations::NotYet;
 use bound_project::{ActionKind, Draft};
@@ -55,6 +55,11 @@ fn kind_in_scope<'a>(
         SimpleStatement::Call { target, arguments } => {
             there(bind_call(alloc, draft, env, target, arguments)?)
         }
+        SimpleStatement::RaiseEvent {
+            event,
+            arguments,
+            ..
+        } => there(bind_raise_event(alloc, draft, env, event, arguments)?),
         SimpleStatement::DebugPrint { first, others, .. } => {
             bind_print(alloc, draft, env, first, others.as_slice())
         }

@@ -13,13 +13,13 @@ use Rattle.vba_tree.specs.declared.procedure.ProcedureWords.{ProcedureWords}
 use Rattle.vba_tree.specs.declared.procedure.ProcedureWords.TheVariants as words
 use Rattle.vba_tree.specs.Tree.{Listed, attribute_line}
 use Rattle.vba_module.specs.Parts.{Part, whole_line}
-use Rattle.bound_project.specs.Project.{Member, Named, Class}
+use Rattle.bound_project.specs.Project.{Member, Named}
 use Rattle.bound_project.specs.Project as bound
 use Rattle.binder.specs.Options.{or_else}
 use Rattle.binder.specs.Declarations.{What, a_variable, a_procedure, Entry}
 use Rattle.binder.specs.Scopes.{Scope, is_named, first_at}
 use Rattle.binder.specs.Classes.{is_of_object, field_number, made_class}
-use Rattle.binder.specs.Storage.{module_declarations, procedure_number}
+use Rattle.binder.specs.Storage.{procedure_number}
 use Rattle.binder.specs.Signatures.{is_get, is_let, is_set, is_property}
 
 -- ---- Class_Initialize and Class_Terminate ([MS-VBAL] 5.3.1.10)
@@ -139,20 +139,3 @@ default_member s = option_and_then (member_named s) (first_marked is_zero s.here
 
 abbrev pub enumerator : Scope → Option Member
 enumerator s = option_and_then (member_named s) (first_marked is_minus_four s.here.source.parts)
-
--- ---- the table
-
--- events aren't built
-abbrev pub class_table : Scope → Class
-class_table s = record {
-  name = s.here.name;
-  fields = module_declarations s s.here.entries;
-  initialize = plain_sub s (codes "class_initialize");
-  terminate = plain_sub s (codes "class_terminate");
-  members = public_members s 0 s.here.entries;
-  default = default_member s;
-  enumerator = enumerator s;
-  events = [];
-  with_events = [];
-  handlers = [];
-}

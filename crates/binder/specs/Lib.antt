@@ -13,5 +13,6 @@ pub mod Storage
 pub mod Classes
 pub mod Signatures
 pub mod ClassTables
+pub mod EventTables
 pub mod Blocks
 pub mod Projects

@@ -12,7 +12,7 @@ use Rattle.binder.specs.Declarations.{Written, What, a_procedure, Entry}
 use Rattle.binder.specs.Scopes.{Outside, Space, Scope, spaces_from}
 use Rattle.binder.specs.Names.{scope_of, scope_in}
 use Rattle.binder.specs.Constants.{home}
-use Rattle.binder.specs.ClassTables.{class_table}
+use Rattle.binder.specs.EventTables.{class_table}
 use Rattle.binder.specs.Storage.{kind_of, declared_result, declarations_if, is_framed, user_types, shared_from, procedure_number}
 use Rattle.binder.specs.Storage as storage
 use Rattle.binder.specs.Violations.{verdict}

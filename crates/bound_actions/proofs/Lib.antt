@@ -10,3 +10,4 @@ pub mod Takings
 pub mod Refusing
 pub mod LateSets
 pub mod LateItems
+pub mod Raised

@@ -88,7 +88,7 @@ reads_named env ns parameters x named values d e none h =
     record { grown = h.grown; framed = h.framed; stands = λ items. named_arguments env e.tables named x (args_on items ns) items e.pieces (base items) (subst (A items) none (h.stands items)) }
 
 -- the last ones are values for a ParamArray
-some_values : (env : Env) (t : Tables) (n : ℕ) (x : Passed) (args : Args) (is : List nodes.Item) (ps : List Piece) (base : Base) → (n ≡ 0 → ⊥) → Stands env t (with_gathered n (item.Listed x ∷ [])) (nodes.arguments args ∷ is) ps base
+pub some_values : (env : Env) (t : Tables) (n : ℕ) (x : Passed) (args : Args) (is : List nodes.Item) (ps : List Piece) (base : Base) → (n ≡ 0 → ⊥) → Stands env t (with_gathered n (item.Listed x ∷ [])) (nodes.arguments args ∷ is) ps base
     → ValuesPassed env base.parameters x n args ps base.pieces
 some_values env t zero x args is ps base some h = absurd (some refl)
 some_values env t (suc n) x args is ps base some h =

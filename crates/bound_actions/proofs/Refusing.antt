@@ -146,14 +146,14 @@ untaken_read env ns shapes ys mid low d e a b c g =
 
 -- ---- what is marked
 
-abbrev mark_of : (rule : ℕ) → Place → (values : ℕ) → Node
+abbrev pub mark_of : (rule : ℕ) → Place → (values : ℕ) → Node
 mark_of rule place values = node_of (broken_ending rule place values).kind place (broken_ending rule place values).of
 
 behind_made : (values made : List bound.Expr) → exprs_of (values ++ made) ≡ behind_values values (exprs_of made)
 behind_made [] made = refl
 behind_made (v ∷ values) made = ap (λ (es : Exprs). also v es) (behind_made values made)
 
-mark_fits : (t : Tables) (rule : ℕ) (place : Place) (count : ℕ) (all : List bound.Expr) (ps : List Piece) → count ≡ length all → ps ≡ above (map an_expr all) [] → action_of t action.Evaluate (put t (mark_of rule place count) ps) ≡ Some (evaluate (broken_rule rule place (exprs_of all)))
+pub mark_fits : (t : Tables) (rule : ℕ) (place : Place) (count : ℕ) (all : List bound.Expr) (ps : List Piece) → count ≡ length all → ps ≡ above (map an_expr all) [] → action_of t action.Evaluate (put t (mark_of rule place count) ps) ≡ Some (evaluate (broken_rule rule place (exprs_of all)))
 mark_fits t rule place count all ps long on_top =
     ap (λ (k : ℕ). action_of t action.Evaluate (put t (mark_of rule place k) ps)) long ∙ ap (λ (st : List Piece). action_of t action.Evaluate (put t (mark_of rule place (length all)) st)) on_top
     ∙ ap (λ o. action_of t action.Evaluate (of_found (λ (es : Exprs). expr_of (mark_of rule place (length all)) (marked (record { rule = rule; place = place }) es)) o)) (exprs_are all [])
@@ -171,7 +171,7 @@ none_refused r place d e of_module eq =
     let P : Drafted → Type 0 = λ (z : Drafted). RefusesNone r place d z action.Evaluate in
     subst P (sym eq) (record { of_module = of_module; grown = grown_pieces d (put d.tables (mark_of 25 place 1) d.pieces); named = tt; does = λ value alone. one_marked 25 place d.tables value d.pieces alone })
 
-untaken_is : (env : Env) (parameters : List Parameter) (gs : List Given) (es : Exprs) → takes parameters gs ≡ false → variant_arguments env gs ≡ Some es → untaken env parameters gs ≡ Some es
+pub untaken_is : (env : Env) (parameters : List Parameter) (gs : List Given) (es : Exprs) → takes parameters gs ≡ false → variant_arguments env gs ≡ Some es → untaken env parameters gs ≡ Some es
 untaken_is env parameters gs es none h = ap (λ (b : Bool). if b then None else variant_arguments env gs) none ∙ h
 
 pub arguments_refused : (env : Env) (parameters : List Parameter) (before count values : ℕ) (place : Place) (ns : List ExpressionNode) (ss : List Shape) (d m e : Drafted) → ReadsUntaken env ns d m ss → takes parameters (shapes_given ss) ≡ false
@@ -205,7 +205,7 @@ not_taken env parameters gs es h = by_taken (takes parameters gs) h
     by_taken true k = let e : None ≡ Some es = k in absurd cc
     by_taken false k = refl
 
-none_bound : (env : Env) (parameters : List Parameter) (gs : List Given) (es : Exprs) → untaken env parameters gs ≡ Some es → bound_arguments (argument_of env) parameters gs ≡ None
+pub none_bound : (env : Env) (parameters : List Parameter) (gs : List Given) (es : Exprs) → untaken env parameters gs ≡ Some es → bound_arguments (argument_of env) parameters gs ≡ None
 none_bound env parameters gs es h = refused (argument_of env) parameters gs (not_taken env parameters gs es h)
 
 pub raise_refused : (env : Env) (place : Place) (parameters : List Parameter) (ns : List ExpressionNode) (d e : Drafted) (kind : ActionKind) → parameters ≡ raise_parameters → RefusesArguments env parameters 0 place ns d e kind

@@ -5,3 +5,4 @@ pub mod Refused
 pub mod Assigning
 pub mod LateItems
 pub mod LateSets
+pub mod Raised

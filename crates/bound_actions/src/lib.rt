@@ -4,6 +4,7 @@
 mod actions;
 mod assigned_values;
 mod assigning;
+mod events;
 mod indexed_calls;
 mod late_items;
 mod member_targets;
@@ -16,4 +17,5 @@ mod trees;
 mod untaken;
 
 pub use actions::{bind_assignment, bind_call, bind_call_place};
+pub use events::bind_raise_event;
 pub use setting::bind_set;

@@ -28,7 +28,7 @@ use vba_expression::ExpressionNode;
 
 /// Pushes the arguments that are written, by their nodes, for these parameters; answers those without names, the numbers
 /// of the parameters that the others name, the last one first, and how many values for a ParamArray there are.
-fn read_written<'a>(
+pub fn read_written<'a>(
     alloc: Global,
     draft: &mut Draft,
     env: Env<'a>,

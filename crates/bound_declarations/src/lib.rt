@@ -3,6 +3,7 @@
 #![tactic(auto)]
 
 mod declared;
+mod handler_names;
 mod kept;
 mod kinds;
 mod lists;
@@ -19,6 +20,7 @@ mod user_types;
 pub use declared::{
     declared_result, declared_variable, is_bounded, own_declaration, variable_type,
 };
+pub use handler_names::{CHANGE, is_handler_name};
 pub use kept::{Kept, count_before, count_kept, first_locals, is_kept, sum};
 pub use kinds::{gives_value, is_by_val, is_property, is_set, kind_of, takes_value};
 pub use lists::{kept_declarations, module_variables};
@@ -26,7 +28,7 @@ pub use made::{class_in, made_by, made_in, made_through};
 pub use new_words::has_new;
 pub use not_yet::NotYet;
 pub use numbers::procedure_number;
-pub use parameters::parameters_of;
+pub use parameters::{event_parameters, parameters_of};
 pub use procedures::{bound_module, bound_procedure, copy_name};
 pub use storage::own_storage;
 pub use types::{arrayed, parameter_type, result_type};

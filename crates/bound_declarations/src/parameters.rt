@@ -1,6 +1,6 @@
 //! Parameters as they are bound ([MS-VBAL] 5.3.1.5).
 
-ghost use Rattle.std.specs.Prelude.{◌≡◌, ◌==◌, ◌&&◌, length, [], ◌∷◌, ◌++◌, map, option_map, Some, None, is_some, if◌then◌else◌, IfOk, OnOk};
+ghost use Rattle.std.specs.Prelude.{◌≡◌, ◌==◌, ◌&&◌, false, length, [], ◌∷◌, ◌++◌, map, option_map, Some, None, is_some, if◌then◌else◌, IfOk, OnOk};
 ghost use Rattle.std.specs.Option.{option_map_or};
 ghost use Rattle.constant_values.specs.declared_names.specs.binder.specs.Constants as constant;
 ghost use Rattle.constant_values.specs.declared_names.specs.binder.specs.Scopes as scopes;
@@ -26,7 +26,7 @@ use constant_values::{Constants, coerced, known_value};
 use currency::from_count;
 use std::alloc::Global;
 use vba_base::{NoMemory, OrMemory, Units};
-use vba_tree::{DefaultValue, Listed, Next, Parameters};
+use vba_tree::{DefaultValue, EventLine, Listed, Next, Parameters};
 use vba_values::{ArrayValue, ObjRef, Value, copy_value};
 
 /// An array without storage.
@@ -222,6 +222,30 @@ fn push_parameters(
     Ok(())
 }
 
+/// Parameters in brackets, of which the last may take the value that a property is given.
+fn bound_list(
+    alloc: Global,
+    constants: Constants,
+    takes_value: bool,
+    written: &Option<Parameters>,
+) -> Result<Vec<Parameter>, OrMemory<NotYet>>
+    requires { AreConstants constants }
+    ensures { IfOk result (λ parameters. map bound.parameter_view parameters.items
+        ≡ storage.bound_parameters (scope_view constants.entry.scope) takes_value (headers.parameters_of (option_map parameters_view written.now))) }
+{
+    let mut parameters = Vec::new(alloc);
+    match written {
+        Some(
+            Parameters {
+                parameters: Some(list),
+                ..
+            },
+        ) => push_parameters(alloc, constants, takes_value, list, &mut parameters)?,
+        _ => {}
+    }
+    Ok(parameters)
+}
+
 /// The parameters of a procedure, in its own scope.
 pub fn parameters_of(
     alloc: Global,
@@ -231,18 +255,19 @@ pub fn parameters_of(
     requires { AreConstants constants }
     ensures { IfOk result (λ parameters. map bound.parameter_view parameters.items ≡ storage.parameters_of (scope_view constants.entry.scope) (written_view written.entry)) }
 {
-    let mut parameters = Vec::new(alloc);
-    match &written.header.parameters {
-        Some(
-            Parameters {
-                parameters: Some(list),
-                ..
-            },
-        ) => {
-            let takes_value = takes_value(written.header.words);
-            push_parameters(alloc, constants, takes_value, list, &mut parameters)?;
-        }
-        _ => {}
-    }
-    Ok(parameters)
+    let takes_value = takes_value(written.header.words);
+    bound_list(alloc, constants, takes_value, &written.header.parameters)
+}
+
+/// The parameters of an event, in the scope of its class.
+pub fn event_parameters(
+    alloc: Global,
+    constants: Constants,
+    event: &EventLine,
+) -> Result<Vec<Parameter>, OrMemory<NotYet>>
+    requires { AreConstants constants }
+    ensures { IfOk result (λ parameters. map bound.parameter_view parameters.items
+        ≡ storage.bound_parameters (scope_view constants.entry.scope) false (headers.parameters_of (option_map parameters_view event.now.parameters))) }
+{
+    bound_list(alloc, constants, false, &event.parameters)
 }

@@ -1,6 +1,6 @@
 -- The bound project of modules, or why there is none: a rule that is broken, or a part that the bound project can't say
 -- yet.
-use Rattle.std.specs.Prelude.{ℕ, Bool, true, false, ◌&&◌, not, List, [], ◌∷◌, Option, Some, None, is_some, is_none, option_map, unwrap_or, length}
+use Rattle.std.specs.Prelude.{ℕ, Bool, true, false, ◌&&◌, not, List, [], ◌∷◌, Option, Some, None, is_some, option_map, unwrap_or, length}
 use Rattle.std.specs.List.{list_all}
 use Rattle.vba_base.specs.declared.place.Place.{Place}
 use Rattle.vba_base.specs.declared.place.Refusal.{Refusal}
@@ -42,7 +42,7 @@ body_with parts statements = record { statements = statements; blocks = blocks_i
 abbrev pub bound_body : Scope → ℕ × Written → Option Body
 bound_body s p = let a = around_of s p in option_map (body_with a.parts) (all_statements a a.parts)
 
--- ---- what isn't built: events, arrays declared As New, and types that the profile hasn't
+-- ---- what isn't built: arrays declared As New, and types that the profile hasn't
 
 abbrev pub is_built_meant : Option TypeMeant → Bool
 is_built_meant (Some (known of)) = true
@@ -67,7 +67,7 @@ is_built_new s is_array x None = is_built_suffix x
 is_built_new s is_array x (Some c) = is_built_suffix x && (not (is_array && is_some c.new_word) && is_built_written s c.declared_type)
 
 abbrev pub is_built_variable : Scope → Variable → Bool
-is_built_variable s v = is_none v.with_events_word && is_built_new s (is_some v.dims) v.name.suffix v.type_clause
+is_built_variable s v = is_built_new s (is_some v.dims) v.name.suffix v.type_clause
 
 abbrev pub is_built_parameter : Scope → Parameter → Bool
 is_built_parameter s p = is_built_clause s p.name.suffix p.type_clause
@@ -82,7 +82,7 @@ is_built_part s (statement (simple (variables word token vs))) = list_all (is_bu
 is_built_part s (whole_line (type_member x dims clause)) = is_built_written s clause.declared_type
 is_built_part s (whole_line (procedure_header access static_word kind x ps result)) =
     is_built_suffix x.suffix && (is_built_result s result && list_all (is_built_parameter s) (parameters_of ps))
-is_built_part s (whole_line (event_line access_word event_word x ps)) = false
+is_built_part s (whole_line (event_line access_word event_word x ps)) = list_all (is_built_parameter s) (parameters_of ps)
 is_built_part s part = true
 
 abbrev pub place_unless : Bool → Place → Option Place

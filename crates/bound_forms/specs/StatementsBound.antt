@@ -15,7 +15,7 @@ use Rattle.vba_tree.specs.declared.simple.ExitKind.{ExitKind}
 use Rattle.vba_tree.specs.declared.simple.ErrorHandling.{ErrorHandling}
 use Rattle.vba_tree.specs.declared.simple.ResumeTarget.{ResumeTarget}
 use Rattle.vba_tree.specs.declared.simple.PrintMark.{PrintMark}
-use Rattle.vba_tree.specs.Tree.{TypeClause, Dim, upper, CaseTest, value, comparison, StepClause, LoopCondition, BlockLine, if_line, else_if_line, select_case, case_line, for_line, for_each, next_line, do_line, loop_line, while_line, wend, with_line, end_with, ReDimArray, PrintItem, Simple, assignment, set_assignment, call_place, call, re_dim, erase, go_to, go_sub, return_from, exit, end, on_error, resume, debug_print, block_line, Stmt, simple, if_then, if_else, Stmts, nothing, one, gap, more}
+use Rattle.vba_tree.specs.Tree.{TypeClause, Dim, upper, CaseTest, value, comparison, StepClause, LoopCondition, BlockLine, if_line, else_if_line, select_case, case_line, for_line, for_each, next_line, do_line, loop_line, while_line, wend, with_line, end_with, ReDimArray, PrintItem, Simple, assignment, set_assignment, call_place, call, re_dim, erase, go_to, go_sub, return_from, exit, end, on_error, resume, debug_print, raise_event, EventArguments, block_line, Stmt, simple, if_then, if_else, Stmts, nothing, one, gap, more}
 use Rattle.vba_tree.specs.Tree as tree
 use Rattle.vba_module.specs.Parts.{Part, statement, place_of}
 use Rattle.vba_module.specs.Blocks.{for_loop, do_loop, same_kind}
@@ -25,18 +25,19 @@ use Rattle.bound_project.specs.Expressions.{Variable, Node, constant, load, elem
 use Rattle.bound_project.specs.Expressions as bound
 use Rattle.bound_project.specs.Statements.{Statement, Action, Tests, no_tests, test_is, test_range, passed_on, skipped, handled_at, Resizes, no_resizes, resize, Arrays, no_arrays, an_array}
 use Rattle.bound_project.specs.Statements as to
-use Rattle.bound_project.specs.Project.{Parameter, nowhere}
+use Rattle.bound_project.specs.Project.{Parameter, DeclaredEvent, nowhere}
 use Rattle.binder.specs.Sources.{base_of}
 use Rattle.binder.specs.Options.{or_else, from_two, from_three}
 use Rattle.binder.specs.Declarations.{Written, Own, a_parameter}
-use Rattle.binder.specs.Scopes.{Space, plainly, Meant, of_procedure, declares}
-use Rattle.binder.specs.Constants.{is_variant, operator_kind, compare_in, place_of_expression, known_length}
+use Rattle.binder.specs.Scopes.{Space, first_at, plainly, Meant, of_procedure, declares}
+use Rattle.binder.specs.Constants.{is_variant, operator_kind, compare_in, home, place_of_expression, known_length}
 use Rattle.binder.specs.Storage.{procedure_number, gives_value}
 use Rattle.binder.specs.Types.{written_type, is_object}
 use Rattle.binder.specs.Numbering.{count, count_list, simple_count, here, an_arm, behind_block, behind_kind, Opened, Standing, sought_behind}
 use Rattle.bound_forms.specs.Terms.{Within, Env, HostMember, Term, a_place, a_value, a_routine, a_host_member, err_object, err_raise, err_clear, error_word, no_term, expression_of, broken_rule, is_user_type, given_to, Given, bound_arguments, has_names, takes, given_by_name, a_method, read_of, routine_term}
 use Rattle.binder.specs.Signatures.{is_property, writer, parameters_in, setter}
 use Rattle.bound_forms.specs.ExpressionsBound.{bare_call, HostKind, sheets, collection, is_item_name, host_kind, default_rule, member_takes, arguments_rule, given_as, argument_of, has_object, mark_members, item_of, late_arguments, is_called_late, member_called, takes_arguments, indexed, callee, term_of, givens, bound_as_given, bound_operand, place_told, may_be_instance, is_found_late, behind_base, variant_arguments}
+use Rattle.binder.specs.EventTables.{declared_events}
 use Rattle.binder.specs.Blocks.{label_number, next_number, header_of}
 use Rattle.vba_values.specs.declared.types.OpKind.TheVariants as op
 use Rattle.vba_values.specs.declared.types.WholeKind.TheVariants as kind
@@ -438,6 +439,21 @@ set_given env set_word x v =
     else if is_sub (target_of_call env x) then Some (broken_target 27 (place_told x) v no_exprs)
     else object_set env set_word x v
 
+-- RaiseEvent: an event of the own class, by its number, with what its parameters take; S25 where they don't take it
+abbrev pub event_arguments : Env → Option EventArguments → List Given
+event_arguments env None = []
+event_arguments env (Some a) = givens env a.arguments
+
+abbrev pub event_with : Env → Place → List Given → ℕ × DeclaredEvent → Option Action
+event_with env place gs found =
+    or_else (option_map (λ args. to.raise_event found.0 args) (bound_arguments (argument_of env) found.1.parameters gs))
+    (option_map (λ es. to.evaluate (broken_rule 25 place es)) (untaken env found.1.parameters gs))
+
+abbrev pub event_raised : Env → Identifier → List Given → Option Action
+event_raised env x gs =
+    option_and_then (event_with env x.token.place gs)
+    (first_at (λ (e : DeclaredEvent). bytes_eq e.name.fold x.name) 0 (declared_events (home env.scope env.scope.here) env.scope.here.entries))
+
 -- ReDim: the base of the module where no low bound is written
 abbrev pub integer : Place → ℕ → bound.Expr
 integer place n = expression_of (constant (whole kind.Integer (pos n))) place type.integer
@@ -722,6 +738,7 @@ simple_action a s (on_error on_word word h) = on_handling a h
 simple_action a s (resume resume_word t) = on_resume a t
 simple_action a s (debug_print debug_word dot print_word e items) =
     option_map (λ ps. to.print ps (ends_line items)) (value_shown (env_at a s) e (items_shown (env_at a s) items))
+simple_action a s (raise_event raise_word x arguments) = event_raised (env_at a s) x (event_arguments (env_at a s) arguments)
 simple_action a s (block_line line) = block_action a s line
 simple_action a s other = None
 

@@ -19,7 +19,7 @@ use Rattle.bound_project.specs.Project as project
 use Rattle.bound_project.specs.View.{class_view, declarations_view, declared_view}
 use Rattle.bound_members.specs.bound_calls.specs.bound_declarations.specs.constant_values.specs.declared_names.specs.binder.specs.Projects.{class_of, declarations_of}
 use Rattle.bound_members.specs.bound_calls.specs.bound_declarations.specs.constant_values.specs.declared_names.specs.binder.specs.Classes.{class_space, field_number, found_at, made_by, member_entry}
-use Rattle.bound_members.specs.bound_calls.specs.bound_declarations.specs.constant_values.specs.declared_names.specs.binder.specs.ClassTables.{class_table}
+use Rattle.bound_members.specs.bound_calls.specs.bound_declarations.specs.constant_values.specs.declared_names.specs.binder.specs.EventTables.{class_table, declared_events}
 use Rattle.bound_members.specs.bound_calls.specs.bound_declarations.specs.constant_values.specs.declared_names.specs.binder.specs.Constants.{home}
 use Rattle.bound_members.specs.bound_calls.specs.bound_declarations.specs.constant_values.specs.declared_names.specs.binder.specs.Declarations.{Entry, a_procedure, a_variable, Written}
 use Rattle.bound_members.specs.bound_calls.specs.bound_forms.specs.ExpressionsBound.{class_member, made_place, object_term, unknown_member}
@@ -131,6 +131,29 @@ same_classes : (scope : ScopeHere) (spaces : List Space) → flat_map (λ (o : S
 same_classes scope [] = refl
 same_classes scope (space ∷ spaces) = ap (λ (cs : List Class). (let one : List Class = class_of (home (scope_view scope) space) in one ++ cs)) (same_classes scope spaces)
 
+-- the class with the number of a module's class is its table
+pub table_found : (scope : ScopeHere) (declared : Declarations) (space : Space) (class : ℕ) (found : Class) → AreNumbered (scope_view scope).spaces
+    → declarations_view declared ≡ declarations_of the_outside (whole_scope (scope_view scope).spaces) (scope_view scope).spaces → slice_get (scope_view scope).spaces space.number ≡ Some space
+    → space.source.is_class ≡ true → class ≡ class_number (scope_view scope).spaces space → Some found ≡ class_numbered declared.classes.items class → found ≡ class_table (home (scope_view scope) space)
+table_found scope declared space class found numbered is there own class_is found_is =
+    let s : Scope = scope_view scope in
+    let h : Scope = home s space in
+    let n : ℕ = classes_before (take space.number s.spaces) in
+    let count : class ≡ suc n = class_is ∙ class_counted 0 space.number s.spaces space (λ i o k. let z = numbered i o k in omega arith) there own in
+    let all : map class_view declared.classes.items ≡ flat_map (λ (o : Space). class_of (home s o)) s.spaces = ap (λ (z : project.Declarations). z.classes) is ∙ same_classes scope s.spaces in
+    let law : Some found ≡ Some (class_table h) =
+    found_is ∙ ap (λ (m : ℕ). class_numbered declared.classes.items m) count ∙ sym (slice_get-map class_view declared.classes.items n) ∙ ap (λ (l : List Class). slice_get l n) all
+    ∙ class_there s s.spaces space.number n space there own refl in
+    cc
+
+-- the events of the class whose procedure runs
+pub events_found : (scope : ScopeHere) (declared : Declarations) (class : ℕ) (found : Class) → AreNumbered (scope_view scope).spaces
+    → declarations_view declared ≡ declarations_of the_outside (whole_scope (scope_view scope).spaces) (scope_view scope).spaces → slice_get (scope_view scope).spaces (scope_view scope).here.number ≡ Some (scope_view scope).here
+    → (scope_view scope).here.source.is_class ≡ true → class ≡ class_number (scope_view scope).spaces (scope_view scope).here → Some found ≡ class_numbered declared.classes.items class
+    → found.events ≡ declared_events (home (scope_view scope) (scope_view scope).here) (scope_view scope).here.entries
+events_found scope declared class found numbered is there own class_is found_is =
+    ap (λ (c : Class). c.events) (table_found scope declared (scope_view scope).here class found numbered is there own class_is found_is)
+
 -- a variable of a class is the declaration with its number among those of the class
 pub field_is : (scope : ScopeHere) (declared : Declarations) (space : Space) (number : ℕ) (e : Entry) (v : Variable) (class field : ℕ) (found : Class) (d : Declaration) (x : Shape) → AreNumbered (scope_view scope).spaces
     → declarations_view declared ≡ declarations_of the_outside (whole_scope (scope_view scope).spaces) (scope_view scope).spaces → slice_get (scope_view scope).spaces space.number ≡ Some space
@@ -140,13 +163,7 @@ pub field_is : (scope : ScopeHere) (declared : Declarations) (space : Space) (nu
 field_is scope declared space number e v class field found d x numbered is there at own what class_is number_is found_is d_is shape =
     let s : Scope = scope_view scope in
     let h : Scope = home s space in
-    let n : ℕ = classes_before (take space.number s.spaces) in
-    let count : class ≡ suc n = class_is ∙ class_counted 0 space.number s.spaces space (λ i o k. let z = numbered i o k in omega arith) there own in
-    let all : map class_view declared.classes.items ≡ flat_map (λ (o : Space). class_of (home s o)) s.spaces = ap (λ (z : project.Declarations). z.classes) is ∙ same_classes scope s.spaces in
-    let law : Some found ≡ Some (class_table h) =
-    found_is ∙ ap (λ (m : ℕ). class_numbered declared.classes.items m) count ∙ sym (slice_get-map class_view declared.classes.items n) ∙ ap (λ (l : List Class). slice_get l n) all
-    ∙ class_there s s.spaces space.number n space there own refl in
-    let table : found ≡ class_table h = cc in
+    let table : found ≡ class_table h = table_found scope declared space class found numbered is there own class_is found_is in
     let fields : found.fields ≡ module_declarations h space.entries = ap (λ (c : Class). c.fields) table in
     let one : Some d ≡ Some (declared_variable h v) =
     d_is ∙ ap (λ (l : List Declaration). slice_get l field) fields ∙ ap (λ (m : ℕ). slice_get (module_declarations h space.entries) m) number_is ∙ variable_at h space.entries number (field_number space number) e v at what refl in

@@ -22,7 +22,7 @@ use Rattle.project_tables.specs.Signed.{whole_scope}
 use Rattle.project_tables.proofs.Counts.{before_counted}
 use Rattle.bound_names.specs.declared.names.Shape.{Shape}
 use Rattle.bound_names.specs.Owned.{SharedShape, IsShape}
-use Rattle.bound_members.specs.bound_calls.specs.bound_declarations.specs.constant_values.specs.declared_names.specs.binder.specs.ClassTables.{class_table}
+use Rattle.bound_members.specs.bound_calls.specs.bound_declarations.specs.constant_values.specs.declared_names.specs.binder.specs.EventTables.{class_table}
 
 -- ---- lists
 

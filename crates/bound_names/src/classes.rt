@@ -1,15 +1,16 @@
 //! Objects of classes: what stands behind a dot behind one, and what names mean in a class.
 
-ghost use Rattle.std.specs.Prelude.{◌≡◌, IfOk, Some, option_map, slice_get, true};
+ghost use Rattle.std.specs.Prelude.{◌≡◌, IfOk, Some, map, option_map, slice_get, true};
 ghost use Rattle.bound_project.specs.Drafts.{Drafted};
 ghost use Rattle.bound_project.specs.Expressions as expressions;
-ghost use Rattle.bound_project.specs.View.{class_view};
+ghost use Rattle.bound_project.specs.View.{class_view, event_view};
 ghost use Rattle.bound_members.specs.bound_calls.specs.bound_declarations.specs.constant_values.specs.declared_names.specs.binder.specs.Constants as constants;
 ghost use Rattle.bound_members.specs.bound_calls.specs.bound_declarations.specs.constant_values.specs.declared_names.specs.binder.specs.Declarations.{a_variable};
 ghost use Rattle.bound_members.specs.bound_calls.specs.bound_declarations.specs.constant_values.specs.declared_names.specs.binder.specs.Classes as classes;
 ghost use Rattle.bound_members.specs.bound_calls.specs.bound_forms.specs.ExpressionsBound as bound;
 ghost use Rattle.bound_members.specs.bound_calls.specs.bound_declarations.specs.constant_values.specs.declared_names.specs.binder.specs.Scopes.{of_module};
 ghost use Rattle.bound_members.specs.bound_calls.specs.bound_declarations.specs.constant_values.specs.declared_names.specs.binder.specs.Storage.{declared_variable};
+ghost use Rattle.bound_members.specs.bound_calls.specs.bound_declarations.specs.constant_values.specs.declared_names.specs.binder.specs.EventTables.{declared_events};
 ghost use Rattle.bound_members.specs.bound_calls.specs.bound_declarations.specs.constant_values.specs.declared_names.specs.binder.specs.Storage as storage;
 ghost use Rattle.bound_members.specs.bound_calls.specs.bound_declarations.specs.constant_values.specs.Rounds.{IsThere};
 ghost use Rattle.bound_members.specs.bound_calls.specs.bound_declarations.specs.constant_values.specs.declared_names.specs.View.{entry_view, scope_view, space_view, what_view};
@@ -30,7 +31,9 @@ use bound_members::bound_calls::bound_declarations::constant_values::declared_na
 };
 use bound_members::bound_calls::bound_declarations::{NotYet, made_by};
 use bound_members::bound_calls::{Receiver, Term, push_node};
-use bound_project::{Class, Declarations, DeclaredType, Draft, ElementType, NodeKind, Storage};
+use bound_project::{
+    Class, Declarations, DeclaredEvent, DeclaredType, Draft, ElementType, NodeKind, Storage,
+};
 use vba_base::{OrMemory, Place};
 use vba_tree::Variable;
 use vba_words::Identifier;
@@ -50,6 +53,23 @@ fn class_at(declared: &Declarations, number: u32) -> Option<&Class>
         Some(place) => class_in_place(declared, place as usize),
         None => None,
     }
+}
+
+/// The events of the class whose procedure this is.
+pub fn own_events<'a>(env: Env<'a>) -> Result<&'a [DeclaredEvent], OrMemory<NotYet>>
+    requires { EnvStands env }
+    ensures { IfOk result (λ events. map event_view events.now
+        ≡ declared_events (constants.home (scope_view env.entry.constants.scope) (scope_view env.entry.constants.scope).here) (scope_view env.entry.constants.scope).here.entries) }
+{
+    let scope = env.constants.scope;
+    if !scope.here.source.is_class {
+        return Err(OrMemory::Fault(NotYet));
+    }
+    let class_number = class_number(scope.spaces, scope.here)?;
+    let Some(class) = class_at(env.declared, class_number) else {
+        return Err(OrMemory::Fault(NotYet));
+    };
+    Ok(class.events.as_slice())
 }
 
 /// A variable of a class by its entry: its number among those, and what is declared of it.

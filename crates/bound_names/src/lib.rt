@@ -11,7 +11,7 @@ mod routines;
 mod unknown;
 
 pub use callee::callee_term;
-pub use classes::class_member;
+pub use classes::{class_member, own_events};
 pub use env::{Env, Within};
 pub use functions::from_zero;
 pub use names::{folded, is_either, meant_term, meant_variable, sheets_value};

@@ -374,14 +374,14 @@ some_there value s takes [] [] (x ∷ xs) p left t = absurd t
 some_there value s takes [] (g ∷ gs) xs p left t = absurd t
 some_there value s takes (q ∷ qs) gs xs p left t = ne_eqb (length (q ∷ qs)) 0 (λ (e : length (q ∷ qs) ≡ 0). omega (arith, e))
 
-above_two : (xs ys : List Argument) (st : List Piece) → above (map an_argument ys) (above (map an_argument xs) st) ≡ above (map an_argument (xs ++ ys)) st
+pub above_two : (xs ys : List Argument) (st : List Piece) → above (map an_argument ys) (above (map an_argument xs) st) ≡ above (map an_argument (xs ++ ys)) st
 above_two [] ys st = refl
 above_two (x ∷ xs) ys st = above_two xs ys (an_argument x ∷ st)
 
-two_long : (xs : List Argument) (x : Argument) (ys : List Argument) → length (xs ++ x ∷ ys) ≡ length xs + suc (length ys)
+pub two_long : (xs : List Argument) (x : Argument) (ys : List Argument) → length (xs ++ x ∷ ys) ≡ length xs + suc (length ys)
 two_long xs x ys = length-append xs (x ∷ ys)
 
-first_many : (first : Parameter) (others ps : List Parameter) → ps ≡ first ∷ others → is_gathering (map parameter_view ps) ≡ true → (parameter_view first).many ≡ true
+pub first_many : (first : Parameter) (others ps : List Parameter) → ps ≡ first ∷ others → is_gathering (map parameter_view ps) ≡ true → (parameter_view first).many ≡ true
 first_many first others ps e h = subst (λ l. is_gathering (map parameter_view l) ≡ true) e h
 
 -- the value of a call, behind what was pushed

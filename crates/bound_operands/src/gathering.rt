@@ -105,7 +105,7 @@ pub fn take_gathered<'a>(stack: &mut Vec<Item<'a>>) -> Result<u32, NoMemory>
 
 /// Pushes the array of a ParamArray behind its values, and what the other parameters have; answers how many arguments
 /// there are.
-fn push_gathered<'a>(
+pub fn push_gathered<'a>(
     alloc: Global,
     draft: &mut Draft,
     passed: Passed<'a>,

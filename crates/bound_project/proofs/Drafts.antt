@@ -21,7 +21,7 @@ use Rattle.bound_project.specs.declared.project.Body.{Body}
 use Rattle.bound_project.specs.View.{declared_view}
 use Rattle.bound_project.specs.Expressions.{constant, call, host_member, method, named_member, late_field, ByName, no_args, in_order, no_exprs}
 use Rattle.bound_project.specs.Statements as plain
-use Rattle.bound_project.specs.Statements.{Action, let_method, let_property, raise, set_method, set_property}
+use Rattle.bound_project.specs.Statements.{Action, let_method, let_property, raise, raise_event, set_method, set_property}
 use Rattle.bound_project.specs.Pieces.{Piece, a_place, an_argument, default_taken, a_member, a_named_member, place_there, value_there, Sought, a_late, a_given, Tables, constant_in, name_of, name_in, order_in, by_name_in, flags, flags_in, sought_in, exprs_off, arguments_off, of_value, of_place, of_found, of_member_found, of_object_found, of_named_found, expr_of, late_put, put_kind, put, read, pieces}
 use Rattle.bound_project.specs.Bodies.{behind_object, behind_value, member_found, late_assigned, late_set, whole, action_of, action_or, part, statement_view, StatementFits, AllFit, BodiesFit, body_view}
 use Rattle.bound_project.specs.Drafts.{Drafted, AllBelow, NamesNamed, LateNamed, NodeNamed, ActionNamed, AllNamed, ActionsNamed, BodyKept, BodiesKept, Kept, with_constant, with_order, tables_in, drafted, statement_of}
@@ -102,6 +102,7 @@ action_named t u e (kind.LetPropertyInOrder q count order of) h = omega (arith, 
 action_named t u e (kind.SetPropertyInOrder q count order of) h = omega (arith, e.orders_more)
 action_named t u e (kind.LetMethodInOrder q count order of) h = omega (arith, e.orders_more)
 action_named t u e (kind.SetMethodInOrder q count order of) h = omega (arith, e.orders_more)
+action_named t u e (kind.RaiseEventInOrder event count order) h = omega (arith, e.orders_more)
 action_named t u e (kind.RaiseInOrder count order) h = omega (arith, e.orders_more)
 action_named t u e (kind.AssignLate m) h = late_named t u e m h
 action_named t u e (kind.SetLate m) h = late_named t u e m h
@@ -152,6 +153,8 @@ action_same t u e (kind.LetMethodInOrder q count order of) h st =
     ap (λ o. behind_object (arguments_off count st no_args) (λ base args v. let_method base q (in_order o args) v (declared_view of))) (e.order_is order h)
 action_same t u e (kind.SetMethodInOrder q count order of) h st =
     ap (λ o. behind_object (arguments_off count st no_args) (λ base args v. set_method base q (in_order o args) v (declared_view of))) (e.order_is order h)
+action_same t u e (kind.RaiseEventInOrder event count order) h st =
+    ap (λ o. whole (arguments_off count st no_args) (λ args. raise_event event (in_order o args))) (e.order_is order h)
 action_same t u e (kind.RaiseInOrder count order) h st = ap (λ o. whole (arguments_off count st no_args) (λ args. raise (in_order o args))) (e.order_is order h)
 action_same t u e (kind.AssignLate m) h st = ap (λ s. late_assigned s m.arguments st) (sought_same t u e Assigning m h)
 action_same t u e (kind.SetLate m) h st = ap (λ s. late_set s m.arguments st) (sought_same t u e Setting m h)

@@ -12,7 +12,7 @@ use Rattle.bound_project.specs.declared.project.Block.{Block}
 use Rattle.bound_project.specs.declared.project.Body.{Body}
 use Rattle.bound_project.specs.declared.project.Project.{Project}
 use Rattle.bound_project.specs.Expressions.{Expr, Lvalue, Args, no_args, in_order, Given, none_given, Exprs, no_exprs, no_prints}
-use Rattle.bound_project.specs.Statements.{no_tests, no_resizes, no_arrays, Action, assign, assign_item, set, assign_default, assign_member, set_member, assign_through, assign_element, set_element, assign_late, set_late, evaluate, let_property, set_property, let_method, set_method, print, raise, test, go_to, for_to, next, for_each, next_each, exit_each, select, case_of, redim, erase, with_place, with_value, end_with, go_sub, return_sub, exit_to, on_error, end_handler, clear_err, resume_again, resume_next, resume_at, stop, end_run}
+use Rattle.bound_project.specs.Statements.{no_tests, no_resizes, no_arrays, Action, assign, assign_item, set, assign_default, assign_member, set_member, assign_through, assign_element, set_element, assign_late, set_late, evaluate, let_property, set_property, let_method, set_method, raise_event, print, raise, test, go_to, for_to, next, for_each, next_each, exit_each, select, case_of, redim, erase, with_place, with_value, end_with, go_sub, return_sub, exit_to, on_error, end_handler, clear_err, resume_again, resume_next, resume_at, stop, end_run}
 use Rattle.bound_project.specs.Statements as plain
 use Rattle.bound_project.specs.Project as project
 use Rattle.bound_project.specs.View.{declared_view, variable_view, declarations_view}
@@ -127,6 +127,8 @@ action_of t (kind.LetMethodInOrder p count order of) st =
 action_of t (kind.SetMethod p count of) st = behind_object (arguments_off count st no_args) (λ base args e. set_method base p args e (declared_view of))
 action_of t (kind.SetMethodInOrder p count order of) st =
     behind_object (arguments_off count st no_args) (λ base args e. set_method base p (in_order (order_in t order) args) e (declared_view of))
+action_of t (kind.RaiseEvent event count) st = whole (arguments_off count st no_args) (λ args. raise_event event args)
+action_of t (kind.RaiseEventInOrder event count order) st = whole (arguments_off count st no_args) (λ args. raise_event event (in_order (order_in t order) args))
 action_of t (kind.Print count ends) st = whole (prints_off count st no_prints) (λ ps. print ps ends)
 action_of t (kind.Raise count) st = whole (arguments_off count st no_args) (λ args. raise args)
 action_of t (kind.RaiseInOrder count order) st = whole (arguments_off count st no_args) (λ args. raise (in_order (order_in t order) args))

@@ -1,5 +1,5 @@
 -- Serves the code: the plain data that types, variables and declarations stand for.
-use Rattle.std.specs.Prelude.{None, [], ℤ, pos, Bool, true, false, map, option_map}
+use Rattle.std.specs.Prelude.{ℤ, pos, Bool, true, false, map, option_map}
 use Rattle.vba_values.specs.Types.{Declared}
 use Rattle.vba_values.specs.Types as type
 use Rattle.vba_values.specs.View.{view as value_view}
@@ -23,6 +23,8 @@ use Rattle.bound_project.specs.declared.declarations.UserType.{UserType}
 use Rattle.bound_project.specs.declared.declarations.Member.{Member}
 use Rattle.bound_project.specs.declared.declarations.Member.TheVariants as member
 use Rattle.bound_project.specs.declared.declarations.NamedMember.{NamedMember}
+use Rattle.bound_project.specs.declared.declarations.DeclaredEvent.{DeclaredEvent}
+use Rattle.bound_project.specs.declared.declarations.Handler.{Handler}
 use Rattle.bound_project.specs.declared.declarations.Class.{Class}
 use Rattle.bound_project.specs.declared.declarations.Declarations.{Declarations}
 use Rattle.bound_project.specs.Expressions as plain
@@ -116,6 +118,12 @@ class_member_view (member.Property reads lets sets) = project.is_property reads 
 abbrev pub named_view : NamedMember → project.Named
 named_view x = record { fold = x.fold; member = class_member_view x.member }
 
+abbrev pub event_view : DeclaredEvent → project.DeclaredEvent
+event_view e = record { name = spelled_view e.name; parameters = map parameter_view e.parameters.items }
+
+abbrev pub handler_view : Handler → project.Handler
+handler_view h = record { field = h.field; event = h.event; procedure = h.procedure }
+
 abbrev pub class_view : Class → project.Class
 class_view c = record {
   name = spelled_view c.name;
@@ -125,9 +133,9 @@ class_view c = record {
   members = map named_view c.members.items;
   default = option_map class_member_view c.default;
   enumerator = option_map class_member_view c.enumerator;
-  events = [];
-  with_events = [];
-  handlers = [];
+  events = map event_view c.events.items;
+  with_events = c.with_events.items;
+  handlers = map handler_view c.handlers.items;
 }
 
 abbrev pub declarations_view : Declarations → project.Declarations

@@ -89,8 +89,25 @@ pub struct NamedMember {
     pub member: Member,
 }
 
+/// An event that a class declares.
+#[derive(Drop)]
+pub struct DeclaredEvent {
+    pub name: Spelled,
+    pub parameters: Vec<Parameter>,
+}
+
+/// A procedure that handles an event of what a WithEvents variable has: the number of the variable among those of its
+/// class, that of the event among those of what raises it, and that of the procedure. A Worksheet raises Change, 0.
+#[derive(Clone, Copy)]
+pub struct Handler {
+    pub field: u32,
+    pub event: u32,
+    pub procedure: u32,
+}
+
 /// A class module: its variables, its Class_Initialize and Class_Terminate where they are written, its public members, and
-/// its default member and its enumerator where it has one.
+/// its default member and its enumerator where it has one; the events that it declares, the numbers of its WithEvents
+/// variables, and its handlers.
 #[derive(Drop)]
 pub struct Class {
     pub name: Spelled,
@@ -100,6 +117,9 @@ pub struct Class {
     pub members: Vec<NamedMember>,
     pub default: Option<Member>,
     pub enumerator: Option<Member>,
+    pub events: Vec<DeclaredEvent>,
+    pub with_events: Vec<u32>,
+    pub handlers: Vec<Handler>,
 }
 
 /// All that a project declares. Classes count from 1, all else from 0.

@@ -13,8 +13,8 @@ mod too_long;
 mod variable;
 
 pub use declarations::{
-    Class, Declaration, Declarations, Member, Module, NamedMember, Parameter, Procedure,
-    ProcedureKind, Spelled, UserType,
+    Class, Declaration, Declarations, DeclaredEvent, Handler, Member, Module, NamedMember,
+    Parameter, Procedure, ProcedureKind, Spelled, UserType,
 };
 pub use declared_type::{DeclaredType, ElementType};
 pub use draft::Draft;

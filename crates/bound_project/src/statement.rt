@@ -101,6 +101,17 @@ pub enum ActionKind {
         order: u32,
         of: DeclaredType,
     },
+    /// `RaiseEvent`, by the event's number in the class whose object raises it, behind so many arguments.
+    RaiseEvent {
+        event: u32,
+        arguments: u32,
+    },
+    /// The same with arguments that are the parameters' by this order.
+    RaiseEventInOrder {
+        event: u32,
+        arguments: u32,
+        order: u32,
+    },
     Print {
         items: u32,
         ends: bool,

@@ -3,3 +3,4 @@ pub mod Takings
 pub mod Entries
 pub mod Instrs
 pub mod Ways
+pub mod Parameters

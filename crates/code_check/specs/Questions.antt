@@ -1,5 +1,6 @@
 -- Serves the code: the questions of which the check of a code consists.
-use Rattle.std.specs.Prelude.{◌≡◌, ◌↔◌, ℕ, ◌<◌, ◌≤◌, slice_get, slice_index, Some}
+use Rattle.std.specs.Prelude.{◌≡◌, ◌↔◌, ℕ, ◌<◌, ◌≤◌, List, length, slice_get, slice_index, Option, Some, option_map}
+use Rattle.bound_project.specs.Project.{DeclaredEvent}
 use Rattle.pcode.specs.Instructions.{Instr, Code, entry_of, next_statement}
 use Rattle.pcode.specs.WellFormed.{IsStatement, IsTarget, IsOf, BeginsAt, Sound}
 
@@ -24,6 +25,10 @@ TableGoesOn code p = (i : ℕ) → IsStatement code p i → IsTarget code p (nex
 
 abbrev pub TablesGoOn : Code → Type 0
 TablesGoOn code = (p i : ℕ) → IsStatement code p i → IsTarget code p (next_statement code p i)
+
+-- how many parameters an event has, where it is there
+abbrev pub parameters_of_event : List DeclaredEvent → ℕ → Option ℕ
+parameters_of_event es e = option_map (λ (d : DeclaredEvent). length d.parameters) (slice_get es e)
 
 -- the numbers of the instruction at an address, of those of a procedure, and of all, name what is there
 abbrev pub SoundAt : Code → (procedure address : ℕ) → Type 0

@@ -168,6 +168,10 @@ pub fn effect_of(instr: Instr) -> Effect
             Takes::CountedAndValues(arguments, 3),
             Gives::Nothing,
         ),
+        Instr::RaiseEvent { arguments, .. } => Effect::Does(
+            Takes::CountedAndValues(arguments, 0),
+            Gives::Nothing,
+        ),
         Instr::Show { items, .. } => Effect::Does(
             Takes::CountedAndValues(items, 0),
             Gives::Nothing,

@@ -4,6 +4,7 @@
 
 mod checked;
 mod effects;
+mod handlers;
 mod numbers;
 mod operands;
 mod tables;

@@ -297,6 +297,7 @@ fn is_sound(code: &Code, procedure: usize, instr: Instr) -> bool
         | Instr::StoreMember { .. }
         | Instr::StoreItem { .. }
         | Instr::SetMember
+        | Instr::RaiseEvent { .. }
         | Instr::ShowText
         | Instr::Show { .. }
         | Instr::Throw { .. }

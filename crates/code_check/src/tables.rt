@@ -8,6 +8,7 @@ ghost use Rattle.pcode.specs.View.{code_view};
 ghost use Rattle.pcode.specs.WellFormed.{BeginsAt, first_address, statement_count};
 ghost use Rattle.code_check.specs.Questions.{AreFrom, StartsAgree, TableBegins, TableGoesOn, TablesBegin, TablesGoOn};
 
+use crate::handlers::{are_whole_handlers, has_sources};
 use bound_project::{Class, Member};
 use pcode::{Code, Instr};
 
@@ -293,10 +294,11 @@ fn class_ends(code: &Code, class: &Class) -> bool
         && (has_procedure_if_any(code, class.terminate)
             && (are_whole_members(code, class)
                 && (is_whole_if_any(code, class, class.default)
-                    && is_whole_if_any(code, class, class.enumerator))))
+                    && (is_whole_if_any(code, class, class.enumerator)
+                        && (has_sources(class) && are_whole_handlers(code, class))))))
 }
 
-/// Whether the procedures that classes end with are there.
+/// Whether the procedures, members and handlers of classes are there.
 pub fn classes_end(code: &Code) -> bool
     ensures { IsTrue result ↔ All (WholeClass (declarations_view code.now.declared)) (declarations_view code.now.declared).classes }
 {

@@ -271,7 +271,7 @@ fn object_line(code: &Code, instr: Instr) -> Line
     }
 }
 
-// The same of the kinds from 77 on: late-bound members, and what arguments lead to.
+// The same of the kinds from 77 on: late-bound members, what arguments lead to, and events.
 fn late_bound_line(code: &Code, instr: Instr) -> Line
     requires { 76 < kind_of (tables_of code.now) instr }
     ensures { line_view result ≡ lists.listed (instr_view (tables_of code.now) instr) }
@@ -294,6 +294,7 @@ fn late_bound_line(code: &Code, instr: Instr) -> Line
         Instr::ItemAlong { arguments } => listed_as(83, number(arguments), 0),
         Instr::WriteThrough => listed_as(84, 0, 0),
         Instr::LetElement { numbers } => listed_as(85, number(numbers), 0),
+        Instr::RaiseEvent { event, arguments } => listed_as(86, number(event), number(arguments)),
         Instr::ElementAlong { arguments } => listed_as(87, number(arguments), 0),
         Instr::SetElement { numbers } => listed_as(88, number(numbers), 0),
         Instr::LateField { name } => name_line(89, code, name, 0),

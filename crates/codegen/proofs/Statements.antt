@@ -389,6 +389,14 @@ action_made t u added g row p i next (kind.SetMethodInOrder q n order of) st =
     (method_made (around_of row k) (action_code (entry row) p i next) (λ m. plain.Reorder o m ∷ after) _
     (λ base args e. ap (λ c. expr_code e ++ (expr_code base ++ plain.ObjectThere ∷ c)) (append_assoc (args_code args) (plain.Reorder o (count args) ∷ []) after))
     n st (arguments_off n st no_args) (args_are (around_of row k) n st no_args))
+action_made t u added g row p i next (kind.RaiseEvent event count) st =
+    args_made (around_of row (kind.RaiseEvent event count)) (action_code (entry row) p i next) (λ n. back t u added row p i next (kind.RaiseEvent event n)) _ (λ args. refl) count st (arguments_off count st no_args) (args_are (around_of row (kind.RaiseEvent event count)) count st no_args)
+action_made t u added g row p i next (kind.RaiseEventInOrder event n order) st =
+    let k = kind.RaiseEventInOrder event n order in
+    let o = order_in t order in
+    let after = plain.RaiseEvent event (length o) ∷ plain.Finish (slice_index row next) ∷ [] in
+    subst (λ (l : List ℕ). Made (around_of row k) (action_code (entry row) p i next) [] (plain.Reorder l n ∷ after) st (action_of t k st)) (sym (g.order order))
+    (args_made (around_of row k) (action_code (entry row) p i next) (λ m. plain.Reorder o m ∷ after) _ (λ args. append_assoc (args_code args) (plain.Reorder o (count args) ∷ []) after) n st (arguments_off n st no_args) (args_are (around_of row k) n st no_args))
 action_made t u added g row p i next (kind.Print count ends) st =
     prints_made (around_of row (kind.Print count ends)) (action_code (entry row) p i next) (λ n. back t u added row p i next (kind.Print n ends)) _ (λ ps. refl) count st (prints_off count st no_prints) (prints_are (around_of row (kind.Print count ends)) count st no_prints)
 action_made t u added g row p i next (kind.Raise count) st =

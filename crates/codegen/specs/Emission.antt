@@ -195,6 +195,12 @@ method_assignment_instrs orders (kind.SetMethod q count of) = object_method_inst
 method_assignment_instrs orders (kind.SetMethodInOrder q count order of) = instr.Reorder order count ∷ object_method_instrs q (order_length orders order) of
 method_assignment_instrs orders k = []
 
+-- RaiseEvent
+abbrev pub event_instrs : List (List ℕ) → ActionKind → List Instr
+event_instrs orders (kind.RaiseEvent event count) = instr.RaiseEvent event count ∷ []
+event_instrs orders (kind.RaiseEventInOrder event count order) = instr.Reorder order count ∷ instr.RaiseEvent event (order_length orders order) ∷ []
+event_instrs orders k = []
+
 -- the first or the last line of a loop
 abbrev pub loop_instrs : (statement : ℕ) → ActionKind → List Instr
 loop_instrs i (kind.For x compare last step last_at step_at first behind) = instr.LoopOn x i compare last step ∷ []
@@ -224,7 +230,7 @@ control_instrs i next k = []
 -- what is done behind its nodes: all of these but one are empty
 abbrev pub work_instrs : Added → List (List ℕ) → (statement next : ℕ) → ActionKind → List Instr
 work_instrs added orders i next k =
-    assignment_instrs added k ++ (assignment_along_instrs k ++ (property_assignment_instrs orders k ++ (method_assignment_instrs orders k ++ (loop_instrs i k ++ control_instrs i next k))))
+    assignment_instrs added k ++ (assignment_along_instrs k ++ (property_assignment_instrs orders k ++ (method_assignment_instrs orders k ++ (event_instrs orders k ++ (loop_instrs i k ++ control_instrs i next k)))))
 
 -- where it goes on
 abbrev pub end_instr : List (List ℕ) → Row → (procedure next : ℕ) → ActionKind → Instr

@@ -1,5 +1,5 @@
 ghost use Rattle.std.specs.Prelude.{◌≡◌, suc, [], ◌∷◌, ◌++◌, IfOk, OnOk, slice_index};
-ghost use Rattle.codegen.specs.Emission.{action_instrs, around_of, assignment_along_instrs, assignment_instrs, before_instrs, control_instrs, end_instr, lists_of, loop_instrs, method_assignment_instrs, method_instrs, object_method_instrs, object_property_instrs, order_length, policy_in, property_assignment_instrs, property_instrs, work_instrs};
+ghost use Rattle.codegen.specs.Emission.{action_instrs, around_of, assignment_along_instrs, assignment_instrs, before_instrs, control_instrs, end_instr, event_instrs, lists_of, loop_instrs, method_assignment_instrs, method_instrs, object_method_instrs, object_property_instrs, order_length, policy_in, property_assignment_instrs, property_instrs, work_instrs};
 
 use crate::node::{Added, Around, constant_number, emit_nodes, order_length, put, put_two};
 use bound_project::{ActionKind, DeclaredType, ElementType, Handling, Node, TooLong};
@@ -356,6 +356,34 @@ fn put_method_assignment(
     }
 }
 
+// RaiseEvent: arguments that have names are put in order first.
+fn put_event(
+    code: &mut Vec<Instr>,
+    orders: &[Vec<u32>],
+    action: ActionKind,
+) -> Result<(), OrMemory<TooLong>>
+    ensures { OnOk result (code.new.items ≡ code.old.items ++ event_instrs (lists_of orders.now) action) }
+{
+    match action {
+        ActionKind::RaiseEvent { event, arguments } => {
+            put(code, Instr::RaiseEvent { event, arguments })
+        }
+        ActionKind::RaiseEventInOrder {
+            event,
+            arguments,
+            order,
+        } => {
+            let all = order_length(orders, order)?;
+            let raised = Instr::RaiseEvent {
+                event,
+                arguments: all,
+            };
+            put_two(code, Instr::Reorder { order, arguments }, raised)
+        }
+        _ => Ok(()),
+    }
+}
+
 // The first or the last line of a loop.
 fn put_loop(code: &mut Vec<Instr>, block: u32, action: ActionKind) -> Result<(), OrMemory<TooLong>>
     ensures { OnOk result (code.new.items ≡ code.old.items ++ loop_instrs block action) }
@@ -435,6 +463,7 @@ fn put_work(
     put_assignment_along(code, action)?;
     put_property_assignment(code, orders, action)?;
     put_method_assignment(code, orders, action)?;
+    put_event(code, orders, action)?;
     put_loop(code, statement, action)?;
     put_control(code, statement, next, action)
 }

@@ -199,6 +199,11 @@ pub enum Instr {
         numbers: u32,
     },
     SetMember,
+    /// An event of the object whose procedure runs, with so many arguments: its handlers are called.
+    RaiseEvent {
+        event: u32,
+        arguments: u32,
+    },
     ShowText,
     Show {
         ends: bool,

@@ -133,6 +133,19 @@ pub fn returns(
             machine.operands = operands;
             machine.resume(alloc, code, turns, place, left, tasks, pc, value)
         }
+        Some(
+            Back::Delivering {
+                event,
+                slots,
+                links,
+                pc,
+                operands,
+            },
+        ) => {
+            machine.memory.hold(alloc, &value)?;
+            machine.operands = operands;
+            machine.deliver(alloc, code, turns, event, slots, links, pc)
+        }
     }
 }
 
@@ -147,7 +160,7 @@ pub fn pass_on(
 {
     machine.memory.left(alloc)?;
     match machine.backs.pop() {
-        Some(Back::Caller { .. } | Back::Within { .. }) => {
+        Some(Back::Caller { .. } | Back::Within { .. } | Back::Delivering { .. }) => {
             machine.operands.clear();
             machine.turn(Mode::Failing(error));
             Ok(Step::On)

@@ -9,3 +9,4 @@ pub mod Counted
 pub mod Following
 pub mod Coming
 mod Popped
+pub mod Delivering

@@ -4,7 +4,7 @@ use Rattle.std.specs.Prelude.{Option, Some, None}
 use Rattle.vba_values.specs.declared.object.ObjRef.{ObjRef}
 use Rattle.vba_values.specs.declared.object.ObjRef.TheVariants.{Nothing, Heap, Host}
 use Rattle.vba_values.specs.Val.{Val}
-use Rattle.bound_project.specs.Project.{Declarations, class_at}
+use Rattle.bound_project.specs.Project.{class_at}
 use Rattle.vba_meaning.specs.Paths.{Path}
 use Rattle.vba_meaning.specs.Memory.{Memory, Slot, value, value_at}
 use Rattle.vba_meaning.specs.Meaning.{State, with_memory}

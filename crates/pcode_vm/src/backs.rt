@@ -4,8 +4,9 @@ ghost use Rattle.pcode_vm.specs.View.{back_view, backs_view, LeavesBack};
 
 use crate::operands::Operands;
 use run_defaults::Task;
-use run_memory::RunError;
+use run_memory::{RunError, Slot};
 use vba_base::NoMemory;
+use vba_events::Linked;
 use vba_values::Value;
 
 /// What comes when references are let go.
@@ -31,8 +32,9 @@ pub enum Mode {
 }
 
 /// What a frame returns to: a call, with the operands that wait there; the end of an object whose Class_Terminate it is;
-/// or the use of an object by an instruction, with what is then to be done, how many calls it may still make, and whether
-/// it leaves a place.
+/// the use of an object by an instruction, with what is then to be done, how many calls it may still make, and whether it
+/// leaves a place; or a raise whose handler it is, with the event, its arguments and the links that are still to be asked,
+/// the next one last.
 #[derive(Drop)]
 pub enum Back {
     Caller {
@@ -48,6 +50,13 @@ pub enum Back {
         place: bool,
         left: u32,
         tasks: Vec<Task>,
+        pc: usize,
+        operands: Operands,
+    },
+    Delivering {
+        event: u32,
+        slots: Vec<Slot>,
+        links: Vec<Linked>,
         pc: usize,
         operands: Operands,
     },

@@ -109,6 +109,9 @@ impl Machine {
             ),
             Instr::StoreItem { numbers } => self.store_item(alloc, code, turns, pc, numbers),
             Instr::SetMember => self.set_member(alloc, code, turns, pc),
+            Instr::RaiseEvent { event, arguments } => self.raise_event(
+                alloc, code, turns, pc, event, arguments,
+            ),
             Instr::ShowText => self.show_text(alloc, code, turns, pc),
             Instr::Show { ends, items } => self.show(alloc, code, turns, pc, ends, items),
             Instr::Throw { arguments } => self.throw(alloc, code, turns, pc, arguments),

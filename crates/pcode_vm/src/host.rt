@@ -230,8 +230,7 @@ impl Machine {
             )
         );
         self.operands.push_value(value)?;
-        self.go_on(pc + 1);
-        Ok(Step::On)
+        self.tell_change(alloc, code, turns, pc + 1)
     }
 
     // The same, but the member is assigned the value below the object.
@@ -309,8 +308,7 @@ impl Machine {
                 told
             )
         );
-        self.go_on(pc + 1);
-        Ok(Step::On)
+        self.tell_change(alloc, code, turns, pc + 1)
     }
 
     // The item of the value below so many numbers is assigned the value below it.
@@ -360,8 +358,7 @@ impl Machine {
             turns,
             item_assigned(&mut self.memory, alloc, base, slots, value, told)
         );
-        self.go_on(pc + 1);
-        Ok(Step::On)
+        self.tell_change(alloc, code, turns, pc + 1)
     }
 
     // Set of a member, which no object has.
@@ -428,7 +425,6 @@ impl Machine {
             turns,
             written_default(&mut self.memory, alloc, target, value, told)
         );
-        self.go_on(pc + 1);
-        Ok(Step::On)
+        self.tell_change(alloc, code, turns, pc + 1)
     }
 }

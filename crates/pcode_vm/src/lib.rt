@@ -17,6 +17,7 @@ macro_rules! attempt {
     };
 }
 
+mod along;
 mod arguments;
 mod backs;
 mod blocks;
@@ -24,6 +25,7 @@ mod by_name;
 mod calls;
 mod control;
 mod dispatch;
+mod events;
 mod host;
 mod instances;
 mod late;

@@ -5,10 +5,10 @@ ghost use Rattle.pcode.specs.Instructions as plain;
 ghost use Rattle.pcode.specs.View.{code_view};
 ghost use Rattle.pcode_vm.specs.Does.{Acted};
 
-use crate::arguments::values_of;
 use crate::machine::Machine;
 use crate::step::{Step, Why};
 use pcode::Code;
+use run_defaults::values_of;
 use std::alloc::Global;
 use vba_base::{NoMemory, OrMemory};
 use vba_lib::LibraryFunction;

@@ -200,8 +200,7 @@ impl Machine {
             turns,
             assigned_at(&mut self.memory, alloc, path, value, told)
         );
-        self.go_on(pc + 1);
-        Ok(Step::On)
+        self.tell_change(alloc, code, turns, pc + 1)
     }
 
     // The path on top becomes an argument.

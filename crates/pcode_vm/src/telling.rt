@@ -5,10 +5,11 @@ ghost use Rattle.pcode.specs.Instructions as plain;
 ghost use Rattle.pcode.specs.View.{code_view, tables_of};
 ghost use Rattle.pcode_vm.specs.Does.{Acted};
 
-use crate::arguments::{packed, reordered};
+use crate::arguments::reordered;
 use crate::machine::Machine;
 use crate::step::Step;
 use pcode::Code;
+use run_defaults::packed;
 use run_host::Event;
 use std::alloc::Global;
 use vba_base::NoMemory;

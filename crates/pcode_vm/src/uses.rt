@@ -110,7 +110,8 @@ impl Machine {
         self.follow(alloc, code, turns, place, left, next, came)
     }
 
-    /// A use gives a value, or calls a procedure and waits for what that gives. Nothing hears of the cells that it wrote.
+    /// A use gives a value, where Change of the cells that it wrote is told first, or calls a procedure and waits for what
+    /// that gives.
     pub fn follow(
         &mut self,
         alloc: Global,
@@ -126,8 +127,7 @@ impl Machine {
         match came {
             Next::Gives(value) => {
                 self.operands.push_left(alloc, place, value)?;
-                self.go_on(next);
-                Ok(Step::On)
+                self.tell_change(alloc, code, turns, next)
             }
             Next::Calls {
                 procedure,

@@ -3,3 +3,4 @@ pub mod Counts
 pub mod Places
 pub mod Found
 pub mod Shared
+pub mod Events

@@ -3,3 +3,4 @@ pub mod Signed
 pub mod Startups
 pub mod Steps
 pub mod ClassParts
+pub mod EventParts

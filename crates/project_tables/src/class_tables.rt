@@ -1,8 +1,9 @@
 //! The table of a class: the procedures that begin and end its objects, its public members, its default member and its
-//! enumerator.
+//! enumerator, and its events.
 
 ghost use Rattle.std.specs.Prelude.{◌≡◌, ◌++◌, ◌==◌, ◌&&◌, IfOk, OnOk, Some, bytes_eq, codes, length, map, option_map};
 ghost use Rattle.bound_declarations.specs.constant_values.specs.declared_names.specs.binder.specs.ClassTables as plain;
+ghost use Rattle.bound_declarations.specs.constant_values.specs.declared_names.specs.binder.specs.EventTables as event_tables;
 ghost use Rattle.bound_declarations.specs.constant_values.specs.declared_names.specs.binder.specs.Classes as classes;
 ghost use Rattle.bound_declarations.specs.constant_values.specs.declared_names.specs.binder.specs.Scopes.{first_at, is_named};
 ghost use Rattle.bound_declarations.specs.constant_values.specs.declared_names.specs.binder.specs.Storage as storage;
@@ -18,6 +19,7 @@ ghost use Rattle.project_tables.specs.ClassParts.{counts, is_part, marks, member
 ghost use Rattle.vba_module.specs.Headers.{parameters_of};
 ghost use Rattle.vba_tree.specs.View.{listed_view, parameters_view, variable_view};
 
+use crate::event_tables::{class_handlers, declared_events, sources};
 use bound_declarations::constant_values::declared_names::module_parts::Part;
 use bound_declarations::constant_values::declared_names::{
     Entry, Scope, What, Written, field_number, first_entries, is_of_object, is_word,
@@ -63,7 +65,7 @@ fn has_none(parameters: &Option<Parameters>) -> bool
 }
 
 /// Is it a Sub?
-fn is_sub(words: ProcedureWords) -> bool
+pub(crate) fn is_sub(words: ProcedureWords) -> bool
     ensures { result ≡ plain.is_sub words }
 {
     match words {
@@ -466,7 +468,7 @@ pub(crate) fn class_table<'a>(
 ) -> Result<Class, OrMemory<NotYet>>
     requires placed { IsPlaced (scope_view scope) }
     requires values { AreProjectValues project.now (scope_view scope).spaces }
-    ensures { IfOk result (λ class. class_view class ≡ plain.class_table (scope_view scope.entry)) }
+    ensures { IfOk result (λ class. class_view class ≡ event_tables.class_table (scope_view scope.entry)) }
 {
     let own = own_values(alloc, project, scope)?;
     let constants = constants_in(scope, project, &own);
@@ -474,6 +476,9 @@ pub(crate) fn class_table<'a>(
     let members = public_members(alloc, constants)?;
     let default = member_marked(alloc, constants, Mark::Default)?;
     let enumerator = member_marked(alloc, constants, Mark::Enumerator)?;
+    let events = declared_events(alloc, constants)?;
+    let with_events = sources(alloc, scope)?;
+    let handlers = class_handlers(alloc, constants)?;
     Ok(Class {
         name: copy_name(alloc, &scope.here.name)?,
         fields,
@@ -482,5 +487,8 @@ pub(crate) fn class_table<'a>(
         members,
         default,
         enumerator,
+        events,
+        with_events,
+        handlers,
     })
 }

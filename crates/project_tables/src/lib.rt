@@ -4,6 +4,7 @@
 mod class_tables;
 mod counting;
 mod declaring;
+mod event_tables;
 mod project_types;
 mod rows;
 mod scopes;

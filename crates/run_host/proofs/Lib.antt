@@ -6,5 +6,4 @@ pub mod Cells
 pub mod Clears
 pub mod Placed
 pub mod Raised
-pub mod Unheard
 pub mod Named

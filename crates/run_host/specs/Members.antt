@@ -14,10 +14,15 @@ use Rattle.sheet_host.specs.AddressText.{area_of_text}
 use Rattle.sheet_host.specs.Writing.{cell_of}
 use Rattle.vba_meaning.specs.Memory.{Memory}
 use Rattle.vba_meaning.specs.Effects.{Effect, Fine, Bad-at, on_fine, done, answered, plain, range_value, area_in, is_collection}
+use Rattle.vba_meaning.specs.Events.{noted}
 use Rattle.vba_meaning.specs.Collections.{collection_member, collection_used, takes_in_collection}
-use Rattle.vba_meaning.specs.Host.{area_found, as_given, cells_put, fits_in, item_by, long_of, sheet_by, spanned, text_of, through_item, units_in, written_default}
+use Rattle.vba_meaning.specs.Host.{area_found, as_given, cells_put, fits_in, item_by, long_of, sheet_by, spanned, text_of, through_item, units_in, value_put, written_default}
 use Rattle.run_host.specs.declared.assigning.Writes.{Writes}
 use Rattle.run_host.specs.declared.assigning.Writes.TheVariants as writes
+
+-- what a value writes to an area, of which Change is to be told
+abbrev pub put_noted : Area → Val → Memory → Effect (Unit {0})
+put_noted a w m = on_fine (value_put a w m) (λ u m1. done (noted a m1))
 
 -- the numbers that two arguments are
 abbrev pub two_numbers : List Val → Memory → Effect (ℤ × ℤ)

@@ -22,6 +22,7 @@ use crate::events::Told;
 use crate::ranges::range_found;
 use crate::sheets::{long_value, sheet_found, sheet_value};
 use bound_project::{Declarations, ErrMember};
+use run_events::noted;
 use run_memory::{Memory, Slot, area_in, has_area, has_sheet};
 use sheet_host::{Area, SheetId, address};
 use std::alloc::Global;
@@ -172,6 +173,7 @@ fn of_area(
         return Err(OrMemory::NoMemory);
     }
     cleared(memory, alloc, area, told)?;
+    noted(memory, area);
     Ok(Value::Empty)
 }
 

@@ -6,12 +6,13 @@ ghost use Rattle.sheet_host.specs.Size.{IsAreaInside, IsInside};
 ghost use Rattle.vba_meaning.specs.Effects.{area_in};
 ghost use Rattle.vba_meaning.specs.Host.{area_written, cells_put, value_put};
 ghost use Rattle.run_memory.specs.View.{memory_view};
-ghost use Rattle.run_host.specs.Members.{is_array, one_put};
+ghost use Rattle.run_host.specs.Members.{is_array, one_put, put_noted};
 ghost use Rattle.run_host.specs.Tells.{Tells};
 ghost use Rattle.run_host.specs.View.{told_view};
 
 use crate::cell_events::tell_cells;
 use crate::events::{Event, Told};
+use run_events::noted;
 use run_memory::{Memory, has_area};
 use sheet_host::{Area, CellValue, SheetId, cell_of, cells_of};
 use std::alloc::Global;
@@ -24,7 +25,6 @@ const CELLS: u64 = 4_000_000;
 /// A value is written to the cells of an area. Outside(Cells) for an area of more than 4000000 cells, before the value is
 /// looked at, and where the book would have more written ones; an object gives way to its default value. An area that
 /// no sheet of the book has, which no run makes, counts as want of memory.
-#[tactic(auto, using(crate::proofs::Unheard::noted_tells))]
 pub fn area_written(
     memory: &mut Memory,
     alloc: Global,
@@ -41,7 +41,25 @@ pub fn area_written(
         return Err(OrMemory::Fault(Bad::Outside(OutKind::Cells)));
     }
     let value = memory.plain(alloc, value)?;
-    value_put(memory, alloc, area, &value, told)
+    put_noted(memory, alloc, area, &value, told)
+}
+
+/// The cells that a value writes to an area are put there; where all have theirs, Change is to be told.
+fn put_noted(
+    memory: &mut Memory,
+    alloc: Global,
+    area: Area,
+    value: &Value,
+    told: &mut Told,
+) -> Result<(), OrMemory<Bad>>
+    requires sheet { IsSheetOf (memory_view memory.old).book area.sheet }
+    requires inside { IsAreaInside area }
+    requires few { area.rows * area.columns ≤ 4000000 }
+    ensures { Tells (λ done. done) result (told_view told.old) (told_view told.new) (memory_view memory.new) (put_noted area (view value.now) (memory_view memory.old)) }
+{
+    value_put(memory, alloc, area, value, told)?;
+    noted(memory, area);
+    Ok(())
 }
 
 /// The cells that a value writes to an area are put there: one cell without a list of them.

@@ -16,4 +16,5 @@ pub mod Bounds
 pub mod Named
 pub mod Referred
 pub mod Received
-pub mod Unconnected
+pub mod Renumbered
+pub mod Connected

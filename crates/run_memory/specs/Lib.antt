@@ -1,5 +1,6 @@
 pub mod Acts
 pub mod Calls
+pub mod Connecting
 pub mod Elements
 pub mod Exchanges
 pub mod Keeps

@@ -1,5 +1,5 @@
 -- Serves the code: the plain data that memory stands for.
-use Rattle.std.specs.Prelude.{None, ℕ, Bool, List, [], ◌∷◌, map, reverse, option_map, if◌then◌else◌}
+use Rattle.std.specs.Prelude.{ℕ, Bool, List, [], ◌∷◌, map, reverse, option_map, if◌then◌else◌}
 use Rattle.vba_values.specs.Types.{declared}
 use Rattle.vba_values.specs.View.{view}
 use Rattle.bound_project.specs.View.{declared_view}
@@ -80,9 +80,8 @@ frames_view stands top callers = if stands then frame_view top ∷ map frame_vie
 
 -- ---- the memory
 
--- no variable of it is declared WithEvents
 abbrev pub object_view : Object → plain_memory.Object
-object_view b = record { class = b.class; told = b.is_told; fields = map view b.fields.items; keys = b.keys.items; set_numbers = [] }
+object_view b = record { class = b.class; told = b.is_told; fields = map view b.fields.items; keys = b.keys.items; set_numbers = b.set_numbers.items }
 
 abbrev pub error_view : RunError → plain_memory.Error
 error_view e = record { number = e.number; source = e.source; description = e.description; procedure = e.procedure; statement = e.statement }
@@ -99,6 +98,6 @@ memory_view m = record {
   events_on = m.events_on;
   updates_screen = m.updates_screen;
   shows_alerts = m.shows_alerts;
-  next_set = 1;
-  changed = None;
+  next_set = m.next_set;
+  changed = m.changed;
 }

@@ -130,7 +130,7 @@ fn take_result(slots: &mut Vec<Slot>) -> Value
 }
 
 /// The paths that arguments lend are pending no longer.
-fn release(pending: &mut Vec<Path>, arguments: &[Slot])
+pub fn release(pending: &mut Vec<Path>, arguments: &[Slot])
     ensures { map path_view (reverse pending.new.items) ≡ without_paths (map slot_view arguments.now) (map path_view (reverse pending.old.items)) }
 {
     match arguments {

@@ -16,7 +16,7 @@ use vba_values::Value;
 
 impl Object {
     /// No object.
-    fn none(alloc: Global) -> Object
+    pub fn none(alloc: Global) -> Object
         ensures { object_view result ≡ no_object }
     {
         Object {
@@ -24,6 +24,7 @@ impl Object {
             is_told: true,
             fields: Vec::new(alloc),
             keys: Vec::new(alloc),
+            set_numbers: Vec::new(alloc),
         }
     }
 }

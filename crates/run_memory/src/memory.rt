@@ -1,5 +1,5 @@
 use crate::frame::Frame;
-use sheet_host::Book;
+use sheet_host::{Area, Book};
 use vba_base::Units;
 use vba_values::Value;
 
@@ -25,12 +25,14 @@ impl Drop for RunError {
     }
 }
 
-/// A counted object. The fields of a Collection are its items, each of which may have a key, folded.
+/// A counted object. The fields of a Collection are its items, each of which may have a key, folded. Each WithEvents
+/// variable stands among the set numbers, by the number of its field, with that of its last Set while it has a source.
 pub struct Object {
     pub class: u32,
     pub is_told: bool,
     pub fields: Vec<Value>,
     pub keys: Vec<Option<Units>>,
+    pub set_numbers: Vec<(u32, Option<u64>)>,
 }
 
 impl Drop for Object {
@@ -40,6 +42,7 @@ impl Drop for Object {
             is_told: _is_told,
             fields: _fields,
             keys: _keys,
+            set_numbers: _set_numbers,
         } = self;
     }
 }
@@ -63,6 +66,10 @@ pub struct Memory {
     pub events_on: bool,
     pub updates_screen: bool,
     pub shows_alerts: bool,
+    /// The number of the next Set of a WithEvents variable, and an area that was written of which no handler of Change was
+    /// told yet.
+    pub next_set: u64,
+    pub changed: Option<Area>,
 }
 
 impl Drop for Memory {
@@ -80,6 +87,8 @@ impl Drop for Memory {
             events_on: _events_on,
             updates_screen: _updates_screen,
             shows_alerts: _shows_alerts,
+            next_set: _next_set,
+            changed: _changed,
         } = self;
     }
 }

@@ -33,6 +33,8 @@ impl Memory {
             events_on: true,
             updates_screen: true,
             shows_alerts: true,
+            next_set: 1,
+            changed: None,
         })
     }
 }

@@ -10,6 +10,7 @@ ghost use Rattle.run_memory.specs.Exchanges.{inside_exchanged};
 ghost use Rattle.run_memory.specs.Looks.{object_here};
 ghost use Rattle.run_memory.specs.View.{memory_view, path_view, root_view};
 
+use crate::connecting::is_nothing;
 use crate::looking::inner_value;
 use crate::memory::Memory;
 use crate::path::{Path, Root};
@@ -137,13 +138,14 @@ impl Memory {
         Ok(old)
     }
 
-    /// A value is stored; what was there gives way.
+    /// A value is stored; what was there gives way, and a WithEvents variable is connected.
     pub fn stored(&mut self, alloc: Global, path: &Path, value: Value) -> Result<(), OrMemory<Bad>>
         ensures { Acts (λ done. done) result (memory_view self.new) (stored (path_view path.now) (view value) (memory_view self.old)) }
     {
         self.assignable(alloc, path)?;
+        let nothing = is_nothing(&value);
         self.replaced(alloc, path, value)?;
-        Ok(())
+        self.connects(alloc, &path.root, nothing)
     }
 
     fn replaced(&mut self, alloc: Global, path: &Path, value: Value) -> Result<(), NoMemory>

@@ -1,9 +1,9 @@
 // Classes by their numbers: 0 is that of Collection.
 ghost use Rattle.std.specs.Prelude.{◌≡◌, map, option_map, slice_index_or};
 ghost use Rattle.bound_project.specs.Project.{class_at, no_class};
-ghost use Rattle.bound_project.specs.View.{class_member_view, class_view, declaration_view, declarations_view};
+ghost use Rattle.bound_project.specs.View.{class_member_view, class_view, declaration_view, declarations_view, handler_view};
 
-use bound_project::{Class, Declaration, Declarations, Member};
+use bound_project::{Class, Declaration, Declarations, Handler, Member};
 
 /// The Class_Initialize of a class.
 #[tactic(auto, using(crate::proofs::Numbered::class_before))]
@@ -44,6 +44,48 @@ fn fields_at(classes: &[Class], number: usize) -> &[Declaration]
 {
     match classes.get(number) {
         Some(class) => class.fields.as_slice(),
+        None => &[],
+    }
+}
+
+/// The numbers of the WithEvents variables of a class.
+#[tactic(auto, using(crate::proofs::Numbered::class_before))]
+pub fn with_events_of(declared: &Declarations, class: u32) -> &[u32]
+    ensures { result.now ≡ (class_at (declarations_view declared.now) class).with_events }
+{
+    if class == 0 {
+        return &[];
+    }
+    with_events_at(declared.classes.as_slice(), class as usize - 1)
+}
+
+#[tactic(auto, using(crate::proofs::Numbered::with_events_there, crate::proofs::Numbered::class_past))]
+fn with_events_at(classes: &[Class], number: usize) -> &[u32]
+    ensures { result.now ≡ (slice_index_or (map class_view classes.now) number no_class).with_events }
+{
+    match classes.get(number) {
+        Some(class) => class.with_events.as_slice(),
+        None => &[],
+    }
+}
+
+/// The handlers of a class.
+#[tactic(auto, using(crate::proofs::Numbered::class_before))]
+pub fn handlers_of(declared: &Declarations, class: u32) -> &[Handler]
+    ensures { map handler_view result.now ≡ (class_at (declarations_view declared.now) class).handlers }
+{
+    if class == 0 {
+        return &[];
+    }
+    handlers_at(declared.classes.as_slice(), class as usize - 1)
+}
+
+#[tactic(auto, using(crate::proofs::Numbered::handlers_there, crate::proofs::Numbered::class_past))]
+fn handlers_at(classes: &[Class], number: usize) -> &[Handler]
+    ensures { map handler_view result.now ≡ (slice_index_or (map class_view classes.now) number no_class).handlers }
+{
+    match classes.get(number) {
+        Some(class) => class.handlers.as_slice(),
         None => &[],
     }
 }

@@ -1,5 +1,5 @@
 // Objects of classes.
-ghost use Rattle.std.specs.Prelude.{◌≡◌, ◌∷◌, ◌++◌, [], IfOk, OnOk, Some, length, map, option_map};
+ghost use Rattle.std.specs.Prelude.{◌≡◌, ◌∷◌, ◌++◌, [], ℕ, IfOk, None, OnOk, Some, length, map, option_map};
 ghost use Rattle.vba_values.specs.Val.{object};
 ghost use Rattle.vba_values.specs.View.{view};
 ghost use Rattle.vba_values.specs.declared.object.ObjRef.TheVariants.{Heap};
@@ -13,23 +13,39 @@ ghost use Rattle.run_memory.specs.Looks.{object_here};
 ghost use Rattle.run_memory.specs.View.{memory_view, object_view, path_view};
 ghost use Rattle.run_objects.specs.Made.{makes_there};
 
-use crate::classes::fields_of;
+use crate::classes::{fields_of, with_events_of};
 use bound_project::{Declarations, DeclaredType};
 use run_memory::{Memory, Object, Path, first_values};
 use std::alloc::Global;
 use vba_base::{NoMemory, OrMemory};
 use vba_values::{Bad, ObjId, ObjRef, Value, copy_value};
 
-/// A new object of a class: its variables have their first values.
+/// The set numbers of a new object: none of its WithEvents variables has a source.
+fn add_unset(numbers: &mut Vec<(u32, Option<u64>)>, with_events: &[u32]) -> Result<(), NoMemory>
+    ensures { OnOk result (numbers.new.items ≡ numbers.old.items ++ map (λ (i : ℕ). (i, None)) with_events.now) }
+{
+    match with_events {
+        [] => Ok(()),
+        [first, with_events @ ..] => {
+            numbers.push((*first, None))?;
+            add_unset(numbers, with_events)
+        }
+    }
+}
+
+/// A new object of a class: its variables have their first values, and none has a source of events.
 fn new_instance(alloc: Global, declared: &Declarations, class: u32) -> Result<Object, NoMemory>
     ensures { IfOk result (λ object. object_view object ≡ new_instance (declarations_view declared.now) class) }
 {
     let fields = first_values(alloc, declared, fields_of(declared, class))?;
+    let mut set_numbers = Vec::new(alloc);
+    add_unset(&mut set_numbers, with_events_of(declared, class))?;
     Ok(Object {
         class,
         is_told: class == 0,
         fields,
         keys: Vec::new(alloc),
+        set_numbers,
     })
 }
 

@@ -15,6 +15,7 @@ use Rattle.vba_tree.specs.declared.procedure.ProcedureWords.TheVariants as words
 use Rattle.vba_tree.specs.Tree.{Variable, NewTypeClause, Parameter, ResultType}
 use Rattle.vba_module.specs.Misplaced.{place_if}
 use Rattle.vba_module.specs.Verdict.{broken}
+use Rattle.bound_declarations.specs.constant_values.specs.declared_names.specs.binder.specs.EventTables.{handler_name}
 use Rattle.bound_declarations.specs.constant_values.specs.declared_names.specs.binder.specs.Constants.{home, known_length}
 use Rattle.bound_declarations.specs.constant_values.specs.declared_names.specs.binder.specs.Declarations.{Written, What, a_variable, an_event, a_procedure, Entry}
 use Rattle.bound_declarations.specs.constant_values.specs.declared_names.specs.binder.specs.Signatures.{is_property}
@@ -94,10 +95,6 @@ abbrev pub properties_differ : Scope → List Place
 properties_differ s = later (differ s) (λ e. place_of_name e.name) [] s.here.entries
 
 -- ---- S32: handlers of events
-
--- a handler's name: that of the variable, `_` and that of the event
-abbrev pub handler_name : List ℕ → List ℕ → List ℕ
-handler_name source event = source ++ codes "_" ++ event
 
 -- what the parameters of a sheet's Change are: ByVal Target As Range
 abbrev pub change_passed : List Passed

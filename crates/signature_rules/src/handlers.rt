@@ -14,13 +14,14 @@ ghost use Rattle.use_rules.specs.Found.{noted};
 ghost use Rattle.vba_module.specs.Headers.{parameters_of};
 ghost use Rattle.vba_tree.specs.View.{declared_type_view, parameters_view, variable_view};
 
-use crate::handler_names::{CHANGE, is_handler_name, is_own_name};
+use crate::handler_names::is_own_name;
 use crate::inside::{event_passed, signature_inside};
 use crate::passed::{Passed, is_same_signature};
 use bound_declarations::constant_values::ProjectValues;
 use bound_declarations::constant_values::declared_names::{
     Entry, Scope, Space, What, Written, class_number, named_type,
 };
+use bound_declarations::{CHANGE, is_handler_name};
 use bound_project::{DeclaredType, ElementType};
 use std::alloc::Global;
 use use_rules::note_place;

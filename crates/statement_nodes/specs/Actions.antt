@@ -25,7 +25,7 @@ use Rattle.bound_calls.specs.bound_declarations.specs.constant_values.specs.decl
 use Rattle.bound_calls.specs.bound_declarations.specs.constant_values.specs.declared_names.specs.binder.specs.Numbering.{Opened, Standing, Sought, here, an_arm, behind_block, sought_behind}
 use Rattle.bound_calls.specs.bound_forms.specs.Terms as terms
 use Rattle.bound_calls.specs.bound_forms.specs.ExpressionsBound.{bound_as_given, bound_operand, givens, may_be_instance, term_of, place_told}
-use Rattle.bound_calls.specs.bound_forms.specs.StatementsBound.{Around, assigned_to, called_place, called_with, redim_arrays, erased_arrays, value_shown, items_shown, ends_line, simple_action, block_action, loop_variable, if_broken, cannot_count, for_each_of, is_other_name, name_place, loop_name, next_action, set_given, loop_action, for_action, step_value, step_place, case_tests, selected, line_of, value_given, walked, with_action}
+use Rattle.bound_calls.specs.bound_forms.specs.StatementsBound.{Around, assigned_to, called_place, called_with, event_arguments, event_raised, redim_arrays, erased_arrays, value_shown, items_shown, ends_line, simple_action, block_action, loop_variable, if_broken, cannot_count, for_each_of, is_other_name, name_place, loop_name, next_action, set_given, loop_action, for_action, step_value, step_place, case_tests, selected, line_of, value_given, walked, with_action}
 use Rattle.bound_calls.specs.bound_declarations.specs.constant_values.specs.declared_names.specs.binder.specs.Blocks.{header_of}
 use Rattle.bound_calls.specs.Standing.{PushedIs}
 
@@ -79,6 +79,7 @@ simple_in env a s (tree.re_dim redim_word preserve_word arrays) = option_map (to
 simple_in env a s (tree.erase erase_word places) = option_map to.erase (erased_arrays env (all_of places))
 simple_in env a s (tree.debug_print debug_word dot print_word e items) =
     option_map (λ ps. to.print ps (ends_line items)) (value_shown env e (items_shown env items))
+simple_in env a s (tree.raise_event raise_word x arguments) = event_raised env x (event_arguments env arguments)
 simple_in env a s (tree.block_line line) = block_in env a s line
 simple_in env a s x = simple_action a s x
 

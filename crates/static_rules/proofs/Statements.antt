@@ -259,6 +259,12 @@ action_made t (kind.SetMethod q count of) st =
 action_made t (kind.SetMethodInOrder q count order of) st =
     let selected = selected_of (kind.SetMethodInOrder q count order of) in
     object_made selected _ (λ base args e. refl) st (arguments_off count st no_args) (args_are selected count st no_args)
+action_made t (kind.RaiseEvent event count) st =
+    let of = selected_of (kind.RaiseEvent event count) in
+    args_made of _ (λ args. refl) st (arguments_off count st no_args) (args_are of count st no_args)
+action_made t (kind.RaiseEventInOrder event count order) st =
+    let of = selected_of (kind.RaiseEventInOrder event count order) in
+    args_made of _ (λ args. refl) st (arguments_off count st no_args) (args_are of count st no_args)
 action_made t (kind.Print count ends) st =
     let of = selected_of (kind.Print count ends) in
     prints_made of _ (λ ps. refl) st (prints_off count st no_prints) (prints_are of count st no_prints)

@@ -10,8 +10,8 @@ use Rattle.run_memory.specs.View.{error_view, memory_view, slot_view}
 use Rattle.pcode.specs.Machine.{EndOf, Ends, terminates_by, enters, looking, raises_then}
 use Rattle.pcode.specs.View.{code_view}
 use Rattle.pcode_vm.specs.View.{after_view, backs_view, state_view}
-use Rattle.pcode_vm.proofs.Carried.{from_other}
-use Rattle.pcode_run.proofs.Moves.{terminate_entered, terminate_faults, view_object}
+use Rattle.pcode_vm.proofs.Carried.{from_other, view_object}
+use Rattle.pcode_run.proofs.Moves.{terminate_entered, terminate_faults}
 use Rattle.pcode_run.proofs.letting.terminate.Goals as goal
 
 pub returns : goal.returns

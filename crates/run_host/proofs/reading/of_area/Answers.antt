@@ -9,7 +9,6 @@ use Rattle.vba_meaning.specs.Events.{noted}
 use Rattle.vba_meaning.specs.Host.{cleared, member_value}
 use Rattle.run_memory.specs.View.{memory_view, slot_view}
 use Rattle.run_host.specs.View.{told_view}
-use Rattle.run_host.proofs.Unheard.{unheard}
 use Rattle.run_host.proofs.Telling.{acts_tell, quiet_fine, tells_fault, then_all, then_refused}
 use Rattle.std.specs.Prelude.{◌*◌}
 use Rattle.run_host.proofs.reading.of_area.Goals as goal
@@ -36,7 +35,8 @@ returns-in_err-cleared c = λ d.
 pub returns : goal.returns
 returns c = λ d.
     let m = memory_view c.cleared.new.memory in
+    let n = memory_view c.noted.new.memory in
     rw c.if-number-ne11.false
     (then_all (told_view c.args.told.now) (told_view c.cleared.new.told) (told_view c.cleared.new.told) (cleared c.args.area (c.args.area.rows *
-    c.args.area.columns) (memory_view c.args.memory.now)) (λ u m1. Fine empty (noted c.args.area m1)) tt m (Fine (view value.Empty) m)
-    c.in_ok-cleared.ensures (quiet_fine (told_view c.cleared.new.told) (Fine empty (noted c.args.area m)) (view value.Empty) m (ap (λ n. Fine empty n) (unheard c.args.area c.cleared.new.memory) ∙ ap (λ v. Fine v m) (sym view_empty))))
+    c.args.area.columns) (memory_view c.args.memory.now)) (λ u m1. Fine empty (noted c.args.area m1)) tt m (Fine (view value.Empty) n)
+    c.in_ok-cleared.ensures (quiet_fine (told_view c.cleared.new.told) (Fine empty (noted c.args.area m)) (view value.Empty) n (ap (λ k. Fine empty k) (sym c.noted.ensures) ∙ ap (λ v. Fine v n) (sym view_empty))))

@@ -1,4 +1,4 @@
-use Rattle.std.proofs.Common.{◌≡◌, ◌-◌, take, length, map, ap, sym, ◌∙◌}
+use Rattle.std.proofs.Common.{◌-◌, take, length, map, ap, sym, ◌∙◌}
 use Rattle.std.specs.Prelude.{◌||◌}
 use Rattle.vba_values.specs.View.{view}
 use Rattle.vba_meaning.specs.References.{objects_in_values}

@@ -1,4 +1,4 @@
-use Rattle.std.proofs.Common.{◌≡◌, drop, map, ap, sym, ◌∙◌}
+use Rattle.std.proofs.Common.{drop, map, ap, sym, ◌∙◌}
 use Rattle.std.specs.Prelude.{◌||◌}
 use Rattle.vba_meaning.specs.References.{objects_in_slots}
 use Rattle.run_memory.specs.View.{slot_view}

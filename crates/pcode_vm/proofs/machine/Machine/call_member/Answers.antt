@@ -1,12 +1,10 @@
-use Rattle.std.proofs.Common.{◌+◌, refl, sym, ap}
+use Rattle.std.proofs.Common.{◌+◌, refl}
 use Rattle.vba_values.specs.View.{view}
-use Rattle.vba_meaning.specs.Meaning.{with_memory}
 use Rattle.run_memory.specs.View.{memory_view}
 use Rattle.pcode.specs.View.{code_view}
-use Rattle.pcode.specs.Machine.{Goes, at, then_changes_push}
+use Rattle.pcode.specs.Machine.{then_changes_push}
 use Rattle.pcode_vm.specs.View.{backs_view, operands_view, state_view}
-use Rattle.pcode_vm.specs.declared.backs.Mode.TheVariants as mode
-use Rattle.pcode_vm.proofs.Tellings.{told_raised, told_stopped, told_value}
+use Rattle.pcode_vm.proofs.Tellings.{told_on, told_raised, told_stopped}
 use Rattle.pcode_vm.proofs.machine.Machine.call_member.Goals as goal
 
 pub returns-in-Err-Fault-Raise : goal.returns-in-Err-Fault-Raise
@@ -27,6 +25,6 @@ pub returns : goal.returns
 returns c =
     let old = c.args.self.now in
     let mid = record old { memory = c.member_called.new.memory; told = c.member_called.new.told } in
-    let last = record mid { operands = c.push_value.new.self; mode = mode.At (c.args.pc + 1) } in
-    rw c.go_on.ensures (told_value c.args.turns old last _ (view c.in-Ok.value) (memory_view mid.memory) (backs_view old.backs) (state_view old) (then_changes_push (code_view c.args.code.now) (c.args.pc + 1) (operands_view old.operands) (backs_view old.backs)) c.in-Ok.ensures
-    (ap (λ st. Goes (at (c.args.pc + 1) st (backs_view old.backs) (with_memory (state_view old) (memory_view mid.memory)))) (sym c.in_ok-push_value.ensures)))
+    let last = record mid { operands = c.push_value.new.self } in
+    told_on c.args.turns old last c.tell_change.new.self _ (view c.in-Ok.value) (memory_view mid.memory) (backs_view old.backs) (state_view old) (then_changes_push (code_view c.args.code.now) (c.args.pc + 1) (operands_view old.operands) (backs_view old.backs))
+    c.tell_change.result c.in-Ok.ensures (rw c.in_ok-push_value.ensures at c.tell_change.ensures)

@@ -1,5 +1,5 @@
 use Rattle.std.proofs.Common.{◌≡◌, true, false, length, map, refl, sym, arith, ◌∙◌}
-use Rattle.std.specs.Prelude.{nat_lt, ◌∷◌, ◌-◌}
+use Rattle.std.specs.Prelude.{nat_lt, ◌∷◌}
 use Rattle.vba_values.specs.View.{view}
 use Rattle.vba_meaning.specs.Memory.{error_here}
 use Rattle.vba_meaning.specs.Defaults.{then_call}

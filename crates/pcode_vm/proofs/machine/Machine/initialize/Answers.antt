@@ -1,5 +1,4 @@
-use Rattle.std.proofs.Common.{◌≡◌, ◌∷◌, refl, ap, ◌∙◌, map, rules}
-use Rattle.vba_values.specs.declared.value.Value.{the_lemmas}
+use Rattle.std.proofs.Common.{◌≡◌, ◌∷◌, refl, ap, ◌∙◌, map}
 use Rattle.vba_values.specs.declared.value.Value.TheVariants as value
 use Rattle.vba_values.specs.View.{view}
 use Rattle.vba_values.specs.Val.{object}
@@ -9,7 +8,7 @@ use Rattle.run_memory.specs.View.{slot_view}
 use Rattle.pcode.specs.Machine.{calls, initializes}
 use Rattle.pcode.specs.View.{code_view}
 use Rattle.pcode_vm.specs.View.{operands_view, backs_view, state_view}
-use Rattle.pcode_vm.proofs.Carried.{from_other}
+use Rattle.pcode_vm.proofs.Carried.{from_other, view_object}
 use Rattle.pcode_vm.proofs.Making.{initialized_by}
 use Rattle.pcode_vm.proofs.machine.Machine.initialize.Goals as goal
 
@@ -20,7 +19,7 @@ returns c =
     let code = code_view c.args.code.now in
     let v = object (Heap (record { 0 = c.args.number })) in
     let me = view (value.Object (Heap (record { 0 = c.args.number }))) in
-    let same : me ≡ v = search (rules, the_lemmas) in
+    let same : me ≡ v = view_object (Heap (record { 0 = c.args.number })) in
     let xs = map slot_view c.new-none.result.items in
     from_other c.args.turns
     (initializes code c.args.procedure v c.args.next (operands_view old.operands) (backs_view old.backs) (state_view old))

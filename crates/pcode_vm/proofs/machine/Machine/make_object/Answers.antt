@@ -1,4 +1,3 @@
-use Rattle.std.proofs.Common.{refl, sym, ap, ◌∙◌}
 use Rattle.vba_values.specs.Val.{Val, object}
 use Rattle.vba_values.specs.declared.object.ObjRef.TheVariants.{Heap}
 use Rattle.bound_project.specs.Project.{class_at}

@@ -3,8 +3,7 @@ use Rattle.run_memory.specs.View.{memory_view}
 use Rattle.pcode.specs.View.{code_view}
 use Rattle.pcode.specs.Machine.{then_changes}
 use Rattle.pcode_vm.specs.View.{backs_view, operands_view, state_view}
-use Rattle.pcode_vm.specs.declared.backs.Mode.TheVariants as mode
-use Rattle.pcode_vm.proofs.Tellings.{told_raised, told_stopped, told_value}
+use Rattle.pcode_vm.proofs.Tellings.{told_on, told_raised, told_stopped}
 use Rattle.pcode_vm.proofs.machine.Machine.write_default.Goals as goal
 
 pub returns-in-Err-Fault-Raise : goal.returns-in-Err-Fault-Raise
@@ -25,6 +24,5 @@ pub returns : goal.returns
 returns c =
     let old = c.args.self.now in
     let mid = record old { memory = c.written_default.new.memory; told = c.written_default.new.told } in
-    let last = record mid { mode = mode.At (c.args.pc + 1) } in
-    rw c.go_on.ensures (told_value c.args.turns old last _ tt (memory_view mid.memory) (backs_view old.backs) (state_view old) (then_changes (code_view c.args.code.now) (c.args.pc + 1) (operands_view old.operands) (backs_view old.backs)) c.in-Ok.ensures
-    refl)
+    told_on c.args.turns old mid c.tell_change.new.self _ tt (memory_view mid.memory) (backs_view old.backs) (state_view old) (then_changes (code_view c.args.code.now) (c.args.pc + 1) (operands_view old.operands) (backs_view old.backs))
+    c.tell_change.result c.in-Ok.ensures c.tell_change.ensures

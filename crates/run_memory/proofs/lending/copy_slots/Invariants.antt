@@ -1,0 +1,6 @@
+use Rattle.std.proofs.Common.{◌≡◌, map, take}
+use Rattle.run_memory.specs.View.{slot_view}
+use Rattle.run_memory.proofs.lending.copy_slots.Given as goal
+
+abbrev pub invariant-loop-slot : goal.invariant-loop-slot
+invariant-loop-slot l = map slot_view l.copies.items ≡ map slot_view (take l.slot-index l.slots)
